@@ -19,11 +19,11 @@ use Rattle.canonical_abi.specs.declared.trap.Fault.TheVariants as ended
 use Rattle.canonical_abi.specs.declared.trap.Step.TheVariants as step
 use Rattle.canonical_abi.specs.declared.trap.TrapKind.{TrapKind}
 use Rattle.canonical_abi.proofs.Lifted.{fields-lower-kinds}
-use Rattle.crossing.specs.Outcome.{Counts, IsDone, MetFault, WasRefused}
+use Rattle.crossing.specs.Outcome.{Counts, IsCrossed, MetFault, WasRefused}
 use Rattle.crossing.specs.Ways.{ParamsWalk, ResultWalk, AreaIsBad, IsUnbegun, WayEnds}
 use Rattle.crossing.specs.declared.stopped.Stopped.{Stopped}
 use Rattle.crossing.specs.declared.stopped.Stopped.TheVariants as stopped
-use Rattle.canonical_abi.specs.Halves.{counted_nodes, source, world, HasEntered, EntryFails, HasReturned, ReturnFails}
+use Rattle.canonical_abi.specs.Halves.{counted_nodes, source, as_world, HasEntered, EntryFails, HasReturned, ReturnFails}
 use Rattle.adapter.specs.Faults.{fault_in}
 use Rattle.adapter.specs.Leaving.{LeaveFails}
 
@@ -53,7 +53,7 @@ module _ (allocates : Allocation) (f : FunctionType) (flats : List Flat) (m : Li
     counted : (es : List Event) → Counts n es c → c ≡ counted_nodes es
     counted es h = omega (arith, h, fresh, small)
 
-    has-entered : (handed : List Flat) → KindsFit f flats → IsDone allocates (ParamsWalk max_flat_params f.params m (argument_flats f flats) handed) callee n callee' c
+    has-entered : (handed : List Flat) → KindsFit f flats → IsCrossed allocates (ParamsWalk max_flat_params f.params m (argument_flats f flats) handed) callee n callee' c
         → HasEntered allocates f flats m callee handed callee' c
     has-entered handed kinds d =
         (d.scripted.0, d.events, record { kinds = kinds; denoted = d.scripted.1; passes = d.scripted.2; leads = d.leads; same_caller = refl; same_body = refl }, counted d.events d.counted)
@@ -61,7 +61,7 @@ module _ (allocates : Allocation) (f : FunctionType) (flats : List Flat) (m : Li
     -- the record of the arguments has no place
     bad-address : (k : TrapKind) → KindsFit f flats → AddressFaulty max_flat_params f.params m (argument_flats f flats) k → IsUnbegun callee n callee' c
         → EntryFails allocates f flats m callee (ended.Trap (record { kind = k; step = step.LiftArgs })) callee' c
-    bad-address k kinds address none = inl (refl, [], inr (inl (kinds, address, refl, ap (λ w. world (source m) w []) none.same)), none.uncounted ∙ fresh)
+    bad-address k kinds address none = inl (refl, [], inr (inl (kinds, address, refl, ap (λ w. as_world (source m) w []) none.same)), none.uncounted ∙ fresh)
 
     -- one of their nodes is at fault
     bad-argument : (k : TrapKind) (final : List Flat) → KindsFit f flats → MetFault allocates (ParamsWalk max_flat_params f.params m (argument_flats f flats) final) callee n k callee' c
@@ -106,7 +106,7 @@ module _ (allocates : Allocation) (f : FunctionType) (flats : List Flat) (caller
     abbrev fs : Fields
     fs = result_fields f.result
 
-    has-returned : (back : List Flat) → IsDone allocates (ResultWalk max_flat_results fs m answer (area_of f flats) caller.bytes back) caller n caller' c
+    has-returned : (back : List Flat) → IsCrossed allocates (ResultWalk max_flat_results fs m answer (area_of f flats) caller.bytes back) caller n caller' c
         → HasReturned allocates f flats m answer caller back caller' c
     has-returned back d =
         (d.scripted.1, d.events, record { denoted = d.scripted.2; area_stands = d.scripted.0; passes = d.scripted.3; leads = d.leads; same_callee = refl; same_body = refl }, counted-back d.events d.counted)
@@ -114,7 +114,7 @@ module _ (allocates : Allocation) (f : FunctionType) (flats : List Flat) (caller
     -- the answer's kinds or the address of its record are at fault
     bad-answer : (k : TrapKind) → AddressFaulty max_flat_results fs m answer k → IsUnbegun caller n caller' c
         → ReturnFails allocates f flats m answer caller (ended.Trap (record { kind = k; step = step.LiftResult })) caller' c
-    bad-answer k address none = inl (refl, [], inl (address, refl, ap (λ w. world w (source m) []) none.same), none.uncounted ∙ fresh)
+    bad-answer k address none = inl (refl, [], inl (address, refl, ap (λ w. as_world w (source m) []) none.same), none.uncounted ∙ fresh)
 
     -- one of its nodes is
     bad-result : (k : TrapKind) (final : List Flat) → MetFault allocates (ResultWalk max_flat_results fs m answer (area_of f flats) caller.bytes final) caller n k caller' c
@@ -125,7 +125,7 @@ module _ (allocates : Allocation) (f : FunctionType) (flats : List Flat) (caller
     -- the return area is
     bad-area : (k : TrapKind) → AreaIsBad max_flat_results fs m answer (area_of f flats) caller.bytes k → IsUnbegun caller n caller' c
         → ReturnFails allocates f flats m answer caller (ended.Trap (record { kind = k; step = step.LowerResult })) caller' c
-    bad-area k bad none = inr (refl, [], inl (bad.0, bad.1, refl, ap (λ w. world w (source m) []) none.same), none.uncounted ∙ fresh)
+    bad-area k bad none = inr (refl, [], inl (bad.0, bad.1, refl, ap (λ w. as_world w (source m) []) none.same), none.uncounted ∙ fresh)
 
     -- the caller has no room for it
     no-room-back : (k : TrapKind) (final : List Flat) → WasRefused allocates (ResultWalk max_flat_results fs m answer (area_of f flats) caller.bytes final) caller n k caller' c

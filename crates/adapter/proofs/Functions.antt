@@ -4,9 +4,9 @@ use Rattle.canonical_abi.specs.Types.{ClosedType}
 use Rattle.tables.specs.Closed.{closed_val, closed_params}
 use Rattle.tables.specs.declared.tables.Parameter.{Parameter}
 use Rattle.tables.specs.declared.tables.ValType.{ValType}
-use Rattle.adapter.specs.Carrying.{types_in}
+use Rattle.adapter.specs.Carrying.{types_of_result}
 
-pub same_types : (o : Option ValType) (ts : List ValType) → MatchOption o (ts ≡ []) (λ t. ts ≡ t ∷ []) → ts ≡ types_in o
+pub same_types : (o : Option ValType) (ts : List ValType) → MatchOption o (ts ≡ []) (λ t. ts ≡ t ∷ []) → ts ≡ types_of_result o
 same_types None ts h = h
 same_types (Some t) ts h = h
 

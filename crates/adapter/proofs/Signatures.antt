@@ -10,7 +10,7 @@ use Rattle.std.proofs.lemmas.List.Folds.{list_all-map, list_all_at}
 use Rattle.canonical_abi.specs.Types.{ClosedType, Fields, string_type, record_type, fields_of, result_fields, fields_depth}
 use Rattle.canonical_abi.specs.Few.{IsShallowFunction}
 use Rattle.canonical_abi.specs.Layout.{size}
-use Rattle.layout.specs.Layout.{Table, row_of, layouts_of, AreWithin, IsWithin}
+use Rattle.layout.specs.Layout.{LayoutTable, row_of, layouts_of, AreWithin, IsDefinitionWithin}
 use Rattle.tables.specs.Tables.{option_all, definition_all, is_type}
 use Rattle.tables.specs.Closed.{closed_types, closed_type, closed_params, function_at, function_type, type_of_function, IsFunction}
 use Rattle.tables.specs.Standard.{IsTypeOf}
@@ -27,12 +27,12 @@ use Rattle.values.specs.Members.{fields_of_types, AreAllInside, AreTypesOf}
 use Rattle.values.specs.Types.{IsInside}
 use Rattle.lift_lower.proofs.Alone.{alone-size}
 use Rattle.values.proofs.Known.{known-inside}
-use Rattle.adapter.specs.Carrying.{types_in}
+use Rattle.adapter.specs.Carrying.{types_of_result}
 use Rattle.adapter.proofs.Functions.{params_in}
 use Rattle.adapter.proofs.Within.{type-shallow, type-small}
 
 -- a function has a row
-pub function-stands : (r : Resolve) (table : Table) (f : FunctionId) → table ≡ layouts_of r → IsFunction r f → f.0 < length table.rows
+pub function-stands : (r : Resolve) (table : LayoutTable) (f : FunctionId) → table ≡ layouts_of r → IsFunction r f → f.0 < length table.rows
 function-stands r table f is h =
     omega (arith, (stands r f h).in_range, ap (λ t. length t.rows) is, length-map (closed_types r) row_of, length-closed_rows [] r.definitions)
 
@@ -54,15 +54,15 @@ pub params-inside : (r : Resolve) (f : FunctionId) → IsFunction r f → (t : T
 params-inside r f h t same = rw (lt-ltb t.0 (length r.definitions) (omega (arith, same, (stands r f h).in_range))) refl
 
 -- a result as a list of at most one type
-pub result-fields : (r : Resolve) (o : Option ValType) → fields_of_types r (types_in o) ≡ result_fields (option_map (closed_type r) o)
+pub result-fields : (r : Resolve) (o : Option ValType) → fields_of_types r (types_of_result o) ≡ result_fields (option_map (closed_type r) o)
 result-fields r None = refl
 result-fields r (Some t) = refl
 
-pub all-inside : (r : Resolve) (o : Option ValType) → IfSome o (IsInside r) → AreAllInside r (types_in o)
+pub all-inside : (r : Resolve) (o : Option ValType) → IfSome o (IsInside r) → AreAllInside r (types_of_result o)
 all-inside r None h = refl
 all-inside r (Some t) h = and_from _ true h refl
 
-pub result-small : (r : Resolve) → ∥ AreWithin r ∥₁ → (o : Option ValType) → IfSome o (IsTypeOf r) → size (record_type (fields_of_types r (types_in o))) ≤ 16777216
+pub result-small : (r : Resolve) → ∥ AreWithin r ∥₁ → (o : Option ValType) → IfSome o (IsTypeOf r) → size (record_type (fields_of_types r (types_of_result o))) ≤ 16777216
 result-small r within None known = omega arith
 result-small r within (Some t) known = omega (arith, alone-size (closed_type r t), type-small r within t known)
 
@@ -103,7 +103,7 @@ module _ (r : Resolve) (f : FunctionId) (h : IsFunction r f) (s : Function) (fou
   small-within within =
       let st = stands r f h in
       let d = row.Function st.function in
-      let here : IsWithin d (get_or (closed_types r) f.0 string_type) = within.each f.0 d st.in_range (st.is d) in
+      let here : IsDefinitionWithin d (get_or (closed_types r) f.0 string_type) = within.each f.0 d st.in_range (st.is d) in
       let same : get_or (closed_types r) f.0 string_type ≡ record_type (fields_of_types r (map (λ p. p.ty) s.params)) =
       function-row r f st ∙ ap (λ u. record_type (fields_of (closed_params (closed_types r) u.params))) own ∙ ap (λ ts. record_type (fields_of ts)) (params_in (closed_types r) s.params) in
       let P : ClosedType → Type 0 = λ t. size t ≤ 16777216 in

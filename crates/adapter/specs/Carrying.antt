@@ -6,11 +6,11 @@ use Rattle.canonical_abi.specs.declared.trap.Fault.{Fault}
 use Rattle.tables.specs.declared.tables.ValType.{ValType}
 
 -- the type of a function's result, as a list of at most one
-abbrev pub types_in : Option ValType → List ValType
-types_in None = []
-types_in (Some t) = t ∷ []
+abbrev pub types_of_result : Option ValType → List ValType
+types_of_result None = []
+types_of_result (Some t) = t ∷ []
 
 -- a call's answer, with the flat values as a list
-abbrev pub answer_of : Result (ArrayVec Flat) Fault → Result (List Flat) Fault
-answer_of (Ok flats) = Ok flats.items
-answer_of (Err fault) = Err fault
+abbrev pub listed_answer : Result (ArrayVec Flat) Fault → Result (List Flat) Fault
+listed_answer (Ok flats) = Ok flats.items
+listed_answer (Err fault) = Err fault

@@ -13,7 +13,7 @@ ghost use Rattle.canonical_abi.specs.declared.trap.Step.TheVariants.{LiftArgs, L
 ghost use Rattle.tables.specs.Closed.{function_type, IsFunction};
 ghost use Rattle.layout.specs.Layout.{layouts_of, AreWithin};
 ghost use Rattle.adapter.specs.Asked.{IsTrapIn};
-ghost use Rattle.adapter.specs.Carrying.{answer_of};
+ghost use Rattle.adapter.specs.Carrying.{listed_answer};
 ghost use Rattle.adapter.specs.Leaving.{LeaveFails};
 ghost use Rattle.adapter.specs.Linked.{TellsNodes};
 
@@ -214,7 +214,7 @@ impl<'a> Link<'a> {
             (function_type self.old.resolve func)
             flats.now
             (record { caller = C.memory caller.old; callee = E.memory callee.old; body = B.state body.old })
-            (answer_of result)
+            (listed_answer result)
             ways
             (record { caller = C.memory caller.new; callee = E.memory callee.new; body = B.state body.new })
             × TellsNodes ways self.new
@@ -227,7 +227,7 @@ impl<'a> Link<'a> {
             (function_type self.old.resolve func)
             flats.now
             (record { caller = C.memory caller.old; callee = E.memory callee.old; body = B.state body.old })
-            (answer_of result)
+            (listed_answer result)
             (record { caller = C.memory caller.new; callee = E.memory callee.new; body = B.state body.new }) }
         ensures same_runs { AllowsSameRuns (B.runs body.old) (B.runs body.new) }
         ensures same_posts { AllowsSamePosts (B.posts body.old) (B.posts body.new) }

@@ -7,7 +7,7 @@ use Rattle.std.proofs.lemmas.Option.{same_Some}
 use Rattle.canonical_abi.specs.Types.{Prim, scalar_value, ClosedType, Fields, no_field, field, Cases, no_case, plain_case, case_with, nth_field, nth_case, list_type, record_type, prim_type, flags_type}
 use Rattle.canonical_abi.specs.Values.{Value, values_of, is_scalar, char_value, list_value, record_value}
 use Rattle.canonical_abi.specs.Layout.{align, size, prim_width}
-use Rattle.canonical_abi.specs.Reading.{reading, number_at, ◌>>=◌, each_at, prim_of, number_of}
+use Rattle.canonical_abi.specs.Reading.{reading, number_at, ◌>>=◌, each_at, read_prim, number_of}
 use Rattle.canonical_abi.specs.Requests.{request, requests, each_request, fields_requests, case_requests}
 use Rattle.canonical_abi.specs.Trace
 use Rattle.canonical_abi.specs.declared.flat.Flat.{Flat}
@@ -134,7 +134,7 @@ record-told fs vs = ap (fields_requests fs) (sym (items-of vs))
 
 -- ---- primitives
 
-pub reads-number : (p : Primitive) (n : ℕ) → (p ≡ primitive.Char → ⊥) → (v : Value) × (prim_of (Closed.prim_of p) n ≡ Ok v)
+pub reads-number : (p : Primitive) (n : ℕ) → (p ≡ primitive.Char → ⊥) → (v : Value) × (read_prim (Closed.prim_of p) n ≡ Ok v)
 reads-number primitive.Bool n h = (_, refl)
 reads-number primitive.S8 n h = (_, refl)
 reads-number primitive.U8 n h = (_, refl)
@@ -153,7 +153,7 @@ front-none (Err k) = refl
 pub scalar-true : (n : ℕ) → IsScalar n → is_scalar n ≡ true
 scalar-true n h = grind (arith, nat_tests, h)
 
-pub reads-char : (n : ℕ) → is_scalar n ≡ true → prim_of scalar_value n ≡ Ok (char_value n)
+pub reads-char : (n : ℕ) → is_scalar n ≡ true → read_prim scalar_value n ≡ Ok (char_value n)
 reads-char n h = rw h refl
 
 pub first-number : (flats : List Flat) (d : Flat) → 0 < length flats → get_or (map number_of flats) 0 0 ≡ number_of (get_or flats 0 d)

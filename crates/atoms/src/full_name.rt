@@ -27,13 +27,13 @@ pub struct FullName {
 }
 
 impl FullName {
-    ghost use Rattle.atoms.specs.FullNameView.{parts_of};
+    ghost use Rattle.atoms.specs.FullNameView.{name_parts_of};
 
     /// The full name that a text spells. 4 `BadName` exactly where it spells none.
     pub fn parse(alloc: Global, text: &str) -> Result<FullName, AtomError>
-        ensures found { IfOk result (λ n. IsFullName text.now (parts_of n)) }
+        ensures found { IfOk result (λ n. IsFullName text.now (name_parts_of n)) }
         ensures only { (parts : NameParts) → IsFullName text.now parts
-            → MatchResult result (λ n. parts_of n ≡ parts) (λ e. e ≡ error.NoMemory) }
+            → MatchResult result (λ n. name_parts_of n ≡ parts) (λ e. e ≡ error.NoMemory) }
         ensures errors { IfErr result (λ e. (e ≡ error.NoMemory) ⊎ (e ≡ error.BadName)) }
     {
         let Some((namespace, rest)) = cut(text, ':') else {
@@ -55,8 +55,8 @@ impl FullName {
 
     /// The text that spells the name.
     pub fn text(&self, alloc: Global) -> Result<String, AllocError>
-        ensures spelt { IfOk result (λ s. string_bytes s ≡ full_name_text (parts_of self.now)) }
-        ensures named { IfOk result (λ s. IsFullName (string_bytes s) (parts_of self.now)) }
+        ensures spelt { IfOk result (λ s. string_bytes s ≡ full_name_text (name_parts_of self.now)) }
+        ensures named { IfOk result (λ s. IsFullName (string_bytes s) (name_parts_of self.now)) }
     {
         let mut text = String::from_str(alloc, self.namespace.as_str())?;
         text.push(':')?;

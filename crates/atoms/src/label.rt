@@ -92,13 +92,13 @@ pub struct Label {
 impl Model for Label {
     ghost use Rattle.std.specs.Prelude.{List, ℕ};
     ghost use Rattle.atoms.specs.Label.{IsLabel};
-    ghost use Rattle.atoms.specs.LabelBytes.{bytes_of};
+    ghost use Rattle.atoms.specs.LabelBytes.{kept_bytes};
 
     ghost Value = { List ℕ };
 
-    ghost view = { λ l. bytes_of l.bytes };
+    ghost view = { λ l. kept_bytes l.bytes };
 
-    ghost invariant = { λ l. IsLabel (bytes_of l.bytes) };
+    ghost invariant = { λ l. IsLabel (kept_bytes l.bytes) };
 }
 
 impl Label {

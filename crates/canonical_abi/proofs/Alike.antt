@@ -8,7 +8,7 @@ use Rattle.canonical_abi.specs.Reading.{byte_width}
 use Rattle.canonical_abi.specs.Guest.{Memory, Allocation, IsAlignment, overwrite, with_bytes}
 use Rattle.canonical_abi.specs.Trace.{Grant, Event, node, grant, write, EventLeads, TraceLeads, RequestFails}
 use Rattle.canonical_abi.specs.Stands.{AreAligned}
-use Rattle.canonical_abi.specs.Storing.{header, EachStores, Stores, FieldsStore, CaseStores}
+use Rattle.canonical_abi.specs.Storing.{pointer_pair, EachStores, Stores, FieldsStore, CaseStores}
 use Rattle.canonical_abi.specs.Lowering.{joined_flats, Lowers, FieldsLower, CaseLowers, PassesParams}
 use Rattle.canonical_abi.specs.Told.{AllocatesInOneWay}
 use Rattle.canonical_abi.specs.declared.flat.Flat.{Flat}
@@ -55,8 +55,8 @@ mutual
   stores-alike (prim_type p) a v es fs s r = moved (Unit {0}) es _ fs _ s.1 r.1 (_, refl, (_, refl, (refl, tt)))
   stores-alike string_type a v es fs s r =
       let text : r.0 ≡ s.0 = let p = s.2 in let q = r.2 in cc in
-      moved (Unit {0}) es (node ∷ grant s.1 ∷ write s.1.at s.0 ∷ write a (header s.1.at (length s.0)) ∷ []) fs (node ∷ grant r.1 ∷ write r.1.at s.0 ∷ write a (header r.1.at (length s.0)) ∷ [])
-      s.5 (r.5 ∙ ap (λ x. node ∷ grant r.1 ∷ write r.1.at x ∷ write a (header r.1.at (length x)) ∷ []) text) (
+      moved (Unit {0}) es (node ∷ grant s.1 ∷ write s.1.at s.0 ∷ write a (pointer_pair s.1.at (length s.0)) ∷ []) fs (node ∷ grant r.1 ∷ write r.1.at s.0 ∷ write a (pointer_pair r.1.at (length s.0)) ∷ [])
+      s.5 (r.5 ∙ ap (λ x. node ∷ grant r.1 ∷ write r.1.at x ∷ write a (pointer_pair r.1.at (length x)) ∷ []) text) (
         _,
         refl,
         (
@@ -66,13 +66,13 @@ mutual
           s.4.0 ∙ sym r.4.0,
           s.4.1 ∙ ap length (sym text) ∙ sym r.4.1,
           λ at.
-              (_, ap (λ x. write x s.0 ∷ write a (header r.1.at (length s.0)) ∷ []) (sym at), (_, ap (λ x. write a (header x (length s.0)) ∷ []) (sym at), (refl, tt))),
+              (_, ap (λ x. write x s.0 ∷ write a (pointer_pair r.1.at (length s.0)) ∷ []) (sym at), (_, ap (λ x. write a (pointer_pair x (length s.0)) ∷ []) (sym at), (refl, tt))),
         ),
       )
   stores-alike (list_type t) a v es fs s r =
       let members : r.0 ≡ s.0 = values-inj r.0 s.0 (let p = s.3 in let q = r.3 in cc) in
-      moved (Unit {0}) es (node ∷ grant s.1 ∷ write a (header s.1.at (length s.0)) ∷ s.2) fs (node ∷ grant r.1 ∷ write a (header r.1.at (length s.0)) ∷ r.2)
-      s.5 (r.5 ∙ ap (λ vs. node ∷ grant r.1 ∷ write a (header r.1.at (length vs)) ∷ r.2) members) (
+      moved (Unit {0}) es (node ∷ grant s.1 ∷ write a (pointer_pair s.1.at (length s.0)) ∷ s.2) fs (node ∷ grant r.1 ∷ write a (pointer_pair r.1.at (length s.0)) ∷ r.2)
+      s.5 (r.5 ∙ ap (λ vs. node ∷ grant r.1 ∷ write a (pointer_pair r.1.at (length vs)) ∷ r.2) members) (
         _,
         refl,
         (
@@ -83,7 +83,7 @@ mutual
           s.4.1 ∙ ap (λ vs. length vs * size t) (sym members) ∙ sym r.4.1,
           λ at. (
             r.2,
-            ap (λ x. write a (header x (length s.0)) ∷ r.2) (sym at),
+            ap (λ x. write a (pointer_pair x (length s.0)) ∷ r.2) (sym at),
             each-alike (Stores t) (size t) (λ b w gs hs p q. stores-alike t b w gs hs p q) s.1.at s.0 s.2 r.2 s.6
                 (subst (λ x. EachStores (Stores t) (size t) x s.0 r.2) (sym at) (subst (λ vs. EachStores (Stores t) (size t) r.1.at vs r.2) members r.6)),
           ),

@@ -6,7 +6,7 @@ use Rattle.canonical_abi.specs.Guest.{Memory, Allocation, Release, IsHonest, IsL
 use Rattle.canonical_abi.specs.Call.{exact, Parties, World, KindsFit, area_of}
 use Rattle.canonical_abi.specs.Session.{HasResult}
 use Rattle.canonical_abi.specs.Headline.{AreHonest, AreLimited, IsStandardFunction, IsLentLive, KeepsOutside, LendsArea, area_size, CalleeIsUnchanged, AfterTrap, IsPosted, LinksOnce, FindsAndRunsOnce, IfTrap}
-use Rattle.canonical_abi.specs.Halves.{entering, returning, source, world, HasEntered, EntryFails, HasReturned, ReturnFails, FindsArguments, IsEntryTrap, EntryKeepsPromise, GivesAnswer, IsReturnTrap, ReturnKeepsPromise, RunsBetween, RunsAndReturns, HalvesKeep, HalvesKeepPromise, body_stopped, post_stopped, ends_at_entry, ends_at_run, ends_at_return, ends_at_post, completes}
+use Rattle.canonical_abi.specs.Halves.{entering, returning, source, as_world, HasEntered, EntryFails, HasReturned, ReturnFails, FindsArguments, IsEntryTrap, EntryKeepsPromise, GivesAnswer, IsReturnTrap, ReturnKeepsPromise, RunsBetween, RunsAndReturns, HalvesKeep, HalvesKeepPromise, body_stopped, post_stopped, ends_at_entry, ends_at_run, ends_at_return, ends_at_post, completes}
 use Rattle.canonical_abi.specs.declared.flat.Flat.{Flat}
 use Rattle.canonical_abi.specs.declared.trap.Fault.{Fault}
 use Rattle.canonical_abi.specs.declared.trap.Fault.TheVariants.{Trap, NoMemory}
@@ -71,10 +71,10 @@ module _ (allocates : Allocation) (releases : Release) (honest : IsHonest alloca
         → EntryFails allocates f flats m old fault new c → KeepsOutside allocates 0 0 old new × IfTrap {A = List Flat} (Err fault) (IsEntryTrap f flats m)
     entry-fails m old NoMemory new c never = absurd never
     entry-fails m old (Trap t) new c (inl (is, done, faulty, counts)) =
-        let before = traps-before (entering allocates) no_release releases exact f flats enters-honest (world (source m) old []) step.LiftArgs t.kind (record { there = done; back = [] }) (world (source m) new []) (faulty, refl) tt in
-        (before.kept, subst (λ s. IsEntryTrap f flats m s t.kind) (sym is) (argument-fault (entering allocates) no_release releases exact f flats enters-honest (world (source m) old []) t.kind done (world (source m) new []) faulty))
+        let before = traps-before (entering allocates) no_release releases exact f flats enters-honest (as_world (source m) old []) step.LiftArgs t.kind (record { there = done; back = [] }) (as_world (source m) new []) (faulty, refl) tt in
+        (before.kept, subst (λ s. IsEntryTrap f flats m s t.kind) (sym is) (argument-fault (entering allocates) no_release releases exact f flats enters-honest (as_world (source m) old []) t.kind done (as_world (source m) new []) faulty))
     entry-fails m old (Trap t) new c (inr (is, done, (kinds, es, script, breaks, is_done, same, kept), counts)) =
-        let before = traps-before (entering allocates) no_release releases exact f flats enters-honest (world (source m) old []) step.LowerArgs t.kind (record { there = done; back = [] }) (world (source m) new []) ((kinds, es, script, breaks, is_done, same, kept), refl) tt in
+        let before = traps-before (entering allocates) no_release releases exact f flats enters-honest (as_world (source m) old []) step.LowerArgs t.kind (record { there = done; back = [] }) (as_world (source m) new []) ((kinds, es, script, breaks, is_done, same, kept), refl) tt in
         let whole = script-params-fine f.params _ _ es script in
         (before.kept, subst (λ s. IsEntryTrap f flats m s t.kind) (sym is) (broken allocates releases honest Nowhere old es t.kind new whole.0 whole.1 (breaks-either exact allocates old es t.kind new breaks)).2)
 
@@ -117,12 +117,12 @@ module _ (allocates : Allocation) (releases : Release) (honest : IsHonest alloca
         → KeepsOutside allocates area (area_size f) old new × IfTrap {A = List Flat} (Err fault) (IsReturnTrap f flats m answer old)
     return-fails m answer old NoMemory new c never = absurd never
     return-fails m answer old (Trap t) new c (inl (is, done, faulty, counts)) =
-        let went = result-faulty (returning allocates) releases no_release exact f flats returns-honest answer (world old (source m) []) (world new (source m) []) t.kind done faulty in
-        let outside = went-outside (returning allocates) releases no_release exact f flats returns-honest (world old (source m) []) (world new (source m) []) went in
-        (outside, subst (λ s. IsReturnTrap f flats m answer old s t.kind) (sym is) (answer-denotes-fault (returning allocates) releases no_release exact f flats returns-honest answer (world old (source m) []) t.kind done (world new (source m) []) faulty))
+        let went = result-faulty (returning allocates) releases no_release exact f flats returns-honest answer (as_world old (source m) []) (as_world new (source m) []) t.kind done faulty in
+        let outside = went-outside (returning allocates) releases no_release exact f flats returns-honest (as_world old (source m) []) (as_world new (source m) []) went in
+        (outside, subst (λ s. IsReturnTrap f flats m answer old s t.kind) (sym is) (answer-denotes-fault (returning allocates) releases no_release exact f flats returns-honest answer (as_world old (source m) []) t.kind done (as_world new (source m) []) faulty))
     return-fails m answer old (Trap t) new c (inr (is, done, fails, counts)) =
-        let both = result-fails (returning allocates) releases no_release exact f flats returns-honest answer (world old (source m) []) (world new (source m) []) t.kind done fails in
-        let outside = went-outside (returning allocates) releases no_release exact f flats returns-honest (world old (source m) []) (world new (source m) []) both.0 in
+        let both = result-fails (returning allocates) releases no_release exact f flats returns-honest answer (as_world old (source m) []) (as_world new (source m) []) t.kind done fails in
+        let outside = went-outside (returning allocates) releases no_release exact f flats returns-honest (as_world old (source m) []) (as_world new (source m) []) both.0 in
         (outside, subst (λ s. IsReturnTrap f flats m answer old s t.kind) (sym is) both.1)
 
 pub entry-keeps-promise : (allocates : Allocation) (releases : Release) → IsHonest allocates releases → KeepsLimit allocates → EntryKeepsPromise allocates
@@ -140,7 +140,7 @@ return-keeps-promise allocates releases honest keeps = record {
 -- ---- the whole
 
 module _ (parties : Parties) (caller_releases callee_releases : Release) (honest : AreHonest parties caller_releases callee_releases) (f : FunctionType) (flats : List Flat) (standard : IsStandardFunction f)
-    (old : World) (between : Memory) (limited : AreLimited parties (world between old.callee old.body)) (lends : LendsArea f flats between) where
+    (old : World) (between : Memory) (limited : AreLimited parties (as_world between old.callee old.body)) (lends : LendsArea f flats between) where
   abbrev Keeps : Result (List Flat) Fault → World → Type 0
   Keeps result new = HalvesKeep parties f flats old between result new
 
@@ -150,10 +150,10 @@ module _ (parties : Parties) (caller_releases callee_releases : Release) (honest
       keeps-outside parties.caller_allocates caller_releases honest.caller Nowhere between between []
       (fine-none parties.caller_allocates Nowhere between between refl) (area_of f flats) (area_size f) (λ x i. absurd i)
 
-  at-entry : (fault : Fault) (there : ℕ) (callee : Memory) → EntryFails parties.callee_allocates f flats old.caller.bytes old.callee fault callee there → Keeps (Err fault) (world between callee old.body)
+  at-entry : (fault : Fault) (there : ℕ) (callee : Memory) → EntryFails parties.callee_allocates f flats old.caller.bytes old.callee fault callee there → Keeps (Err fault) (as_world between callee old.body)
   at-entry NoMemory there callee never = absurd never
   at-entry (Trap t) there callee h = elim h [
-    | inl g ↦ subst (λ s. Keeps (Err (Trap (record { kind = t.kind; step = s }))) (world between callee old.body)) (sym g.0) (record {
+    | inl g ↦ subst (λ s. Keeps (Err (Trap (record { kind = t.kind; step = s }))) (as_world between callee old.body)) (sym g.0) (record {
       finds = λ e. absurd e;
       before = λ e. callee_same;
       once = inl callee_same;
@@ -161,7 +161,7 @@ module _ (parties : Parties) (caller_releases callee_releases : Release) (honest
       unchanged = caller-same;
       own = subst (λ s. IsEntryTrap f flats old.caller.bytes s t.kind) g.0 fails.1;
     })
-    | inr g ↦ subst (λ s. Keeps (Err (Trap (record { kind = t.kind; step = s }))) (world between callee old.body)) (sym g.0) (record {
+    | inr g ↦ subst (λ s. Keeps (Err (Trap (record { kind = t.kind; step = s }))) (as_world between callee old.body)) (sym g.0) (record {
       finds = λ e. absurd e;
       before = λ e. callee_same;
       once = inl callee_same;
@@ -174,52 +174,52 @@ module _ (parties : Parties) (caller_releases callee_releases : Release) (honest
       fails : KeepsOutside parties.callee_allocates 0 0 old.callee callee × IsEntryTrap f flats old.caller.bytes t.step t.kind
       fails = entry-fails parties.callee_allocates callee_releases honest.callee f flats old.caller.bytes old.callee (Trap t) callee there h
 
-      callee_same : CalleeIsUnchanged parties old (world between callee old.body)
+      callee_same : CalleeIsUnchanged parties old (as_world between callee old.body)
       callee_same = record { kept = fails.0; same_body = refl }
 
-  at-run : (there : ℕ) (ran : Memory) (body : List ℕ) → RunsBetween parties f flats old there None ran body → Keeps (Err body_stopped) (world between ran body)
+  at-run : (there : ℕ) (ran : Memory) (body : List ℕ) → RunsBetween parties f flats old there None ran body → Keeps (Err body_stopped) (as_world between ran body)
   at-run there ran body r =
       record { finds = λ e. once; before = λ e. absurd e; once = inr once; gives = tt; unchanged = caller-same; own = refl }
     where
-      once : LinksOnce parties f flats old (AfterTrap parties step.Body (world between ran body))
+      once : LinksOnce parties f flats old (AfterTrap parties step.Body (as_world between ran body))
       once = record {
         arguments = r.enters.0;
         held = r.enters.2.denoted;
         runs = record {
           answer = None;
-          ran = world old.caller ran body;
-          found = found parties caller_releases callee_releases exact f flats honest standard old limited.callee limited.callee_keeps r.enters.0 r.handed r.enters.1 (world old.caller r.entered old.body)
-              (enters parties f flats old r.handed r.entered there r.enters) None (world old.caller ran body) (record { run = r.run; same_caller = refl });
+          ran = as_world old.caller ran body;
+          found = found parties caller_releases callee_releases exact f flats honest standard old limited.callee limited.callee_keeps r.enters.0 r.handed r.enters.1 (as_world old.caller r.entered old.body)
+              (enters parties f flats old r.handed r.entered there r.enters) None (as_world old.caller ran body) (record { run = r.run; same_caller = refl });
           after = (refl, (refl, refl));
         };
       }
 
   module _ (there : ℕ) (answer : List Flat) (ran : Memory) (body : List ℕ) (r : RunsBetween parties f flats old there (Some answer) ran body) where
-    found-once : FindsAndRunsOnce parties f r.enters.0 old (Some answer) (world old.caller ran body)
+    found-once : FindsAndRunsOnce parties f r.enters.0 old (Some answer) (as_world old.caller ran body)
     found-once =
         answered-found parties caller_releases callee_releases exact f flats honest standard old limited.callee limited.callee_keeps answer (put parties f flats old there answer ran body r)
         (after parties f flats old there answer ran body r) (answered parties f flats old there answer ran body r)
 
-    runs-once : (After : Option (List Flat) → World → Type 0) → After (Some answer) (world old.caller ran body) → LinksOnce parties f flats old After
+    runs-once : (After : Option (List Flat) → World → Type 0) → After (Some answer) (as_world old.caller ran body) → LinksOnce parties f flats old After
     runs-once After stands =
         answered-once parties caller_releases callee_releases exact f flats honest standard old limited.callee limited.callee_keeps After answer (put parties f flats old there answer ran body r)
         (after parties f flats old there answer ran body r) (answered parties f flats old there answer ran body r) stands
 
-    at-return : (fault : Fault) (caller : Memory) (back : ℕ) → ReturnFails parties.caller_allocates f flats ran.bytes answer between fault caller back → Keeps (Err fault) (world caller ran body)
+    at-return : (fault : Fault) (caller : Memory) (back : ℕ) → ReturnFails parties.caller_allocates f flats ran.bytes answer between fault caller back → Keeps (Err fault) (as_world caller ran body)
     at-return NoMemory caller back never = absurd never
     at-return (Trap t) caller back h = elim h [
-      | inl g ↦ subst (λ s. Keeps (Err (Trap (record { kind = t.kind; step = s }))) (world caller ran body)) (sym g.0) (record {
-        finds = λ e. runs-once (AfterTrap parties step.LiftResult (world caller ran body)) (refl, refl);
+      | inl g ↦ subst (λ s. Keeps (Err (Trap (record { kind = t.kind; step = s }))) (as_world caller ran body)) (sym g.0) (record {
+        finds = λ e. runs-once (AfterTrap parties step.LiftResult (as_world caller ran body)) (refl, refl);
         before = λ e. absurd e;
-        once = inr (runs-once (AfterTrap parties step.LiftResult (world caller ran body)) (refl, refl));
+        once = inr (runs-once (AfterTrap parties step.LiftResult (as_world caller ran body)) (refl, refl));
         gives = tt;
         unchanged = fails.0;
-        own = (r.enters.0, r.enters.2.denoted, (answer, world old.caller ran body, found-once, subst (λ s. IsReturnTrap f flats ran.bytes answer between s t.kind) g.0 fails.1, (refl, refl)));
+        own = (r.enters.0, r.enters.2.denoted, (answer, as_world old.caller ran body, found-once, subst (λ s. IsReturnTrap f flats ran.bytes answer between s t.kind) g.0 fails.1, (refl, refl)));
       })
-      | inr g ↦ subst (λ s. Keeps (Err (Trap (record { kind = t.kind; step = s }))) (world caller ran body)) (sym g.0) (record {
-        finds = λ e. runs-once (AfterTrap parties step.LowerResult (world caller ran body)) (refl, refl);
+      | inr g ↦ subst (λ s. Keeps (Err (Trap (record { kind = t.kind; step = s }))) (as_world caller ran body)) (sym g.0) (record {
+        finds = λ e. runs-once (AfterTrap parties step.LowerResult (as_world caller ran body)) (refl, refl);
         before = λ e. absurd e;
-        once = inr (runs-once (AfterTrap parties step.LowerResult (world caller ran body)) (refl, refl));
+        once = inr (runs-once (AfterTrap parties step.LowerResult (as_world caller ran body)) (refl, refl));
         gives = tt;
         unchanged = fails.0;
         own = subst (λ s. IsReturnTrap f flats ran.bytes answer between s t.kind) g.0 fails.1;
@@ -235,7 +235,7 @@ module _ (parties : Parties) (caller_releases callee_releases : Release) (honest
         return-done parties.caller_allocates caller_releases honest.caller f flats limited.caller_keeps ran.bytes answer between given caller back standard limited.caller
         b.runs.enters.2.kinds lends b.returns
 
-    at-post : (callee : Memory) (kept : List ℕ) → parties.posts body ran answer kept callee None → Keeps (Err post_stopped) (world caller callee kept)
+    at-post : (callee : Memory) (kept : List ℕ) → parties.posts body ran answer kept callee None → Keeps (Err post_stopped) (as_world caller callee kept)
     at-post callee kept post = record {
       finds = λ e. once;
       before = λ e. absurd e;
@@ -245,10 +245,10 @@ module _ (parties : Parties) (caller_releases callee_releases : Release) (honest
       own = refl;
     }
       where
-        once : LinksOnce parties f flats old (IsPosted parties None (world caller callee kept))
-        once = runs-once there answer ran body b.runs (IsPosted parties None (world caller callee kept)) post
+        once : LinksOnce parties f flats old (IsPosted parties None (as_world caller callee kept))
+        once = runs-once there answer ran body b.runs (IsPosted parties None (as_world caller callee kept)) post
 
-    whole : (callee : Memory) (kept : List ℕ) → parties.posts body ran answer kept callee (Some tt) → Keeps (Ok given) (world caller callee kept)
+    whole : (callee : Memory) (kept : List ℕ) → parties.posts body ran answer kept callee (Some tt) → Keeps (Ok given) (as_world caller callee kept)
     whole callee kept post = record {
       finds = λ e. once;
       before = λ e. absurd e;
@@ -257,7 +257,7 @@ module _ (parties : Parties) (caller_releases callee_releases : Release) (honest
         arguments = b.runs.enters.0;
         held = b.runs.enters.2.denoted;
         answer = answer;
-        ran = world old.caller ran body;
+        ran = as_world old.caller ran body;
         found = found-once there answer ran body b.runs;
         values = gives.values;
         answered = gives.answered;
@@ -268,8 +268,8 @@ module _ (parties : Parties) (caller_releases callee_releases : Release) (honest
       own = tt;
     }
       where
-        once : LinksOnce parties f flats old (IsPosted parties (Some tt) (world caller callee kept))
-        once = runs-once there answer ran body b.runs (IsPosted parties (Some tt) (world caller callee kept)) post
+        once : LinksOnce parties f flats old (IsPosted parties (Some tt) (as_world caller callee kept))
+        once = runs-once there answer ran body b.runs (IsPosted parties (Some tt) (as_world caller callee kept)) post
 
 pub halves-keep-promise : (parties : Parties) (caller_releases callee_releases : Release) → HalvesKeepPromise parties caller_releases callee_releases
 halves-keep-promise parties cr er f flats old between _ _ _ _ standard (ends_at_entry fault there callee fails) honest limited lends = at-entry parties cr er honest f flats standard old between limited lends fault there callee fails

@@ -11,7 +11,7 @@ use Rattle.canonical_abi.specs.Stands.{AreAligned}
 use Rattle.canonical_abi.specs.Script.{ParamsUntil, ParamsScript, ResultUntil, ResultScript}
 use Rattle.canonical_abi.specs.Call.{Parties, World, Order, either, exact, Ways, Enters, Runs, Finishes, Answered, Returned, Completes, ArgumentsFaulty, ResultFaulty, ResultFails, Traps, GivesUp, Calls, IsGrantedPart, ReturnAreaFaulty, area_of}
 use Rattle.canonical_abi.specs.Session.{HasResult}
-use Rattle.canonical_abi.specs.Headline.{AreHonest, IsStandardFunction, IsLentLive, KeepsOutside, FindsAndRunsOnce, CalleeIsUnchanged, IsBeforeBody, EntersBody, HasEntered, IsAsItRan, IsPosted, IsNotPosted, AfterTrap, AfterRun, area_size, LendsArea, IsArgumentFault, IsLinkTrap, LinksOnce, GivesBack, LinkKeepsPromise, LinkPromise}
+use Rattle.canonical_abi.specs.Headline.{AreHonest, IsStandardFunction, IsLentLive, KeepsOutside, FindsAndRunsOnce, CalleeIsUnchanged, IsBeforeBody, EntersBody, WasEntered, IsAsItRan, IsPosted, IsNotPosted, AfterTrap, AfterRun, area_size, LendsArea, IsArgumentFault, IsLinkTrap, LinksOnce, GivesBack, LinkKeepsPromise, LinkPromise}
 use Rattle.canonical_abi.specs.declared.flat.Flat.{Flat}
 use Rattle.canonical_abi.specs.declared.trap.Fault.{Fault}
 use Rattle.canonical_abi.specs.declared.trap.Fault.TheVariants.{Trap, NoMemory}
@@ -372,7 +372,7 @@ module _ (parties : Parties) (caller_releases callee_releases : Release) (order 
         own = tt;
       }
         where
-          given-up : (o : Order) (w : World) → GivesUp parties f flats o old ways w → HasEntered {A = List Flat} o (Err NoMemory) → LinksOnce parties f flats old (AfterRun {A = List Flat} parties o (Err NoMemory) w)
+          given-up : (o : Order) (w : World) → GivesUp parties f flats o old ways w → WasEntered {A = List Flat} o (Err NoMemory) → LinksOnce parties f flats old (AfterRun {A = List Flat} parties o (Err NoMemory) w)
           given-up either w g e = absurd e
           given-up exact w g e = absurd g
 

@@ -14,7 +14,7 @@ use Rattle.canonical_abi.specs.Stands.{AreAligned, IsGranted, Carries}
 use Rattle.canonical_abi.specs.Laws.{IsOneOutcome}
 use Rattle.canonical_abi.specs.Call.{Parties, World, Order, either, exact, Ways, Traps, GivesUp, Calls, KindsFit, ReturnAreaFaulty, argument_flats, area_of}
 use Rattle.canonical_abi.specs.Session.{AsksArea, Prepares, HasResult, HasResultFault, as_list, Placed, PlaceFails, CameBack, TypedTraps, TypedCall}
-use Rattle.canonical_abi.specs.Headline.{AreHonest, IsStandardFunction, KeepsOutside, FindsAndRunsOnce, RunsOnce, LiftsExactly, CallerIsUnchanged, CalleeIsUnchanged, IsBeforeBody, EntersBody, HasEntered, IsPosted, AfterTrap, AfterRun, IsOwnTrap, KeepsPromise, CallKeepsPromise, LendsArea, AreArguments, IsArgumentFault, IsLinkTrap, LinksOnce}
+use Rattle.canonical_abi.specs.Headline.{AreHonest, IsStandardFunction, KeepsOutside, FindsAndRunsOnce, RunsOnce, LiftsExactly, CallerIsUnchanged, CalleeIsUnchanged, IsBeforeBody, EntersBody, WasEntered, IsPosted, AfterTrap, AfterRun, IsOwnTrap, KeepsPromise, CallKeepsPromise, LendsArea, AreArguments, IsArgumentFault, IsLinkTrap, LinksOnce}
 use Rattle.canonical_abi.specs.declared.flat.CoreKind.{CoreKind}
 use Rattle.canonical_abi.specs.declared.flat.CoreKind.TheVariants as kind
 use Rattle.canonical_abi.specs.declared.flat.Flat.{Flat}
@@ -384,7 +384,7 @@ module _ (parties : Parties) (caller_releases callee_releases : Release) (order 
       wanting-either new (inr (back, area, b)) = inr (came-late order new (came-once back area new b))
 
       -- in the exact order it comes after the whole crossing
-      wanting-once : (o : Order) → o ≡ order → (new : World) → TypedCall parties order f arguments old (Err NoMemory) new → HasEntered {A = Option Value} o (Err NoMemory) → Once (After o new)
+      wanting-once : (o : Order) → o ≡ order → (new : World) → TypedCall parties order f arguments old (Err NoMemory) new → WasEntered {A = Option Value} o (Err NoMemory) → Once (After o new)
       wanting-once either is new c e = absurd e
       wanting-once exact is new (inl (flats, area, placed, p, ways, g)) e = absurd (subst (λ o. GivesUp parties f flats o placed ways new) (sym is) g)
       wanting-once exact is new (inr (back, area, b)) e = came-late exact new (came-once back area new b)

@@ -24,8 +24,8 @@ use Rattle.canonical_abi.specs.declared.trap.Step.TheVariants as step
 abbrev pub counted_nodes : List Event → ℕ
 counted_nodes es = min (nodes_of es) (2 ^ 64 - 1)
 
-abbrev pub world : Memory → Memory → List ℕ → World
-world caller callee body = record { caller = caller; callee = callee; body = body }
+abbrev pub as_world : Memory → Memory → List ℕ → World
+as_world caller callee body = record { caller = caller; callee = callee; body = body }
 
 -- a memory that is only read
 abbrev pub source : List ℕ → Memory
@@ -53,15 +53,15 @@ returning allocates = record {
 -- the arguments are put into the callee, and c tells the nodes of their way
 abbrev pub HasEntered : Allocation → FunctionType → List Flat → List ℕ → Memory → List Flat → Memory → ℕ → Type 0
 HasEntered allocates f flats m old handed new c =
-    (values : List Value) × (there : List Event) × Enters (entering allocates) f flats (world (source m) old []) values handed there (world (source m) new []) × (c ≡ counted_nodes there)
+    (values : List Value) × (there : List Event) × Enters (entering allocates) f flats (as_world (source m) old []) values handed there (as_world (source m) new []) × (c ≡ counted_nodes there)
 
 -- why they are not: a trap, and c tells the nodes of the part of their way that was done
 abbrev pub EntryFails : Allocation → FunctionType → List Flat → List ℕ → Memory → Fault → Memory → ℕ → Type 0
 EntryFails allocates f flats m old (Trap t) new c =
     ((t.step ≡ step.LiftArgs) × (done : List Event)
-    × ArgumentsFaulty (entering allocates) exact f flats (world (source m) old []) t.kind done (world (source m) new []) × (c ≡ counted_nodes done))
+    × ArgumentsFaulty (entering allocates) exact f flats (as_world (source m) old []) t.kind done (as_world (source m) new []) × (c ≡ counted_nodes done))
     ⊎ ((t.step ≡ step.LowerArgs) × (done : List Event)
-    × ArgumentsFail (entering allocates) exact f flats (world (source m) old []) t.kind done (world (source m) new []) × (c ≡ counted_nodes done))
+    × ArgumentsFail (entering allocates) exact f flats (as_world (source m) old []) t.kind done (as_world (source m) new []) × (c ≡ counted_nodes done))
 EntryFails allocates f flats m old NoMemory new c = ⊥
 
 -- ---- the second half, from a callee with the bytes m
@@ -69,15 +69,15 @@ EntryFails allocates f flats m old NoMemory new c = ⊥
 -- the result is put into the caller, and c tells the nodes of its way
 abbrev pub HasReturned : Allocation → FunctionType → List Flat → List ℕ → List Flat → Memory → List Flat → Memory → ℕ → Type 0
 HasReturned allocates f flats m answer old given new c =
-    (values : List Value) × (back : List Event) × Returns (returning allocates) f flats (world old (source m) []) answer values given back (world new (source m) []) × (c ≡ counted_nodes back)
+    (values : List Value) × (back : List Event) × Returns (returning allocates) f flats (as_world old (source m) []) answer values given back (as_world new (source m) []) × (c ≡ counted_nodes back)
 
 -- why it is not: a trap, and c tells the nodes of the part of its way that was done
 abbrev pub ReturnFails : Allocation → FunctionType → List Flat → List ℕ → List Flat → Memory → Fault → Memory → ℕ → Type 0
 ReturnFails allocates f flats m answer old (Trap t) new c =
     ((t.step ≡ step.LiftResult) × (done : List Event)
-    × ResultFaulty (returning allocates) exact f flats (world old (source m) []) answer t.kind done (world new (source m) []) × (c ≡ counted_nodes done))
+    × ResultFaulty (returning allocates) exact f flats (as_world old (source m) []) answer t.kind done (as_world new (source m) []) × (c ≡ counted_nodes done))
     ⊎ ((t.step ≡ step.LowerResult) × (done : List Event)
-    × ResultFails (returning allocates) exact f flats (world old (source m) []) answer t.kind done (world new (source m) []) × (c ≡ counted_nodes done))
+    × ResultFails (returning allocates) exact f flats (as_world old (source m) []) answer t.kind done (as_world new (source m) []) × (c ≡ counted_nodes done))
 ReturnFails allocates f flats m answer old NoMemory new c = ⊥
 
 -- ---- what each half promises by itself, over a memory whose allocator is honest and keeps the limit
@@ -150,18 +150,18 @@ module _ (parties : Parties) (f : FunctionType) (flats : List Flat) (old : World
   pub data CallsInHalves : Result (List Flat) Fault → ℕ → ℕ → World → Type 0 where
     -- the arguments did not enter, and nothing ran
     ends_at_entry : (fault : Fault) (there : ℕ) (callee : Memory) → EntryFails parties.callee_allocates f flats old.caller.bytes old.callee fault callee there
-        → CallsInHalves (Err fault) there 0 (world between callee old.body)
+        → CallsInHalves (Err fault) there 0 (as_world between callee old.body)
     -- the run came to no answer
-    ends_at_run : (there : ℕ) (ran : Memory) (body : List ℕ) → RunsBetween parties f flats old there None ran body → CallsInHalves (Err body_stopped) there 0 (world between ran body)
+    ends_at_run : (there : ℕ) (ran : Memory) (body : List ℕ) → RunsBetween parties f flats old there None ran body → CallsInHalves (Err body_stopped) there 0 (as_world between ran body)
     -- its answer did not return
     ends_at_return : (there back : ℕ) (answer : List Flat) (fault : Fault) (caller ran : Memory) (body : List ℕ) → RunsBetween parties f flats old there (Some answer) ran body
-        → ReturnFails parties.caller_allocates f flats ran.bytes answer between fault caller back → CallsInHalves (Err fault) there back (world caller ran body)
+        → ReturnFails parties.caller_allocates f flats ran.bytes answer between fault caller back → CallsInHalves (Err fault) there back (as_world caller ran body)
     -- the one run of post-return on it stopped
     ends_at_post : (there back : ℕ) (answer given : List Flat) (caller ran : Memory) (body : List ℕ) → RunsAndReturns there back answer given caller ran body
-        → (callee : Memory) (kept : List ℕ) → parties.posts body ran answer kept callee None → CallsInHalves (Err post_stopped) there back (world caller callee kept)
+        → (callee : Memory) (kept : List ℕ) → parties.posts body ran answer kept callee None → CallsInHalves (Err post_stopped) there back (as_world caller callee kept)
     -- or came to its end
     completes : (there back : ℕ) (answer given : List Flat) (caller ran : Memory) (body : List ℕ) → RunsAndReturns there back answer given caller ran body
-        → (callee : Memory) (kept : List ℕ) → parties.posts body ran answer kept callee (Some tt) → CallsInHalves (Ok given) there back (world caller callee kept)
+        → (callee : Memory) (kept : List ℕ) → parties.posts body ran answer kept callee (Some tt) → CallsInHalves (Ok given) there back (as_world caller callee kept)
 
 module _ (parties : Parties) (f : FunctionType) (flats : List Flat) (old : World) where
   -- the call gives this answer, by ways of so many nodes
@@ -183,7 +183,7 @@ IsHalvesTrap parties f flats old between new s k = IsLinkTrap parties f flats ol
 -- what such a call promises, whatever became of the caller between: of the callee from its beginning, of the caller from the second half on
 pub record HalvesKeep (parties : Parties) (f : FunctionType) (flats : List Flat) (old : World) (between : Memory) (result : Result (List Flat) Fault) (new : World) : Type 0 where
   -- the callee finds exactly the arguments that the caller held at the beginning, and is run once
-  pub finds : headline.HasEntered exact result → LinksOnce parties f flats old (AfterRun parties exact result new)
+  pub finds : headline.WasEntered exact result → LinksOnce parties f flats old (AfterRun parties exact result new)
   -- before the body is entered the callee keeps all outside the blocks handed out
   pub before : EndsBeforeBody result → CalleeIsUnchanged parties old new
   pub once : CalleeIsUnchanged parties old new ⊎ LinksOnce parties f flats old (AfterRun parties exact result new)
@@ -198,5 +198,5 @@ abbrev pub HalvesKeepPromise : Parties → Release → Release → Type 0
 HalvesKeepPromise parties caller_releases callee_releases =
     (f : FunctionType) (flats : List Flat) (old : World) (between : Memory) (result : Result (List Flat) Fault) (there back : ℕ) (new : World)
     → IsStandardFunction f → CallsInHalves parties f flats old between result there back new
-    → AreHonest parties caller_releases callee_releases → AreLimited parties (world between old.callee old.body) → LendsArea f flats between
+    → AreHonest parties caller_releases callee_releases → AreLimited parties (as_world between old.callee old.body) → LendsArea f flats between
     → HalvesKeep parties f flats old between result new

@@ -5,7 +5,7 @@ use Rattle.std.proofs.lemmas.List.{append-nil}
 use Rattle.atoms.specs.FullName.{NameParts, Lacks, IsName, IsFullName, name_text, package_text}
 use Rattle.atoms.proofs.FullNames.{label_lacks, package_lacks}
 use Rattle.ctype_format.specs.Names.{cut_at}
-use Rattle.component_reader.specs.Component.{before, behind, second, namespace_in, behind_namespace, package_in, behind_package, interface_in, version_in, package_named}
+use Rattle.component_reader.specs.Component.{before, behind, second, namespace_in, text_behind_namespace, package_in, behind_package, interface_text, version_in, package_in_name}
 use Rattle.component_reader.specs.Names.{package_parts}
 
 module _ (mark : ℕ) where
@@ -35,13 +35,13 @@ name-cut text name (Some version) h =
     (ap (before text) cut, ap second cut)
 
 pub parts-cut : (text : List ℕ) (parts : NameParts) → IsFullName text parts
-    → (namespace_in text ≡ parts.namespace) × (package_in text ≡ parts.package_name) × (interface_in text ≡ parts.name) × (version_in text ≡ parts.version)
+    → (namespace_in text ≡ parts.namespace) × (package_in text ≡ parts.package_name) × (interface_text text ≡ parts.name) × (version_in text ≡ parts.version)
 parts-cut text parts h =
     let spaced : cut_at 58 text ≡ Some (parts.namespace, package_text parts) =
     ap (cut_at 58) h.spelt ∙ cut-found 58 parts.namespace (package_text parts) (package_lacks 58 parts.namespace refl h.namespace) in
     let packaged : cut_at 47 (package_text parts) ≡ Some (parts.package_name, name_text parts) =
     cut-found 47 parts.package_name (name_text parts) (package_lacks 47 parts.package_name refl h.package_name) in
-    let behind_space : behind_namespace text ≡ package_text parts = ap (behind text) spaced in
+    let behind_space : text_behind_namespace text ≡ package_text parts = ap (behind text) spaced in
     let behind_named : behind_package text ≡ name_text parts =
     ap (λ (t : List ℕ). behind t (cut_at 47 t)) behind_space ∙ ap (behind (package_text parts)) packaged in
     let last = name-cut (name_text parts) parts.name parts.version h.name in (
@@ -52,5 +52,5 @@ parts-cut text parts h =
     )
 
 -- so is the name of its package
-pub package-cut : (text : List ℕ) (parts : NameParts) → IsFullName text parts → package_named text ≡ package_parts parts
+pub package-cut : (text : List ℕ) (parts : NameParts) → IsFullName text parts → package_in_name text ≡ package_parts parts
 package-cut text parts h = let cut = parts-cut text parts h in λ j. record { namespace = cut.0 j; name = cut.1 j; version = cut.3 j }

@@ -2,7 +2,7 @@
 use Rattle.std.proofs.Common.{◌≡◌, ℕ, Bool, true, false, List, IsTrue, refl, ap, sym, ◌∙◌, subst}
 use Rattle.atoms.specs.Label.{is_label, IsLabel}
 use Rattle.atoms.specs.FullName.{NameParts, IsFullName, is_package_label, full_name_text, package_text}
-use Rattle.atoms.specs.FullNameView.{parts_of}
+use Rattle.atoms.specs.FullNameView.{name_parts_of}
 use Rattle.atoms.specs.declared.full_name.FullName.{FullName}
 use Rattle.atoms.proofs.FullNames.{label_lacks, has_mark}
 use Rattle.tables.proofs.Rows.{split}
@@ -15,7 +15,7 @@ no-label parts = by (is_label (full_name_text parts)) refl
     by false is = refl
     by true is = absurd (has_mark 58 parts.namespace (package_text parts) (label_lacks 58 (full_name_text parts) refl is))
 
-full-named : (name : FullName) → IsLabel name.name → IsFullName (full_name_text (parts_of name)) (parts_of name)
+full-named : (name : FullName) → IsLabel name.name → IsFullName (full_name_text (name_parts_of name)) (name_parts_of name)
 full-named name label = record {
   spelt = refl;
   namespace = name.namespace_is;
@@ -23,11 +23,11 @@ full-named name label = record {
   name = record { spelt = refl; label = label; reads = name.version_is };
 }
 
-pub name-of-parts : (text : List ℕ) (name : FullName) (parts : NameParts) → text ≡ full_name_text (parts_of name) → IsLabel name.name → parts ≡ parts_of name
+pub name-of-parts : (text : List ℕ) (name : FullName) (parts : NameParts) → text ≡ full_name_text (name_parts_of name) → IsLabel name.name → parts ≡ name_parts_of name
     → (is_label text ≡ false) × IsFullName text parts
 name-of-parts text name parts is label same = (
-  ap is_label is ∙ no-label (parts_of name),
-  subst (IsFullName text) (sym same) (subst (λ (t : List ℕ). IsFullName t (parts_of name)) (sym is) (full-named name label)),
+  ap is_label is ∙ no-label (name_parts_of name),
+  subst (IsFullName text) (sym same) (subst (λ (t : List ℕ). IsFullName t (name_parts_of name)) (sym is) (full-named name label)),
 )
 
 pub package-label : (text : List ℕ) → IsTrue (is_package_label text) → IsLabel text

@@ -11,7 +11,7 @@ use Rattle.indexmap.specs.IndexMap.{insert_entry}
 use Rattle.ctype_format.specs.Raw.{none, then}
 use Rattle.ctype_format.specs.View.{decl_view, decls_of}
 use Rattle.ctype_format.specs.declared.raw.RawDecl.{RawDecl}
-use Rattle.package_form.specs.Scoped.{Entry as Named, entry_of}
+use Rattle.package_form.specs.Scoped.{NameEntry, mapped_entry}
 use Rattle.tables.specs.declared.tables.TypeId.{TypeId}
 use Rattle.component_reader.specs.declared.unread.Unread.{Unread}
 use Rattle.component_reader.specs.Types.{IsUnread, Becomes}
@@ -22,9 +22,9 @@ use Rattle.component_reader.specs.Readers.{names_view}
 -- ---- names
 
 named-there : (e : Vec ℕ × TypeId) (es : List (Vec ℕ × TypeId)) (k : Vec ℕ) (t : TypeId) (b : Bool) → names_view (insert_entry (λ x y. bytes_eq x.items y.items) es k t) ≡ named (names_view es) k.items t
-    → names_view (cond b ((e.0, t) ∷ es) (e ∷ insert_entry (λ x y. bytes_eq x.items y.items) es k t)) ≡ cond b (record { name = e.0.items; id = t } ∷ names_view es) (entry_of (λ v. v.items) e ∷ named (names_view es) k.items t)
+    → names_view (cond b ((e.0, t) ∷ es) (e ∷ insert_entry (λ x y. bytes_eq x.items y.items) es k t)) ≡ cond b (record { name = e.0.items; id = t } ∷ names_view es) (mapped_entry (λ v. v.items) e ∷ named (names_view es) k.items t)
 named-there e es k t true h = refl
-named-there e es k t false h = ap (λ (ns : List Named). entry_of (λ (v : Vec ℕ). v.items) e ∷ ns) h
+named-there e es k t false h = ap (λ (ns : List NameEntry). mapped_entry (λ (v : Vec ℕ). v.items) e ∷ ns) h
 
 -- what a map keeps under a name
 pub names-inserted : (es : List (Vec ℕ × TypeId)) (k : Vec ℕ) (t : TypeId) → names_view (insert_entry (λ x y. bytes_eq x.items y.items) es k t) ≡ named (names_view es) k.items t
@@ -38,7 +38,7 @@ type-looked-up (e ∷ es) n = ap (λ (o : Option TypeId). cond (bytes_eq n e.0.i
 pub type-found : {M : Type 0} (entries : M → List (Vec ℕ × TypeId)) (ms : List M) (i : ℕ) (m : M) (n : List ℕ) → slice_get ms i ≡ Some m
     → exported_type (map (λ x. names_view (entries x)) ms) i n ≡ lookup (λ v. bytes_eq n v.items) (entries m)
 type-found entries ms i m n is =
-    ap (λ (o : Option (List Named)). if_found o (λ es. type_named es n)) (slice_get-map (λ x. names_view (entries x)) ms i ∙ ap (option_map (λ x. names_view (entries x))) is)
+    ap (λ (o : Option (List NameEntry)). if_found o (λ es. type_named es n)) (slice_get-map (λ x. names_view (entries x)) ms i ∙ ap (option_map (λ x. names_view (entries x))) is)
     ∙ type-looked-up (entries m) n
 
 -- ---- states

@@ -3,12 +3,12 @@ use Rattle.std.specs.Prelude.{◌≡◌, ◌⊎◌, ◌-◌, ℕ, Bool, false, R
 use Rattle.std.specs.Option.{option_map}
 use Rattle.atoms.specs.Label.{is_label}
 use Rattle.ctype_format.specs.Names.{cut_at}
-use Rattle.ctype_format.specs.Raw.{Definition as AnyType, Define, Func, Component, Instance, Decl, Entry, Alias, Import, Export, Decls, none, then as more, File}
+use Rattle.ctype_format.specs.Raw.{Definition as AnyType, Define, Func, Component, Instance, Decl, Entry, Alias, Import, Export, Decls, none, then as more, BinaryFile}
 use Rattle.ctype_format.specs.declared.raw.RawAlias.{RawAlias}
 use Rattle.ctype_format.specs.declared.raw.RawAlias.TheVariants as alias
 use Rattle.ctype_format.specs.declared.raw.RawDescription.{RawDescription}
 use Rattle.ctype_format.specs.declared.raw.RawDescription.TheVariants as described
-use Rattle.package_form.specs.Scoped.{Entry as Named}
+use Rattle.package_form.specs.Scoped.{NameEntry}
 use Rattle.package_form.specs.Closed.{is_same_package}
 use Rattle.package_form.specs.Ids.{package_id}
 use Rattle.tables.specs.PackageNames.{PackageParts}
@@ -33,7 +33,7 @@ pub record ComponentRead : Type 0 where
   pub packages : List PackageParts
   pub rows : List Definition
   pub interfaces : List Interface
-  pub exports : List (List Named)
+  pub exports : List (List NameEntry)
   pub worlds : List World
   pub indices : List (Option TypeId)
   pub instances : List (Option InterfaceId)
@@ -43,11 +43,11 @@ pub record ComponentRead : Type 0 where
 abbrev pub no_component : ComponentRead
 no_component = record { packages = []; rows = []; interfaces = []; exports = []; worlds = []; indices = []; instances = []; awaited = None; awaited_world = None }
 
-abbrev pub exported_type : List (List Named) → ℕ → List ℕ → Option TypeId
+abbrev pub exported_type : List (List NameEntry) → ℕ → List ℕ → Option TypeId
 exported_type exports i n = if_found (slice_get exports i) (λ es. type_named es n)
 
-abbrev pub with_type : ComponentRead → TypeId → ComponentRead
-with_type s t = record {
+abbrev pub with_read_type : ComponentRead → TypeId → ComponentRead
+with_read_type s t = record {
   packages = s.packages;
   rows = s.rows;
   interfaces = s.interfaces;
@@ -60,11 +60,11 @@ with_type s t = record {
 }
 
 abbrev pub alias_read : RawAlias → ComponentRead → Option ComponentRead
-alias_read (alias.InstanceExport i n) s = option_map (with_type s) (exported_type s.exports i n)
+alias_read (alias.InstanceExport i n) s = option_map (with_read_type s) (exported_type s.exports i n)
 alias_read (alias.Outer count i) s = None
 
-abbrev pub with_instance : ComponentRead → InstanceRead → ComponentRead
-with_instance s i = record {
+abbrev pub with_read_instance : ComponentRead → InstanceRead → ComponentRead
+with_read_instance s i = record {
   packages = s.packages;
   rows = i.rows;
   interfaces = s.interfaces;
@@ -90,7 +90,7 @@ with_component s w = record {
 }
 
 abbrev pub type_read : AnyType → ComponentRead → Option ComponentRead
-type_read (Instance ds) s = option_map (with_instance s) (instance_read s.indices (length s.interfaces) ds s.rows)
+type_read (Instance ds) s = option_map (with_read_instance s) (instance_read s.indices (length s.interfaces) ds s.rows)
 type_read (Component ds) s = option_map (with_component s) (world_read s.instances (length s.worlds) ds s.rows)
 type_read (Define d) s = None
 type_read (Func f) s = None
@@ -112,24 +112,24 @@ second (Some x) = Some x.1
 abbrev pub namespace_in : List ℕ → List ℕ
 namespace_in text = before text (cut_at 58 text)
 
-abbrev pub behind_namespace : List ℕ → List ℕ
-behind_namespace text = behind text (cut_at 58 text)
+abbrev pub text_behind_namespace : List ℕ → List ℕ
+text_behind_namespace text = behind text (cut_at 58 text)
 
 abbrev pub package_in : List ℕ → List ℕ
-package_in text = before (behind_namespace text) (cut_at 47 (behind_namespace text))
+package_in text = before (text_behind_namespace text) (cut_at 47 (text_behind_namespace text))
 
 abbrev pub behind_package : List ℕ → List ℕ
-behind_package text = behind (behind_namespace text) (cut_at 47 (behind_namespace text))
+behind_package text = behind (text_behind_namespace text) (cut_at 47 (text_behind_namespace text))
 
-abbrev pub interface_in : List ℕ → List ℕ
-interface_in text = before (behind_package text) (cut_at 64 (behind_package text))
+abbrev pub interface_text : List ℕ → List ℕ
+interface_text text = before (behind_package text) (cut_at 64 (behind_package text))
 
 abbrev pub version_in : List ℕ → Option (List ℕ)
 version_in text = second (cut_at 64 (behind_package text))
 
 -- the name of the package in a full name
-abbrev pub package_named : List ℕ → PackageParts
-package_named text = record { namespace = namespace_in text; name = package_in text; version = version_in text }
+abbrev pub package_in_name : List ℕ → PackageParts
+package_in_name text = record { namespace = namespace_in text; name = package_in text; version = version_in text }
 
 abbrev pub has_name : Option PackageParts → PackageParts → Bool
 has_name None p = false
@@ -143,14 +143,14 @@ abbrev pub last_package : List PackageParts → PackageId
 last_package ps = package_id (length ps - 1)
 
 abbrev pub interface_named : PackageId → List ℕ → InstanceRead → Interface
-interface_named p text i = record { «package» = p; name = interface_in text; uses = i.uses; types = i.types; functions = i.functions }
+interface_named p text i = record { «package» = p; name = interface_text text; uses = i.uses; types = i.types; functions = i.functions }
 
 -- the instance type read last is an interface of this full name, imported or exported
 abbrev pub with_interface : List ℕ → ComponentRead → InstanceRead → ComponentRead
 with_interface text s i = record {
-  packages = with_package s.packages (package_named text);
+  packages = with_package s.packages (package_in_name text);
   rows = s.rows;
-  interfaces = s.interfaces ++ interface_named (last_package (with_package s.packages (package_named text))) text i ∷ [];
+  interfaces = s.interfaces ++ interface_named (last_package (with_package s.packages (package_in_name text))) text i ∷ [];
   exports = s.exports ++ i.names ∷ [];
   worlds = s.worlds;
   indices = s.indices;
@@ -163,16 +163,16 @@ abbrev pub instance_named : List ℕ → ComponentRead → Option ComponentRead
 instance_named text s = option_map (with_interface text s) s.awaited
 
 abbrev pub world_named : PackageId → List ℕ → WorldRead → World
-world_named p text w = record { «package» = p; name = interface_in text; items = w.items }
+world_named p text w = record { «package» = p; name = interface_text text; items = w.items }
 
 -- the component type read last is exported as a world of this full name
 abbrev pub with_world : List ℕ → ComponentRead → WorldRead → ComponentRead
 with_world text s w = record {
-  packages = with_package s.packages (package_named text);
+  packages = with_package s.packages (package_in_name text);
   rows = s.rows;
   interfaces = s.interfaces;
   exports = s.exports;
-  worlds = s.worlds ++ world_named (last_package (with_package s.packages (package_named text))) text w ∷ [];
+  worlds = s.worlds ++ world_named (last_package (with_package s.packages (package_in_name text))) text w ∷ [];
   indices = s.indices;
   instances = s.instances;
   awaited = s.awaited;
@@ -234,7 +234,7 @@ candidate_of_types [] = None
 candidate_of_types (t ∷ []) = candidate_of_type t
 candidate_of_types (t ∷ u ∷ ts) = None
 
-abbrev pub candidate_of : File → Option Candidate
+abbrev pub candidate_of : BinaryFile → Option Candidate
 candidate_of f = candidate_of_types f.types
 
 -- the package has these parts alone

@@ -8,7 +8,7 @@ use Rattle.ctype_format.specs.declared.raw.RawAlias.{RawAlias}
 use Rattle.ctype_format.specs.declared.raw.RawAlias.TheVariants as alias
 use Rattle.ctype_format.specs.declared.raw.RawDescription.{RawDescription}
 use Rattle.ctype_format.specs.declared.raw.RawDescription.TheVariants as described
-use Rattle.package_form.specs.Scoped.{Entry as Named}
+use Rattle.package_form.specs.Scoped.{NameEntry}
 use Rattle.package_form.specs.Ids.{type_id, function_id}
 use Rattle.package_form.specs.Postfix.{inner_row}
 use Rattle.tables.specs.declared.tables.TypeId.{TypeId}
@@ -21,7 +21,7 @@ use Rattle.tables.specs.declared.tables.Parameter.{Parameter}
 use Rattle.tables.specs.declared.tables.Owner.TheVariants as owner
 use Rattle.tables.specs.declared.tables.Definition.{Definition}
 use Rattle.tables.specs.declared.tables.Definition.TheVariants as row
-use Rattle.component_reader.specs.Types.{all_found, both_found, row_at, optional_type, parameter_read, kind_of}
+use Rattle.component_reader.specs.Types.{all_found, both_found, row_at, optional_type, parameter_read, kind_defined}
 
 abbrev pub if_found : {A B : Type 0} → Option A → (A → Option B) → Option B
 if_found None f = None
@@ -39,17 +39,17 @@ pub record InstanceRead : Type 0 where
   pub rows : List Definition
   pub indices : List (Option TypeId)
   pub awaited : Awaited
-  pub names : List Named
+  pub names : List NameEntry
   pub uses : List TypeId
   pub types : List TypeId
   pub functions : List FunctionId
 
 -- a name stands for the type that was exported last under it
-abbrev pub named : List Named → List ℕ → TypeId → List Named
+abbrev pub named : List NameEntry → List ℕ → TypeId → List NameEntry
 named [] n t = record { name = n; id = t } ∷ []
 named (e ∷ es) n t = if bytes_eq n e.name then record { name = e.name; id = t } ∷ es else e ∷ named es n t
 
-abbrev pub type_named : List Named → List ℕ → Option TypeId
+abbrev pub type_named : List NameEntry → List ℕ → Option TypeId
 type_named [] n = None
 type_named (e ∷ es) n = if bytes_eq n e.name then Some e.id else type_named es n
 
@@ -149,23 +149,23 @@ function_exported k n s (AFunction ps result) = Some (record {
 function_exported k n s Nothing = None
 function_exported k n s (AType what) = None
 
-abbrev pub exported : ℕ → List ℕ → RawDescription → InstanceRead → Option InstanceRead
-exported k n (described.TypeEqual i) s = type_exported k n i s s.awaited
-exported k n (described.Function i) s = function_exported k n s s.awaited
-exported k n (described.Component i) s = None
-exported k n (described.Instance i) s = None
+abbrev pub exported_read : ℕ → List ℕ → RawDescription → InstanceRead → Option InstanceRead
+exported_read k n (described.TypeEqual i) s = type_exported k n i s s.awaited
+exported_read k n (described.Function i) s = function_exported k n s s.awaited
+exported_read k n (described.Component i) s = None
+exported_read k n (described.Instance i) s = None
 
 -- the type around that an outer alias stands for
 abbrev pub used_type : List (Option TypeId) → RawAlias → Option TypeId
 used_type around (alias.Outer count i) = if count == 1 then row_at around i else None
 used_type around (alias.InstanceExport i n) = None
 
-abbrev pub defined : AnyType → InstanceRead → Option InstanceRead
-defined (Define d) s = option_map (λ what. awaiting s (AType what)) (kind_of s.indices d)
-defined (Func f) s =
+abbrev pub defined_read : AnyType → InstanceRead → Option InstanceRead
+defined_read (Define d) s = option_map (λ what. awaiting s (AType what)) (kind_defined s.indices d)
+defined_read (Func f) s =
     option_map (awaiting s) (both_found AFunction (all_found (parameter_read s.indices) f.params) (optional_type s.indices f.outcome))
-defined (Component ds) s = None
-defined (Instance ds) s = None
+defined_read (Component ds) s = None
+defined_read (Instance ds) s = None
 
 -- a used name awaits its export
 abbrev pub use_read : List (Option TypeId) → RawAlias → InstanceRead → Option InstanceRead
@@ -173,10 +173,10 @@ use_read around a s = option_map (λ t. awaiting s (AType (kind.Use t))) (used_t
 
 -- a declaration of interface k's instance type, where these types stand around it
 abbrev pub decl_read : List (Option TypeId) → ℕ → Decl → InstanceRead → Option InstanceRead
-decl_read around k (Entry t) s = if_found (settled s) (defined t)
+decl_read around k (Entry t) s = if_found (settled s) (defined_read t)
 decl_read around k (Alias a) s = if_found (settled s) (use_read around a)
 decl_read around k (Import n d) s = None
-decl_read around k (Export n d) s = if is_label n then exported k n d s else None
+decl_read around k (Export n d) s = if is_label n then exported_read k n d s else None
 
 abbrev pub decls_read : List (Option TypeId) → ℕ → Decls → InstanceRead → Option InstanceRead
 decls_read around k none s = Some s

@@ -17,6 +17,6 @@ abbrev pub package_parts : Parts → PackageParts
 package_parts p = record { namespace = p.namespace; name = p.package_name; version = p.version }
 
 -- the text is this label, or a full name of these parts
-abbrev pub IsNamed : List ℕ → NameParts → Type 0
-IsNamed text (name.Label l) = (is_label text ≡ true) × (l.now ≡ text)
-IsNamed text (name.FullName p) = (is_label text ≡ false) × IsFullName text (parts_view p)
+abbrev pub IsExternName : List ℕ → NameParts → Type 0
+IsExternName text (name.Label l) = (is_label text ≡ true) × (l.now ≡ text)
+IsExternName text (name.FullName p) = (is_label text ≡ false) × IsFullName text (parts_view p)

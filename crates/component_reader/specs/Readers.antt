@@ -2,7 +2,7 @@
 use Rattle.std.specs.Prelude.{List, ℕ, map}
 use Rattle.std.specs.Option.{option_map}
 use Rattle.std.specs.Global.{Vec}
-use Rattle.package_form.specs.Scoped.{Entry as Named, entry_of}
+use Rattle.package_form.specs.Scoped.{NameEntry, mapped_entry}
 use Rattle.tables.specs.declared.tables.TypeId.{TypeId}
 use Rattle.tables.specs.declared.tables.Definition.{Definition}
 use Rattle.component_reader.specs.Instance.{Awaited, Nothing, AType, AFunction, InstanceRead}
@@ -19,8 +19,8 @@ awaited_view defined.Nothing = Nothing
 awaited_view (defined.«Type» k) = AType k
 awaited_view (defined.Function ps result) = AFunction ps result
 
-abbrev pub names_view : List (Vec ℕ × TypeId) → List Named
-names_view es = map (entry_of (λ v. v.items)) es
+abbrev pub names_view : List (Vec ℕ × TypeId) → List NameEntry
+names_view es = map (mapped_entry (λ v. v.items)) es
 
 -- what was read of an instance type, whose rows stand in the table
 abbrev pub read_with : List Definition → InstanceReader → InstanceRead

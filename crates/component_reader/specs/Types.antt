@@ -100,13 +100,13 @@ abbrev pub case_read : List (Option TypeId) → RawCase → Option Case
 case_read rows c = option_map (case_named c.label) (optional_type rows c.payload)
 
 -- what a definition defines
-abbrev pub kind_of : List (Option TypeId) → Defined → Option TypeDefKind
-kind_of rows (Prim p) = Some (kind.Alias (primitive_type p))
-kind_of rows (Record fs) = option_map kind.Record (all_found (field_read rows) fs)
-kind_of rows (Variant cs) = option_map kind.Variant (all_found (case_read rows) cs)
-kind_of rows (ListOf t) = option_map kind.List (val_type rows t)
-kind_of rows (Tuple ts) = option_map kind.Tuple (all_found (val_type rows) ts)
-kind_of rows (FlagSet names) = Some (kind.Flags names)
-kind_of rows (Enumeration names) = Some (kind.Enum names)
-kind_of rows (OptionOf t) = option_map kind.Option (val_type rows t)
-kind_of rows (ResultOf ok error) = both_found kind.Result (optional_type rows ok) (optional_type rows error)
+abbrev pub kind_defined : List (Option TypeId) → Defined → Option TypeDefKind
+kind_defined rows (Prim p) = Some (kind.Alias (primitive_type p))
+kind_defined rows (Record fs) = option_map kind.Record (all_found (field_read rows) fs)
+kind_defined rows (Variant cs) = option_map kind.Variant (all_found (case_read rows) cs)
+kind_defined rows (ListOf t) = option_map kind.List (val_type rows t)
+kind_defined rows (Tuple ts) = option_map kind.Tuple (all_found (val_type rows) ts)
+kind_defined rows (FlagSet names) = Some (kind.Flags names)
+kind_defined rows (Enumeration names) = Some (kind.Enum names)
+kind_defined rows (OptionOf t) = option_map kind.Option (val_type rows t)
+kind_defined rows (ResultOf ok error) = both_found kind.Result (optional_type rows ok) (optional_type rows error)

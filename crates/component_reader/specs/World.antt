@@ -20,7 +20,7 @@ use Rattle.tables.specs.declared.tables.WorldItem.{WorldItem}
 use Rattle.tables.specs.declared.tables.WorldItemKind.{WorldItemKind}
 use Rattle.tables.specs.declared.tables.WorldItemKind.TheVariants as item
 use Rattle.component_reader.specs.Types.{found_in}
-use Rattle.component_reader.specs.Instance.{if_found, Awaited, Nothing, AType, AFunction, InstanceRead, nothing_read, settled, with_index, defined}
+use Rattle.component_reader.specs.Instance.{if_found, Awaited, Nothing, AType, AFunction, InstanceRead, nothing_read, settled, with_index, defined_read}
 
 -- What was read of a world's component type: its types and functions as those of an instance type are, its items, and an interface that is
 -- imported or exported next.
@@ -67,11 +67,11 @@ function_named w way n s (AType what) = None
 
 -- ---- interfaces, where these types are the instance types of interfaces around it
 
-abbrev pub interface_at : List (Option InterfaceId) → ℕ → Option InterfaceId
-interface_at instances index = found_in (slice_get instances index)
+abbrev pub interface_index : List (Option InterfaceId) → ℕ → Option InterfaceId
+interface_index instances index = found_in (slice_get instances index)
 
 abbrev pub aliased_interface : List (Option InterfaceId) → RawAlias → Option InterfaceId
-aliased_interface instances (alias.Outer count i) = if count == 1 then interface_at instances i else None
+aliased_interface instances (alias.Outer count i) = if count == 1 then interface_index instances i else None
 aliased_interface instances (alias.InstanceExport i n) = None
 
 abbrev pub awaiting_interface : WorldRead → InstanceRead → InterfaceId → WorldRead
@@ -80,20 +80,20 @@ awaiting_interface s i t = record { inside = with_index i; items = s.items; inte
 abbrev pub with_interface_item : Direction → WorldRead → InterfaceId → WorldRead
 with_interface_item way s t = record { inside = s.inside; items = s.items ++ item_of way (item.Interface t) ∷ []; interface = None }
 
-abbrev pub interface_named : Direction → WorldRead → Option WorldRead
-interface_named way s = option_map (with_interface_item way s) s.interface
+abbrev pub interface_met : Direction → WorldRead → Option WorldRead
+interface_met way s = option_map (with_interface_item way s) s.interface
 
 -- ---- declarations
 
 -- an import or an export of world w
 abbrev pub named_read : ℕ → Direction → List ℕ → RawDescription → WorldRead → Option WorldRead
 named_read w way n (described.Function i) s = if is_label n then function_named w way n s s.inside.awaited else None
-named_read w way n (described.Instance i) s = if is_label n then None else interface_named way s
+named_read w way n (described.Instance i) s = if is_label n then None else interface_met way s
 named_read w way n (described.TypeEqual i) s = None
 named_read w way n (described.Component i) s = None
 
 abbrev pub entry_read : AnyType → WorldRead → Option WorldRead
-entry_read t s = option_map (with_inside s) (if_found (settled s.inside) (defined t))
+entry_read t s = option_map (with_inside s) (if_found (settled s.inside) (defined_read t))
 
 abbrev pub outer_read : List (Option InterfaceId) → RawAlias → WorldRead → Option WorldRead
 outer_read instances a s = if_found (settled s.inside) (λ i. option_map (awaiting_interface s i) (aliased_interface instances a))

@@ -3,11 +3,11 @@ ghost use Rattle.std.specs.Prelude.{◌≡◌, ◌-◌, length, map, slice_get, 
 ghost use Rattle.package_form.specs.Closed.{is_same_package};
 ghost use Rattle.atoms.specs.FullName.{IsFullName, full_name_text};
 ghost use Rattle.ctype_format.specs.Names.{name_view};
-ghost use Rattle.ctype_bin.specs.FileView.{file_view};
+ghost use Rattle.ctype_bin.specs.FileView.{raw_component_view};
 ghost use Rattle.ctype_format.specs.View.{decl_view, decls_of, type_view};
 ghost use Rattle.ctype_format.specs.Raw.{Component, Instance};
 ghost use Rattle.component_reader.specs.Types.{ReadsAs, Becomes};
-ghost use Rattle.component_reader.specs.Component.{Makes, no_component, alias_read, type_read, instance_named, component_exported, import_read, export_read, declaration_read, declarations_read, package_named, has_name, with_package, last_package, candidate_read, candidate_of_decls, candidate_of_type, candidate_of};
+ghost use Rattle.component_reader.specs.Component.{Makes, no_component, alias_read, type_read, instance_named, component_exported, import_read, export_read, declaration_read, declarations_read, package_in_name, has_name, with_package, last_package, candidate_read, candidate_of_decls, candidate_of_type, candidate_of};
 ghost use Rattle.component_reader.specs.Names.{parts_view, package_parts};
 ghost use Rattle.component_reader.specs.Readers.{component_view};
 
@@ -282,7 +282,7 @@ fn is_of_last(packages: &[PackageName], name: FullNameParts<'_>) -> bool
 /// The name of the package in a full name.
 fn package_name(alloc: Global, name: FullNameParts<'_>) -> Result<PackageName, AllocError>
     requires { IsFullName (full_name_text (parts_view name)) (parts_view name) }
-    ensures { IfOk result (λ p. p ≡ package_named (full_name_text (parts_view name.entry))) }
+    ensures { IfOk result (λ p. p ≡ package_in_name (full_name_text (parts_view name.entry))) }
 {
     Ok(PackageName {
         namespace: Label::from_bytes(alloc, name.namespace)?,
@@ -308,7 +308,7 @@ fn package_of(
     name: FullNameParts<'_>,
 ) -> Result<PackageId, AllocError>
     requires { IsFullName (full_name_text (parts_view name)) (parts_view name) }
-    ensures packages { OnOk result (packages.new.items ≡ with_package packages.old.items (package_named (full_name_text (parts_view name.entry)))) }
+    ensures packages { OnOk result (packages.new.items ≡ with_package packages.old.items (package_in_name (full_name_text (parts_view name.entry)))) }
     ensures last { IfOk result (λ id. id ≡ last_package packages.new.items) }
 {
     if !is_of_last(packages, name) {
@@ -339,7 +339,7 @@ fn candidate_of_type(alloc: Global, ty: &RawType) -> Result<Resolve, Unread>
 
 /// The package that the component may stand for.
 pub fn candidate(alloc: Global, raw: &RawComponent) -> Result<Resolve, Unread>
-    ensures { Makes (candidate_of (file_view raw.now)) result }
+    ensures { Makes (candidate_of (raw_component_view raw.now)) result }
 {
     match raw.types() {
         [ty] => candidate_of_type(alloc, ty),

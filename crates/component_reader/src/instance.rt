@@ -5,7 +5,7 @@ ghost use Rattle.ctype_format.specs.View.{decl_view, decls_of, type_view};
 ghost use Rattle.tables.specs.declared.tables.Definition.{Definition};
 ghost use Rattle.package_form.specs.Ids.{package_id};
 ghost use Rattle.component_reader.specs.Types.{ReadsAs, Becomes, both_found, all_found, parameter_read, optional_type};
-ghost use Rattle.component_reader.specs.Instance.{AFunction, nothing_read, settled, with_unnamed, with_index, with_row, with_named, uses_with, types_with, renamed, type_exported, function_exported, exported, use_read, defined, decl_read, instance_read};
+ghost use Rattle.component_reader.specs.Instance.{AFunction, nothing_read, settled, with_unnamed, with_index, with_row, with_named, uses_with, types_with, renamed, type_exported, function_exported, exported_read, use_read, defined_read, decl_read, instance_read};
 ghost use Rattle.component_reader.specs.Readers.{awaited_view, read_with};
 
 use crate::names::{NameParts, name_parts};
@@ -248,7 +248,7 @@ impl InstanceReader {
         description: &RawDescription,
     ) -> Result<(), Unread>
         requires { IsLabel name.now }
-        ensures { Becomes (exported place.0 name.now description.now (read_with rows.old.items self.old)) (read_with rows.new.items self.new) result }
+        ensures { Becomes (exported_read place.0 name.now description.now (read_with rows.old.items self.old)) (read_with rows.new.items self.new) result }
     {
         match description {
             RawDescription::TypeEqual(index) => self.export_type(alloc, rows, place, name, *index),
@@ -272,7 +272,7 @@ impl InstanceReader {
 
     #[tactic(auto, unfolding(ctype_format::specs::View::type_view))]
     pub fn define(&mut self, alloc: Global, ty: &RawType) -> Result<(), Unread>
-        ensures { (rows : List Definition) → Becomes (defined (type_view ty.now) (read_with rows self.old)) (read_with rows self.new) result }
+        ensures { (rows : List Definition) → Becomes (defined_read (type_view ty.now) (read_with rows self.old)) (read_with rows self.new) result }
     {
         self.awaited = match ty {
             RawType::Defined(defined) => Awaited::Type(kind_of(alloc, &self.indices, defined)?),

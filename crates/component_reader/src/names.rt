@@ -1,6 +1,6 @@
 //! The parts of exports' names.
 ghost use Rattle.ctype_format.specs.Names.{name_view};
-ghost use Rattle.component_reader.specs.Names.{IsNamed};
+ghost use Rattle.component_reader.specs.Names.{IsExternName};
 
 use ctype_bin::ExternName;
 
@@ -22,7 +22,7 @@ pub enum NameParts<'a> {
 
 /// The parts of a name.
 pub fn name_parts(name: &ExternName) -> NameParts<'_>
-    ensures { IsNamed (name_view name.now) result }
+    ensures { IsExternName (name_view name.now) result }
 {
     match name {
         ExternName::Label(label) => NameParts::Label(label.as_bytes()),

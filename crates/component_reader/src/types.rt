@@ -1,7 +1,7 @@
 //! Types with indices as types of the table.
 ghost use Rattle.std.specs.Prelude.{◌≡◌, Some, IfOk};
 ghost use Rattle.ctype_format.specs.View.{defined_view};
-ghost use Rattle.component_reader.specs.Types.{Reads, all_found, primitive_type, row_at, val_type, optional_type, field_read, parameter_read, case_read, kind_of};
+ghost use Rattle.component_reader.specs.Types.{Reads, all_found, primitive_type, row_at, val_type, optional_type, field_read, parameter_read, case_read, kind_defined};
 
 use crate::unread::Unread;
 use atoms::Label;
@@ -135,7 +135,7 @@ pub fn kind_of(
     rows: &[Option<TypeId>],
     defined: &RawDefinedType,
 ) -> Result<TypeDefKind, Unread>
-    ensures { Reads (kind_of rows.now (defined_view defined.now)) result }
+    ensures { Reads (kind_defined rows.now (defined_view defined.now)) result }
 {
     match defined {
         RawDefinedType::Primitive(primitive) => Ok(TypeDefKind::Alias(primitive_type(*primitive))),

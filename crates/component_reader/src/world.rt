@@ -6,7 +6,7 @@ ghost use Rattle.ctype_format.specs.View.{decl_view, decls_of, type_view};
 ghost use Rattle.tables.specs.declared.tables.Definition.{Definition};
 ghost use Rattle.package_form.specs.Ids.{package_id};
 ghost use Rattle.component_reader.specs.Types.{ReadsAs, Becomes};
-ghost use Rattle.component_reader.specs.World.{no_world, function_named, aliased_interface, interface_named, named_read, entry_read, outer_read, item_read, world_read};
+ghost use Rattle.component_reader.specs.World.{no_world, function_named, aliased_interface, interface_met, named_read, entry_read, outer_read, item_read, world_read};
 ghost use Rattle.component_reader.specs.Readers.{awaited_view, world_with};
 
 use crate::instance::{Awaited, InstanceReader};
@@ -93,7 +93,7 @@ impl WorldReader {
 
     /// Imports or exports the interface that is awaited.
     fn name_interface(&mut self, direction: Direction) -> Result<(), Unread>
-        ensures { (rows : List Definition) → Becomes (interface_named direction (world_with rows self.old)) (world_with rows self.new) result }
+        ensures { (rows : List Definition) → Becomes (interface_met direction (world_with rows self.old)) (world_with rows self.new) result }
     {
         let Some(id) = self.interface.take() else {
             return Err(Unread::NotThisShape);

@@ -9,7 +9,7 @@ use Rattle.canonical_abi.specs.Trace.{Event, nodes_of}
 use Rattle.canonical_abi.specs.declared.trap.TrapKind.{TrapKind}
 use Rattle.ranges.specs.Bytewise.{Crosses, each_nodes}
 use Rattle.ranges.proofs.Appends.{holds-both, holds-length, stores-both, stops-behind}
-use Rattle.crossing.specs.Outcome.{EachWalks, IsDone}
+use Rattle.crossing.specs.Outcome.{EachWalks, IsCrossed}
 use Rattle.crossing.proofs.Parts.{IsBegun}
 use Rattle.crossing.proofs.ByShape.{each-none}
 use Rattle.crossing.proofs.Nodes.{EachScript, EachFrom}
@@ -26,12 +26,12 @@ each-both t m a at n k es None fs (vs, held, stored) (ws, helds, storeds) =
 each-both t m a at n k es (Some j) fs (vs, held, stored) stops = stops-behind t m a at n k j vs es fs held stored stops
 
 module _ (allocates : Allocation) (t : ClosedType) (m : List ℕ) (a at : ℕ) where
-  pub none-done : (old : Memory) (n : ℕ) → IsDone allocates (EachWalks t m a at 0) old n old n
+  pub none-done : (old : Memory) (n : ℕ) → IsCrossed allocates (EachWalks t m a at 0) old n old n
   none-done old n = record { events = []; scripted = each-none t m a at; leads = refl; no_shorter = omega arith; counted = omega arith }
 
   -- so many nodes were counted
   pub crossed-done : (j k : ℕ) (old new : Memory) → length new.bytes ≡ length old.bytes → Crosses t m a j allocates old at new → each_nodes t m a j ≡ k
-      → (n c : ℕ) → min c (2 ^ 64 - 1) ≡ min (n + k) (2 ^ 64 - 1) → IsDone allocates (EachWalks t m a at j) old n new c
+      → (n c : ℕ) → min c (2 ^ 64 - 1) ≡ min (n + k) (2 ^ 64 - 1) → IsCrossed allocates (EachWalks t m a at j) old n new c
   crossed-done j k old new same x visited n c counted = record {
     events = x.events;
     scripted = (x.values, x.held, x.stored);
@@ -40,7 +40,7 @@ module _ (allocates : Allocation) (t : ClosedType) (m : List ℕ) (a at : ℕ) w
     counted = (let e : nodes_of x.events ≡ k = x.visited ∙ visited in omega (arith, e, counted));
   }
 
-  pub each-ahead : (n j : ℕ) → j ≤ n → (old mid : Memory) (k c : ℕ) → IsDone allocates (EachWalks t m a at j) old k mid c → IsBegun allocates (EachScript allocates t m a at n) (EachFrom allocates t m a at n j) old k mid c
+  pub each-ahead : (n j : ℕ) → j ≤ n → (old mid : Memory) (k c : ℕ) → IsCrossed allocates (EachWalks t m a at j) old k mid c → IsBegun allocates (EachScript allocates t m a at n) (EachFrom allocates t m a at n j) old k mid c
   each-ahead n j few old mid k c u =
       let e : j + (n - j) ≡ n = omega (arith, few) in
       record {

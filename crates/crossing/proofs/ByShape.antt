@@ -6,7 +6,7 @@ use Rattle.canonical_abi.specs.Values.{Value, values_of, list_value, record_valu
 use Rattle.canonical_abi.specs.Layout.{align, size, discriminant_size, payload_place}
 use Rattle.canonical_abi.specs.Memory.{BlockHolds, EachHolds, Holds, CaseHolds, Faulty}
 use Rattle.canonical_abi.specs.Reading.{number_at, byte_width, case_number}
-use Rattle.canonical_abi.specs.Storing.{header, IsBlock, Stores, CaseStores}
+use Rattle.canonical_abi.specs.Storing.{pointer_pair, IsBlock, Stores, CaseStores}
 use Rattle.canonical_abi.specs.Script.{StoresUntil, CaseStoresUntil}
 use Rattle.canonical_abi.specs.Trace.{Grant, Event, node, grant, write}
 use Rattle.canonical_abi.specs.Laws.{ReadsExactly}
@@ -91,7 +91,7 @@ each-length t m a zero vs h = ap length h
 each-length t m a (suc n) vs (v, rest, is, here, there) = ap length is ∙ ap suc (each-length t m (a + size t) n rest there)
 
 pub list-walks : (t : ClosedType) (m : List ℕ) (a at start n : ℕ) (g : Grant) → start ≡ number_at m a w32 → n ≡ number_at m (a + 4) w32 → BlockHolds m start (align t) (n * size t) → IsBlock (align t) (n * size t) g
-    → (o : Option TrapKind) (rest : List Event) → EachWalks t m start g.at n o rest → Behind (Walks (list_type t) m a at) o (grant g ∷ write at (header g.at n) ∷ rest)
+    → (o : Option TrapKind) (rest : List Event) → EachWalks t m start g.at n o rest → Behind (Walks (list_type t) m a at) o (grant g ∷ write at (pointer_pair g.at n) ∷ rest)
 list-walks t m a at start n g is counted stands block None rest (vs, held, stored) =
     let long = each-length t m start n vs held in (
       list_value (values_of vs),

@@ -11,7 +11,7 @@ use Rattle.canonical_abi.specs.Memory.{BlockHolds, TextHolds}
 use Rattle.canonical_abi.specs.Flat.{Lifts, CaseLifts}
 use Rattle.canonical_abi.specs.Lowering.{joined_flats}
 use Rattle.canonical_abi.specs.Reading.{low_bits, lifting_fields}
-use Rattle.canonical_abi.specs.Requests.{text_of}
+use Rattle.canonical_abi.specs.Requests.{text_of_value}
 use Rattle.canonical_abi.specs.Script.{LowersUntil, CaseLowersUntil}
 use Rattle.canonical_abi.specs.Storing.{IsBlock}
 use Rattle.canonical_abi.specs.Trace.{Grant, Event, node, grant, write, EventLeads, RequestFails}
@@ -28,7 +28,7 @@ use Rattle.lift_lower.proofs.Lowerings.{plain-lowered, payload-lowered}
 use Rattle.lift_lower.proofs.Scripted.{fields-lower-script}
 use Rattle.values.proofs.Fields.{fields_from, fields-next, fields-last}
 use Rattle.lift_lower.proofs.Stopping.{fields-lower-until}
-use Rattle.crossing.specs.Outcome.{FlatScript, FlatWalks, FieldsFlatWalk, FlatBehind, FlatEnds, EachWalks, Behind, Counts, Ends, IsDone, MetFault, WasRefused, HasStopped}
+use Rattle.crossing.specs.Outcome.{FlatScript, FlatWalks, FieldsFlatWalk, FlatBehind, FlatEnds, EachWalks, Behind, Counts, Ends, IsCrossed, MetFault, WasRefused, HasStopped}
 use Rattle.crossing.specs.declared.stopped.Stopped.{Stopped}
 use Rattle.crossing.specs.declared.stopped.Stopped.TheVariants as stopped
 use Rattle.crossing.proofs.ByShape.{each-some, each-length}
@@ -153,7 +153,7 @@ module _ (allocates : Allocation) where
       flat-ends S T old old r new n d c final (λ f. begun-as allocates (S f) (Behind (S f)) (T f) old old n d (record-flat ts m ns front f) (begun-node allocates (S f) old n d counted)) u
 
   -- a node without parts
-  pub leaf-done : (S : FlatScript) (m : Memory) (n d : ℕ) (final : List Flat) → Counts n (node ∷ []) d → S final None (node ∷ []) → IsDone allocates (S final) m n m d
+  pub leaf-done : (S : FlatScript) (m : Memory) (n d : ℕ) (final : List Flat) → Counts n (node ∷ []) d → S final None (node ∷ []) → IsCrossed allocates (S final) m n m d
   leaf-done S m n d final counted s = begun-done allocates (S final) (Behind (S final)) m m n d (begun-node allocates (S final) m n d counted) s
 
   pub leaf-fault : (S : FlatScript) (m : Memory) (n d : ℕ) (final : List Flat) (k : TrapKind) → Counts n (node ∷ []) d → S final (Some k) (node ∷ []) → MetFault allocates (S final) m n k m d
@@ -199,7 +199,7 @@ module _ (allocates : Allocation) where
       field-flat-halt : (other final : List Flat) (k : TrapKind) (first : List Event) → FlatWalks u m (drop used ns) now other (Some k) first → FieldsFrom i used now final (Some k) first
       field-flat-halt other final k first h = subst (λ us. FieldsFlatWalk us m (drop used ns) now final (Some k) first) (sym (fields-next ts i u found)) (inl h)
 
-      pub carrying-next : (more : List Flat) (old mid new : Memory) (n c d : ℕ) → AreCarrying i used now old n mid c → IsDone allocates (FlatWalks u m (drop used ns) now more) mid c new d
+      pub carrying-next : (more : List Flat) (old mid new : Memory) (n c d : ℕ) → AreCarrying i used now old n mid c → IsCrossed allocates (FlatWalks u m (drop used ns) now more) mid c new d
           → AreCarrying (i + 1) (used + length (flat_kinds u)) more old n new d
       carrying-next more old mid new n c d b w final =
           begun-then allocates (FieldsFlatWalk ts m ns front final) (FieldsFrom i used now final) (FlatWalks u m (drop used ns) now more) (FieldsFrom (i + 1) (used + length (flat_kinds u)) more final) old mid new n c d (b final) w
@@ -216,7 +216,7 @@ module _ (allocates : Allocation) where
                 (field-flat-halt other final) (field-flat other final) (rest.1, rest.2, rest.3) w),
           )
 
-    pub carrying-done : (i used : ℕ) (now : List Flat) → field_count ts ≡ i → (old new : Memory) (n c : ℕ) → AreCarrying i used now old n new c → IsDone allocates (FieldsFlatWalk ts m ns front now) old n new c
+    pub carrying-done : (i used : ℕ) (now : List Flat) → field_count ts ≡ i → (old new : Memory) (n c : ℕ) → AreCarrying i used now old n new c → IsCrossed allocates (FieldsFlatWalk ts m ns front now) old n new c
     carrying-done i used now count old new n c b =
         begun-done allocates (FieldsFlatWalk ts m ns front now) (FieldsFrom i used now now) old new n c (b now)
         (subst (λ us. FieldsFlatWalk us m (drop used ns) now now None []) (sym (fields-last ts i count)) ([], [], refl, (refl, refl, refl), sym (append-nil now)))
@@ -250,7 +250,7 @@ module _ (allocates : Allocation) where
 
     text-flat : (g : Grant) → IsBlock 1 (length text) g → TextFlat (header_behind front g.at (length text)) None (grant g ∷ write g.at text ∷ [])
     text-flat g block =
-        let same = ap text_of held.2 in
+        let same = ap text_of_value held.2 in
         (string_value text, I32 g.at ∷ I32 (length text) ∷ [], rw (← is, ← counted) held, (text, g, refl, subst (λ x. is_utf8 x ≡ true) (sym same) held.1, block, refl, refl), refl)
 
     pub text-flat-refused : (old : Memory) (k : TrapKind) (new : Memory) (c : ℕ) → RequestFails allocates old 1 (length text) k new → (final : List Flat) × WasRefused allocates (TextFlat final) old c k new c
@@ -259,7 +259,7 @@ module _ (allocates : Allocation) where
         (header_behind front 0 (length text), refused allocates (TextFlat (header_behind front 0 (length text))) None g (write 0 text ∷ []) old k new c (text-flat g (refl, refl)) fails)
 
     pub text-flat-done : (g : Grant) → IsBlock 1 (length text) g → (old mid new : Memory) (k : ℕ) → EventLeads allocates old (grant g) mid → length old.bytes ≤ length mid.bytes
-        → EventLeads allocates mid (write g.at text) new → length new.bytes ≡ length mid.bytes → IsDone allocates (TextFlat (header_behind front g.at (length text))) old k new k
+        → EventLeads allocates mid (write g.at text) new → length new.bytes ≡ length mid.bytes → IsCrossed allocates (TextFlat (header_behind front g.at (length text))) old k new k
     text-flat-done g block old mid new k granted longer led same = record {
       events = grant g ∷ write g.at text ∷ [];
       scripted = text-flat g block;
@@ -274,18 +274,18 @@ module _ (allocates : Allocation) where
     pub missing-fault : nth_case cs i ≡ None → (old : Memory) (n : ℕ) → (final : List Flat) × MetFault allocates (CaseScript cs m ns front i is final) old n trap.Case old n
     missing-fault found old n = ([], record { events = []; scripted = missing-flat cs m ns front i is found []; leads = refl; counted = omega arith })
 
-    pub plain-done : nth_case cs i ≡ Some None → (final : List Flat) → final ≡ case_behind cs m ns front i is [] → (old : Memory) (n : ℕ) → IsDone allocates (CaseScript cs m ns front i is final) old n old n
+    pub plain-done : nth_case cs i ≡ Some None → (final : List Flat) → final ≡ case_behind cs m ns front i is [] → (old : Memory) (n : ℕ) → IsCrossed allocates (CaseScript cs m ns front i is final) old n old n
     plain-done found final ends old n =
         let S = CaseScript cs m ns front i is final in
         begun-done allocates S S old old n n (begun allocates S old n) (subst (λ f. CaseScript cs m ns front i is f None []) (sym ends) (plain-flat cs m ns front i is found))
 
     module _ (u : ClosedType) (found : nth_case cs i ≡ Some (Some u)) where
-      pub payload-done : (payload final : List Flat) → final ≡ case_behind cs m ns front i is payload → (old new : Memory) (n c : ℕ) → IsDone allocates (FlatWalks u m (drop 1 ns) [] payload) old n new c
-          → IsDone allocates (CaseScript cs m ns front i is final) old n new c
+      pub payload-done : (payload final : List Flat) → final ≡ case_behind cs m ns front i is payload → (old new : Memory) (n c : ℕ) → IsCrossed allocates (FlatWalks u m (drop 1 ns) [] payload) old n new c
+          → IsCrossed allocates (CaseScript cs m ns front i is final) old n new c
       payload-done payload final ends old new n c w =
           let S = CaseScript cs m ns front i is (case_behind cs m ns front i is payload) in
           let T = FlatWalks u m (drop 1 ns) [] payload in
-          subst (λ f. IsDone allocates (CaseScript cs m ns front i is f) old n new c) (sym ends)
+          subst (λ f. IsCrossed allocates (CaseScript cs m ns front i is f) old n new c) (sym ends)
           (begun-last allocates S T old old new n n c (begun-as allocates S S T old old n n (payload-flat cs m ns front i is u found payload) (begun allocates S old n)) w)
 
       pub payload-stopped : (old : Memory) (s : Stopped) (new : Memory) (n c : ℕ) → ((other : List Flat) × HasStopped allocates (FlatWalks u m (drop 1 ns) [] other) old n s new c)

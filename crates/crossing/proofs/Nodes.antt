@@ -8,8 +8,8 @@ use Rattle.canonical_abi.specs.Values.{string_value}
 use Rattle.canonical_abi.specs.Layout.{align, size, payload_place}
 use Rattle.canonical_abi.specs.Memory.{BlockHolds, TextHolds}
 use Rattle.canonical_abi.specs.Reading.{number_at, case_number}
-use Rattle.canonical_abi.specs.Requests.{text_of}
-use Rattle.canonical_abi.specs.Storing.{header, IsBlock}
+use Rattle.canonical_abi.specs.Requests.{text_of_value}
+use Rattle.canonical_abi.specs.Storing.{pointer_pair, IsBlock}
 use Rattle.canonical_abi.specs.Trace.{Grant, Event, node, grant, write, EventLeads, TraceLeads, RequestFails}
 use Rattle.canonical_abi.specs.Laws.{ReadsExactly}
 use Rattle.canonical_abi.specs.declared.trap.TrapKind.{TrapKind}
@@ -17,7 +17,7 @@ use Rattle.values.specs.Bytes.{AreBytes}
 use Rattle.lift_lower.specs.Scripts.{GrantsBlock}
 use Rattle.lift_lower.specs.Scripts as low
 use Rattle.values.proofs.Fields.{fields_from, fields-next, fields-last}
-use Rattle.crossing.specs.Outcome.{Walks, EachWalks, FieldsWalk, Behind, Counts, IsDone, WasRefused, HasStopped, Ends}
+use Rattle.crossing.specs.Outcome.{Walks, EachWalks, FieldsWalk, Behind, Counts, IsCrossed, WasRefused, HasStopped, Ends}
 use Rattle.crossing.specs.declared.stopped.Stopped.{Stopped}
 use Rattle.crossing.proofs.Parts.{IsBegun, begun, begun-as, begun-then, begun-done, begun-stopped, begun-ends, begun-node, begun-write, begun-grant, part-stopped, refused}
 use Rattle.crossing.proofs.ByShape.{field-stops, field-joins, fields-none, fields-some, each-stops, each-joins, each-none, each-some, record-walks, list-walks, told_case, variant-walks}
@@ -64,7 +64,7 @@ module _ (allocates : Allocation) where
         let e : n - i ≡ suc (n - (i + 1)) = omega (arith, below) in
         subst (λ j. EachWalks t m (a + i * size t) (at + i * size t) j (Some k) first) (sym e) (each-stops t m (a + i * size t) (at + i * size t) (n - (i + 1)) k first h)
 
-    pub each-next : (i : ℕ) → i < n → (old mid new : Memory) (k c d : ℕ) → IsBegun allocates EachScript (EachFrom i) old k mid c → IsDone allocates (Walks t m (a + i * size t) (at + i * size t)) mid c new d
+    pub each-next : (i : ℕ) → i < n → (old mid new : Memory) (k c d : ℕ) → IsBegun allocates EachScript (EachFrom i) old k mid c → IsCrossed allocates (Walks t m (a + i * size t) (at + i * size t)) mid c new d
         → IsBegun allocates EachScript (EachFrom (i + 1)) old k new d
     each-next i below old mid new k c d b u =
         begun-then allocates EachScript (EachFrom i) (Walks t m (a + i * size t) (at + i * size t)) (EachFrom (i + 1)) old mid new k c d b u (each-one i below)
@@ -76,7 +76,7 @@ module _ (allocates : Allocation) where
         (part-stopped allocates (EachFrom i) (Walks t m (a + i * size t) (at + i * size t)) (EachFrom (i + 1)) mid s new c d (each-halt i below) (each-one i below)
         (each-some m bytes short exactly t (n - (i + 1)) (a + (i + 1) * size t) (at + (i + 1) * size t)) u)
 
-    pub each-done : (i : ℕ) → n ≤ i → (old new : Memory) (k c : ℕ) → IsBegun allocates EachScript (EachFrom i) old k new c → IsDone allocates EachScript old k new c
+    pub each-done : (i : ℕ) → n ≤ i → (old new : Memory) (k c : ℕ) → IsBegun allocates EachScript (EachFrom i) old k new c → IsCrossed allocates EachScript old k new c
     each-done i past old new k c b =
         let e : n - i ≡ 0 = omega (arith, past) in
         begun-done allocates EachScript (EachFrom i) old new k c b (subst (λ j. EachWalks t m (a + i * size t) (at + i * size t) j None []) (sym e) (each-none t m (a + i * size t) (at + i * size t)))
@@ -102,7 +102,7 @@ module _ (allocates : Allocation) where
       field-halt k first h =
           subst (λ gs. FieldsWalk gs m a at end (Some k) first) (sym (fields-next fs i u found)) (field-stops u (fields_from (i + 1) fs) m a at end k first h)
 
-      pub field-next : (old mid new : Memory) (k c d : ℕ) → IsBegun allocates FieldsScript (FieldsFrom i end) old k mid c → IsDone allocates (Walks u m (a + place) (at + place)) mid c new d
+      pub field-next : (old mid new : Memory) (k c d : ℕ) → IsBegun allocates FieldsScript (FieldsFrom i end) old k mid c → IsCrossed allocates (Walks u m (a + place) (at + place)) mid c new d
           → IsBegun allocates FieldsScript (FieldsFrom (i + 1) (place + size u)) old k new d
       field-next old mid new k c d b w =
           begun-then allocates FieldsScript (FieldsFrom i end) (Walks u m (a + place) (at + place)) (FieldsFrom (i + 1) (place + size u)) old mid new k c d b w field-one
@@ -114,7 +114,7 @@ module _ (allocates : Allocation) where
           (part-stopped allocates (FieldsFrom i end) (Walks u m (a + place) (at + place)) (FieldsFrom (i + 1) (place + size u)) mid s new c d field-halt field-one
           (fields-some m bytes short exactly (fields_from (i + 1) fs) a at (place + size u)) w)
 
-    pub fields-done : (i end : ℕ) → field_count fs ≡ i → (old new : Memory) (k c : ℕ) → IsBegun allocates FieldsScript (FieldsFrom i end) old k new c → IsDone allocates FieldsScript old k new c
+    pub fields-done : (i end : ℕ) → field_count fs ≡ i → (old new : Memory) (k c : ℕ) → IsBegun allocates FieldsScript (FieldsFrom i end) old k new c → IsCrossed allocates FieldsScript old k new c
     fields-done i end count old new k c b =
         begun-done allocates FieldsScript (FieldsFrom i end) old new k c b (subst (λ gs. FieldsWalk gs m a at end None []) (sym (fields-last fs i count)) (fields-none m a at end))
 
@@ -128,15 +128,15 @@ module _ (allocates : Allocation) where
     list-refused bytes short exactly old k new c fails =
         let g : Grant = record { align = align t; size = n * size t; at = 0; contents = [] } in
         let s = each-some m bytes short exactly t n start 0 in
-        refused allocates ListScript s.0 g (write at (header 0 n) ∷ s.1) old k new c (list-walks t m a at start n g is counted stands (refl, refl) s.0 s.1 s.2) fails
+        refused allocates ListScript s.0 g (write at (pointer_pair 0 n) ∷ s.1) old k new c (list-walks t m a at start n g is counted stands (refl, refl) s.0 s.1 s.2) fails
 
     pub list-ends : (g : Grant) → IsBlock (align t) (n * size t) g → (old mid next : Memory) (r : Result (Unit {0}) Stopped) (new : Memory) (k c : ℕ)
-        → EventLeads allocates old (grant g) mid → length old.bytes ≤ length mid.bytes → EventLeads allocates mid (write at (header g.at n)) next → length next.bytes ≡ length mid.bytes
+        → EventLeads allocates old (grant g) mid → length old.bytes ≤ length mid.bytes → EventLeads allocates mid (write at (pointer_pair g.at n)) next → length next.bytes ≡ length mid.bytes
         → Ends allocates (EachWalks t m start g.at n) next k r new c → Ends allocates ListScript old k r new c
     list-ends g block old mid next r new k c granted longer led same u =
         let b = begun-grant allocates ListScript ListScript g old old mid k k (begun allocates ListScript old k) granted longer in
-        let d = begun-write allocates ListScript (λ o rest. ListScript o (grant g ∷ rest)) at (header g.at n) old mid next k k b led same in
-        let e = begun-as allocates ListScript (λ o rest. ListScript o (grant g ∷ write at (header g.at n) ∷ rest)) (EachWalks t m start g.at n) old next k k (list-walks t m a at start n g is counted stands block) d in
+        let d = begun-write allocates ListScript (λ o rest. ListScript o (grant g ∷ rest)) at (pointer_pair g.at n) old mid next k k b led same in
+        let e = begun-as allocates ListScript (λ o rest. ListScript o (grant g ∷ write at (pointer_pair g.at n) ∷ rest)) (EachWalks t m start g.at n) old next k k (list-walks t m a at start n g is counted stands block) d in
         begun-ends allocates ListScript (EachWalks t m start g.at n) old next r new k k c e u
 
   -- ---- a text
@@ -145,21 +145,21 @@ module _ (allocates : Allocation) where
     abbrev TextScript : Option TrapKind → List Event → Type 0
     TextScript = Behind (Walks string_type m a at)
 
-    text-walks : (g : Grant) → IsBlock 1 (length text) g → TextScript None (grant g ∷ write g.at text ∷ write at (header g.at (length text)) ∷ [])
+    text-walks : (g : Grant) → IsBlock 1 (length text) g → TextScript None (grant g ∷ write g.at text ∷ write at (pointer_pair g.at (length text)) ∷ [])
     text-walks g block =
-        let same = ap text_of held.2 in
+        let same = ap text_of_value held.2 in
         (string_value text, rw (← is, ← counted) held, (text, g, refl, subst (λ x. is_utf8 x ≡ true) (sym same) held.1, block, refl))
 
     pub text-refused : (old : Memory) (k : TrapKind) (new : Memory) (c : ℕ) → RequestFails allocates old 1 (length text) k new → WasRefused allocates TextScript old c k new c
     text-refused old k new c fails =
         let g : Grant = record { align = 1; size = length text; at = 0; contents = [] } in
-        refused allocates TextScript None g (write 0 text ∷ write at (header 0 (length text)) ∷ []) old k new c (text-walks g (refl, refl)) fails
+        refused allocates TextScript None g (write 0 text ∷ write at (pointer_pair 0 (length text)) ∷ []) old k new c (text-walks g (refl, refl)) fails
 
     pub text-done : (g : Grant) → IsBlock 1 (length text) g → (old mid next new : Memory) (k : ℕ) → EventLeads allocates old (grant g) mid → length old.bytes ≤ length mid.bytes
         → EventLeads allocates mid (write g.at text) next → length next.bytes ≡ length mid.bytes
-        → EventLeads allocates next (write at (header g.at (length text))) new → length new.bytes ≡ length next.bytes → IsDone allocates TextScript old k new k
+        → EventLeads allocates next (write at (pointer_pair g.at (length text))) new → length new.bytes ≡ length next.bytes → IsCrossed allocates TextScript old k new k
     text-done g block old mid next new k granted longer led same told alike = record {
-      events = grant g ∷ write g.at text ∷ write at (header g.at (length text)) ∷ [];
+      events = grant g ∷ write g.at text ∷ write at (pointer_pair g.at (length text)) ∷ [];
       scripted = text-walks g block;
       leads = (mid, granted, (next, led, (new, told, refl)));
       no_shorter = omega (arith, longer, same, alike);

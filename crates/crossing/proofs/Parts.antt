@@ -5,7 +5,7 @@ use Rattle.canonical_abi.specs.Trace.{Grant, Event, node, grant, write, EventLea
 use Rattle.canonical_abi.specs.declared.trap.TrapKind.{TrapKind}
 use Rattle.canonical_abi.proofs.Fine.{leads-both}
 use Rattle.canonical_abi.proofs.Visited.{visited-both}
-use Rattle.crossing.specs.Outcome.{Behind, Counts, IsDone, WasRefused, HasStopped, Ends}
+use Rattle.crossing.specs.Outcome.{Behind, Counts, IsCrossed, WasRefused, HasStopped, Ends}
 use Rattle.crossing.specs.declared.stopped.Stopped.{Stopped}
 use Rattle.crossing.specs.declared.stopped.Stopped.TheVariants as stopped
 
@@ -30,7 +30,7 @@ module _ (allocates : Allocation) where
       → IsBegun allocates S T old n new c → IsBegun allocates S V old n new c
   begun-as S T V old new n c as_other b = record { events = b.events; completed = λ o rest v. b.completed o rest (as_other o rest v); leads = b.leads; no_shorter = b.no_shorter; counted = b.counted }
 
-  pub begun-then : (S T U V : Option TrapKind → List Event → Type 0) (old mid new : Memory) (n c d : ℕ) → IsBegun allocates S T old n mid c → IsDone allocates U mid c new d
+  pub begun-then : (S T U V : Option TrapKind → List Event → Type 0) (old mid new : Memory) (n c d : ℕ) → IsBegun allocates S T old n mid c → IsCrossed allocates U mid c new d
       → ((first : List Event) (o : Option TrapKind) (rest : List Event) → U None first → V o rest → T o (first ++ rest)) → IsBegun allocates S V old n new d
   begun-then S T U V old mid new n c d b u joins = record {
     events = b.events ++ u.events;
@@ -40,7 +40,7 @@ module _ (allocates : Allocation) where
     counted = counts-both b.events u.events n c d b.counted u.counted;
   }
 
-  pub begun-done : (S T : Option TrapKind → List Event → Type 0) (old new : Memory) (n c : ℕ) → IsBegun allocates S T old n new c → T None [] → IsDone allocates S old n new c
+  pub begun-done : (S T : Option TrapKind → List Event → Type 0) (old new : Memory) (n c : ℕ) → IsBegun allocates S T old n new c → T None [] → IsCrossed allocates S old n new c
   begun-done S T old new n c b t = record {
     events = b.events;
     scripted = subst (S None) (append-nil b.events) (b.completed None [] t);
@@ -50,7 +50,7 @@ module _ (allocates : Allocation) where
   }
 
   -- all that is left was done, or stopped
-  pub begun-last : (S T : Option TrapKind → List Event → Type 0) (old mid new : Memory) (n c d : ℕ) → IsBegun allocates S T old n mid c → IsDone allocates T mid c new d → IsDone allocates S old n new d
+  pub begun-last : (S T : Option TrapKind → List Event → Type 0) (old mid new : Memory) (n c d : ℕ) → IsBegun allocates S T old n mid c → IsCrossed allocates T mid c new d → IsCrossed allocates S old n new d
   begun-last S T old mid new n c d b u = record {
     events = b.events ++ u.events;
     scripted = b.completed None u.events u.scripted;

@@ -14,7 +14,7 @@ use Rattle.canonical_abi.specs.declared.flat.Flat.{Flat}
 use Rattle.canonical_abi.specs.declared.flat.Flat.TheVariants.{I32}
 use Rattle.canonical_abi.specs.declared.trap.TrapKind.{TrapKind}
 use Rattle.values.specs.Bytes.{AreBytes}
-use Rattle.crossing.specs.Outcome.{FlatScript, FieldsFlatWalk, FieldsWalk, FlatEnds, Ends, IsDone, WasRefused, HasStopped}
+use Rattle.crossing.specs.Outcome.{FlatScript, FieldsFlatWalk, FieldsWalk, FlatEnds, Ends, IsCrossed, WasRefused, HasStopped}
 use Rattle.crossing.specs.Ways.{ParamsWalk, ResultWalk, WayEnds}
 use Rattle.crossing.specs.declared.stopped.Stopped.{Stopped}
 use Rattle.crossing.specs.declared.stopped.Stopped.TheVariants as stopped
@@ -65,7 +65,7 @@ module _ (allocates : Allocation) where
   stopped-as S T same old n s new c u = begun-stopped allocates S T old old s new n n c (begun-as allocates S S T old old n n same (begun allocates S old n)) u
 
   pub done-as : (S T : Option TrapKind → List Event → Type 0) → ((o : Option TrapKind) (es : List Event) → T o es → S o es) → (old : Memory) (n : ℕ) (new : Memory) (c : ℕ)
-      → IsDone allocates T old n new c → IsDone allocates S old n new c
+      → IsCrossed allocates T old n new c → IsCrossed allocates S old n new c
   done-as S T same old n new c u = begun-last allocates S T old old new n n c (begun-as allocates S S T old old n n same (begun allocates S old n)) u
 
   module _ (limit : ℕ) (ts : Fields) (m : List ℕ) (flats : List Flat) (kinds : map kind_of flats ≡ passed_kinds limit ts) where
@@ -101,9 +101,9 @@ module _ (allocates : Allocation) where
           begun-as allocates S (λ o rest. S o (grant g ∷ rest)) (FieldsWalk ts m a g.at 0) old mid n n (record-script g block) (begun-grant allocates S S g old old mid n n (begun allocates S old n) granted longer)
 
       pub record-done : (g : Grant) → IsBlock (align (record_type ts)) (size (record_type ts)) g → (final : List Flat) → final ≡ I32 g.at ∷ [] → (old mid : Memory) (n : ℕ) (new : Memory) (c : ℕ) → EventLeads allocates old (grant g) mid
-          → length old.bytes ≤ length mid.bytes → IsDone allocates (FieldsWalk ts m a g.at 0) mid n new c → IsDone allocates (ParamsWalk limit ts m flats final) old n new c
+          → length old.bytes ≤ length mid.bytes → IsCrossed allocates (FieldsWalk ts m a g.at 0) mid n new c → IsCrossed allocates (ParamsWalk limit ts m flats final) old n new c
       record-done g block final ends old mid n new c granted longer u =
-          subst (λ f. IsDone allocates (ParamsWalk limit ts m flats f) old n new c) (sym ends)
+          subst (λ f. IsCrossed allocates (ParamsWalk limit ts m flats f) old n new c) (sym ends)
           (begun-last allocates (RecordScript g.at) (FieldsWalk ts m a g.at 0) old mid new n n c (record-begun g block old mid n granted longer) u)
 
       pub record-stopped : (g : Grant) → IsBlock (align (record_type ts)) (size (record_type ts)) g → (F G : TrapKind → Type 0) (old mid : Memory) (n : ℕ) (s : Stopped) (new : Memory) (c : ℕ) → EventLeads allocates old (grant g) mid
@@ -128,7 +128,7 @@ module _ (allocates : Allocation) where
         → BlockHolds m a (align (record_type ts)) (size (record_type ts)) → (r : Result (Unit {0}) Stopped) (new : Memory) (c : ℕ) → Ends allocates (FieldsWalk ts m a area 0) old n r new c
         → (final : List Flat) → final ≡ [] → WayEnds allocates (ResultWalk limit ts m flats area old.bytes) F G old n r new c final
     area-ends spilled room a is stands (Ok _) new c u final none =
-        subst (λ f. IsDone allocates (ResultWalk limit ts m flats area old.bytes f) old n new c) (sym none)
+        subst (λ f. IsCrossed allocates (ResultWalk limit ts m flats area old.bytes f) old n new c) (sym none)
         (done-as (ResultWalk limit ts m flats area old.bytes []) (FieldsWalk ts m a area 0) (spilled-result limit ts m flats area old.bytes kinds spilled room a is stands) old n new c u)
     area-ends spilled room a is stands (Err s) new c u final none =
         way-stopped (ResultWalk limit ts m flats area old.bytes) F G old n s new c final []

@@ -43,7 +43,7 @@ abbrev pub Counts : ℕ → List Event → ℕ → Type 0
 Counts n es c = min c (2 ^ 64 - 1) ≡ min (n + nodes_of es) (2 ^ 64 - 1)
 
 -- the whole script was done
-pub record IsDone (allocates : Allocation) (S : Option TrapKind → List Event → Type 0) (old : Memory) (n : ℕ) (new : Memory) (c : ℕ) : Type 0 where
+pub record IsCrossed (allocates : Allocation) (S : Option TrapKind → List Event → Type 0) (old : Memory) (n : ℕ) (new : Memory) (c : ℕ) : Type 0 where
   pub events : List Event
   pub scripted : S None events
   pub leads : TraceLeads allocates old events new
@@ -74,7 +74,7 @@ HasStopped allocates S old n (stopped.Source k) new c = MetFault allocates S old
 HasStopped allocates S old n (stopped.Target k) new c = WasRefused allocates S old n k new c
 
 abbrev pub Ends : Allocation → (Option TrapKind → List Event → Type 0) → Memory → ℕ → Result (Unit {0}) Stopped → Memory → ℕ → Type 0
-Ends allocates S old n (Ok _) new c = IsDone allocates S old n new c
+Ends allocates S old n (Ok _) new c = IsCrossed allocates S old n new c
 Ends allocates S old n (Err s) new c = HasStopped allocates S old n s new c
 
 -- ---- flat values
@@ -99,5 +99,5 @@ FlatBehind S final = Behind (S final)
 
 -- how a way over flat values ended, with the core values that stand in the end
 abbrev pub FlatEnds : Allocation → FlatScript → Memory → ℕ → Result (Unit {0}) Stopped → Memory → ℕ → List Flat → Type 0
-FlatEnds allocates S old n (Ok _) new c final = IsDone allocates (S final) old n new c
+FlatEnds allocates S old n (Ok _) new c final = IsCrossed allocates (S final) old n new c
 FlatEnds allocates S old n (Err s) new c final = (other : List Flat) × HasStopped allocates (S other) old n s new c

@@ -9,7 +9,7 @@ use Rattle.canonical_abi.specs.Lowering.{PassesParams, PassesResult}
 use Rattle.canonical_abi.specs.Script.{AddressStands, ParamsUntil, ResultUntil}
 use Rattle.canonical_abi.specs.declared.flat.Flat.{Flat}
 use Rattle.canonical_abi.specs.declared.trap.TrapKind.{TrapKind}
-use Rattle.crossing.specs.Outcome.{FlatScript, IsDone, MetFault, WasRefused}
+use Rattle.crossing.specs.Outcome.{FlatScript, IsCrossed, MetFault, WasRefused}
 use Rattle.crossing.specs.declared.stopped.Stopped.{Stopped}
 use Rattle.crossing.specs.declared.stopped.Stopped.TheVariants as stopped
 
@@ -35,6 +35,6 @@ pub record IsUnbegun (old : Memory) (n : ℕ) (new : Memory) (c : ℕ) : Type 0 
 
 -- how a way ended, with the core values that stand in the end: the source's addresses may be at fault (F), or those of the target (G), before it is begun
 abbrev pub WayEnds : Allocation → FlatScript → (TrapKind → Type 0) → (TrapKind → Type 0) → Memory → ℕ → Result (Unit {0}) Stopped → Memory → ℕ → List Flat → Type 0
-WayEnds allocates S F G old n (Ok _) new c final = IsDone allocates (S final) old n new c
+WayEnds allocates S F G old n (Ok _) new c final = IsCrossed allocates (S final) old n new c
 WayEnds allocates S F G old n (Err (stopped.Source k)) new c final = (F k × IsUnbegun old n new c) ⊎ ((other : List Flat) × MetFault allocates (S other) old n k new c)
 WayEnds allocates S F G old n (Err (stopped.Target k)) new c final = (G k × IsUnbegun old n new c) ⊎ ((other : List Flat) × WasRefused allocates (S other) old n k new c)

@@ -5,7 +5,7 @@
 ghost use Rattle.std.specs.Prelude.{◌≡◌, ℕ, ◌+◌, ◌*◌, ◌^◌, ◌<◌, ◌≤◌, length};
 ghost use Rattle.canonical_abi.specs.Layout.{size, flags_size};
 ghost use Rattle.canonical_abi.specs.Types.{prim_type, boolean, scalar_value, flags_type};
-ghost use Rattle.crossing.specs.Outcome.{EachWalks, IsDone};
+ghost use Rattle.crossing.specs.Outcome.{EachWalks, IsCrossed};
 ghost use Rattle.values.specs.Types.{IsInside};
 ghost use Rattle.tables.specs.Closed.{closed_type, prim_of};
 
@@ -35,7 +35,7 @@ impl Walk<'_> {
         requires room { elements.to + elements.count * size (closed_type self.now.types.now element) ≤ length (G.memory guest.old).bytes }
         requires small { elements.to + elements.count * size (closed_type self.now.types.now element) < 2 ^ 32 }
         ensures few { result ≤ elements.count }
-        ensures crossed { IsDone G.allocates (EachWalks (closed_type self.now.types.now element) self.now.source.now elements.from elements.to result)
+        ensures crossed { IsCrossed G.allocates (EachWalks (closed_type self.now.types.now element) self.now.source.now elements.from elements.to result)
             (G.memory guest.old) nodes.old (G.memory guest.new) nodes.new }
     {
         if elements.count < LONG {
@@ -72,7 +72,7 @@ impl Walk<'_> {
         requires room { elements.to + elements.count * size (closed_type self.now.types.now element) ≤ length (G.memory guest.old).bytes }
         requires small { elements.to + elements.count * size (closed_type self.now.types.now element) < 2 ^ 32 }
         ensures few { result ≤ elements.count }
-        ensures crossed { IsDone G.allocates (EachWalks (closed_type self.now.types.now element) self.now.source.now elements.from elements.to result)
+        ensures crossed { IsCrossed G.allocates (EachWalks (closed_type self.now.types.now element) self.now.source.now elements.from elements.to result)
             (G.memory guest.old) nodes.old (G.memory guest.new) nodes.new }
     {
         let Some(plan) = plan_of(self.types, element) else {
@@ -93,7 +93,7 @@ fn front_of_chars<G: Guest>(
     requires room { elements.to + elements.count * 4 ≤ length (G.memory guest.old).bytes }
     requires small { elements.to + elements.count * 4 < 2 ^ 32 }
     ensures few { result ≤ elements.count }
-    ensures crossed { IsDone G.allocates (EachWalks (prim_type scalar_value) source.now elements.from elements.to result)
+    ensures crossed { IsCrossed G.allocates (EachWalks (prim_type scalar_value) source.now elements.from elements.to result)
         (G.memory guest.old) nodes.old (G.memory guest.new) nodes.new }
 {
     let crossed = cross_chars(source, elements, guest);
@@ -112,7 +112,7 @@ fn front_of_bools<G: Guest>(
     requires room { elements.to + elements.count ≤ length (G.memory guest.old).bytes }
     requires small { elements.to + elements.count < 2 ^ 32 }
     ensures few { result ≤ elements.count }
-    ensures crossed { IsDone G.allocates (EachWalks (prim_type boolean) source.now elements.from elements.to result)
+    ensures crossed { IsCrossed G.allocates (EachWalks (prim_type boolean) source.now elements.from elements.to result)
         (G.memory guest.old) nodes.old (G.memory guest.new) nodes.new }
 {
     cross_bools(source, elements, guest);
@@ -132,7 +132,7 @@ fn front_of_flags<G: Guest>(
     requires room { elements.to + elements.count * flags_size labels ≤ length (G.memory guest.old).bytes }
     requires small { elements.to + elements.count * flags_size labels < 2 ^ 32 }
     ensures few { result ≤ elements.count }
-    ensures crossed { IsDone G.allocates (EachWalks (flags_type labels) source.now elements.from elements.to result)
+    ensures crossed { IsCrossed G.allocates (EachWalks (flags_type labels) source.now elements.from elements.to result)
         (G.memory guest.old) nodes.old (G.memory guest.new) nodes.new }
 {
     let crossed = cross_flags(labels, source, elements, guest);
@@ -152,7 +152,7 @@ fn front_of_numbers<G: Guest>(
     requires room { elements.to + elements.count * size (prim_type (prim_of primitive)) ≤ length (G.memory guest.old).bytes }
     requires small { elements.to + elements.count * size (prim_type (prim_of primitive)) < 2 ^ 32 }
     ensures few { result ≤ elements.count }
-    ensures crossed { IsDone G.allocates (EachWalks (prim_type (prim_of primitive)) source.now elements.from elements.to result)
+    ensures crossed { IsCrossed G.allocates (EachWalks (prim_type (prim_of primitive)) source.now elements.from elements.to result)
         (G.memory guest.old) nodes.old (G.memory guest.new) nodes.new }
 {
     let Some(width) = number_width(primitive) else {

@@ -5,7 +5,7 @@ use Rattle.ctype_format.specs.declared.error.Stuck.{Stuck}
 use Rattle.ctype_format.specs.declared.error.Stuck.TheVariants.{End}
 use Rattle.productions.specs.Production.{next}
 use Rattle.productions.specs.Exactness.{Took}
-use Rattle.ctype_bin.specs.Exactness.{IsBytes, Inside, Exact}
+use Rattle.ctype_bin.specs.Exactness.{IsBytes, Inside, ExactBytes}
 use Rattle.ctype_format.specs.Bytes.{Bytes, choose, spells_by, stops_by, fails_by, read_by}
 use Rattle.productions.proofs.Exact.{no_ok}
 use Rattle.ctype_bin.proofs.Exact.{stopped, took}
@@ -13,7 +13,7 @@ use Rattle.ctype_bin.proofs.Exact.{stopped, took}
 abbrev pub NeverEmpty : {X : Type 0} → Bytes X → Type 0
 NeverEmpty {X} p = (x : X) → p.spells [] x → ⊥
 
-module _ {X : Type 0} (test : ℕ → Bool) (p q : Bytes X) (ep : Exact p) (eq : Exact q) (np : NeverEmpty p) (nq : NeverEmpty q) where
+module _ {X : Type 0} (test : ℕ → Bool) (p q : Bytes X) (ep : ExactBytes p) (eq : ExactBytes q) (np : NeverEmpty p) (nq : NeverEmpty q) where
   abbrev Begun : Bytes X → List ℕ → X → Option ℕ → Type 0
   Begun r text x after = r.spells text x × r.stops text x after
 
@@ -80,5 +80,5 @@ module _ {X : Type 0} (test : ℕ → Bool) (p q : Bytes X) (ep : Exact p) (eq :
   all_inside [] f fits e = subst (λ (g : Stuck). Inside g []) (let h : stopped (X × List ℕ) End ≡ Err f = e in let k : End ≡ f = cc in k) tt
   all_inside (b ∷ bs) f fits e = choose_inside b bs f (test b) fits e
 
-  pub exact-choose : Exact (choose test p q)
+  pub exact-choose : ExactBytes (choose test p q)
   exact-choose = record { sound = all_sound; complete = λ text rest x s end. all_complete text rest x s; taken = all_taken; faulty = all_faulty; met = all_met; stays = all_inside }

@@ -6,7 +6,7 @@ use Rattle.std.proofs.lemmas.List.{take_all, length-take, length-take-le}
 use Rattle.atoms.specs.Streams.{ReadsUpTo}
 use Rattle.ctype_format.specs.declared.error.BinError.{BinError}
 use Rattle.ctype_format.specs.declared.error.BinError.TheVariants as errors
-use Rattle.ctype_format.specs.Raw.{File}
+use Rattle.ctype_format.specs.Raw.{BinaryFile}
 use Rattle.ctype_format.specs.File.{decoded, max_length, Decodes, DecodesOrReads}
 
 cut_same : (xs : List ℕ) → decoded (take (max_length + 1) xs) ≡ decoded xs
@@ -21,21 +21,21 @@ cut_same xs =
       | inr le ↦ ap decoded (take_all (max_length + 1) xs (omega arith))
     ]
 
-either : {X : Type 0} (view : X → File) (r : Result X BinError) (bytes xs : List ℕ) → decoded bytes ≡ decoded xs → Decodes view r bytes → DecodesOrReads view r xs
+either : {X : Type 0} (view : X → BinaryFile) (r : Result X BinError) (bytes xs : List ℕ) → decoded bytes ≡ decoded xs → Decodes view r bytes → DecodesOrReads view r xs
 either view (Ok x) bytes xs same h = sym same ∙ h
 either view (Err (errors.At fault place)) bytes xs same h = sym same ∙ h
 either view (Err (errors.Read place)) bytes xs same h = tt
 either view (Err errors.NoMemory) bytes xs same h = tt
 
 -- what was decoded was read
-pub of_read : {X : Type 0} (view : X → File) (r : Result X BinError) (known : Option (List ℕ)) (bytes : List ℕ) → ReadsUpTo max_length known bytes → Decodes view r bytes → (bytes : List ℕ) × ReadsUpTo max_length known bytes × DecodesOrReads view r bytes
+pub of_read : {X : Type 0} (view : X → BinaryFile) (r : Result X BinError) (known : Option (List ℕ)) (bytes : List ℕ) → ReadsUpTo max_length known bytes → Decodes view r bytes → (bytes : List ℕ) × ReadsUpTo max_length known bytes × DecodesOrReads view r bytes
 of_read view r known bytes reads h = (bytes, reads, either view r bytes bytes refl h)
 
 -- where nothing was decoded, some bytes can be read
-pub some_read : {X : Type 0} (view : X → File) (r : Result X BinError) (known : Option (List ℕ)) → ((bytes : List ℕ) → DecodesOrReads view r bytes) → (bytes : List ℕ) × ReadsUpTo max_length known bytes × DecodesOrReads view r bytes
+pub some_read : {X : Type 0} (view : X → BinaryFile) (r : Result X BinError) (known : Option (List ℕ)) → ((bytes : List ℕ) → DecodesOrReads view r bytes) → (bytes : List ℕ) × ReadsUpTo max_length known bytes × DecodesOrReads view r bytes
 some_read view r None h = ([], (omega arith, tt), h [])
 some_read view r (Some xs) h = (take (max_length + 1) xs, (omega (arith, length-take (max_length + 1) xs), refl), h (take (max_length + 1) xs))
 
-pub of_known : {X : Type 0} (view : X → File) (r : Result X BinError) (known : Option (List ℕ)) (bytes : List ℕ) → ReadsUpTo max_length known bytes → Decodes view r bytes → IfSome known (λ xs. DecodesOrReads view r xs)
+pub of_known : {X : Type 0} (view : X → BinaryFile) (r : Result X BinError) (known : Option (List ℕ)) (bytes : List ℕ) → ReadsUpTo max_length known bytes → Decodes view r bytes → IfSome known (λ xs. DecodesOrReads view r xs)
 of_known view r None bytes reads h = tt
 of_known view r (Some xs) bytes reads h = either view r bytes xs (ap decoded reads.1 ∙ cut_same xs) h

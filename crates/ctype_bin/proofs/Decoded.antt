@@ -12,25 +12,25 @@ use Rattle.ctype_format.specs.declared.error.Stuck.TheVariants.{Past}
 use Rattle.ctype_format.specs.Bytes.{sized, ended}
 use Rattle.ctype_format.specs.declared.error.BinError.{BinError}
 use Rattle.ctype_format.specs.declared.error.BinError.TheVariants as errors
-use Rattle.ctype_format.specs.Raw.{File}
+use Rattle.ctype_format.specs.Raw.{BinaryFile}
 use Rattle.ctype_bin.specs.Exactness.{IsBytes, within}
-use Rattle.ctype_format.specs.File.{file, exactly, preamble, section, type_section, export_section, trailing, trailing_fault, custom_next, decoded, max_length, placed, at_place, Faulty, Decodes}
+use Rattle.ctype_format.specs.File.{component_file, exactly, preamble, section, type_section, export_section, trailing, trailing_fault, custom_next, decoded, max_length, fault_placed, at_place, FaultyBinary, Decodes}
 use Rattle.ctype_format.specs.Writing.{file_bytes}
 use Rattle.ctype_bin.specs.Spellable.{IsSpellable}
 use Rattle.ctype_bin.specs.Encoding.{AppendsSpelling}
 use Rattle.ctype_bin.proofs.File.{exact-file}
 use Rattle.ctype_bin.proofs.RewrittenFile.{file_rewritten}
 
-abbrev done : File → Result File BinError
+abbrev done : BinaryFile → Result BinaryFile BinError
 done f = Ok f
 
-abbrev failed : BinError → Result File BinError
+abbrev failed : BinError → Result BinaryFile BinError
 failed e = Err e
 
 abbrev stuck_ok : {X : Type 0} → X × List ℕ → Result (X × List ℕ) Stuck
 stuck_ok x = Ok x
 
-ok_is : (f g : File) → done f ≡ done g → f ≡ g
+ok_is : (f g : BinaryFile) → done f ≡ done g → f ≡ g
 ok_is f g e = cc
 
 err_is : (d e : BinError) → failed d ≡ failed e → d ≡ e
@@ -40,7 +40,7 @@ long_is : (bytes : List ℕ) → max_length < length bytes → decoded bytes ≡
 unfolding decoded
 long_is bytes lt = rw (lt-ltb max_length (length bytes) lt) refl
 
-short_is : (bytes : List ℕ) → length bytes ≤ max_length → decoded bytes ≡ at_place (length bytes) (file.read bytes)
+short_is : (bytes : List ℕ) → length bytes ≤ max_length → decoded bytes ≡ at_place (length bytes) (component_file.read bytes)
 unfolding decoded
 short_is bytes le = rw (le-ltb max_length (length bytes) le) refl
 
@@ -64,8 +64,8 @@ trailing_all (suc n) bytes x rest e =
     by None more h again = end_all more x rest h
     by (Some y) more h again = again h
 
-file_all : (bytes : List ℕ) (f : File) (rest : List ℕ) → file.read bytes ≡ Ok (f, rest) → rest ≡ []
-unfolding file
+file_all : (bytes : List ℕ) (f : BinaryFile) (rest : List ℕ) → component_file.read bytes ≡ Ok (f, rest) → rest ≡ []
+unfolding component_file
 file_all bytes f rest e =
     let a = after_ok ((exactly preamble).read bytes) _ (f, rest) e in
     let b = after_ok ((section 7 max_length).read a.0.1) _ (f, rest) a.2 in
@@ -77,78 +77,78 @@ file_all bytes f rest e =
 
 -- ---- a component
 
-spelt_all : (bytes : List ℕ) (f : File) (rest : List ℕ) → IsBytes bytes → file.read bytes ≡ Ok (f, rest) → file.spells bytes f
+spelt_all : (bytes : List ℕ) (f : BinaryFile) (rest : List ℕ) → IsBytes bytes → component_file.read bytes ≡ Ok (f, rest) → component_file.spells bytes f
 spelt_all bytes f rest fits e =
     let t = exact-file.sound bytes f rest fits e in
     let none : rest ≡ [] = file_all bytes f rest e in
-    subst (λ (u : List ℕ). file.spells u f) (sym (t.parts ∙ ap (λ (r : List ℕ). t.text ++ r) none ∙ append-nil t.text)) t.spelt
+    subst (λ (u : List ℕ). component_file.spells u f) (sym (t.parts ∙ ap (λ (r : List ℕ). t.text ++ r) none ∙ append-nil t.text)) t.spelt
 
-pub read_all : (bytes : List ℕ) (f : File) → file.spells bytes f → file.read bytes ≡ Ok (f, [])
-read_all bytes f s = ap (λ (t : List ℕ). file.read t) (sym (append-nil bytes)) ∙ exact-file.complete bytes [] f s refl
+pub read_all : (bytes : List ℕ) (f : BinaryFile) → component_file.spells bytes f → component_file.read bytes ≡ Ok (f, [])
+read_all bytes f s = ap (λ (t : List ℕ). component_file.read t) (sym (append-nil bytes)) ∙ exact-file.complete bytes [] f s refl
 
-pub spellable : (bytes : List ℕ) (f : File) → IsBytes bytes → file.read bytes ≡ Ok (f, []) → IsSpellable f
+pub spellable : (bytes : List ℕ) (f : BinaryFile) → IsBytes bytes → component_file.read bytes ≡ Ok (f, []) → IsSpellable f
 spellable bytes f fits e = (bytes, spelt_all bytes f [] fits e)
 
-decoded_spelt : (bytes : List ℕ) (f : File) → IsBytes bytes → decoded bytes ≡ Ok f → (length bytes ≤ max_length) × file.spells bytes f
+decoded_spelt : (bytes : List ℕ) (f : BinaryFile) → IsBytes bytes → decoded bytes ≡ Ok f → (length bytes ≤ max_length) × component_file.spells bytes f
 decoded_spelt bytes f fits e =
     elim (cases_lt max_length (length bytes)) [
       | inl lt ↦ absurd (let h : failed (errors.At Limit max_length) ≡ done f = sym (long_is bytes lt) ∙ e in cc)
-      | inr le ↦ (le, by (file.read bytes) refl (sym (short_is bytes le) ∙ e))
+      | inr le ↦ (le, by (component_file.read bytes) refl (sym (short_is bytes le) ∙ e))
     ]
   where
-    by : (r : Result (File × List ℕ) Stuck) → file.read bytes ≡ r → at_place (length bytes) r ≡ Ok f → file.spells bytes f
-    by (Ok x) is h = spelt_all bytes f x.1 fits (is ∙ ap (λ (g : File). stuck_ok (g, x.1)) (ok_is x.0 f h))
-    by (Err d) is h = absurd (let k : failed (placed (length bytes) d) ≡ done f = h in cc)
+    by : (r : Result (BinaryFile × List ℕ) Stuck) → component_file.read bytes ≡ r → at_place (length bytes) r ≡ Ok f → component_file.spells bytes f
+    by (Ok x) is h = spelt_all bytes f x.1 fits (is ∙ ap (λ (g : BinaryFile). stuck_ok (g, x.1)) (ok_is x.0 f h))
+    by (Err d) is h = absurd (let k : failed (fault_placed (length bytes) d) ≡ done f = h in cc)
 
-pub spelt_decoded : (bytes : List ℕ) (f : File) → length bytes ≤ max_length → file.spells bytes f → decoded bytes ≡ Ok f
+pub spelt_decoded : (bytes : List ℕ) (f : BinaryFile) → length bytes ≤ max_length → component_file.spells bytes f → decoded bytes ≡ Ok f
 spelt_decoded bytes f le s = short_is bytes le ∙ ap (at_place (length bytes)) (read_all bytes f s)
 
 -- ---- a fault
 
-decoded_faulty : (bytes : List ℕ) (fault : Fault) (place : ℕ) → IsBytes bytes → decoded bytes ≡ Err (errors.At fault place) → Faulty bytes (errors.At fault place)
+decoded_faulty : (bytes : List ℕ) (fault : Fault) (place : ℕ) → IsBytes bytes → decoded bytes ≡ Err (errors.At fault place) → FaultyBinary bytes (errors.At fault place)
 decoded_faulty bytes fault place fits e =
     elim (cases_lt max_length (length bytes)) [
       | inl lt ↦ let is = limit_is fault place (err_is (errors.At Limit max_length) (errors.At fault place) (sym (long_is bytes lt) ∙ e)) in inl (lt, is.0, is.1)
-      | inr le ↦ inr (le, by (file.read bytes) refl (sym (short_is bytes le) ∙ e))
+      | inr le ↦ inr (le, by (component_file.read bytes) refl (sym (short_is bytes le) ∙ e))
     ]
   where
     limit_is : (fault : Fault) (place : ℕ) → errors.At Limit max_length ≡ errors.At fault place → (fault ≡ Limit) × (place ≡ max_length)
     limit_is fault place h = (let k : Limit ≡ fault = cc in sym k, let k : max_length ≡ place = cc in sym k)
 
-    by : (r : Result (File × List ℕ) Stuck) → file.read bytes ≡ r → at_place (length bytes) r ≡ Err (errors.At fault place) → (stuck : Stuck) × file.fails bytes stuck × (placed (length bytes) stuck ≡ errors.At fault place)
+    by : (r : Result (BinaryFile × List ℕ) Stuck) → component_file.read bytes ≡ r → at_place (length bytes) r ≡ Err (errors.At fault place) → (stuck : Stuck) × component_file.fails bytes stuck × (fault_placed (length bytes) stuck ≡ errors.At fault place)
     by (Ok x) is h = absurd (let k : done x.0 ≡ failed (errors.At fault place) = h in cc)
-    by (Err d) is h = (d, exact-file.faulty bytes d fits is, err_is (placed (length bytes) d) (errors.At fault place) h)
+    by (Err d) is h = (d, exact-file.faulty bytes d fits is, err_is (fault_placed (length bytes) d) (errors.At fault place) h)
 
 -- ---- the first fault is the only one
 
 two_parts : (f g : Fault) (m n : ℕ) → errors.At f m ≡ errors.At g n → (f ≡ g) × (m ≡ n)
 two_parts f g m n h = (cc, cc)
 
-pub only_fault : (bytes : List ℕ) (f g : Fault) (m n : ℕ) → IsBytes bytes → Faulty bytes (errors.At f m) → Faulty bytes (errors.At g n) → (f ≡ g) × (m ≡ n)
+pub only_fault : (bytes : List ℕ) (f g : Fault) (m n : ℕ) → IsBytes bytes → FaultyBinary bytes (errors.At f m) → FaultyBinary bytes (errors.At g n) → (f ≡ g) × (m ≡ n)
 only_fault bytes f g m n fits (inl this) (inl that) = (this.1 ∙ sym that.1, this.2 ∙ sym that.2)
 only_fault bytes f g m n fits (inl this) (inr that) = absurd (omega (arith, this.0, that.0))
 only_fault bytes f g m n fits (inr this) (inl that) = absurd (omega (arith, this.0, that.0))
 only_fault bytes f g m n fits (inr (short, (s, here, is))) (inr (short', (t, there, is'))) =
-    two_parts f g m n (sym is ∙ ap (placed (length bytes)) (one-fault within file exact-file bytes s t fits here there) ∙ is')
+    two_parts f g m n (sym is ∙ ap (fault_placed (length bytes)) (one-fault within component_file exact-file bytes s t fits here there) ∙ is')
 
-pub spelt_faultless : (bytes : List ℕ) (x : File) (f : Fault) (n : ℕ) → IsBytes bytes → length bytes ≤ max_length → file.spells bytes x → Faulty bytes (errors.At f n) → ⊥
+pub spelt_faultless : (bytes : List ℕ) (x : BinaryFile) (f : Fault) (n : ℕ) → IsBytes bytes → length bytes ≤ max_length → component_file.spells bytes x → FaultyBinary bytes (errors.At f n) → ⊥
 spelt_faultless bytes x f n fits short spelt (inl long) = omega (arith, short, long.0)
 spelt_faultless bytes x f n fits short spelt (inr (le, (s, fails, is))) = no_err (x, []) s (sym (read_all bytes x spelt) ∙ exact-file.met bytes s fits fails)
 
 -- ---- what `Decodes` says
 
-module _ {X : Type 0} (view : X → File) (bytes : List ℕ) where
-  pub all_spelt : IsBytes bytes → (r : Result X BinError) → Decodes view r bytes → IfOk r (λ c. (length bytes ≤ max_length) × file.spells bytes (view c))
+module _ {X : Type 0} (view : X → BinaryFile) (bytes : List ℕ) where
+  pub all_spelt : IsBytes bytes → (r : Result X BinError) → Decodes view r bytes → IfOk r (λ c. (length bytes ≤ max_length) × component_file.spells bytes (view c))
   all_spelt fits (Ok c) h = decoded_spelt bytes (view c) fits h
   all_spelt fits (Err e) h = tt
 
-  pub only_those : (r : Result X BinError) → Decodes view r bytes → (f : File) → length bytes ≤ max_length → file.spells bytes f → MatchResult r (λ c. view c ≡ f) (λ e. e ≡ errors.NoMemory)
+  pub only_those : (r : Result X BinError) → Decodes view r bytes → (f : BinaryFile) → length bytes ≤ max_length → component_file.spells bytes f → MatchResult r (λ c. view c ≡ f) (λ e. e ≡ errors.NoMemory)
   only_those (Ok c) h f le s = ok_is (view c) f (sym h ∙ spelt_decoded bytes f le s)
   only_those (Err (errors.At fault place)) h f le s = absurd (let k : failed (errors.At fault place) ≡ done f = sym h ∙ spelt_decoded bytes f le s in cc)
   only_those (Err (errors.Read place)) h f le s = absurd h
   only_those (Err errors.NoMemory) h f le s = refl
 
-  pub all_faulty : IsBytes bytes → (r : Result X BinError) → Decodes view r bytes → IfErr r (λ e. Faulty bytes e)
+  pub all_faulty : IsBytes bytes → (r : Result X BinError) → Decodes view r bytes → IfErr r (λ e. FaultyBinary bytes e)
   all_faulty fits (Ok c) h = tt
   all_faulty fits (Err (errors.At fault place)) h = decoded_faulty bytes fault place fits h
   all_faulty fits (Err (errors.Read place)) h = absurd h
@@ -156,7 +156,7 @@ module _ {X : Type 0} (view : X → File) (bytes : List ℕ) where
 
 -- ---- what is written of what is spellable
 
-pub written_bytes : (f : File) → IsSpellable f → (old new : List ℕ) → new ≡ old ++ file_bytes f → AppendsSpelling old new f
+pub written_bytes : (f : BinaryFile) → IsSpellable f → (old new : List ℕ) → new ≡ old ++ file_bytes f → AppendsSpelling old new f
 written_bytes f s old new h =
     let spelt = file_rewritten s.0 f s.1 in
     record { bytes = file_bytes f; appended = h; spelt = spelt; decodes = λ le. spelt_decoded (file_bytes f) f le spelt }

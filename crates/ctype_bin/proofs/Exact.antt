@@ -9,8 +9,8 @@ use Rattle.productions.specs.Production.{next}
 use Rattle.productions.specs.Exactness.{Took}
 use Rattle.productions.proofs.Exact as general
 use Rattle.productions.proofs.Exact.{no_err, no_ok}
-use Rattle.ctype_bin.specs.Exactness.{IsBytes, Inside, Exact, ExactToEnd, within}
-use Rattle.ctype_format.specs.Bytes.{Bytes, ended, at, placed_at, byte, several, remaining, only, StaysSmall}
+use Rattle.ctype_bin.specs.Exactness.{IsBytes, Inside, ExactBytes, ExactToEnd, within}
+use Rattle.ctype_format.specs.Bytes.{Bytes, ended, at, stuck_if, byte, several, remaining, only_bytes, StaysSmall}
 
 abbrev pub done : {X : Type 0} → X → Result X Stuck
 done x = Ok x
@@ -21,21 +21,21 @@ stopped X f = Err f
 pub ok_is : {A : Type 0} (x y : A) → done x ≡ done y → x ≡ y
 ok_is x y e = cc
 
-pub exact-byte : Exact byte
+pub exact-byte : ExactBytes byte
 exact-byte = general.exact-one within (λ b. true) ended (λ bytes out. tt)
 
 at_none : {X : Type 0} (fault : X → Option Fault) (x : X) (bytes other : List ℕ) → at fault x bytes ≡ None → at fault x other ≡ None
 at_none fault x bytes other e = by (fault x) refl e
   where
-    by : (o : Option Fault) → fault x ≡ o → placed_at o (length bytes) ≡ None → at fault x other ≡ None
+    by : (o : Option Fault) → fault x ≡ o → stuck_if o (length bytes) ≡ None → at fault x other ≡ None
     by None is h = rw is refl
     by (Some found) is h = absurd cc
 
-at_inside : (o : Option Fault) (bytes : List ℕ) (f : Stuck) → placed_at o (length bytes) ≡ Some f → Inside f bytes
+at_inside : (o : Option Fault) (bytes : List ℕ) (f : Stuck) → stuck_if o (length bytes) ≡ Some f → Inside f bytes
 at_inside None bytes f e = absurd cc
 at_inside (Some found) bytes f e = let h : At found (length bytes) ≡ f = cc in subst (λ (g : Stuck). Inside g bytes) h (omega arith)
 
-pub exact-only : {X : Type 0} (p : Bytes X) (fault : X → Option Fault) → Exact p → Exact (only p fault)
+pub exact-only : {X : Type 0} (p : Bytes X) (fault : X → Option Fault) → ExactBytes p → ExactBytes (only_bytes p fault)
 exact-only p fault ep = general.exact-only within p (at fault) (at_none fault) ep (λ bytes x rest f read e. at_inside (fault x) bytes f e)
 
 abbrev cut_at : ℕ → List ℕ → List ℕ × List ℕ
@@ -69,7 +69,7 @@ several_complete n text rest x s =
 several_met : (n : ℕ) (bytes : List ℕ) (f : Stuck) → (several n).fails bytes f → (several n).read bytes ≡ Err f
 several_met n bytes f h = rw (lt-leb n (length bytes) h.0, h.1) refl
 
-pub exact-several : (n : ℕ) → Exact (several n)
+pub exact-several : (n : ℕ) → ExactBytes (several n)
 exact-several n = record {
   sound = λ bytes x rest fits e.
       let h = several_ok n bytes (x, rest) e in

@@ -8,8 +8,8 @@ use Rattle.productions.proofs.Exact.{exact-then, exact-bind, exact-last, exact-g
 use Rattle.ctype_format.specs.declared.error.Fault.TheVariants.{UnknownOpcode, BadSection, NotComponent}
 use Rattle.ctype_format.specs.declared.error.Stuck.TheVariants.{End, Past}
 use Rattle.ctype_format.specs.declared.scope.Scope.{Scope}
-use Rattle.ctype_bin.specs.Exactness.{Exact, ExactToEnd, Inside, within}
-use Rattle.ctype_format.specs.Bytes.{Bytes, byte, only, unless, u32, sized, remaining, ended}
+use Rattle.ctype_bin.specs.Exactness.{ExactBytes, ExactToEnd, Inside, within}
+use Rattle.ctype_format.specs.Bytes.{Bytes, byte, only_bytes, unless, u32, sized, remaining, ended}
 use Rattle.ctype_format.specs.Grammar.{zero_byte, index, utf8, extern_name, new_scope, type}
 use Rattle.ctype_format.specs.File as f
 use Rattle.ctype_bin.proofs.Exact.{exact-byte, exact-only, exact-remaining}
@@ -17,10 +17,10 @@ use Rattle.ctype_bin.proofs.Numbers.{exact-u32}
 use Rattle.ctype_bin.proofs.Sized.{exact-sized}
 use Rattle.ctype_bin.proofs.Grammar.{exact-index, exact-zero, exact-utf8, exact-extern, exact-type}
 
-pub exact-exactly : (bytes : List ℕ) → Exact (f.exactly bytes)
+pub exact-exactly : (bytes : List ℕ) → ExactBytes (f.exactly bytes)
 unfolding f.exactly
 exact-exactly [] = exact-give within 0
-exact-exactly (b ∷ bs) = exact-then within (only byte (λ x. unless (x == b) NotComponent)) (λ first. f.exactly bs) (exact-only byte _ exact-byte) (λ first. exact-exactly bs)
+exact-exactly (b ∷ bs) = exact-then within (only_bytes byte (λ x. unless (x == b) NotComponent)) (λ first. f.exactly bs) (exact-only byte _ exact-byte) (λ first. exact-exactly bs)
 
 -- ---- custom sections
 
@@ -28,20 +28,20 @@ pub exact-content : ExactToEnd f.custom_content
 unfolding f.custom_content
 exact-content = exact-then within utf8 (λ text. remaining) exact-utf8 (λ text. exact-remaining)
 
-exact-custom : Exact f.custom
+exact-custom : ExactBytes f.custom
 unfolding f.custom
 exact-custom = exact-then within u32 (λ size. sized (λ missing. End) size f.custom_content) exact-u32 (λ size. exact-sized (λ missing. End) size f.custom_content exact-content (λ x. refl) (λ n bytes. tt))
 
-exact-head : (id : ℕ) → Exact (f.head id)
+exact-head : (id : ℕ) → ExactBytes (f.head id)
 unfolding f.head
-exact-head id = exact-then within (only byte (λ b. unless (b == 0 || b == id) (BadSection b))) _ (exact-only byte _ exact-byte) (λ b.
+exact-head id = exact-then within (only_bytes byte (λ b. unless (b == 0 || b == id) (BadSection b))) _ (exact-only byte _ exact-byte) (λ b.
     exact-when within (b == 0) f.skipped f.announced (exact-then within f.custom _ exact-custom (λ c. exact-give within None)) (exact-then within u32 _ exact-u32 (λ size. exact-give within (Some size))))
 
-exact-by : (p : Bytes ℕ) → Exact p → (o : Option ℕ) → Exact (by_option o p give)
+exact-by : (p : Bytes ℕ) → ExactBytes p → (o : Option ℕ) → ExactBytes (by_option o p give)
 exact-by p ep None = ep
 exact-by p ep (Some x) = exact-give within x
 
-exact-section : (id n : ℕ) → Exact (f.section id n)
+exact-section : (id n : ℕ) → ExactBytes (f.section id n)
 unfolding f.section
 exact-section id zero = exact-never within ended (λ bytes. tt)
 exact-section id (suc n) = exact-then within (f.head id) (λ size. by_option size (f.section id n) give) (exact-head id) (exact-by (f.section id n) (exact-section id n))
@@ -71,24 +71,24 @@ exact-trailing (suc n) = exact-bind within f.custom_next (λ more. unless_some m
 
 -- ---- the file
 
-exact-entry : (scope : Scope) → Exact (f.entry scope)
-unfolding f.entry
-exact-entry scope = exact-then within (type f.max_depth [] scope) _ (exact-type f.max_depth [] scope) (λ t. exact-give within _)
+exact-entry : (scope : Scope) → ExactBytes (f.entry_of_type scope)
+unfolding f.entry_of_type
+exact-entry scope = exact-then within (type f.max_scope_depth [] scope) _ (exact-type f.max_scope_depth [] scope) (λ t. exact-give within _)
 
-pub exact-type_section : Exact f.type_section
+pub exact-type_section : ExactBytes f.type_section
 unfolding f.type_section
-exact-type_section = exact-then within u32 _ exact-u32 (λ n. exact-run within f.entry exact-entry n (new_scope 0))
+exact-type_section = exact-then within u32 _ exact-u32 (λ n. exact-run within f.entry_of_type exact-entry n (new_scope 0))
 
-exact-exported : (types : ℕ) → Exact (f.exported types)
+exact-exported : (types : ℕ) → ExactBytes (f.exported types)
 unfolding f.exported
-exact-exported types = exact-then within extern_name _ exact-extern (λ text. exact-then within (only byte (λ b. unless (b == 3) (UnknownOpcode b))) _ (exact-only byte _ exact-byte) (λ sort. exact-then within (index types) _ (exact-index types) (λ i. exact-then within zero_byte _ exact-zero (λ close. exact-give within _))))
+exact-exported types = exact-then within extern_name _ exact-extern (λ text. exact-then within (only_bytes byte (λ b. unless (b == 3) (UnknownOpcode b))) _ (exact-only byte _ exact-byte) (λ sort. exact-then within (index types) _ (exact-index types) (λ i. exact-then within zero_byte _ exact-zero (λ close. exact-give within _))))
 
-pub exact-export_section : (types : ℕ) → Exact (f.export_section types)
+pub exact-export_section : (types : ℕ) → ExactBytes (f.export_section types)
 unfolding f.export_section
 exact-export_section types = exact-then within u32 _ exact-u32 (λ n. exact-times within n (f.exported types) (exact-exported types))
 
-pub exact-file : ExactToEnd f.file
-unfolding f.file
+pub exact-file : ExactToEnd f.component_file
+unfolding f.component_file
 exact-file =
     exact-then within (f.exactly f.preamble) _ (exact-exactly f.preamble) (λ mark.
     exact-then within (f.section 7 f.max_length) _ (exact-section 7 f.max_length) (λ size.

@@ -15,14 +15,14 @@ use Rattle.ctype_format.specs.declared.raw.RawDescription.TheVariants as descrip
 use Rattle.ctype_format.specs.declared.opcode.Opcode.{Opcode}
 use Rattle.ctype_format.specs.declared.opcode.Opcode.TheVariants as op
 use Rattle.ctype_format.specs.declared.scope.Scope.{Scope}
-use Rattle.ctype_format.specs.Bytes.{Bytes, byte, only, unless, u32, s33, choose, spells_by}
+use Rattle.ctype_format.specs.Bytes.{Bytes, byte, only_bytes, unless, u32, s33, choose, spells_by}
 use Rattle.ctype_format.specs.Grammar as g
 use Rattle.ctype_format.specs.File as f
 use Rattle.ctype_format.specs.View.{decls_of}
 use Rattle.ctype_format.specs.Raw as raw
-use Rattle.ctype_format.specs.Raw.{Definition, Define, Func, Component, Instance, Decl, Entry, Alias, Import, Export, Decls, Exported, File}
+use Rattle.ctype_format.specs.Raw.{Definition, Define, Func, Component, Instance, Decl, Entry, Alias, Import, Export, Decls, Exported, BinaryFile}
 use Rattle.ctype_format.specs.Formed.{All}
-use Rattle.ctype_bin.specs.InRange.{ValTypeInRange, OptionInRange, FieldInRange, CaseInRange, DefinedInRange, DescriptionInRange, AliasInRange, types_with, instances_with, types_behind, instances_behind, TypeInRange, DeclInRange, DeclsInRange, TypesInRange, FileInRange}
+use Rattle.ctype_bin.specs.InRange.{ValTypeInRange, OptionInRange, FieldInRange, CaseInRange, DefinedInRange, DescriptionInRange, AliasInRange, described_types, instances_with, types_behind, instances_behind, TypeInRange, DeclInRange, DeclsInRange, TypesInRange, FileInRange}
 use Rattle.ctype_bin.proofs.Rewritten.{passes}
 use Rattle.ctype_bin.proofs.RewrittenFile.{sized_both}
 
@@ -45,7 +45,7 @@ yields-gives : {X Y : Type 0} (p : Bytes X) (k : X → Y) (P : X → Type 0) (Q 
 yields-gives p k P Q yp same = yields-then p (λ x. give (k x)) P Q yp (λ x h. yields-give (k x) Q (same x h))
 
 -- a test was passed
-yields-tested : {X : Type 0} (p : Bytes X) (test : X → Bool) (fault : Fault) → Yields (only p (λ x. unless (test x) fault)) (λ x. test x ≡ true)
+yields-tested : {X : Type 0} (p : Bytes X) (test : X → Bool) (fault : Fault) → Yields (only_bytes p (λ x. unless (test x) fault)) (λ x. test x ≡ true)
 yields-tested p test fault = record { holds = λ bytes x s. passes (test x) fault 0 (s.1 []) }
 
 yields-when : {X : Type 0} (test : Bool) (p q : Bytes X) (P : X → Type 0) → (test ≡ true → Yields p P) → (test ≡ false → Yields q P) → Yields (when test p q) P
@@ -85,14 +85,14 @@ yields-index count = record { holds = λ bytes i s. ltb-true i count ((yields-te
 yields-valtype : (types : ℕ) → Yields (g.valtype types) (ValTypeInRange types)
 unfolding g.valtype g.primitive g.type_index
 yields-valtype types = yields-choose g.is_opcode g.primitive (g.type_index types) (ValTypeInRange types)
-    (yields-gives (only byte g.valtype_fault) (λ b. valtypes.Primitive (g.primitive_at b)) (λ b. Unit {0}) (ValTypeInRange types) (yields-any _) (λ b h. tt))
-    (yields-gives (only s33 (λ i. unless (nat_lt i types) BadIndex)) (λ i. valtypes.Index i) (λ i. nat_lt i types ≡ true) (ValTypeInRange types) (yields-tested s33 (λ i. nat_lt i types) BadIndex) (λ i h. ltb-true i types h))
+    (yields-gives (only_bytes byte g.valtype_fault) (λ b. valtypes.Primitive (g.primitive_at b)) (λ b. Unit {0}) (ValTypeInRange types) (yields-any _) (λ b h. tt))
+    (yields-gives (only_bytes s33 (λ i. unless (nat_lt i types) BadIndex)) (λ i. valtypes.Index i) (λ i. nat_lt i types ≡ true) (ValTypeInRange types) (yields-tested s33 (λ i. nat_lt i types) BadIndex) (λ i h. ltb-true i types h))
 
 yields-present : (types : ℕ) → Yields (g.present types) (OptionInRange types)
 yields-present types = yields-gives (g.valtype types) (λ t. Some t) (ValTypeInRange types) (OptionInRange types) (yields-valtype types) (λ t h. h)
 
-yields-optional : (types : ℕ) → Yields (g.optional types) (OptionInRange types)
-unfolding g.optional
+yields-optional : (types : ℕ) → Yields (g.optional_valtype types) (OptionInRange types)
+unfolding g.optional_valtype
 yields-optional types = yields-then g.flag_byte _ (λ b. Unit {0}) (OptionInRange types) (yields-any g.flag_byte)
     (λ b h. yields-when (b == 0) (give None) (g.present types) (OptionInRange types) (λ is. yields-give None (OptionInRange types) tt) (λ is. yields-present types))
 
@@ -109,7 +109,7 @@ yields-field types = yields-then g.label _ (λ text. Unit {0}) (FieldInRange typ
 yields-case : (types : ℕ) → Yields (g.case types) (CaseInRange types)
 unfolding g.case
 yields-case types = yields-then g.label _ (λ text. Unit {0}) (CaseInRange types) (yields-any g.label)
-    (λ text h. yields-then (g.optional types) _ (OptionInRange types) (CaseInRange types) (yields-optional types)
+    (λ text h. yields-then (g.optional_valtype types) _ (OptionInRange types) (CaseInRange types) (yields-optional types)
     (λ o k. yields-gives g.zero_byte (λ b. record { label = text; payload = o }) (λ b. Unit {0}) (CaseInRange types) (yields-any g.zero_byte) (λ b u. k)))
 
 -- a count and as many
@@ -120,8 +120,8 @@ module _ (around : List ℕ) (types : ℕ) where
   abbrev Good : Definition → Type 0
   Good = TypeInRange around types
 
-  yields-plain : (o : Opcode) → Yields (g.plain types o) Good
-  unfolding g.plain g.record_type g.variant_type g.list_type g.tuple_type g.flags_type g.enum_type g.option_type g.result_type g.function_type TypeInRange
+  yields-plain : (o : Opcode) → Yields (g.plain_entry types o) Good
+  unfolding g.plain_entry g.record_type g.variant_type g.list_type g.tuple_type g.flags_type g.enum_type g.option_type g.result_entry g.function_entry TypeInRange
   yields-plain (op.Primitive p) = yields-give (Define (raw.Prim p)) Good tt
   yields-plain op.Record = yields-counted g.some (g.field types) (λ fs. Define (raw.Record fs)) (FieldInRange types) Good (yields-field types) (λ fs h. h)
   yields-plain op.Variant = yields-counted (g.some_upto g.max_cases) (g.case types) (λ cs. Define (raw.Variant cs)) (CaseInRange types) Good (yields-case types) (λ cs h. h)
@@ -130,8 +130,8 @@ module _ (around : List ℕ) (types : ℕ) where
   yields-plain op.Flags = yields-counted (g.some_upto g.max_flags) g.label (λ ls. Define (raw.FlagSet ls)) (λ l. Unit {0}) Good (yields-any g.label) (λ ls h. tt)
   yields-plain op.Enum = yields-counted (g.some_upto g.max_cases) g.label (λ ls. Define (raw.Enumeration ls)) (λ l. Unit {0}) Good (yields-any g.label) (λ ls h. tt)
   yields-plain op.Option = yields-gives (g.valtype types) (λ e. Define (raw.OptionOf e)) (ValTypeInRange types) Good (yields-valtype types) (λ e h. h)
-  yields-plain op.Result = yields-then (g.optional types) _ (OptionInRange types) Good (yields-optional types)
-      (λ ok h. yields-gives (g.optional types) (λ error. Define (raw.ResultOf ok error)) (OptionInRange types) Good (yields-optional types) (λ error k. (h, k)))
+  yields-plain op.Result = yields-then (g.optional_valtype types) _ (OptionInRange types) Good (yields-optional types)
+      (λ ok h. yields-gives (g.optional_valtype types) (λ error. Define (raw.ResultOf ok error)) (OptionInRange types) Good (yields-optional types) (λ error k. (h, k)))
   yields-plain op.Function = yields-then u32 _ (λ n. Unit {0}) Good (yields-any u32)
       (λ n u. yields-then (times n (g.field types)) _ (λ ps. All (FieldInRange types) ps) Good (yields-times n (g.field types) (FieldInRange types) (yields-field types))
       (λ ps h. yields-gives (g.outcome types) (λ r. Func (record { params = ps; outcome = r })) (OptionInRange types) Good (yields-outcome types) (λ r k. (h, k))))
@@ -144,20 +144,20 @@ module _ (around : List ℕ) (types : ℕ) where
 abbrev pub Behind : List ℕ → Scope → Decl × Scope → Type 0
 Behind around scope y = DeclInRange around scope.types scope.instances y.0 × ((y.1.types ≡ types_behind scope.types y.0) × (y.1.instances ≡ instances_behind scope.instances y.0))
 
-yields-alias : (around : List ℕ) (scope : Scope) → Yields (g.alias around scope) (Behind around scope)
-unfolding g.alias g.instance_export g.outer_type DeclInRange
-yields-alias around scope = yields-then (only byte (λ b. g.entry_fault scope.entries (b == 3) b)) _ (λ b. Unit {0}) (Behind around scope) (yields-any _)
-    (λ sort u. yields-then (only byte (λ b. unless (b == 0 || b == 2) (UnknownOpcode b))) _ (λ b. Unit {0}) (Behind around scope) (yields-any _)
-    (λ t v. yields-gives (when (t == 0) (g.instance_export scope) (g.outer_type around scope)) (λ a. (Alias a, g.with_type scope)) (AliasInRange around scope.types scope.instances) (Behind around scope)
-    (yields-when (t == 0) (g.instance_export scope) (g.outer_type around scope) (AliasInRange around scope.types scope.instances)
+yields-alias : (around : List ℕ) (scope : Scope) → Yields (g.alias_entry around scope) (Behind around scope)
+unfolding g.alias_entry g.instance_alias g.outer_type DeclInRange
+yields-alias around scope = yields-then (only_bytes byte (λ b. g.opcode_entry_fault scope.entries (b == 3) b)) _ (λ b. Unit {0}) (Behind around scope) (yields-any _)
+    (λ sort u. yields-then (only_bytes byte (λ b. unless (b == 0 || b == 2) (UnknownOpcode b))) _ (λ b. Unit {0}) (Behind around scope) (yields-any _)
+    (λ t v. yields-gives (when (t == 0) (g.instance_alias scope) (g.outer_type around scope)) (λ a. (Alias a, g.with_type scope)) (AliasInRange around scope.types scope.instances) (Behind around scope)
+    (yields-when (t == 0) (g.instance_alias scope) (g.outer_type around scope) (AliasInRange around scope.types scope.instances)
     (λ is. yields-then (g.index scope.instances) _ (λ i. i < scope.instances) (AliasInRange around scope.types scope.instances) (yields-index scope.instances)
     (λ i h. yields-gives g.label (λ text. aliases.InstanceExport i text) (λ text. Unit {0}) (AliasInRange around scope.types scope.instances) (yields-any g.label) (λ text k. h)))
-    (λ is. yields-then (only u32 (λ n. unless (nat_le n (length around)) BadIndex)) _ (λ n. nat_le n (length around) ≡ true) (AliasInRange around scope.types scope.instances) (yields-tested u32 (λ n. nat_le n (length around)) BadIndex)
+    (λ is. yields-then (only_bytes u32 (λ n. unless (nat_le n (length around)) BadIndex)) _ (λ n. nat_le n (length around) ≡ true) (AliasInRange around scope.types scope.instances) (yields-tested u32 (λ n. nat_le n (length around)) BadIndex)
     (λ n h. yields-gives (g.index (g.types_at around scope.types n)) (λ i. aliases.Outer n i) (λ i. i < g.types_at around scope.types n) (AliasInRange around scope.types scope.instances) (yields-index (g.types_at around scope.types n)) (λ i k. (leb-true n (length around) h, k)))))
     (λ a h. (h, (refl, refl)))))
 
 abbrev Described : Scope → RawDescription × Scope → Type 0
-Described scope y = DescriptionInRange scope.types y.0 × ((y.1.types ≡ types_with scope.types y.0) × (y.1.instances ≡ instances_with scope.instances y.0))
+Described scope y = DescriptionInRange scope.types y.0 × ((y.1.types ≡ described_types scope.types y.0) × (y.1.instances ≡ instances_with scope.instances y.0))
 
 described : (scope : Scope) (i : ℕ) (a b : Bool) → i < scope.types → Described scope (if a then (descriptions.Function i, scope) else (if b then (descriptions.Component i, scope) else (descriptions.Instance i, g.with_instance scope)))
 described scope i true b h = (h, (refl, refl))
@@ -166,7 +166,7 @@ described scope i false false h = (h, (refl, refl))
 
 yields-description : (scope : Scope) → Yields (g.description scope) (Described scope)
 unfolding g.description
-yields-description scope = yields-then (only byte (g.description_fault scope.entries)) _ (λ b. Unit {0}) (Described scope) (yields-any _)
+yields-description scope = yields-then (only_bytes byte (g.description_fault scope.entries)) _ (λ b. Unit {0}) (Described scope) (yields-any _)
     (λ sort u. yields-when (sort == 3) (g.equal_type scope) (g.indexed scope sort) (Described scope)
     (λ is. yields-then g.zero_byte _ (λ b. Unit {0}) (Described scope) (yields-any g.zero_byte)
     (λ m v. yields-gives (g.index scope.types) (λ i. (descriptions.TypeEqual i, g.with_type scope)) (λ i. i < scope.types) (Described scope) (yields-index scope.types) (λ i h. (h, (refl, refl)))))
@@ -187,10 +187,10 @@ YieldsTypes t = (around : List ℕ) (scope : Scope) → Yields (t around scope) 
 
 yields-decl : (t : g.Reader) → YieldsTypes t → (component : Bool) (around : List ℕ) (scope : Scope) → Yields (g.decl t component around scope) (Behind around scope)
 unfolding g.decl DeclInRange
-yields-decl t yt component around scope = yields-then (only byte (λ b. unless (g.is_decl component b) (UnknownOpcode b))) _ (λ b. Unit {0}) (Behind around scope) (yields-any _)
-    (λ sort u. yields-when (sort == 1) (g.definition t around scope) (when (sort == 2) (g.alias around scope) (g.external scope sort)) (Behind around scope)
+yields-decl t yt component around scope = yields-then (only_bytes byte (λ b. unless (g.is_decl component b) (UnknownOpcode b))) _ (λ b. Unit {0}) (Behind around scope) (yields-any _)
+    (λ sort u. yields-when (sort == 1) (g.definition_entry t around scope) (when (sort == 2) (g.alias_entry around scope) (g.external scope sort)) (Behind around scope)
     (λ is. yields-gives (t around scope) (λ x. (Entry x.0, g.with_entries scope x.1)) (λ y. TypeInRange around scope.types y.0) (Behind around scope) (yt around scope) (λ x h. (h, (refl, refl))))
-    (λ is. yields-when (sort == 2) (g.alias around scope) (g.external scope sort) (Behind around scope) (λ two. yields-alias around scope) (λ two. yields-external around scope sort)))
+    (λ is. yields-when (sort == 2) (g.alias_entry around scope) (g.external scope sort) (Behind around scope) (λ two. yields-alias around scope) (λ two. yields-external around scope sort)))
 
 abbrev Declared : List ℕ → Scope → List Decl × Scope → Type 0
 Declared around scope y = DeclsInRange around scope.types scope.instances (decls_of y.0)
@@ -223,7 +223,7 @@ yields-scope t yt o around types entries = yields-then u32 _ (λ n. Unit {0}) (�
     (yields-decls t yt (g.is_component o) (around ++ types ∷ []) n (g.new_scope entries)) (λ ds h. nested o around types ds.0 h))
 
 yields-plain_type : (around : List ℕ) (scope : Scope) (o : Opcode) → Yields (g.plain_type scope o) (λ y. TypeInRange around scope.types y.0)
-yields-plain_type around scope o = yields-gives (g.plain scope.types o) (λ t. (t, scope.entries + 1)) (TypeInRange around scope.types) (λ y. TypeInRange around scope.types y.0) (yields-plain around scope.types o) (λ t h. h)
+yields-plain_type around scope o = yields-gives (g.plain_entry scope.types o) (λ t. (t, scope.entries + 1)) (TypeInRange around scope.types) (λ y. TypeInRange around scope.types y.0) (yields-plain around scope.types o) (λ t h. h)
 
 pub yields-type : (depth : ℕ) → YieldsTypes (g.type depth)
 unfolding g.type
@@ -237,9 +237,9 @@ yields-type (suc depth) around scope = yields-then (g.opcode (suc depth) scope.e
 abbrev Entered : Scope → Definition × Scope → Type 0
 Entered scope y = TypeInRange [] scope.types y.0 × (y.1.types ≡ scope.types + 1)
 
-yields-entry : (scope : Scope) → Yields (f.entry scope) (Entered scope)
-unfolding f.entry
-yields-entry scope = yields-gives (g.type f.max_depth [] scope) (λ t. (t.0, g.with_entries scope t.1)) (λ y. TypeInRange [] scope.types y.0) (Entered scope) (yields-type f.max_depth [] scope) (λ t h. (h, refl))
+yields-entry : (scope : Scope) → Yields (f.entry_of_type scope) (Entered scope)
+unfolding f.entry_of_type
+yields-entry scope = yields-gives (g.type f.max_scope_depth [] scope) (λ t. (t.0, g.with_entries scope t.1)) (λ y. TypeInRange [] scope.types y.0) (Entered scope) (yields-type f.max_scope_depth [] scope) (λ t h. (h, refl))
 
 abbrev Sectioned : Scope → List Definition × Scope → Type 0
 Sectioned scope y = TypesInRange scope.types y.0 × (y.1.types ≡ scope.types + length y.0)
@@ -250,19 +250,19 @@ sectioned s first others h hs = ((h.0, subst (λ (n : ℕ). TypesInRange n other
 yields-types : Yields f.type_section (λ y. TypesInRange 0 y.0 × (y.1.types ≡ length y.0))
 unfolding f.type_section
 yields-types = yields-then u32 _ (λ n. Unit {0}) (λ y. TypesInRange 0 y.0 × (y.1.types ≡ length y.0)) (yields-any u32)
-    (λ n u. record { holds = λ bytes y s. let h = (yields-run f.entry Entered Sectioned (λ s. (tt, omega arith)) sectioned yields-entry n (g.new_scope 0)).holds bytes y s in (h.0, omega (arith, h.1)) })
+    (λ n u. record { holds = λ bytes y s. let h = (yields-run f.entry_of_type Entered Sectioned (λ s. (tt, omega arith)) sectioned yields-entry n (g.new_scope 0)).holds bytes y s in (h.0, omega (arith, h.1)) })
 
 yields-exports : (types : ℕ) → Yields (f.export_section types) (λ es. All (λ e. e.type < types) es)
 unfolding f.export_section f.exported
 yields-exports types = yields-then u32 _ (λ n. Unit {0}) (λ es. All (λ e. e.type < types) es) (yields-any u32)
     (λ n u. yields-times n (f.exported types) (λ e. e.type < types)
     (yields-then g.extern_name _ (λ text. Unit {0}) (λ e. e.type < types) (yields-any g.extern_name)
-    (λ text v. yields-then (only byte (λ b. unless (b == 3) (UnknownOpcode b))) _ (λ b. Unit {0}) (λ e. e.type < types) (yields-any _)
+    (λ text v. yields-then (only_bytes byte (λ b. unless (b == 3) (UnknownOpcode b))) _ (λ b. Unit {0}) (λ e. e.type < types) (yields-any _)
     (λ sort w. yields-then (g.index types) _ (λ i. i < types) (λ e. e.type < types) (yields-index types)
     (λ i h. yields-gives g.zero_byte (λ b. record { name = text; type = i }) (λ b. Unit {0}) (λ e. e.type < types) (yields-any g.zero_byte) (λ b k. h))))))
 
-pub file_in_range : (bytes : List ℕ) (x : File) → f.file.spells bytes x → FileInRange x
-unfolding f.file
+pub file_in_range : (bytes : List ℕ) (x : BinaryFile) → f.component_file.spells bytes x → FileInRange x
+unfolding f.component_file
 file_in_range bytes x s =
     let b = s.5.5 in
     let d = b.5.5 in
@@ -337,5 +337,5 @@ prop_types : (types : ℕ) (ds : List Definition) → IsProp (TypesInRange types
 prop_types types [] = one
 prop_types types (d ∷ ds) = both (prop_type [] types d) (prop_types (types + 1) ds)
 
-pub prop_file : (x : File) → IsProp (FileInRange x)
+pub prop_file : (x : BinaryFile) → IsProp (FileInRange x)
 prop_file x = both (prop_types 0 x.types) (prop_all (λ e. e.type < length x.types) (λ e. less e.type (length x.types)) x.exports)

@@ -13,7 +13,7 @@ use Rattle.ctype_format.specs.declared.error.Stuck.{Stuck}
 use Rattle.ctype_format.specs.declared.error.Stuck.TheVariants.{End, At}
 use Rattle.productions.specs.Exactness.{Took}
 use Rattle.productions.proofs.Exact.{no_err}
-use Rattle.ctype_bin.specs.Exactness.{IsBytes, Inside, Exact}
+use Rattle.ctype_bin.specs.Exactness.{IsBytes, Inside, ExactBytes}
 use Rattle.ctype_format.specs.Bytes.{Bytes, NoNumber, number, number_from, u32, s33, signed_fault}
 use Rattle.ctype_bin.proofs.Exact.{ok_is, took}
 
@@ -81,7 +81,7 @@ module _ (limit : ℕ) (low : 16 ≤ limit) (high : limit ≤ 128) (fault : List
         | inr k ↦ rw (too_long bytes fits k.0, k.1) refl
       ]
 
-  pub exact-number : Exact p
+  pub exact-number : ExactBytes p
   exact-number = record {
     sound = number_sound;
     complete = λ text rest x s end. number_complete text rest x s;
@@ -99,8 +99,8 @@ module _ (limit : ℕ) (low : 16 ≤ limit) (high : limit ≤ 128) (fault : List
         ];
   }
 
-pub exact-u32 : Exact u32
+pub exact-u32 : ExactBytes u32
 exact-u32 = exact-number 128 (omega arith) (omega arith) (λ bytes. Overlong)
 
-pub exact-s33 : Exact s33
+pub exact-s33 : ExactBytes s33
 exact-s33 = exact-number 64 (omega arith) (omega arith) signed_fault

@@ -3,17 +3,17 @@
 use Rattle.std.proofs.Common.{◌≡◌, ℕ, zero, suc, ◌+◌, ◌*◌, ◌/◌, ◌%◌, ◌^◌, ◌≤◌, Bool, true, false, List, [], ◌∷◌, ◌++◌, length, Option, Some, None, Result, Ok, Err, refl, sym, ap, subst, append_assoc, arith, inl, inr}
 use Rattle.std.proofs.Math.Nat.{pow-suc, mod-add-div}
 use Rattle.std.proofs.lemmas.Bool.{cases_lt, le-ltb}
-use Rattle.productions.specs.Production.{give, ◌>>=◌, times, run, after, passed}
+use Rattle.productions.specs.Production.{give, ◌>>=◌, times, run, after, passed_unless}
 use Rattle.atoms.specs.declared.error.AtomError.{AtomError}
 use Rattle.atoms.specs.declared.error.AtomError.TheVariants as atoms
 use Rattle.atoms.specs.Leb128.{Spells, groups_at}
 use Rattle.ctype_format.specs.declared.error.Fault.{Fault}
 use Rattle.ctype_format.specs.declared.error.Stuck.{Stuck}
 use Rattle.ctype_format.specs.declared.error.Stuck.TheVariants.{End, At, Past}
-use Rattle.ctype_format.specs.Bytes.{Bytes, byte, several, only, placed_at, number, u32, s33, signed_fault, number_from, choose, read_by}
-use Rattle.ctype_bin.specs.Exactness.{Exact}
+use Rattle.ctype_format.specs.Bytes.{Bytes, byte, several, only_bytes, stuck_if, number, u32, s33, signed_fault, number_from, choose, read_by}
+use Rattle.ctype_bin.specs.Exactness.{ExactBytes}
 use Rattle.ctype_format.specs.Writing.{u32_bytes, s33_bytes, each, counted}
-use Rattle.ctype_format.specs.Formed.{Fits, All, Counted}
+use Rattle.ctype_format.specs.Formed.{FitsU32, All, Counted}
 use Rattle.ctype_bin.specs.Parts.{IsOfParts}
 use Rattle.ctype_format.specs.Shortest.{groups}
 use Rattle.ctype_bin.proofs.Exact.{exact-several}
@@ -66,14 +66,14 @@ reread-gives {X = X} {Y = Y} {W = W} p f a P Q hp same = record { again = λ res
     on rest (Ok x) h = (same x.0 h.0, h.1)
     on rest (Err e) h = h
 
-pub reread-only : {X W : Type 0} (p : Bytes X) (fault : X → Option Fault) (a : List ℕ) (P : X → Type 0) → Rereads W p a P → ((x : X) → P x → OfFault W (fault x)) → Rereads W (only p fault) a (λ x. P x × (fault x ≡ None))
+pub reread-only : {X W : Type 0} (p : Bytes X) (fault : X → Option Fault) (a : List ℕ) (P : X → Type 0) → Rereads W p a P → ((x : X) → P x → OfFault W (fault x)) → Rereads W (only_bytes p fault) a (λ x. P x × (fault x ≡ None))
 reread-only {X = X} {W = W} p fault a P hp hf = record { again = λ rest. on rest (length (a ++ rest)) (p.read (a ++ rest)) (hp.again rest) }
   where
-    by : (rest : List ℕ) (left : ℕ) (x : X × List ℕ) (o : Option Fault) → P x.0 → x.1 ≡ rest → fault x.0 ≡ o → OfFault W o → Again W (λ y. P y × (fault y ≡ None)) rest (passed (placed_at o left) x)
+    by : (rest : List ℕ) (left : ℕ) (x : X × List ℕ) (o : Option Fault) → P x.0 → x.1 ≡ rest → fault x.0 ≡ o → OfFault W o → Again W (λ y. P y × (fault y ≡ None)) rest (passed_unless (stuck_if o left) x)
     by rest left x None h e is k = ((h, is), e)
     by rest left x (Some d) h e is k = k
 
-    on : (rest : List ℕ) (left : ℕ) (r : Result (X × List ℕ) Stuck) → Again W P rest r → Again W (λ y. P y × (fault y ≡ None)) rest (after r (λ x. passed (placed_at (fault x.0) left) x))
+    on : (rest : List ℕ) (left : ℕ) (r : Result (X × List ℕ) Stuck) → Again W P rest r → Again W (λ y. P y × (fault y ≡ None)) rest (after r (λ x. passed_unless (stuck_if (fault x.0) left) x))
     on rest left (Ok x) h = by rest left x (fault x.0) h.0 h.1 refl (hf x.0 h.0)
     on rest left (Err e) h = h
 
@@ -85,14 +85,14 @@ weaker {X = X} {W = W} p a P Q hp pq = record { again = λ rest. on rest (p.read
     on rest (Err e) h = h
 
 -- the same, but for the test, where p reads just one value
-pub reread-tested : {X W : Type 0} (p : Bytes X) (fault : X → Option Fault) (a : List ℕ) (x : X) → Rereads W p a (λ y. y ≡ x) → OfFault W (fault x) → Rereads W (only p fault) a (λ y. y ≡ x)
-reread-tested {X = X} {W = W} p fault a x hp hf = weaker (only p fault) a (λ y. (y ≡ x) × (fault y ≡ None)) (λ y. y ≡ x) (reread-only p fault a (λ y. y ≡ x) hp (λ y e. subst (λ (v : X). OfFault W (fault v)) (sym e) hf)) (λ y h. h.0)
+pub reread-tested : {X W : Type 0} (p : Bytes X) (fault : X → Option Fault) (a : List ℕ) (x : X) → Rereads W p a (λ y. y ≡ x) → OfFault W (fault x) → Rereads W (only_bytes p fault) a (λ y. y ≡ x)
+reread-tested {X = X} {W = W} p fault a x hp hf = weaker (only_bytes p fault) a (λ y. (y ≡ x) × (fault y ≡ None)) (λ y. y ≡ x) (reread-only p fault a (λ y. y ≡ x) hp (λ y e. subst (λ (v : X). OfFault W (fault v)) (sym e) hf)) (λ y h. h.0)
 
 pub reread-byte : {W : Type 0} (b : ℕ) → Rereads W byte (b ∷ []) (λ y. y ≡ b)
 reread-byte b = record { again = λ rest. (refl, refl) }
 
 -- what is spelled is read
-pub reread-spelt : {X W : Type 0} (p : Bytes X) → Exact p → (bytes : List ℕ) (x : X) → p.spells bytes x → Rereads W p bytes (λ y. y ≡ x)
+pub reread-spelt : {X W : Type 0} (p : Bytes X) → ExactBytes p → (bytes : List ℕ) (x : X) → p.spells bytes x → Rereads W p bytes (λ y. y ≡ x)
 reread-spelt {X = X} {W = W} p ep bytes x s = record { again = λ rest. subst (λ (r : Result (X × List ℕ) Stuck). Again W (λ y. y ≡ x) rest r) (sym (ep.complete bytes rest x s tt)) (refl, refl) }
 
 pub reread-several : {W : Type 0} (text : List ℕ) → Rereads W (several (length text)) text (λ y. y ≡ text)
@@ -109,18 +109,18 @@ too_large limit (suc room) n rest high le =
     let ih = too_large limit room (n / 128) rest high (omega (arith, power, parts, le)) in
     rw (more_groups limit room n (omega (arith, power, le, high, one_power room)), le-ltb (n % 128 + 128) 128 (omega arith), ih) refl
 
-module _ {W : Type 0} (limit : ℕ) (low : 16 ≤ limit) (high : limit ≤ 128) (fault : List ℕ → Fault) (ep : Exact (number (Spells limit) limit fault)) where
-  reread-number : (n : ℕ) → (W → Fits n) → Rereads W (number (Spells limit) limit fault) (groups limit 4 n) (λ y. y ≡ n)
+module _ {W : Type 0} (limit : ℕ) (low : 16 ≤ limit) (high : limit ≤ 128) (fault : List ℕ → Fault) (ep : ExactBytes (number (Spells limit) limit fault)) where
+  reread-number : (n : ℕ) → (W → FitsU32 n) → Rereads W (number (Spells limit) limit fault) (groups limit 4 n) (λ y. y ≡ n)
   reread-number n fits =
       elim (cases_lt n (2 ^ 32)) [
         | inl lt ↦ reread-spelt (number (Spells limit) limit fault) ep (groups limit 4 n) n (least_of limit n low high lt)
         | inr le ↦ record { again = λ rest. subst (λ (r : Result (ℕ × ℕ) AtomError). Again W (λ y. y ≡ n) rest (number_from fault (groups limit 4 n ++ rest) r)) (sym (too_large limit 4 n rest high (omega (arith, le)))) (λ w. absurd (omega (arith, fits w, le))) }
       ]
 
-pub reread-u32 : {W : Type 0} (n : ℕ) → (W → Fits n) → Rereads W u32 (u32_bytes n) (λ y. y ≡ n)
+pub reread-u32 : {W : Type 0} (n : ℕ) → (W → FitsU32 n) → Rereads W u32 (u32_bytes n) (λ y. y ≡ n)
 reread-u32 n fits = reread-number 128 (omega arith) (omega arith) _ exact-u32 n fits
 
-pub reread-s33 : {W : Type 0} (n : ℕ) → (W → Fits n) → Rereads W s33 (s33_bytes n) (λ y. y ≡ n)
+pub reread-s33 : {W : Type 0} (n : ℕ) → (W → FitsU32 n) → Rereads W s33 (s33_bytes n) (λ y. y ≡ n)
 reread-s33 n fits = reread-number 64 (omega arith) (omega arith) signed_fault exact-s33 n fits
 
 -- ---- choices
@@ -146,7 +146,7 @@ reread-run {X = X} p w F ep (x ∷ xs) state formed = reread-then (p state) (λ 
     (λ first is. reread-gives (run p (length xs) first.1) (λ others. (first.0 ∷ others.0, others.1)) (each w xs) (λ ys. ys.0 ≡ xs) (λ ys. ys.0 ≡ x ∷ xs) (reread-run p w F ep xs first.1 (λ h. (formed h).1)) (λ others e. rw (is, e) refl))
 
 -- a count and as many
-pub reread-counted : {X Y W : Type 0} (c : Bytes ℕ) (p : Bytes X) (w : X → List ℕ) (F : X → Type 0) (f : List X → Y) → ((n : ℕ) → (W → Fits n) → Rereads W c (u32_bytes n) (λ y. y ≡ n)) → ((x : X) → (W → F x) → Rereads W p (w x) (λ y. y ≡ x)) → (xs : List X) → (W → Counted F xs)
+pub reread-counted : {X Y W : Type 0} (c : Bytes ℕ) (p : Bytes X) (w : X → List ℕ) (F : X → Type 0) (f : List X → Y) → ((n : ℕ) → (W → FitsU32 n) → Rereads W c (u32_bytes n) (λ y. y ≡ n)) → ((x : X) → (W → F x) → Rereads W p (w x) (λ y. y ≡ x)) → (xs : List X) → (W → Counted F xs)
     → Rereads W (c >>= λ n. times n p >>= λ ys. give (f ys)) (counted w xs) (λ y. y ≡ f xs)
 reread-counted c p w F f ec ep xs formed = reread-next c _ (u32_bytes (length xs)) (each w xs) (length xs) (λ y. y ≡ f xs) (ec (length xs) (λ h. (formed h).0))
     (reread-gives (times (length xs) p) f (each w xs) (λ ys. ys ≡ xs) (λ y. y ≡ f xs) (reread-times p w F ep xs (λ h. (formed h).1)) (λ ys e. ap f e))

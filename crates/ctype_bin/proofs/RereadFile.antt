@@ -9,12 +9,12 @@ use Rattle.ctype_format.specs.declared.error.Fault.TheVariants.{UnknownOpcode, B
 use Rattle.ctype_format.specs.declared.error.Stuck.{Stuck}
 use Rattle.ctype_format.specs.declared.error.Stuck.TheVariants.{End, At, Past}
 use Rattle.ctype_format.specs.declared.scope.Scope.{Scope}
-use Rattle.ctype_format.specs.Bytes.{Bytes, byte, only, unless, u32, sized, section_from, in_section}
+use Rattle.ctype_format.specs.Bytes.{Bytes, byte, only_bytes, unless, u32, sized, section_from, in_section}
 use Rattle.ctype_format.specs.Grammar.{index, zero_byte, extern_name, type, new_scope, with_entries}
 use Rattle.ctype_format.specs.File as f
-use Rattle.ctype_format.specs.Raw.{Definition, Exported, File}
+use Rattle.ctype_format.specs.Raw.{Definition, Exported, BinaryFile}
 use Rattle.ctype_format.specs.Writing.{u32_bytes, each, counted, extern_bytes, type_bytes, exported_bytes, section_bytes, file_bytes}
-use Rattle.ctype_format.specs.Formed.{Fits, Counted, FormedType, FormedExport, FormedFile}
+use Rattle.ctype_format.specs.Formed.{FitsU32, Counted, FormedType, FormedExport, FormedFile}
 use Rattle.ctype_bin.proofs.File.{exact-exactly}
 use Rattle.ctype_bin.proofs.RewrittenFile.{exactly_spelt}
 use Rattle.ctype_bin.proofs.Reread.{OfFault, OfValue, Again, Rereads, then_at, reread-next, reread-gives, reread-tested, reread-byte, reread-spelt, reread-u32, reread-times, reread-run}
@@ -23,19 +23,19 @@ use Rattle.ctype_bin.proofs.RereadDecls.{reread-type}
 
 -- ---- what the sections have
 
-reread-entry : {W : Type 0} (scope : Scope) (d : Definition) → (W → FormedType d) → Rereads W (f.entry scope) (type_bytes d) (λ y. y.0 ≡ d)
-unfolding f.entry
-reread-entry scope d formed = reread-gives (type f.max_depth [] scope) (λ t. (t.0, with_entries scope t.1)) (type_bytes d) (λ y. y.0 ≡ d) (λ y. y.0 ≡ d) (reread-type d f.max_depth [] scope formed) (λ y e. e)
+reread-entry : {W : Type 0} (scope : Scope) (d : Definition) → (W → FormedType d) → Rereads W (f.entry_of_type scope) (type_bytes d) (λ y. y.0 ≡ d)
+unfolding f.entry_of_type
+reread-entry scope d formed = reread-gives (type f.max_scope_depth [] scope) (λ t. (t.0, with_entries scope t.1)) (type_bytes d) (λ y. y.0 ≡ d) (λ y. y.0 ≡ d) (reread-type d f.max_scope_depth [] scope formed) (λ y e. e)
 
 reread-types : {W : Type 0} (ds : List Definition) → (W → Counted FormedType ds) → Rereads W f.type_section (counted type_bytes ds) (λ y. y.0 ≡ ds)
 unfolding f.type_section
-reread-types ds formed = reread-next u32 (λ n. run f.entry n (new_scope 0)) (u32_bytes (length ds)) (each type_bytes ds) (length ds) (λ y. y.0 ≡ ds) (reread-u32 (length ds) (λ w. (formed w).0))
-    (reread-run f.entry type_bytes FormedType reread-entry ds (new_scope 0) (λ w. (formed w).1))
+reread-types ds formed = reread-next u32 (λ n. run f.entry_of_type n (new_scope 0)) (u32_bytes (length ds)) (each type_bytes ds) (length ds) (λ y. y.0 ≡ ds) (reread-u32 (length ds) (λ w. (formed w).0))
+    (reread-run f.entry_of_type type_bytes FormedType reread-entry ds (new_scope 0) (λ w. (formed w).1))
 
 reread-exported : {W : Type 0} (types : ℕ) (e : Exported) → (W → FormedExport e) → Rereads W (f.exported types) (exported_bytes e) (λ y. y ≡ e)
 unfolding f.exported
 reread-exported types e formed = reread-next extern_name _ (extern_bytes e.name) (3 ∷ (u32_bytes e.type ++ 0 ∷ [])) e.name (λ y. y ≡ e) (reread-extern e.name (λ w. (formed w).0))
-    (reread-next (only byte (λ b. unless (b == 3) (UnknownOpcode b))) _ (3 ∷ []) (u32_bytes e.type ++ 0 ∷ []) 3 (λ y. y ≡ e) (reread-tested byte (λ b. unless (b == 3) (UnknownOpcode b)) (3 ∷ []) 3 (reread-byte 3) tt)
+    (reread-next (only_bytes byte (λ b. unless (b == 3) (UnknownOpcode b))) _ (3 ∷ []) (u32_bytes e.type ++ 0 ∷ []) 3 (λ y. y ≡ e) (reread-tested byte (λ b. unless (b == 3) (UnknownOpcode b)) (3 ∷ []) 3 (reread-byte 3) tt)
     (reread-next (index types) _ (u32_bytes e.type) (0 ∷ []) e.type (λ y. y ≡ e) (reread-index types e.type (λ w. (formed w).1))
     (reread-gives zero_byte (λ b. record { name = e.name; type = e.type }) (0 ∷ []) (λ y. y ≡ 0) (λ y. y ≡ e) reread-zero (λ b h. refl))))
 
@@ -46,12 +46,12 @@ reread-exports types es formed = reread-next u32 (λ n. times n (f.exported type
 
 -- ---- the frame of a section
 
-reread-section : {W : Type 0} (id n size : ℕ) → (id == 0) ≡ false → (W → Fits size) → Rereads W (f.section id (suc n)) (id ∷ u32_bytes size) (λ y. y ≡ size)
+reread-section : {W : Type 0} (id n size : ℕ) → (id == 0) ≡ false → (W → FitsU32 size) → Rereads W (f.section id (suc n)) (id ∷ u32_bytes size) (λ y. y ≡ size)
 unfolding f.section f.head
 reread-section {W = W} id n size other fits =
     let tested : OfFault W (unless (id == 0 || id == id) (BadSection id)) = rw (other, eq-eqb id id refl) tt in
     let head : Rereads W (f.head id) (id ∷ u32_bytes size) (λ y. y ≡ Some size) =
-    reread-next (only byte (λ b. unless (b == 0 || b == id) (BadSection b))) _ (id ∷ []) (u32_bytes size) id (λ y. y ≡ Some size) (reread-tested byte (λ b. unless (b == 0 || b == id) (BadSection b)) (id ∷ []) id (reread-byte id) tested)
+    reread-next (only_bytes byte (λ b. unless (b == 0 || b == id) (BadSection b))) _ (id ∷ []) (u32_bytes size) id (λ y. y ≡ Some size) (reread-tested byte (λ b. unless (b == 0 || b == id) (BadSection b)) (id ∷ []) id (reread-byte id) tested)
     (subst (λ (b : Bool). Rereads W (when b f.skipped f.announced) (u32_bytes size) (λ y. y ≡ Some size)) (sym other)
     (reread-gives u32 (λ size. Some size) (u32_bytes size) (λ y. y ≡ size) (λ y. y ≡ Some size) (reread-u32 size fits) (λ y e. ap (λ (v : ℕ). Some v) e))) in
     subst (λ (l : List ℕ). Rereads W (f.section id (suc n)) l (λ y. y ≡ size)) (append-nil (id ∷ u32_bytes size))
@@ -84,22 +84,22 @@ unfolding f.trailing
 trailing_read n = refl
 
 -- the file from its last part on, its second section, that section's head, its first section, and that one's head
-abbrev last : List Definition × Scope → List Exported → Bytes File
+abbrev last : List Definition × Scope → List Exported → Bytes BinaryFile
 last types exports = f.trailing f.max_length >>= λ rest. give (record { types = types.0; exports = exports })
 
-abbrev exports_on : List Definition × Scope → ℕ → Bytes File
+abbrev exports_on : List Definition × Scope → ℕ → Bytes BinaryFile
 exports_on types more = sized Past more (f.export_section types.1.types) >>= last types
 
-abbrev head_on : List Definition × Scope → Bytes File
+abbrev head_on : List Definition × Scope → Bytes BinaryFile
 head_on types = f.section 11 f.max_length >>= exports_on types
 
-abbrev types_on : ℕ → Bytes File
+abbrev types_on : ℕ → Bytes BinaryFile
 types_on size = sized Past size f.type_section >>= head_on
 
-abbrev start_on : ℕ → Bytes File
+abbrev start_on : ℕ → Bytes BinaryFile
 start_on mark = f.section 7 f.max_length >>= types_on
 
-module _ (W : Type 0) (x : File) (formed : W → FormedFile x) where
+module _ (W : Type 0) (x : BinaryFile) (formed : W → FormedFile x) where
   abbrev T : List ℕ
   T = counted type_bytes x.types
 
@@ -134,9 +134,9 @@ module _ (W : Type 0) (x : File) (formed : W → FormedFile x) where
       ((reread-sized Past f.type_section T (λ y. y.0 ≡ x.types) (reread-types x.types (λ w. (formed w).types))).again (second ++ []))
       (λ types is. reread-head_on types is))
 
-  pub reread-file : Again W (λ y. y ≡ x) [] (f.file.read (file_bytes x))
-  unfolding f.file file_bytes
-  reread-file = subst (λ (l : List ℕ). Again W (λ y. y ≡ x) [] (f.file.read l)) (append-nil (f.preamble ++ first) ∙ ap (λ (l : List ℕ). f.preamble ++ l) (sym layout))
+  pub reread-file : Again W (λ y. y ≡ x) [] (f.component_file.read (file_bytes x))
+  unfolding f.component_file file_bytes
+  reread-file = subst (λ (l : List ℕ). Again W (λ y. y ≡ x) [] (f.component_file.read l)) (append-nil (f.preamble ++ first) ∙ ap (λ (l : List ℕ). f.preamble ++ l) (sym layout))
       (then_at W (f.exactly f.preamble) start_on f.preamble first [] (λ y. y ≡ 0) (λ y. y ≡ x)
       ((reread-spelt (f.exactly f.preamble) (exact-exactly f.preamble) f.preamble 0 (exactly_spelt f.preamble)).again (first ++ []))
       (λ mark h. then_at W (f.section 7 f.max_length) types_on (7 ∷ u32_bytes (length T)) (T ++ second) [] (λ y. y ≡ length T) (λ y. y ≡ x)

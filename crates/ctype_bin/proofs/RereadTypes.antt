@@ -11,11 +11,11 @@ use Rattle.ctype_format.specs.declared.raw.RawCase.{RawCase}
 use Rattle.ctype_format.specs.declared.opcode.Opcode.{Opcode}
 use Rattle.ctype_format.specs.declared.opcode.Opcode.TheVariants as op
 use Rattle.ctype_format.specs.Names.{is_extern_name}
-use Rattle.ctype_format.specs.Bytes.{byte, several, only, unless, u32, s33}
+use Rattle.ctype_format.specs.Bytes.{byte, several, only_bytes, unless, u32, s33}
 use Rattle.ctype_format.specs.Grammar as g
-use Rattle.ctype_format.specs.Raw.{Defined, Prim, Record, Variant, ListOf, Tuple, FlagSet, Enumeration, OptionOf, ResultOf, Function, Definition, Define, Func}
+use Rattle.ctype_format.specs.Raw.{Defined, Prim, Record, Variant, ListOf, Tuple, FlagSet, Enumeration, OptionOf, ResultOf, BinaryFunction, Definition, Define, Func}
 use Rattle.ctype_format.specs.Writing.{u32_bytes, s33_bytes, each, counted, name_bytes, extern_bytes, primitive_byte, valtype_bytes, optional_bytes, outcome_bytes, field_bytes, case_bytes, type_bytes}
-use Rattle.ctype_format.specs.Formed.{Fits, FormedLabel, FormedName, FormedValType, FormedOption, FormedField, FormedCase, FormedDefined, FormedFunction}
+use Rattle.ctype_format.specs.Formed.{FitsU32, FormedLabel, FormedName, FormedValType, FormedOption, FormedField, FormedCase, FormedDefined, FormedFunction}
 use Rattle.ctype_bin.proofs.Rewritten.{index_begins, primitive_opens, primitive_back, no_fault}
 use Rattle.ctype_bin.proofs.RewrittenTypes.{opcode_byte}
 use Rattle.ctype_bin.proofs.Reread.{OfFault, Rereads, reread-next, reread-give, reread-gives, reread-tested, reread-byte, reread-several, reread-u32, reread-s33, reread-first, reread-second, reread-times, reread-counted}
@@ -40,23 +40,23 @@ of_count W limit (suc n) = of_limit W (nat_lt n limit)
 
 -- ---- numbers and names
 
-pub reread-index : {W : Type 0} (count i : ℕ) → (W → Fits i) → Rereads W (g.index count) (u32_bytes i) (λ y. y ≡ i)
+pub reread-index : {W : Type 0} (count i : ℕ) → (W → FitsU32 i) → Rereads W (g.index count) (u32_bytes i) (λ y. y ≡ i)
 reread-index count i fits = reread-tested u32 (λ i. unless (nat_lt i count) BadIndex) (u32_bytes i) i (reread-u32 i fits) (of_index _ (nat_lt i count))
 
-reread-some : {W : Type 0} (n : ℕ) → (W → Fits n) → Rereads W g.some (u32_bytes n) (λ y. y ≡ n)
+reread-some : {W : Type 0} (n : ℕ) → (W → FitsU32 n) → Rereads W g.some (u32_bytes n) (λ y. y ≡ n)
 reread-some {W = W} n fits = reread-tested u32 (λ n. unless (nat_lt 0 n) EmptyType) (u32_bytes n) n (reread-u32 n fits) (by (nat_lt 0 n))
   where
     by : (b : Bool) → OfFault W (unless b EmptyType)
     by true = tt
     by false = λ w. tt
 
-reread-upto : {W : Type 0} (limit n : ℕ) → (W → Fits n) → Rereads W (g.some_upto limit) (u32_bytes n) (λ y. y ≡ n)
+reread-upto : {W : Type 0} (limit n : ℕ) → (W → FitsU32 n) → Rereads W (g.some_upto limit) (u32_bytes n) (λ y. y ≡ n)
 reread-upto limit n fits = reread-tested u32 (g.count_fault limit) (u32_bytes n) n (reread-u32 n fits) (of_count _ limit n)
 
 pub reread-zero : {W : Type 0} → Rereads W g.zero_byte (0 ∷ []) (λ y. y ≡ 0)
 reread-zero = reread-tested byte (λ b. unless (b == 0) (UnknownOpcode b)) (0 ∷ []) 0 (reread-byte 0) tt
 
-reread-name : {W : Type 0} (text : List ℕ) → (W → Fits (length text)) → Rereads W g.name (name_bytes text) (λ y. y ≡ text)
+reread-name : {W : Type 0} (text : List ℕ) → (W → FitsU32 (length text)) → Rereads W g.name (name_bytes text) (λ y. y ≡ text)
 reread-name text fits = reread-next u32 (λ n. several n) (u32_bytes (length text)) text (length text) (λ y. y ≡ text) (reread-u32 (length text) fits) (reread-several text)
 
 pub reread-label : {W : Type 0} (text : List ℕ) → (W → FormedLabel text) → Rereads W g.label (name_bytes text) (λ y. y ≡ text)
@@ -76,12 +76,12 @@ reread-valtype {W = W} types (valtypes.Primitive p) formed =
     let same : g.primitive_at (primitive_byte p) ≡ p = rw (primitive_back p) refl in
     let tested : OfFault W (g.valtype_fault (primitive_byte p)) = rw (no_fault p) tt in
     reread-first g.is_opcode g.primitive (g.type_index types) (primitive_byte p) [] (primitive_byte p ∷ []) (λ y. y ≡ valtypes.Primitive p) refl (primitive_opens p)
-    (reread-gives (only byte g.valtype_fault) (λ b. valtypes.Primitive (g.primitive_at b)) (primitive_byte p ∷ []) (λ b. b ≡ primitive_byte p) (λ y. y ≡ valtypes.Primitive p)
+    (reread-gives (only_bytes byte g.valtype_fault) (λ b. valtypes.Primitive (g.primitive_at b)) (primitive_byte p ∷ []) (λ b. b ≡ primitive_byte p) (λ y. y ≡ valtypes.Primitive p)
     (reread-tested byte g.valtype_fault (primitive_byte p ∷ []) (primitive_byte p) (reread-byte (primitive_byte p)) tested) (λ b e. rw (e, same) refl))
 reread-valtype types (valtypes.Index i) formed =
     let h = index_begins i in
     reread-second g.is_opcode g.primitive (g.type_index types) h.0 h.1 (s33_bytes i) (λ y. y ≡ valtypes.Index i) h.2 h.3
-    (reread-gives (only s33 (λ i. unless (nat_lt i types) BadIndex)) (λ i. valtypes.Index i) (s33_bytes i) (λ y. y ≡ i) (λ y. y ≡ valtypes.Index i)
+    (reread-gives (only_bytes s33 (λ i. unless (nat_lt i types) BadIndex)) (λ i. valtypes.Index i) (s33_bytes i) (λ y. y ≡ i) (λ y. y ≡ valtypes.Index i)
     (reread-tested s33 (λ i. unless (nat_lt i types) BadIndex) (s33_bytes i) i (reread-s33 i formed) (of_index _ (nat_lt i types))) (λ y e. ap (λ (v : ℕ). valtypes.Index v) e))
 
 reread-flag : {W : Type 0} (b : ℕ) → (b == 0 || b == 1) ≡ true → Rereads W g.flag_byte (b ∷ []) (λ y. y ≡ b)
@@ -90,8 +90,8 @@ reread-flag {W = W} b is = reread-tested byte (λ b. unless (b == 0 || b == 1) (
 reread-present : {W : Type 0} (types : ℕ) (t : RawValType) → (W → FormedValType t) → Rereads W (g.present types) (valtype_bytes t) (λ y. y ≡ Some t)
 reread-present types t formed = reread-gives (g.valtype types) (λ t. Some t) (valtype_bytes t) (λ y. y ≡ t) (λ y. y ≡ Some t) (reread-valtype types t formed) (λ y e. ap (λ (v : RawValType). Some v) e)
 
-pub reread-optional : {W : Type 0} (types : ℕ) (o : Option RawValType) → (W → FormedOption o) → Rereads W (g.optional types) (optional_bytes o) (λ y. y ≡ o)
-unfolding g.optional
+pub reread-optional : {W : Type 0} (types : ℕ) (o : Option RawValType) → (W → FormedOption o) → Rereads W (g.optional_valtype types) (optional_bytes o) (λ y. y ≡ o)
+unfolding g.optional_valtype
 reread-optional types None formed = reread-next g.flag_byte _ (0 ∷ []) [] 0 (λ y. y ≡ None) (reread-flag 0 refl) (reread-give None (λ y. y ≡ None) refl)
 reread-optional types (Some t) formed = reread-next g.flag_byte _ (1 ∷ []) (valtype_bytes t) 1 (λ y. y ≡ Some t) (reread-flag 1 refl) (reread-present types t formed)
 
@@ -109,7 +109,7 @@ reread-field types f formed = reread-next g.label _ (name_bytes f.label) (valtyp
 reread-case : {W : Type 0} (types : ℕ) (c : RawCase) → (W → FormedCase c) → Rereads W (g.case types) (case_bytes c) (λ y. y ≡ c)
 unfolding g.case
 reread-case types c formed = reread-next g.label _ (name_bytes c.label) (optional_bytes c.payload ++ 0 ∷ []) c.label (λ y. y ≡ c) (reread-label c.label (λ w. (formed w).0))
-    (reread-next (g.optional types) _ (optional_bytes c.payload) (0 ∷ []) c.payload (λ y. y ≡ c) (reread-optional types c.payload (λ w. (formed w).1))
+    (reread-next (g.optional_valtype types) _ (optional_bytes c.payload) (0 ∷ []) c.payload (λ y. y ≡ c) (reread-optional types c.payload (λ w. (formed w).1))
     (reread-gives g.zero_byte (λ b. record { label = c.label; payload = c.payload }) (0 ∷ []) (λ y. y ≡ 0) (λ y. y ≡ c) reread-zero (λ b e. refl)))
 
 -- ---- types without scopes of their own
@@ -120,10 +120,10 @@ pub record OpensPlain (W : Type 0) (types : ℕ) (d : Definition) : Type 0 where
   pub back : List ℕ
   pub written : type_bytes d ≡ opcode_byte opcode ∷ back
   pub flat : g.is_nested opcode ≡ false
-  pub again : Rereads W (g.plain types opcode) back (λ y. y ≡ d)
+  pub again : Rereads W (g.plain_entry types opcode) back (λ y. y ≡ d)
 
 pub opens_defined : {W : Type 0} (types : ℕ) (d : Defined) → (W → FormedDefined d) → OpensPlain W types (Define d)
-unfolding type_bytes g.plain g.record_type g.variant_type g.list_type g.tuple_type g.flags_type g.enum_type g.option_type g.result_type
+unfolding type_bytes g.plain_entry g.record_type g.variant_type g.list_type g.tuple_type g.flags_type g.enum_type g.option_type g.result_entry
 opens_defined types (Prim p) formed = record { opcode = op.Primitive p; back = []; written = refl; flat = refl; again = reread-give (Define (Prim p)) (λ y. y ≡ Define (Prim p)) refl }
 opens_defined types (Record fs) formed = record {
   opcode = op.Record;
@@ -179,12 +179,12 @@ opens_defined types (ResultOf ok error) formed = record {
   back = optional_bytes ok ++ optional_bytes error;
   written = refl;
   flat = refl;
-  again = reread-next (g.optional types) _ (optional_bytes ok) (optional_bytes error) ok (λ y. y ≡ Define (ResultOf ok error)) (reread-optional types ok (λ w. (formed w).0))
-      (reread-gives (g.optional types) (λ error. Define (ResultOf ok error)) (optional_bytes error) (λ y. y ≡ error) (λ y. y ≡ Define (ResultOf ok error)) (reread-optional types error (λ w. (formed w).1)) (λ y h. rw h refl));
+  again = reread-next (g.optional_valtype types) _ (optional_bytes ok) (optional_bytes error) ok (λ y. y ≡ Define (ResultOf ok error)) (reread-optional types ok (λ w. (formed w).0))
+      (reread-gives (g.optional_valtype types) (λ error. Define (ResultOf ok error)) (optional_bytes error) (λ y. y ≡ error) (λ y. y ≡ Define (ResultOf ok error)) (reread-optional types error (λ w. (formed w).1)) (λ y h. rw h refl));
 }
 
-pub opens_function : {W : Type 0} (types : ℕ) (f : Function) → (W → FormedFunction f) → OpensPlain W types (Func f)
-unfolding type_bytes g.plain g.function_type
+pub opens_function : {W : Type 0} (types : ℕ) (f : BinaryFunction) → (W → FormedFunction f) → OpensPlain W types (Func f)
+unfolding type_bytes g.plain_entry g.function_entry
 opens_function types f formed = record {
   opcode = op.Function;
   back = u32_bytes (length f.params) ++ (each field_bytes f.params ++ outcome_bytes f.outcome);

@@ -12,7 +12,7 @@ use Rattle.ctype_format.specs.declared.raw.RawValType.{RawValType}
 use Rattle.ctype_format.specs.declared.raw.RawValType.TheVariants as valtypes
 use Rattle.ctype_format.specs.Opcodes.{primitive_of}
 use Rattle.ctype_bin.specs.Exactness.{Written}
-use Rattle.ctype_format.specs.Bytes.{Bytes, byte, several, only, unless, placed_at, u32, s33, choose, spells_by}
+use Rattle.ctype_format.specs.Bytes.{Bytes, byte, several, only_bytes, unless, stuck_if, u32, s33, choose, spells_by}
 use Rattle.ctype_format.specs.Grammar as g
 use Rattle.ctype_format.specs.Shortest.{groups}
 use Rattle.ctype_format.specs.Writing.{u32_bytes, s33_bytes, name_bytes, extern_bytes, primitive_byte, valtype_bytes, optional_bytes, outcome_bytes, field_bytes, case_bytes}
@@ -37,7 +37,7 @@ pub written-index : (count : ℕ) → Written (g.index count) u32_bytes
 written-index count = written-only u32 _ u32_bytes written-u32
 
 -- a test that found no fault passes
-pub passes : (b : Bool) (fault : Fault) (left : ℕ) → placed_at (unless b fault) left ≡ None → b ≡ true
+pub passes : (b : Bool) (fault : Fault) (left : ℕ) → stuck_if (unless b fault) left ≡ None → b ≡ true
 passes true fault left e = refl
 passes false fault left e = absurd cc
 
@@ -103,7 +103,7 @@ primitive_opens prim.String = refl
 pub no_fault : (p : Primitive) → g.valtype_fault (primitive_byte p) ≡ None
 no_fault p = rw (primitive_back p) refl
 
-pub placed_none : (o : Option Fault) (left : ℕ) → o ≡ None → placed_at o left ≡ None
+pub placed_none : (o : Option Fault) (left : ℕ) → o ≡ None → stuck_if o left ≡ None
 placed_none o left e = rw e refl
 
 pub primitive_spelt : (p : Primitive) → g.primitive.spells (primitive_byte p ∷ []) (valtypes.Primitive p)
@@ -129,7 +129,7 @@ written-primitive = record {
 
 written-type_index : (types : ℕ) → Written (g.type_index types) valtype_bytes
 unfolding g.type_index
-written-type_index types = written-gives (only s33 (λ i. unless (nat_lt i types) BadIndex)) (λ i. valtypes.Index i) s33_bytes valtype_bytes (written-only s33 _ s33_bytes written-s33) (λ i. refl)
+written-type_index types = written-gives (only_bytes s33 (λ i. unless (nat_lt i types) BadIndex)) (λ i. valtypes.Index i) s33_bytes valtype_bytes (written-only s33 _ s33_bytes written-s33) (λ i. refl)
 
 -- what is written begins with a byte that passes or not
 abbrev pub Begins : (ℕ → Bool) → Bool → List ℕ → Type 0
@@ -200,8 +200,8 @@ optional_join : (types b : ℕ) (y : Option RawValType) (back : List ℕ) (t : B
 optional_join types b y back true is flag s = rw (s.1, eqb-true b 0 is) refl
 optional_join types b y back false is flag s = rw (s.5.1, is_one b is flag) refl
 
-pub written-optional : (types : ℕ) → Written (g.optional types) optional_bytes
-unfolding g.optional
+pub written-optional : (types : ℕ) → Written (g.optional_valtype types) optional_bytes
+unfolding g.optional_valtype
 written-optional types = written-then g.flag_byte _ one_byte (λ b y. drop 1 (optional_bytes y)) optional_bytes written-flag
     (λ b. written-when (b == 0) (give None) (g.present types) (λ y. drop 1 (optional_bytes y)) (written-give None (λ y. drop 1 (optional_bytes y)) refl) (written-present types (λ y. drop 1 (optional_bytes y)) (λ t. refl)))
     (λ b y front back sp sq. optional_join types b y back (b == 0) refl (flag_is front b sp) sq)
@@ -229,7 +229,7 @@ written-field types = written-then g.label _ name_bytes (λ text f. valtype_byte
 pub written-case : (types : ℕ) → Written (g.case types) case_bytes
 unfolding g.case
 written-case types = written-then g.label _ name_bytes (λ text c. optional_bytes c.payload ++ 0 ∷ []) case_bytes written-label
-    (λ text. written-then (g.optional types) _ optional_bytes (λ o c. 0 ∷ []) (λ c. optional_bytes c.payload ++ 0 ∷ []) (written-optional types)
+    (λ text. written-then (g.optional_valtype types) _ optional_bytes (λ o c. 0 ∷ []) (λ c. optional_bytes c.payload ++ 0 ∷ []) (written-optional types)
     (λ o. written-closed (record { label = text; payload = o }))
     (λ o c front back sp sq. rw sq.5.1 refl))
     (λ text c front back sp sq. rw sq.5.5.1 refl)

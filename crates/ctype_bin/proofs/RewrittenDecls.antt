@@ -11,7 +11,7 @@ use Rattle.ctype_format.specs.declared.opcode.Opcode.{Opcode}
 use Rattle.ctype_format.specs.declared.opcode.Opcode.TheVariants as op
 use Rattle.ctype_format.specs.declared.scope.Scope.{Scope}
 use Rattle.ctype_bin.specs.Exactness.{Written}
-use Rattle.ctype_format.specs.Bytes.{Bytes, byte, only, unless, placed_at, u32}
+use Rattle.ctype_format.specs.Bytes.{Bytes, byte, only_bytes, unless, stuck_if, u32}
 use Rattle.ctype_format.specs.Grammar as g
 use Rattle.ctype_format.specs.Raw.{Definition, Decl, Entry, Import, Export}
 use Rattle.ctype_format.specs.Writing.{u32_bytes, each, counted, extern_bytes, description_bytes, type_bytes, decl_bytes}
@@ -47,12 +47,12 @@ described_head scope sort i true b is four h = rw (eqb-true sort 1 is) refl
 described_head scope sort i false true is four h = rw (eqb-true sort 4 four) refl
 described_head scope sort i false false is four h = let five : (sort == 5) ≡ true = h in rw (eqb-true sort 5 five) refl
 
-other_passes : (entries sort : ℕ) → (sort == 3) ≡ false → placed_at (g.description_fault entries sort) 0 ≡ None → (sort == 1 || (sort == 4 || sort == 5)) ≡ true
+other_passes : (entries sort : ℕ) → (sort == 3) ≡ false → stuck_if (g.description_fault entries sort) 0 ≡ None → (sort == 1 || (sort == 4 || sort == 5)) ≡ true
 other_passes entries sort other h =
-    let k : placed_at (unless (sort == 1 || (sort == 4 || sort == 5)) (UnknownOpcode sort)) 0 ≡ None = rw other at h in
+    let k : stuck_if (unless (sort == 1 || (sort == 4 || sort == 5)) (UnknownOpcode sort)) 0 ≡ None = rw other at h in
     passes (sort == 1 || (sort == 4 || sort == 5)) (UnknownOpcode sort) 0 k
 
-description_head : (scope : Scope) (sort : ℕ) (back : List ℕ) (y : RawDescription × Scope) (t : Bool) → (sort == 3) ≡ t → placed_at (g.description_fault scope.entries sort) 0 ≡ None → (when t (g.equal_type scope) (g.indexed scope sort)).spells back y → description_bytes y.0 ≡ sort ∷ rest_of y
+description_head : (scope : Scope) (sort : ℕ) (back : List ℕ) (y : RawDescription × Scope) (t : Bool) → (sort == 3) ≡ t → stuck_if (g.description_fault scope.entries sort) 0 ≡ None → (when t (g.equal_type scope) (g.indexed scope sort)).spells back y → description_bytes y.0 ≡ sort ∷ rest_of y
 description_head scope sort back y true is h s = rw (s.5.5.1, eqb-true sort 3 is) refl
 description_head scope sort back y false is h s =
     let e : description_bytes y.0 ≡ sort ∷ u32_bytes s.2 = rw s.5.1 (described_head scope sort s.2 (sort == 1) (sort == 4) refl refl (other_passes scope.entries sort is h)) in
@@ -60,7 +60,7 @@ description_head scope sort back y false is h s =
 
 written-description : (scope : Scope) → Written (g.description scope) (λ y. description_bytes y.0)
 unfolding g.description
-written-description scope = written-then (only byte (g.description_fault scope.entries)) _ one_byte (λ sort. rest_of) (λ y. description_bytes y.0) (written-only byte _ one_byte written-byte)
+written-description scope = written-then (only_bytes byte (g.description_fault scope.entries)) _ one_byte (λ sort. rest_of) (λ y. description_bytes y.0) (written-only byte _ one_byte written-byte)
     (λ sort. written-when (sort == 3) (g.equal_type scope) (g.indexed scope sort) rest_of (written-equal scope) (written-indexed scope sort))
     (λ sort y front back sp sq. description_head scope sort back y (sort == 3) refl (sp.1 []) sq)
 
@@ -107,23 +107,23 @@ external_head component false sort text d is h = rw (eqb-true sort 4 (four compo
     four false false k = k
 
 decl_head : (t : g.Reader) (component : Bool) (around : List ℕ) (scope : Scope) (sort : ℕ) (back : List ℕ) (y : Decl × Scope) (a b : Bool) → (sort == 1) ≡ a → (sort == 2) ≡ b → (a || (b || (sort == 4 || (component && sort == 3)))) ≡ true
-    → (when a (g.definition t around scope) (when b (g.alias around scope) (g.external scope sort))).spells back y → decl_bytes y.0 ≡ sort ∷ rest y
-unfolding decl_bytes g.alias g.external
+    → (when a (g.definition_entry t around scope) (when b (g.alias_entry around scope) (g.external scope sort))).spells back y → decl_bytes y.0 ≡ sort ∷ rest y
+unfolding decl_bytes g.alias_entry g.external
 decl_head t component around scope sort back y true b one two h s = rw (s.5.1, eqb-true sort 1 one) refl
 decl_head t component around scope sort back y false true one two h s = rw (s.5.5.5.1, eqb-true sort 2 two) refl
 decl_head t component around scope sort back y false false one two h s =
     let e : decl_bytes y.0 ≡ sort ∷ (extern_bytes s.2 ++ description_bytes s.5.2.0) = rw s.5.5.1 (external_head component (sort == 3) sort s.2 s.5.2.0 refl h) in
     e ∙ ap (λ (l : List ℕ). sort ∷ drop 1 l) (sym e)
 
-written-definition : (t : g.Reader) → WritesReader t → (around : List ℕ) (scope : Scope) → Written (g.definition t around scope) rest
+written-definition : (t : g.Reader) → WritesReader t → (around : List ℕ) (scope : Scope) → Written (g.definition_entry t around scope) rest
 unfolding decl_bytes
 written-definition t wt around scope = written-gives (t around scope) (λ x. (Entry x.0, g.with_entries scope x.1)) (λ y. type_bytes y.0) rest (wt around scope) (λ x. refl)
 
 written-decl : (t : g.Reader) → WritesReader t → (component : Bool) (around : List ℕ) (scope : Scope) → Written (g.decl t component around scope) (λ y. decl_bytes y.0)
 unfolding g.decl
-written-decl t wt component around scope = written-then (only byte (λ b. unless (g.is_decl component b) (UnknownOpcode b))) _ one_byte (λ sort. rest) (λ y. decl_bytes y.0) (written-only byte _ one_byte written-byte)
-    (λ sort. written-when (sort == 1) (g.definition t around scope) (when (sort == 2) (g.alias around scope) (g.external scope sort)) rest (written-definition t wt around scope)
-    (written-when (sort == 2) (g.alias around scope) (g.external scope sort) rest (written-alias around scope) (written-external scope sort)))
+written-decl t wt component around scope = written-then (only_bytes byte (λ b. unless (g.is_decl component b) (UnknownOpcode b))) _ one_byte (λ sort. rest) (λ y. decl_bytes y.0) (written-only byte _ one_byte written-byte)
+    (λ sort. written-when (sort == 1) (g.definition_entry t around scope) (when (sort == 2) (g.alias_entry around scope) (g.external scope sort)) rest (written-definition t wt around scope)
+    (written-when (sort == 2) (g.alias_entry around scope) (g.external scope sort) rest (written-alias around scope) (written-external scope sort)))
     (λ sort y front back sp sq. decl_head t component around scope sort back y (sort == 1) (sort == 2) refl refl (passes (g.is_decl component sort) (UnknownOpcode sort) 0 (sp.1 [])) sq)
 
 -- ---- scopes

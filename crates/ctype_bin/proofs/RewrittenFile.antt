@@ -9,32 +9,32 @@ use Rattle.ctype_format.specs.declared.error.Stuck.{Stuck}
 use Rattle.ctype_format.specs.declared.error.Stuck.TheVariants.{Past}
 use Rattle.ctype_format.specs.declared.scope.Scope.{Scope}
 use Rattle.ctype_bin.specs.Exactness.{Written}
-use Rattle.ctype_format.specs.Bytes.{Bytes, byte, only, unless, placed_at, u32, sized}
+use Rattle.ctype_format.specs.Bytes.{Bytes, byte, only_bytes, unless, stuck_if, u32, sized}
 use Rattle.ctype_format.specs.Grammar.{index, extern_name, type, new_scope, with_entries}
 use Rattle.ctype_format.specs.File as f
-use Rattle.ctype_format.specs.Raw.{Definition, Exported, File}
+use Rattle.ctype_format.specs.Raw.{Definition, Exported, BinaryFile}
 use Rattle.ctype_format.specs.Writing.{u32_bytes, each, counted, extern_bytes, type_bytes, exported_bytes, section_bytes, file_bytes}
 use Rattle.ctype_format.proofs.Least.{small, least_of}
 use Rattle.ctype_bin.proofs.Written.{written-then, written-gives, written-only, written-byte, one_byte, written-times, times-length, written-run, run-length}
 use Rattle.ctype_bin.proofs.Rewritten.{written-u32, written-index, passes, written-closed, written-extern}
 use Rattle.ctype_bin.proofs.RewrittenDecls.{written-type}
 
-written-entry : (scope : Scope) → Written (f.entry scope) (λ y. type_bytes y.0)
-unfolding f.entry
-written-entry scope = written-gives (type f.max_depth [] scope) (λ t. (t.0, with_entries scope t.1)) (λ y. type_bytes y.0) (λ y. type_bytes y.0) (written-type f.max_depth [] scope) (λ t. refl)
+written-entry : (scope : Scope) → Written (f.entry_of_type scope) (λ y. type_bytes y.0)
+unfolding f.entry_of_type
+written-entry scope = written-gives (type f.max_scope_depth [] scope) (λ t. (t.0, with_entries scope t.1)) (λ y. type_bytes y.0) (λ y. type_bytes y.0) (written-type f.max_scope_depth [] scope) (λ t. refl)
 
 written-types : Written f.type_section (λ y. counted type_bytes y.0)
 unfolding f.type_section
-written-types = written-then u32 (λ n. run f.entry n (new_scope 0)) u32_bytes (λ n y. each type_bytes y.0) (λ y. counted type_bytes y.0) written-u32 (λ n. written-run f.entry type_bytes written-entry n (new_scope 0))
-    (λ n y front back sp sq. ap (λ (m : ℕ). u32_bytes m ++ each type_bytes y.0) (run-length f.entry n (new_scope 0) back y sq))
+written-types = written-then u32 (λ n. run f.entry_of_type n (new_scope 0)) u32_bytes (λ n y. each type_bytes y.0) (λ y. counted type_bytes y.0) written-u32 (λ n. written-run f.entry_of_type type_bytes written-entry n (new_scope 0))
+    (λ n y front back sp sq. ap (λ (m : ℕ). u32_bytes m ++ each type_bytes y.0) (run-length f.entry_of_type n (new_scope 0) back y sq))
 
-three_is : (front : List ℕ) (b : ℕ) → (only byte (λ b. unless (b == 3) (UnknownOpcode b))).spells front b → b ≡ 3
+three_is : (front : List ℕ) (b : ℕ) → (only_bytes byte (λ b. unless (b == 3) (UnknownOpcode b))).spells front b → b ≡ 3
 three_is front b s = eqb-true b 3 (passes (b == 3) (UnknownOpcode b) 0 (s.1 []))
 
 written-exported : (types : ℕ) → Written (f.exported types) exported_bytes
 unfolding f.exported
 written-exported types = written-then extern_name _ extern_bytes (λ text e. 3 ∷ (u32_bytes e.type ++ 0 ∷ [])) exported_bytes written-extern
-    (λ text. written-then (only byte (λ b. unless (b == 3) (UnknownOpcode b))) _ one_byte (λ b e. u32_bytes e.type ++ 0 ∷ []) (λ e. 3 ∷ (u32_bytes e.type ++ 0 ∷ [])) (written-only byte _ one_byte written-byte)
+    (λ text. written-then (only_bytes byte (λ b. unless (b == 3) (UnknownOpcode b))) _ one_byte (λ b e. u32_bytes e.type ++ 0 ∷ []) (λ e. 3 ∷ (u32_bytes e.type ++ 0 ∷ [])) (written-only byte _ one_byte written-byte)
     (λ b. written-then (index types) _ u32_bytes (λ i e. 0 ∷ []) (λ e. u32_bytes e.type ++ 0 ∷ []) (written-index types) (λ i. written-closed (record { name = text; type = i }))
     (λ i e front back sp sq. rw sq.5.1 refl))
     (λ b e front back sp sq. ap (λ (c : ℕ). c ∷ (u32_bytes e.type ++ 0 ∷ [])) (sym (three_is front b sp))))
@@ -64,7 +64,7 @@ head_spelt : (id size : ℕ) → (id == 0) ≡ false → size < 2 ^ 32 → (f.he
 unfolding f.head
 head_spelt id size other lt = (id ∷ [], u32_bytes size, id, refl, ((refl, refl), fits), chosen (id == 0) other)
   where
-    fits : (all : List ℕ) → placed_at (unless (id == 0 || id == id) (BadSection id)) (length all) ≡ None
+    fits : (all : List ℕ) → stuck_if (unless (id == 0 || id == id) (BadSection id)) (length all) ≡ None
     fits all = rw (other, eq-eqb id id refl) refl
 
     chosen : (b : Bool) → b ≡ false → (when b f.skipped f.announced).spells (u32_bytes size) (Some size)
@@ -80,7 +80,7 @@ unfolding f.exactly
 exactly_spelt [] = (refl, refl)
 exactly_spelt (b ∷ bs) = (b ∷ [], bs, b, refl, ((refl, refl), λ all. fits (length all)), exactly_spelt bs)
   where
-    fits : (left : ℕ) → placed_at (unless (b == b) NotComponent) left ≡ None
+    fits : (left : ℕ) → stuck_if (unless (b == b) NotComponent) left ≡ None
     fits left = rw (eq-eqb b b refl) refl
 
 nothing_trails : (n : ℕ) → (f.trailing (suc n)).spells [] 0
@@ -104,11 +104,11 @@ module _ (types : List Definition × Scope) (exports : List Exported) where
   abbrev E : List ℕ
   E = counted exported_bytes exports
 
-  abbrev all : File
+  abbrev all : BinaryFile
   all = record { types = types.0; exports = exports }
 
-  pub file_from : f.type_section.spells T types → (f.export_section types.1.types).spells E exports → length T < 2 ^ 32 → length E < 2 ^ 32 → f.file.spells (file_bytes all) all
-  unfolding f.file file_bytes
+  pub file_from : f.type_section.spells T types → (f.export_section types.1.types).spells E exports → length T < 2 ^ 32 → length E < 2 ^ 32 → f.component_file.spells (file_bytes all) all
+  unfolding f.component_file file_bytes
   file_from st se lt le =
       let first : section_bytes 7 T ++ section_bytes 11 E ≡ (7 ∷ u32_bytes (length T)) ++ (T ++ section_bytes 11 E) = ap (λ (l : List ℕ). 7 ∷ l) (append_assoc (u32_bytes (length T)) T (section_bytes 11 E)) in
       let second : section_bytes 11 E ≡ (11 ∷ u32_bytes (length E)) ++ (E ++ []) = ap (λ (l : List ℕ). 11 ∷ (u32_bytes (length E) ++ l)) (sym (append-nil E)) in (
@@ -148,8 +148,8 @@ module _ (types : List Definition × Scope) (exports : List Exported) where
         ),
       )
 
-pub file_rewritten : (bytes : List ℕ) (x : File) → f.file.spells bytes x → f.file.spells (file_bytes x) x
-unfolding f.file
+pub file_rewritten : (bytes : List ℕ) (x : BinaryFile) → f.component_file.spells bytes x → f.component_file.spells (file_bytes x) x
+unfolding f.component_file
 file_rewritten bytes x s =
     let a = s.5 in
     let b = a.5 in
@@ -162,5 +162,5 @@ file_rewritten bytes x s =
     let briefer : length (counted exported_bytes d.2) ≤ length d.0 = (written-exports b.2.1.types).short d.0 d.2 se.1 in
     let lt = size_small 7 f.max_length a.0 a.2 a.4 in
     let le = size_small 11 f.max_length c.0 c.2 c.4 in
-    subst (λ (z : File). f.file.spells (file_bytes z) z) (sym e.5.1)
+    subst (λ (z : BinaryFile). f.component_file.spells (file_bytes z) z) (sym e.5.1)
     (file_from b.2 d.2 (written-types.spelt b.0 b.2 st.1) ((written-exports b.2.1.types).spelt d.0 d.2 se.1) (omega (arith, shorter, st.0, lt)) (omega (arith, briefer, se.0, le)))

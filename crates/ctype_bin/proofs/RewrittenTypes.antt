@@ -15,7 +15,7 @@ use Rattle.ctype_format.specs.declared.opcode.Opcode.TheVariants as op
 use Rattle.ctype_format.specs.declared.scope.Scope.{Scope}
 use Rattle.ctype_format.specs.Opcodes.{primitive_of, opcode_of}
 use Rattle.ctype_bin.specs.Exactness.{Written}
-use Rattle.ctype_format.specs.Bytes.{Bytes, byte, only, unless, placed_at, u32}
+use Rattle.ctype_format.specs.Bytes.{Bytes, byte, only_bytes, unless, stuck_if, u32}
 use Rattle.ctype_format.specs.Grammar as g
 use Rattle.ctype_format.specs.Raw.{Prim, Record, Variant, ListOf, Tuple, FlagSet, Enumeration, OptionOf, ResultOf, Definition, Define, Func, Alias}
 use Rattle.ctype_format.specs.Writing.{u32_bytes, each, counted, name_bytes, primitive_byte, valtype_bytes, optional_bytes, outcome_bytes, field_bytes, case_bytes, alias_bytes, type_bytes, decl_bytes}
@@ -72,10 +72,10 @@ written-option : (types : ℕ) → Written (g.option_type types) body
 unfolding g.option_type type_bytes
 written-option types = written-gives (g.valtype types) (λ e. Define (OptionOf e)) valtype_bytes body (written-valtype types) (λ e. refl)
 
-written-result : (types : ℕ) → Written (g.result_type types) body
-unfolding g.result_type type_bytes
-written-result types = written-then (g.optional types) _ optional_bytes (λ ok d. drop (length (optional_bytes ok)) (body d)) body (written-optional types)
-    (λ ok. written-gives (g.optional types) (λ error. Define (ResultOf ok error)) optional_bytes (λ d. drop (length (optional_bytes ok)) (body d)) (written-optional types) (λ error. drop_at (optional_bytes ok) (optional_bytes error) (length (optional_bytes ok)) refl))
+written-result : (types : ℕ) → Written (g.result_entry types) body
+unfolding g.result_entry type_bytes
+written-result types = written-then (g.optional_valtype types) _ optional_bytes (λ ok d. drop (length (optional_bytes ok)) (body d)) body (written-optional types)
+    (λ ok. written-gives (g.optional_valtype types) (λ error. Define (ResultOf ok error)) optional_bytes (λ d. drop (length (optional_bytes ok)) (body d)) (written-optional types) (λ error. drop_at (optional_bytes ok) (optional_bytes error) (length (optional_bytes ok)) refl))
     (λ ok d front back sp sq. rw sq.5.1 (ap (λ (l : List ℕ). optional_bytes ok ++ l) (sym (drop_at (optional_bytes ok) (optional_bytes sq.2) (length (optional_bytes ok)) refl))))
 
 params_of : Definition → List RawField
@@ -86,16 +86,16 @@ outcome_of : Definition → Option RawValType
 outcome_of (Func f) = f.outcome
 outcome_of _ = None
 
-written-function : (types : ℕ) → Written (g.function_type types) body
-unfolding g.function_type type_bytes params_of outcome_of
+written-function : (types : ℕ) → Written (g.function_entry types) body
+unfolding g.function_entry type_bytes params_of outcome_of
 written-function types = written-then u32 _ u32_bytes (λ n d. each field_bytes (params_of d) ++ outcome_bytes (outcome_of d)) body written-u32
     (λ n. written-then (times n (g.field types)) _ (each field_bytes) (λ ps d. outcome_bytes (outcome_of d)) (λ d. each field_bytes (params_of d) ++ outcome_bytes (outcome_of d)) (written-times n (g.field types) field_bytes (written-field types))
     (λ ps. written-gives (g.outcome types) (λ r. Func (record { params = ps; outcome = r })) outcome_bytes (λ d. outcome_bytes (outcome_of d)) (written-outcome types) (λ r. refl))
     (λ ps d front back sp sq. rw sq.5.1 refl))
     (λ n d front back sp sq. rw (sq.5.5.1, times-length n (g.field types) sq.0 sq.2 sq.4) (append_assoc (u32_bytes n) (each field_bytes sq.2) (outcome_bytes sq.5.2)))
 
-written-plain : (types : ℕ) (o : Opcode) → Written (g.plain types o) body
-unfolding g.plain type_bytes
+written-plain : (types : ℕ) (o : Opcode) → Written (g.plain_entry types o) body
+unfolding g.plain_entry type_bytes
 written-plain types (op.Primitive p) = written-give (Define (Prim p)) body refl
 written-plain types op.Record = written-record types
 written-plain types op.Variant = written-variant types
@@ -110,7 +110,7 @@ written-plain types op.Component = record { spelt = λ bytes d s. absurd s; shor
 written-plain types op.Instance = record { spelt = λ bytes d s. absurd s; short = λ bytes d s. absurd s }
 
 pub written-plain_type : (scope : Scope) (o : Opcode) → Written (g.plain_type scope o) (λ y. body y.0)
-written-plain_type scope o = written-gives (g.plain scope.types o) (λ t. (t, scope.entries + 1)) body (λ y. body y.0) (written-plain scope.types o) (λ t. refl)
+written-plain_type scope o = written-gives (g.plain_entry scope.types o) (λ t. (t, scope.entries + 1)) body (λ y. body y.0) (written-plain scope.types o) (λ t. refl)
 
 -- ---- opcodes
 
@@ -154,7 +154,7 @@ opcode_back op.Component = refl
 opcode_back op.Instance = refl
 
 -- the byte of an opcode has no fault where some byte of the same opcode has none
-opcode_fits : (depth entries b : ℕ) (o : Opcode) (r : Option Opcode) → o ≡ unwrap_or r op.Record → placed_at (g.opcode_fault depth entries b r) 0 ≡ None → (left : ℕ) → placed_at (g.opcode_fault depth entries (opcode_byte o) (opcode_of (opcode_byte o))) left ≡ None
+opcode_fits : (depth entries b : ℕ) (o : Opcode) (r : Option Opcode) → o ≡ unwrap_or r op.Record → stuck_if (g.opcode_fault depth entries b r) 0 ≡ None → (left : ℕ) → stuck_if (g.opcode_fault depth entries (opcode_byte o) (opcode_of (opcode_byte o))) left ≡ None
 opcode_fits depth entries b o None is h left = absurd cc
 opcode_fits depth entries b o (Some q) is h left =
     let fits : not (g.is_full entries || (g.is_nested q && depth == 0)) ≡ true = passes (not (g.is_full entries || (g.is_nested q && depth == 0))) Limit 0 h in
@@ -172,8 +172,8 @@ written-opcode depth entries = record {
       omega (arith, one, parts);
 }
 
-pub type_head : (types : ℕ) (o : Opcode) (back : List ℕ) (d : Definition) → (g.plain types o).spells back d → type_bytes d ≡ opcode_byte o ∷ body d
-unfolding g.plain g.record_type g.variant_type g.list_type g.tuple_type g.flags_type g.enum_type g.option_type g.result_type g.function_type type_bytes
+pub type_head : (types : ℕ) (o : Opcode) (back : List ℕ) (d : Definition) → (g.plain_entry types o).spells back d → type_bytes d ≡ opcode_byte o ∷ body d
+unfolding g.plain_entry g.record_type g.variant_type g.list_type g.tuple_type g.flags_type g.enum_type g.option_type g.result_entry g.function_entry type_bytes
 type_head types (op.Primitive p) back d s = rw s.1 refl
 type_head types op.Record back d s = rw s.5.5.1 refl
 type_head types op.Variant back d s = rw s.5.5.1 refl
@@ -200,15 +200,15 @@ alias_index (aliases.Outer n i) = i
 abbrev alias_body : RawAlias → List ℕ
 alias_body a = drop 2 (alias_bytes a)
 
-written-instance_export : (scope : Scope) → Written (g.instance_export scope) alias_body
-unfolding g.instance_export alias_name
+written-instance_export : (scope : Scope) → Written (g.instance_alias scope) alias_body
+unfolding g.instance_alias alias_name
 written-instance_export scope = written-then (g.index scope.instances) _ u32_bytes (λ i a. name_bytes (alias_name a)) alias_body (written-index scope.instances)
     (λ i. written-gives g.label (λ text. aliases.InstanceExport i text) name_bytes (λ a. name_bytes (alias_name a)) written-label (λ text. refl))
     (λ i a front back sp sq. rw sq.5.1 refl)
 
 written-outer : (around : List ℕ) (scope : Scope) → Written (g.outer_type around scope) alias_body
 unfolding g.outer_type alias_index
-written-outer around scope = written-then (only u32 (λ n. unless (nat_le n (length around)) BadIndex)) _ u32_bytes (λ n a. u32_bytes (alias_index a)) alias_body (written-only u32 _ u32_bytes written-u32)
+written-outer around scope = written-then (only_bytes u32 (λ n. unless (nat_le n (length around)) BadIndex)) _ u32_bytes (λ n a. u32_bytes (alias_index a)) alias_body (written-only u32 _ u32_bytes written-u32)
     (λ n. written-gives (g.index (g.types_at around scope.types n)) (λ i. aliases.Outer n i) u32_bytes (λ a. u32_bytes (alias_index a)) (written-index (g.types_at around scope.types n)) (λ i. refl))
     (λ n a front back sp sq. rw sq.5.1 refl)
 
@@ -216,8 +216,8 @@ written-outer around scope = written-then (only u32 (λ n. unless (nat_le n (len
 is_other : (a b t : ℕ) → (t == a) ≡ false → (t == a || t == b) ≡ true → t ≡ b
 is_other a b t other either = let h : (false || t == b) ≡ true = rw other at either in eqb-true t b h
 
-alias_target : (around : List ℕ) (scope : Scope) (t : ℕ) (a : RawAlias) (front : List ℕ) (b : Bool) → (t == 0) ≡ b → (t == 0 || t == 2) ≡ true → (when b (g.instance_export scope) (g.outer_type around scope)).spells front a → drop 1 (alias_bytes a) ≡ t ∷ alias_body a
-unfolding g.instance_export g.outer_type
+alias_target : (around : List ℕ) (scope : Scope) (t : ℕ) (a : RawAlias) (front : List ℕ) (b : Bool) → (t == 0) ≡ b → (t == 0 || t == 2) ≡ true → (when b (g.instance_alias scope) (g.outer_type around scope)).spells front a → drop 1 (alias_bytes a) ≡ t ∷ alias_body a
+unfolding g.instance_alias g.outer_type
 alias_target around scope t a front true is either s = rw (s.5.5.1, eqb-true t 0 is) refl
 alias_target around scope t a front false is either s = rw (s.5.5.1, is_other 0 2 t is either) refl
 
@@ -225,14 +225,14 @@ alias_head : (a : RawAlias) → alias_bytes a ≡ 3 ∷ drop 1 (alias_bytes a)
 alias_head (aliases.InstanceExport i text) = refl
 alias_head (aliases.Outer n i) = refl
 
-entry_passes : (entries b : ℕ) (t : Bool) → placed_at (g.entry_fault entries t b) 0 ≡ None → t ≡ true
+entry_passes : (entries b : ℕ) (t : Bool) → stuck_if (g.opcode_entry_fault entries t b) 0 ≡ None → t ≡ true
 entry_passes entries b true h = refl
 entry_passes entries b false h = absurd cc
 
-pub written-alias : (around : List ℕ) (scope : Scope) → Written (g.alias around scope) (λ y. drop 1 (decl_bytes y.0))
-unfolding g.alias decl_bytes
-written-alias around scope = written-then (only byte (λ b. g.entry_fault scope.entries (b == 3) b)) _ one_byte (λ sort y. drop 2 (decl_bytes y.0)) (λ y. drop 1 (decl_bytes y.0)) (written-only byte _ one_byte written-byte)
-    (λ sort. written-then (only byte (λ b. unless (b == 0 || b == 2) (UnknownOpcode b))) _ one_byte (λ t y. drop 3 (decl_bytes y.0)) (λ y. drop 2 (decl_bytes y.0)) (written-only byte _ one_byte written-byte)
-    (λ t. written-gives (when (t == 0) (g.instance_export scope) (g.outer_type around scope)) (λ a. (Alias a, g.with_type scope)) alias_body (λ y. drop 3 (decl_bytes y.0)) (written-when (t == 0) (g.instance_export scope) (g.outer_type around scope) alias_body (written-instance_export scope) (written-outer around scope)) (λ a. refl))
+pub written-alias : (around : List ℕ) (scope : Scope) → Written (g.alias_entry around scope) (λ y. drop 1 (decl_bytes y.0))
+unfolding g.alias_entry decl_bytes
+written-alias around scope = written-then (only_bytes byte (λ b. g.opcode_entry_fault scope.entries (b == 3) b)) _ one_byte (λ sort y. drop 2 (decl_bytes y.0)) (λ y. drop 1 (decl_bytes y.0)) (written-only byte _ one_byte written-byte)
+    (λ sort. written-then (only_bytes byte (λ b. unless (b == 0 || b == 2) (UnknownOpcode b))) _ one_byte (λ t y. drop 3 (decl_bytes y.0)) (λ y. drop 2 (decl_bytes y.0)) (written-only byte _ one_byte written-byte)
+    (λ t. written-gives (when (t == 0) (g.instance_alias scope) (g.outer_type around scope)) (λ a. (Alias a, g.with_type scope)) alias_body (λ y. drop 3 (decl_bytes y.0)) (written-when (t == 0) (g.instance_alias scope) (g.outer_type around scope) alias_body (written-instance_export scope) (written-outer around scope)) (λ a. refl))
     (λ t y front back sp sq. rw sq.5.1 (alias_target around scope t sq.2 sq.0 (t == 0) refl (passes (t == 0 || t == 2) (UnknownOpcode t) 0 (sp.1 [])) sq.4)))
     (λ sort y front back sp sq. rw (sq.5.5.1, eqb-true sort 3 (entry_passes scope.entries sort (sort == 3) (sp.1 []))) (alias_head sq.5.2))

@@ -10,8 +10,8 @@ use Rattle.productions.proofs.Exact.{no_err, no_ok}
 use Rattle.ctype_format.specs.declared.error.Fault.TheVariants.{SizeMismatch}
 use Rattle.ctype_format.specs.declared.error.Stuck.{Stuck}
 use Rattle.ctype_format.specs.declared.error.Stuck.TheVariants.{End, At, Past}
-use Rattle.ctype_bin.specs.Exactness.{IsBytes, Inside, Exact, within}
-use Rattle.ctype_format.specs.Bytes.{Bytes, in_section, section_from, cut_section_from, Begins, FailsInSection, sized}
+use Rattle.ctype_bin.specs.Exactness.{IsBytes, Inside, ExactBytes, within}
+use Rattle.ctype_format.specs.Bytes.{Bytes, in_section, section_from, cut_section_from, HasFront, FailsInSection, sized}
 use Rattle.ctype_bin.proofs.Exact.{stopped, ok_is, took, IsBytes-take}
 
 -- bytes are left
@@ -93,7 +93,7 @@ module _ {X : Type 0} {stops : X → Option ℕ → Type 0} (short : ℕ → Stu
       let t = ep.sound (take size bytes) x [] (IsBytes-take size bytes fits) e in
       subst (λ (u : List ℕ). p.spells u x × p.stops u x None) (sym (t.parts ∙ append-nil t.text)) (t.spelt, t.stopped)
 
-  begins : (bytes : List ℕ) (x : X) (more : List ℕ) → IsBytes bytes → p.read bytes ≡ Ok (x, more) → Begins p bytes (length more)
+  begins : (bytes : List ℕ) (x : X) (more : List ℕ) → IsBytes bytes → p.read bytes ≡ Ok (x, more) → HasFront p bytes (length more)
   begins bytes x more fits e = let t = ep.sound bytes x more fits e in (t.text, more, x, t.parts, refl, t.stopped)
 
   sized_sound : (bytes : List ℕ) (x : X) (rest : List ℕ) → IsBytes bytes → (sized short size p).read bytes ≡ Ok (x, rest) → Took (sized short size p) bytes x rest
@@ -130,7 +130,7 @@ module _ {X : Type 0} {stops : X → Option ℕ → Type 0} (short : ℕ → Stu
 
   -- a fault is met
 
-  taken_front : (bytes : List ℕ) (left : ℕ) → Begins p bytes left → (x : X) × (back : List ℕ) × (p.read bytes ≡ Ok (x, back)) × (length back ≡ left)
+  taken_front : (bytes : List ℕ) (left : ℕ) → HasFront p bytes left → (x : X) × (back : List ℕ) × (p.read bytes ≡ Ok (x, back)) × (length back ≡ left)
   taken_front bytes left (front, back, x, parts, long, stops) = (x, back, ap (λ (t : List ℕ). p.read t) parts ∙ ep.taken front back x stops, long)
 
   more_left : (left : ℕ) (rest : List ℕ) (x : X) (back : List ℕ) → 0 < length back → section_from left rest (Ok (x, back)) ≡ Err (At SizeMismatch left)
@@ -184,7 +184,7 @@ module _ {X : Type 0} {stops : X → Option ℕ → Type 0} (short : ℕ → Stu
   unfolding sized
   sized_fails bytes f h = h
 
-  pub exact-sized : Exact (sized short size p)
+  pub exact-sized : ExactBytes (sized short size p)
   exact-sized = record {
     sound = sized_sound;
     complete = λ text rest x s end. sized_complete text rest x s;

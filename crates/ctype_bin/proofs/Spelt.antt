@@ -12,10 +12,10 @@ use Rattle.ctype_format.specs.declared.raw.RawValType.TheVariants as valtypes
 use Rattle.ctype_format.specs.declared.raw.RawField.{RawField}
 use Rattle.ctype_format.specs.declared.raw.RawCase.{RawCase}
 use Rattle.ctype_format.specs.Names.{is_extern_name}
-use Rattle.ctype_format.specs.Bytes.{Bytes, byte, several, only, unless, u32, s33, choose}
+use Rattle.ctype_format.specs.Bytes.{Bytes, byte, several, only_bytes, unless, u32, s33, choose}
 use Rattle.ctype_format.specs.Grammar as g
 use Rattle.ctype_format.specs.Writing.{u32_bytes, s33_bytes, each, counted, name_bytes, extern_bytes, primitive_byte, valtype_bytes, optional_bytes, outcome_bytes, field_bytes, case_bytes}
-use Rattle.ctype_format.specs.Formed.{Fits, All, Counted, FormedLabel, FormedName, FormedValType, FormedOption, FormedField, FormedCase}
+use Rattle.ctype_format.specs.Formed.{FitsU32, All, Counted, FormedLabel, FormedName, FormedValType, FormedOption, FormedField, FormedCase}
 use Rattle.ctype_bin.specs.InRange.{ValTypeInRange, OptionInRange, FieldInRange, CaseInRange}
 use Rattle.ctype_bin.specs.Accepted.{Among}
 use Rattle.ctype_format.proofs.Least.{least_of}
@@ -34,7 +34,7 @@ spelt-give x = record { spells = (refl, refl) }
 pub spelt-gives : {X Y : Type 0} (p : Bytes X) (f : X → Y) (a : List ℕ) (x : X) → Spelt p a x → Spelt (p >>= λ x. give (f x)) a (f x)
 spelt-gives p f a x sp = record { spells = (a, [], x, sym (append-nil a), sp.spells, (refl, refl)) }
 
-pub spelt-only : {X : Type 0} (p : Bytes X) (fault : X → Option Fault) (a : List ℕ) (x : X) → Spelt p a x → fault x ≡ None → Spelt (only p fault) a x
+pub spelt-only : {X : Type 0} (p : Bytes X) (fault : X → Option Fault) (a : List ℕ) (x : X) → Spelt p a x → fault x ≡ None → Spelt (only_bytes p fault) a x
 spelt-only p fault a x sp passed = record { spells = (sp.spells, λ all. placed_none (fault x) (length all) passed) }
 
 pub spelt-byte : (b : ℕ) → Spelt byte (b ∷ []) b
@@ -42,29 +42,29 @@ spelt-byte b = record { spells = (refl, refl) }
 
 -- ---- numbers and names
 
-pub spelt-u32 : (n : ℕ) → Fits n → Spelt u32 (u32_bytes n) n
+pub spelt-u32 : (n : ℕ) → FitsU32 n → Spelt u32 (u32_bytes n) n
 spelt-u32 n fits = record { spells = least_of 128 n (omega arith) (omega arith) fits }
 
-spelt-s33 : (n : ℕ) → Fits n → Spelt s33 (s33_bytes n) n
+spelt-s33 : (n : ℕ) → FitsU32 n → Spelt s33 (s33_bytes n) n
 spelt-s33 n fits = record { spells = least_of 64 n (omega arith) (omega arith) fits }
 
-pub spelt-index : (count i : ℕ) → Fits i → i < count → Spelt (g.index count) (u32_bytes i) i
+pub spelt-index : (count i : ℕ) → FitsU32 i → i < count → Spelt (g.index count) (u32_bytes i) i
 spelt-index count i fits lt = spelt-only u32 (λ i. unless (nat_lt i count) BadIndex) (u32_bytes i) i (spelt-u32 i fits) (rw (lt-ltb i count lt) refl)
 
-pub spelt-some : (n : ℕ) → Fits n → 0 < n → Spelt g.some (u32_bytes n) n
+pub spelt-some : (n : ℕ) → FitsU32 n → 0 < n → Spelt g.some (u32_bytes n) n
 spelt-some n fits lt = spelt-only u32 (λ n. unless (nat_lt 0 n) EmptyType) (u32_bytes n) n (spelt-u32 n fits) (rw (lt-ltb 0 n lt) refl)
 
 no_count_fault : (limit n : ℕ) → Among limit n → g.count_fault limit n ≡ None
 no_count_fault limit zero h = absurd (omega (arith, h.0))
 no_count_fault limit (suc n) h = rw (lt-ltb n limit (omega (arith, h.1))) refl
 
-pub spelt-upto : (limit n : ℕ) → Fits n → Among limit n → Spelt (g.some_upto limit) (u32_bytes n) n
+pub spelt-upto : (limit n : ℕ) → FitsU32 n → Among limit n → Spelt (g.some_upto limit) (u32_bytes n) n
 spelt-upto limit n fits h = spelt-only u32 (g.count_fault limit) (u32_bytes n) n (spelt-u32 n fits) (no_count_fault limit n h)
 
 pub spelt-zero : Spelt g.zero_byte (0 ∷ []) 0
 spelt-zero = spelt-only byte (λ b. unless (b == 0) (UnknownOpcode b)) (0 ∷ []) 0 (spelt-byte 0) refl
 
-spelt-name : (text : List ℕ) → Fits (length text) → Spelt g.name (name_bytes text) text
+spelt-name : (text : List ℕ) → FitsU32 (length text) → Spelt g.name (name_bytes text) text
 spelt-name text fits = spelt-next u32 (λ n. several n) (u32_bytes (length text)) text (length text) text (spelt-u32 (length text) fits) (record { spells = (refl, refl) })
 
 pub spelt-label : (text : List ℕ) → FormedLabel text → Spelt g.label (name_bytes text) text
@@ -89,7 +89,7 @@ unfolding g.valtype g.type_index
 spelt-valtype types (valtypes.Primitive p) formed lt = spelt-first g.is_opcode g.primitive (g.type_index types) (primitive_byte p) [] (valtypes.Primitive p) (primitive_opens p) (record { spells = primitive_spelt p })
 spelt-valtype types (valtypes.Index i) formed lt =
     let h = index_begins i in
-    let s : Spelt (g.type_index types) (s33_bytes i) (valtypes.Index i) = spelt-gives (only s33 (λ i. unless (nat_lt i types) BadIndex)) (λ i. valtypes.Index i) (s33_bytes i) i
+    let s : Spelt (g.type_index types) (s33_bytes i) (valtypes.Index i) = spelt-gives (only_bytes s33 (λ i. unless (nat_lt i types) BadIndex)) (λ i. valtypes.Index i) (s33_bytes i) i
     (spelt-only s33 (λ i. unless (nat_lt i types) BadIndex) (s33_bytes i) i (spelt-s33 i formed) (rw (lt-ltb i types lt) refl)) in
     rw h.2 (spelt-second g.is_opcode g.primitive (g.type_index types) h.0 h.1 (valtypes.Index i) h.3 (rw h.2 at s))
 
@@ -99,8 +99,8 @@ spelt-flag b is = spelt-only byte (λ b. unless (b == 0 || b == 1) (UnknownOpcod
 spelt-present : (types : ℕ) (t : RawValType) → FormedValType t → ValTypeInRange types t → Spelt (g.present types) (valtype_bytes t) (Some t)
 spelt-present types t formed lt = spelt-gives (g.valtype types) (λ t. Some t) (valtype_bytes t) t (spelt-valtype types t formed lt)
 
-pub spelt-optional : (types : ℕ) (o : Option RawValType) → FormedOption o → OptionInRange types o → Spelt (g.optional types) (optional_bytes o) o
-unfolding g.optional
+pub spelt-optional : (types : ℕ) (o : Option RawValType) → FormedOption o → OptionInRange types o → Spelt (g.optional_valtype types) (optional_bytes o) o
+unfolding g.optional_valtype
 spelt-optional types None formed lt = spelt-next g.flag_byte _ (0 ∷ []) [] 0 None (spelt-flag 0 refl) (spelt-give None)
 spelt-optional types (Some t) formed lt = spelt-next g.flag_byte _ (1 ∷ []) (valtype_bytes t) 1 (Some t) (spelt-flag 1 refl) (spelt-present types t formed lt)
 
@@ -118,7 +118,7 @@ spelt-field types f formed lt = spelt-next g.label _ (name_bytes f.label) (valty
 pub spelt-case : (types : ℕ) (c : RawCase) → FormedCase c → CaseInRange types c → Spelt (g.case types) (case_bytes c) c
 unfolding g.case
 spelt-case types c formed lt = spelt-next g.label _ (name_bytes c.label) (optional_bytes c.payload ++ 0 ∷ []) c.label c (spelt-label c.label formed.0)
-    (spelt-next (g.optional types) _ (optional_bytes c.payload) (0 ∷ []) c.payload c (spelt-optional types c.payload formed.1 lt)
+    (spelt-next (g.optional_valtype types) _ (optional_bytes c.payload) (0 ∷ []) c.payload c (spelt-optional types c.payload formed.1 lt)
     (spelt-gives g.zero_byte (λ b. record { label = c.label; payload = c.payload }) (0 ∷ []) 0 spelt-zero))
 
 -- ---- lists

@@ -11,14 +11,14 @@ use Rattle.ctype_format.specs.declared.raw.RawDescription.TheVariants as descrip
 use Rattle.ctype_format.specs.declared.opcode.Opcode.{Opcode}
 use Rattle.ctype_format.specs.declared.opcode.Opcode.TheVariants as op
 use Rattle.ctype_format.specs.declared.scope.Scope.{Scope}
-use Rattle.ctype_format.specs.Bytes.{byte, only, unless, u32}
+use Rattle.ctype_format.specs.Bytes.{byte, only_bytes, unless, u32}
 use Rattle.ctype_format.specs.Grammar as g
 use Rattle.ctype_format.specs.View.{decls_of}
 use Rattle.ctype_format.specs.Raw.{Definition, Define, Func, Component, Instance, Decl, Entry, Alias, Import, Export, Decls, none}
 use Rattle.ctype_format.specs.Raw as raw
 use Rattle.ctype_format.specs.Writing.{u32_bytes, name_bytes, extern_bytes, description_bytes, alias_bytes, decl_count, type_bytes, decl_bytes, decls_bytes}
-use Rattle.ctype_format.specs.Formed.{Fits, FormedAlias, FormedDescription, FormedName, FormedType, FormedDecl, FormedDecls}
-use Rattle.ctype_bin.specs.InRange.{DescriptionInRange, AliasInRange, types_with, instances_with, types_behind, instances_behind, TypeInRange, DeclInRange, DeclsInRange}
+use Rattle.ctype_format.specs.Formed.{FitsU32, FormedAlias, FormedDescription, FormedName, FormedType, FormedDecl, FormedDecls}
+use Rattle.ctype_bin.specs.InRange.{DescriptionInRange, AliasInRange, described_types, instances_with, types_behind, instances_behind, TypeInRange, DeclInRange, DeclsInRange}
 use Rattle.ctype_bin.specs.Accepted.{AllowedType, AllowedDecl, AllowedDecls, description_entries, entries_of_type, entries_of_decl, entries_of_decls}
 use Rattle.ctype_bin.proofs.RewrittenTypes.{opcode_byte}
 use Rattle.ctype_bin.proofs.RereadDecls.{alias_back, alias_front, target}
@@ -28,7 +28,7 @@ use Rattle.ctype_bin.proofs.SpeltTypes.{spelt-opcode, spelt-defined, spelt-funct
 -- ---- the scope behind a declaration
 
 abbrev scope_with : Scope → RawDescription → Scope
-scope_with scope d = record { types = types_with scope.types d; instances = instances_with scope.instances d; entries = scope.entries + description_entries d }
+scope_with scope d = record { types = described_types scope.types d; instances = instances_with scope.instances d; entries = scope.entries + description_entries d }
 
 abbrev scope_behind : Scope → Decl → Scope
 scope_behind scope d = record { types = types_behind scope.types d; instances = instances_behind scope.instances d; entries = scope.entries + entries_of_decl d }
@@ -52,47 +52,47 @@ list_back (raw.then d ds) = ap (raw.then d) (list_back ds)
 
 -- ---- aliases
 
-aliased : (around : List ℕ) (scope : Scope) (t : ℕ) (back : List ℕ) (a : RawAlias) → (t == 0 || t == 2) ≡ true → Spelt (when (t == 0) (g.instance_export scope) (g.outer_type around scope)) back a → Spelt (target around scope) (t ∷ back) (Alias a, g.with_type scope)
-aliased around scope t back a is h = spelt-next (only byte (λ b. unless (b == 0 || b == 2) (UnknownOpcode b))) _ (t ∷ []) back t (Alias a, g.with_type scope)
+aliased : (around : List ℕ) (scope : Scope) (t : ℕ) (back : List ℕ) (a : RawAlias) → (t == 0 || t == 2) ≡ true → Spelt (when (t == 0) (g.instance_alias scope) (g.outer_type around scope)) back a → Spelt (target around scope) (t ∷ back) (Alias a, g.with_type scope)
+aliased around scope t back a is h = spelt-next (only_bytes byte (λ b. unless (b == 0 || b == 2) (UnknownOpcode b))) _ (t ∷ []) back t (Alias a, g.with_type scope)
     (spelt-only byte (λ b. unless (b == 0 || b == 2) (UnknownOpcode b)) (t ∷ []) t (spelt-byte t) (rw is refl))
-    (spelt-gives (when (t == 0) (g.instance_export scope) (g.outer_type around scope)) (λ a. (Alias a, g.with_type scope)) back a h)
+    (spelt-gives (when (t == 0) (g.instance_alias scope) (g.outer_type around scope)) (λ a. (Alias a, g.with_type scope)) back a h)
 
 targets : (around : List ℕ) (scope : Scope) (a : RawAlias) → FormedAlias a → AliasInRange around scope.types scope.instances a → Spelt (target around scope) (alias_back a) (Alias a, g.with_type scope)
-unfolding g.instance_export g.outer_type
+unfolding g.instance_alias g.outer_type
 targets around scope (aliases.InstanceExport i text) formed ranged = aliased around scope 0 (u32_bytes i ++ name_bytes text) (aliases.InstanceExport i text) refl
     (spelt-next (g.index scope.instances) _ (u32_bytes i) (name_bytes text) i (aliases.InstanceExport i text) (spelt-index scope.instances i formed.0 ranged)
     (spelt-gives g.label (λ text. aliases.InstanceExport i text) (name_bytes text) text (spelt-label text formed.1)))
 targets around scope (aliases.Outer n i) formed ranged = aliased around scope 2 (u32_bytes n ++ u32_bytes i) (aliases.Outer n i) refl
-    (spelt-next (only u32 (λ n. unless (nat_le n (length around)) BadIndex)) _ (u32_bytes n) (u32_bytes i) n (aliases.Outer n i)
+    (spelt-next (only_bytes u32 (λ n. unless (nat_le n (length around)) BadIndex)) _ (u32_bytes n) (u32_bytes i) n (aliases.Outer n i)
     (spelt-only u32 (λ n. unless (nat_le n (length around)) BadIndex) (u32_bytes n) n (spelt-u32 n formed.0) (rw (le-leb n (length around) ranged.0) refl))
     (spelt-gives (g.index (g.types_at around scope.types n)) (λ i. aliases.Outer n i) (u32_bytes i) i (spelt-index (g.types_at around scope.types n) i formed.1 ranged.1)))
 
-entry_passed : (entries : ℕ) → entries < g.max_entries → g.entry_fault entries true 3 ≡ None
+entry_passed : (entries : ℕ) → entries < g.max_entries → g.opcode_entry_fault entries true 3 ≡ None
 entry_passed entries room = let full : g.is_full entries ≡ false = lt-leb g.max_entries entries room in rw full refl
 
-spelt-alias : (around : List ℕ) (scope : Scope) (a : RawAlias) → FormedAlias a → AliasInRange around scope.types scope.instances a → scope.entries < g.max_entries → Spelt (g.alias around scope) (alias_bytes a) (Alias a, g.with_type scope)
-unfolding g.alias
-spelt-alias around scope a formed ranged room = subst (λ (l : List ℕ). Spelt (g.alias around scope) l (Alias a, g.with_type scope)) (sym (alias_front a))
-    (spelt-next (only byte (λ b. g.entry_fault scope.entries (b == 3) b)) _ (3 ∷ []) (alias_back a) 3 (Alias a, g.with_type scope)
-    (spelt-only byte (λ b. g.entry_fault scope.entries (b == 3) b) (3 ∷ []) 3 (spelt-byte 3) (entry_passed scope.entries room))
+spelt-alias : (around : List ℕ) (scope : Scope) (a : RawAlias) → FormedAlias a → AliasInRange around scope.types scope.instances a → scope.entries < g.max_entries → Spelt (g.alias_entry around scope) (alias_bytes a) (Alias a, g.with_type scope)
+unfolding g.alias_entry
+spelt-alias around scope a formed ranged room = subst (λ (l : List ℕ). Spelt (g.alias_entry around scope) l (Alias a, g.with_type scope)) (sym (alias_front a))
+    (spelt-next (only_bytes byte (λ b. g.opcode_entry_fault scope.entries (b == 3) b)) _ (3 ∷ []) (alias_back a) 3 (Alias a, g.with_type scope)
+    (spelt-only byte (λ b. g.opcode_entry_fault scope.entries (b == 3) b) (3 ∷ []) 3 (spelt-byte 3) (entry_passed scope.entries room))
     (targets around scope a formed ranged))
 
 -- ---- descriptions
 
 -- a description that brings no type entry
-spelt-indexed : (scope after : Scope) (sort i : ℕ) (d : RawDescription) → g.described scope sort i ≡ (d, after) → g.description_fault scope.entries sort ≡ None → (sort == 3) ≡ false → Fits i → i < scope.types
+spelt-indexed : (scope after : Scope) (sort i : ℕ) (d : RawDescription) → g.described scope sort i ≡ (d, after) → g.description_fault scope.entries sort ≡ None → (sort == 3) ≡ false → FitsU32 i → i < scope.types
     → Spelt (g.description scope) (sort ∷ u32_bytes i) (d, record { types = after.types; instances = after.instances; entries = after.entries + 0 })
 unfolding g.description
 spelt-indexed scope after sort i d is passed other fits lt =
     let none : after.entries ≡ after.entries + 0 = omega arith in
     let s : Spelt (when (sort == 3) (g.equal_type scope) (g.indexed scope sort)) (u32_bytes i) (d, after) = rw other (subst (λ (y : RawDescription × Scope). Spelt (g.indexed scope sort) (u32_bytes i) y) is (spelt-gives (g.index scope.types) (λ i. g.described scope sort i) (u32_bytes i) i (spelt-index scope.types i fits lt))) in
     subst (λ (n : ℕ). Spelt (g.description scope) (sort ∷ u32_bytes i) (d, record { types = after.types; instances = after.instances; entries = n })) none
-    (spelt-next (only byte (g.description_fault scope.entries)) _ (sort ∷ []) (u32_bytes i) sort (d, after) (spelt-only byte (g.description_fault scope.entries) (sort ∷ []) sort (spelt-byte sort) passed) s)
+    (spelt-next (only_bytes byte (g.description_fault scope.entries)) _ (sort ∷ []) (u32_bytes i) sort (d, after) (spelt-only byte (g.description_fault scope.entries) (sort ∷ []) sort (spelt-byte sort) passed) s)
 
 spelt-description : (scope : Scope) (d : RawDescription) → FormedDescription d → DescriptionInRange scope.types d → scope.entries + description_entries d ≤ g.max_entries → Spelt (g.description scope) (description_bytes d) (d, scope_with scope d)
 unfolding g.description
 spelt-description scope (descriptions.Function i) formed ranged room = spelt-indexed scope scope 1 i (descriptions.Function i) refl refl refl formed ranged
-spelt-description scope (descriptions.TypeEqual i) formed ranged room = spelt-next (only byte (g.description_fault scope.entries)) _ (3 ∷ []) (0 ∷ u32_bytes i) 3 (descriptions.TypeEqual i, g.with_type scope)
+spelt-description scope (descriptions.TypeEqual i) formed ranged room = spelt-next (only_bytes byte (g.description_fault scope.entries)) _ (3 ∷ []) (0 ∷ u32_bytes i) 3 (descriptions.TypeEqual i, g.with_type scope)
     (spelt-only byte (g.description_fault scope.entries) (3 ∷ []) 3 (spelt-byte 3) (entry_passed scope.entries (omega (arith, room))))
     (spelt-next g.zero_byte _ (0 ∷ []) (u32_bytes i) 0 (descriptions.TypeEqual i, g.with_type scope) spelt-zero
     (spelt-gives (g.index scope.types) (λ i. (descriptions.TypeEqual i, g.with_type scope)) (u32_bytes i) i (spelt-index scope.types i formed ranged)))
@@ -108,9 +108,9 @@ spelt-external scope sort text d whole is formed ranged room = subst (λ (v : De
 
 -- ---- declarations
 
-sorted : (t : g.Reader) (component : Bool) (around : List ℕ) (scope : Scope) (sort : ℕ) (back : List ℕ) (y : Decl × Scope) → g.is_decl component sort ≡ true → Spelt (when (sort == 1) (g.definition t around scope) (when (sort == 2) (g.alias around scope) (g.external scope sort))) back y → Spelt (g.decl t component around scope) (sort ∷ back) y
+sorted : (t : g.Reader) (component : Bool) (around : List ℕ) (scope : Scope) (sort : ℕ) (back : List ℕ) (y : Decl × Scope) → g.is_decl component sort ≡ true → Spelt (when (sort == 1) (g.definition_entry t around scope) (when (sort == 2) (g.alias_entry around scope) (g.external scope sort))) back y → Spelt (g.decl t component around scope) (sort ∷ back) y
 unfolding g.decl
-sorted t component around scope sort back y is h = spelt-next (only byte (λ b. unless (g.is_decl component b) (UnknownOpcode b))) _ (sort ∷ []) back sort y
+sorted t component around scope sort back y is h = spelt-next (only_bytes byte (λ b. unless (g.is_decl component b) (UnknownOpcode b))) _ (sort ∷ []) back sort y
     (spelt-only byte (λ b. unless (g.is_decl component b) (UnknownOpcode b)) (sort ∷ []) sort (spelt-byte sort) (rw is refl)) h
 
 import_passed : (component : Bool) → component ≡ true → g.is_decl component 3 ≡ true
@@ -122,7 +122,7 @@ abbrev SpeltDecls : ℕ → Bool → Decls → List ℕ → Scope → Type 0
 SpeltDecls depth component ds around scope = Spelt (run (g.decl (g.type depth) component around) (decl_count ds) scope) (decls_bytes ds) (list_of ds, scopes_behind scope ds)
 
 -- a type with a scope of its own
-spelt-nested : (depth : ℕ) (around : List ℕ) (scope : Scope) (o : Opcode) (ds : Decls) (d : Definition) → g.is_nested o ≡ true → g.nested o (list_of ds) ≡ d → Fits (decl_count ds) → scope.entries + (1 + entries_of_decls ds) ≤ g.max_entries → SpeltDecls depth (g.is_component o) ds (around ++ scope.types ∷ []) (g.new_scope (scope.entries + 1))
+spelt-nested : (depth : ℕ) (around : List ℕ) (scope : Scope) (o : Opcode) (ds : Decls) (d : Definition) → g.is_nested o ≡ true → g.nested o (list_of ds) ≡ d → FitsU32 (decl_count ds) → scope.entries + (1 + entries_of_decls ds) ≤ g.max_entries → SpeltDecls depth (g.is_component o) ds (around ++ scope.types ∷ []) (g.new_scope (scope.entries + 1))
     → Spelt (g.type (suc depth) around scope) (opcode_byte o ∷ (u32_bytes (decl_count ds) ++ decls_bytes ds)) (d, scope.entries + (1 + entries_of_decls ds))
 unfolding g.type g.scope_of
 spelt-nested depth around scope o ds d nested same fits room all =

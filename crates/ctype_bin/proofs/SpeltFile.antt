@@ -5,10 +5,10 @@ use Rattle.std.proofs.lemmas.List.Sums.{sum_by-cons}
 use Rattle.productions.specs.Production.{give, ◌>>=◌, times, run}
 use Rattle.ctype_format.specs.declared.error.Fault.TheVariants.{UnknownOpcode}
 use Rattle.ctype_format.specs.declared.scope.Scope.{Scope}
-use Rattle.ctype_format.specs.Bytes.{byte, only, unless, u32}
+use Rattle.ctype_format.specs.Bytes.{byte, only_bytes, unless, u32}
 use Rattle.ctype_format.specs.Grammar.{index, zero_byte, extern_name, type, new_scope, with_entries, max_entries}
 use Rattle.ctype_format.specs.File as f
-use Rattle.ctype_format.specs.Raw.{Definition, Exported, File}
+use Rattle.ctype_format.specs.Raw.{Definition, Exported, BinaryFile}
 use Rattle.ctype_format.specs.Writing.{u32_bytes, each, counted, extern_bytes, type_bytes, exported_bytes, file_bytes}
 use Rattle.ctype_format.specs.Formed.{All, Counted, FormedType, FormedExport, FormedFile}
 use Rattle.ctype_bin.specs.InRange.{TypesInRange}
@@ -27,23 +27,23 @@ types_after : (scope : Scope) (ds : List Definition) → (scope_after scope ds).
 types_after scope [] = omega arith
 types_after scope (d ∷ ds) = let ih = types_after (with_entries scope (scope.entries + entries_of_type d)) ds in omega (arith, ih)
 
-spelt-entry : (scope : Scope) (d : Definition) → FormedType d → TypesInRange scope.types (d ∷ []) → AllowedType f.max_depth d → scope.entries + entries_of_type d ≤ max_entries → Spelt (f.entry scope) (type_bytes d) (d, with_entries scope (scope.entries + entries_of_type d))
-unfolding f.entry
-spelt-entry scope d formed ranged allowed room = spelt-gives (type f.max_depth [] scope) (λ t. (t.0, with_entries scope t.1)) (type_bytes d) (d, scope.entries + entries_of_type d) (spelt-type d f.max_depth [] scope formed ranged.0 allowed room)
+spelt-entry : (scope : Scope) (d : Definition) → FormedType d → TypesInRange scope.types (d ∷ []) → AllowedType f.max_scope_depth d → scope.entries + entries_of_type d ≤ max_entries → Spelt (f.entry_of_type scope) (type_bytes d) (d, with_entries scope (scope.entries + entries_of_type d))
+unfolding f.entry_of_type
+spelt-entry scope d formed ranged allowed room = spelt-gives (type f.max_scope_depth [] scope) (λ t. (t.0, with_entries scope t.1)) (type_bytes d) (d, scope.entries + entries_of_type d) (spelt-type d f.max_scope_depth [] scope formed ranged.0 allowed room)
 
-spelt-entries : (ds : List Definition) (scope : Scope) → All FormedType ds → TypesInRange scope.types ds → All (AllowedType f.max_depth) ds → scope.entries + sum (map entries_of_type ds) ≤ max_entries → Spelt (run f.entry (length ds) scope) (each type_bytes ds) (ds, scope_after scope ds)
+spelt-entries : (ds : List Definition) (scope : Scope) → All FormedType ds → TypesInRange scope.types ds → All (AllowedType f.max_scope_depth) ds → scope.entries + sum (map entries_of_type ds) ≤ max_entries → Spelt (run f.entry_of_type (length ds) scope) (each type_bytes ds) (ds, scope_after scope ds)
 unfolding run
 spelt-entries [] scope formed ranged allowed room = spelt-give ([], scope)
 spelt-entries (d ∷ ds) scope formed ranged allowed room =
     let all : sum (map entries_of_type (d ∷ ds)) ≡ entries_of_type d + sum (map entries_of_type ds) = sum_by-cons (λ n. n) (entries_of_type d) (map entries_of_type ds) in
-    spelt-next (f.entry scope) (λ first. run f.entry (length ds) first.1 >>= λ others. give (first.0 ∷ others.0, others.1)) (type_bytes d) (each type_bytes ds) (d, with_entries scope (scope.entries + entries_of_type d)) (d ∷ ds, scope_after scope (d ∷ ds))
+    spelt-next (f.entry_of_type scope) (λ first. run f.entry_of_type (length ds) first.1 >>= λ others. give (first.0 ∷ others.0, others.1)) (type_bytes d) (each type_bytes ds) (d, with_entries scope (scope.entries + entries_of_type d)) (d ∷ ds, scope_after scope (d ∷ ds))
     (spelt-entry scope d formed.0 (ranged.0, tt) allowed.0 (omega (arith, room, all)))
-    (spelt-gives (run f.entry (length ds) (with_entries scope (scope.entries + entries_of_type d))) (λ others. (d ∷ others.0, others.1)) (each type_bytes ds) (ds, scope_after (with_entries scope (scope.entries + entries_of_type d)) ds)
+    (spelt-gives (run f.entry_of_type (length ds) (with_entries scope (scope.entries + entries_of_type d))) (λ others. (d ∷ others.0, others.1)) (each type_bytes ds) (ds, scope_after (with_entries scope (scope.entries + entries_of_type d)) ds)
     (spelt-entries ds (with_entries scope (scope.entries + entries_of_type d)) formed.1 ranged.1 allowed.1 (omega (arith, room, all))))
 
-spelt-types : (ds : List Definition) → Counted FormedType ds → TypesInRange 0 ds → All (AllowedType f.max_depth) ds → sum (map entries_of_type ds) ≤ max_entries → Spelt f.type_section (counted type_bytes ds) (ds, scope_after (new_scope 0) ds)
+spelt-types : (ds : List Definition) → Counted FormedType ds → TypesInRange 0 ds → All (AllowedType f.max_scope_depth) ds → sum (map entries_of_type ds) ≤ max_entries → Spelt f.type_section (counted type_bytes ds) (ds, scope_after (new_scope 0) ds)
 unfolding f.type_section
-spelt-types ds formed ranged allowed room = spelt-next u32 (λ n. run f.entry n (new_scope 0)) (u32_bytes (length ds)) (each type_bytes ds) (length ds) (ds, scope_after (new_scope 0) ds) (spelt-u32 (length ds) formed.0)
+spelt-types ds formed ranged allowed room = spelt-next u32 (λ n. run f.entry_of_type n (new_scope 0)) (u32_bytes (length ds)) (each type_bytes ds) (length ds) (ds, scope_after (new_scope 0) ds) (spelt-u32 (length ds) formed.0)
     (spelt-entries ds (new_scope 0) formed.1 ranged allowed (omega (arith, room)))
 
 -- ---- the export section
@@ -51,7 +51,7 @@ spelt-types ds formed ranged allowed room = spelt-next u32 (λ n. run f.entry n 
 spelt-exported : (types : ℕ) (e : Exported) → FormedExport e → e.type < types → Spelt (f.exported types) (exported_bytes e) e
 unfolding f.exported
 spelt-exported types e formed lt = spelt-next extern_name _ (extern_bytes e.name) (3 ∷ (u32_bytes e.type ++ 0 ∷ [])) e.name e (spelt-extern e.name formed.0)
-    (spelt-next (only byte (λ b. unless (b == 3) (UnknownOpcode b))) _ (3 ∷ []) (u32_bytes e.type ++ 0 ∷ []) 3 e (spelt-only byte (λ b. unless (b == 3) (UnknownOpcode b)) (3 ∷ []) 3 (spelt-byte 3) refl)
+    (spelt-next (only_bytes byte (λ b. unless (b == 3) (UnknownOpcode b))) _ (3 ∷ []) (u32_bytes e.type ++ 0 ∷ []) 3 e (spelt-only byte (λ b. unless (b == 3) (UnknownOpcode b)) (3 ∷ []) 3 (spelt-byte 3) refl)
     (spelt-next (index types) _ (u32_bytes e.type) (0 ∷ []) e.type e (spelt-index types e.type formed.1 lt)
     (spelt-gives zero_byte (λ b. record { name = e.name; type = e.type }) (0 ∷ []) 0 spelt-zero)))
 
@@ -62,7 +62,7 @@ spelt-exports types es formed ranged = spelt-next u32 (λ n. times n (f.exported
 
 -- ---- the file
 
-pub file_spelt : (x : File) → FormedFile x → IsAccepted x → f.file.spells (file_bytes x) x
+pub file_spelt : (x : BinaryFile) → FormedFile x → IsAccepted x → f.component_file.spells (file_bytes x) x
 file_spelt x formed accepted =
     let count = types_after (new_scope 0) x.types in
     let same : length x.types ≡ (scope_after (new_scope 0) x.types).types = omega (arith, count) in

@@ -4,7 +4,7 @@ use Rattle.std.proofs.lemmas.List.{length-append, append-nil}
 use Rattle.productions.specs.Production.{give, ◌>>=◌, when, times, run}
 use Rattle.ctype_format.specs.declared.error.Fault.{Fault}
 use Rattle.ctype_bin.specs.Exactness.{Written}
-use Rattle.ctype_format.specs.Bytes.{Bytes, byte, several, only}
+use Rattle.ctype_format.specs.Bytes.{Bytes, byte, several, only_bytes}
 use Rattle.ctype_format.specs.Writing.{each}
 
 pub written-then : {X Y : Type 0} (p : Bytes X) (q : X → Bytes Y) (wp : X → List ℕ) (wq : X → Y → List ℕ) (w : Y → List ℕ) → Written p wp → ((x : X) → Written (q x) (wq x))
@@ -35,7 +35,7 @@ written-gives p f wp w ep same = record {
       omega (arith, e, a, parts);
 }
 
-pub written-only : {X : Type 0} (p : Bytes X) (fault : X → Option Fault) (w : X → List ℕ) → Written p w → Written (only p fault) w
+pub written-only : {X : Type 0} (p : Bytes X) (fault : X → Option Fault) (w : X → List ℕ) → Written p w → Written (only_bytes p fault) w
 written-only p fault w ep = record { spelt = λ bytes x s. (ep.spelt bytes x s.0, s.1); short = λ bytes x s. ep.short bytes x s.0 }
 
 pub written-when : {X : Type 0} (test : Bool) (p q : Bytes X) (w : X → List ℕ) → Written p w → Written q w → Written (when test p q) w

@@ -2,9 +2,9 @@
 use Rattle.std.specs.Prelude.{◌≡◌, ◌<◌, ◌≤◌, ℕ, zero, suc, ◌+◌, Bool, true, false, length, map, sum}
 use Rattle.ctype_format.specs.declared.raw.RawDescription.{RawDescription}
 use Rattle.ctype_format.specs.declared.raw.RawDescription.TheVariants as descriptions
-use Rattle.ctype_format.specs.Raw.{Defined, Prim, Record, Variant, ListOf, Tuple, FlagSet, Enumeration, OptionOf, ResultOf, Definition, Define, Func, Component, Instance, Decl, Entry, Alias, Import, Export, Decls, none, then, File}
+use Rattle.ctype_format.specs.Raw.{Defined, Prim, Record, Variant, ListOf, Tuple, FlagSet, Enumeration, OptionOf, ResultOf, Definition, Define, Func, Component, Instance, Decl, Entry, Alias, Import, Export, Decls, none, then, BinaryFile}
 use Rattle.ctype_format.specs.Grammar.{max_cases, max_flags, max_entries}
-use Rattle.ctype_format.specs.File.{max_depth}
+use Rattle.ctype_format.specs.File.{max_scope_depth}
 use Rattle.ctype_format.specs.Formed.{All}
 use Rattle.ctype_bin.specs.InRange.{FileInRange}
 
@@ -74,7 +74,7 @@ unfoldable mutual
 -- ---- a component
 
 -- indices are below the counts of their spaces, and counts, nesting and type entries keep the limits
-pub record IsAccepted (f : File) : Type 0 where
+pub record IsAccepted (f : BinaryFile) : Type 0 where
   pub in_range : FileInRange f
-  pub allowed : All (AllowedType max_depth) f.types
+  pub allowed : All (AllowedType max_scope_depth) f.types
   pub entries : sum (map entries_of_type f.types) ≤ max_entries

@@ -35,8 +35,8 @@ within = record {
 }
 
 -- whatever follows
-abbrev pub Exact : {X : Type 0} → Bytes X → Type 0
-Exact p = general.Exact within Anything p
+abbrev pub ExactBytes : {X : Type 0} → Bytes X → Type 0
+ExactBytes p = general.Exact within Anything p
 
 -- to the end
 abbrev pub ExactToEnd : {X : Type 0} → Bytes X → Type 0

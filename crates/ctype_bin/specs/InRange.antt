@@ -8,7 +8,7 @@ use Rattle.ctype_format.specs.declared.raw.RawAlias.{RawAlias}
 use Rattle.ctype_format.specs.declared.raw.RawAlias.TheVariants as aliases
 use Rattle.ctype_format.specs.declared.raw.RawDescription.{RawDescription}
 use Rattle.ctype_format.specs.declared.raw.RawDescription.TheVariants as descriptions
-use Rattle.ctype_format.specs.Raw.{Defined, Prim, Record, Variant, ListOf, Tuple, FlagSet, Enumeration, OptionOf, ResultOf, Function, Definition, Define, Func, Component, Instance, Decl, Entry, Alias, Import, Export, Decls, none, then, File}
+use Rattle.ctype_format.specs.Raw.{Defined, Prim, Record, Variant, ListOf, Tuple, FlagSet, Enumeration, OptionOf, ResultOf, BinaryFunction, Definition, Define, Func, Component, Instance, Decl, Entry, Alias, Import, Export, Decls, none, then, BinaryFile}
 use Rattle.ctype_format.specs.Grammar.{types_at}
 use Rattle.ctype_format.specs.Formed.{All}
 
@@ -39,7 +39,7 @@ DefinedInRange types (Prim p) = Unit {0}
 DefinedInRange types (FlagSet ls) = Unit {0}
 DefinedInRange types (Enumeration ls) = Unit {0}
 
-abbrev pub FunctionInRange : ℕ → Function → Type 0
+abbrev pub FunctionInRange : ℕ → BinaryFunction → Type 0
 FunctionInRange types f = All (FieldInRange types) f.params × OptionInRange types f.outcome
 
 abbrev pub DescriptionInRange : ℕ → RawDescription → Type 0
@@ -55,11 +55,11 @@ AliasInRange around types instances (aliases.InstanceExport i text) = i < instan
 AliasInRange around types instances (aliases.Outer n i) = (n ≤ length around) × (i < types_at around types n)
 
 -- the types and the instances that a description brings
-abbrev pub types_with : ℕ → RawDescription → ℕ
-types_with types (descriptions.Function i) = types
-types_with types (descriptions.TypeEqual i) = types + 1
-types_with types (descriptions.Component i) = types
-types_with types (descriptions.Instance i) = types
+abbrev pub described_types : ℕ → RawDescription → ℕ
+described_types types (descriptions.Function i) = types
+described_types types (descriptions.TypeEqual i) = types + 1
+described_types types (descriptions.Component i) = types
+described_types types (descriptions.Instance i) = types
 
 abbrev pub instances_with : ℕ → RawDescription → ℕ
 instances_with instances (descriptions.Function i) = instances
@@ -71,8 +71,8 @@ instances_with instances (descriptions.Instance i) = instances + 1
 abbrev pub types_behind : ℕ → Decl → ℕ
 types_behind types (Entry t) = types + 1
 types_behind types (Alias a) = types + 1
-types_behind types (Import text d) = types_with types d
-types_behind types (Export text d) = types_with types d
+types_behind types (Import text d) = described_types types d
+types_behind types (Export text d) = described_types types d
 
 abbrev pub instances_behind : ℕ → Decl → ℕ
 instances_behind instances (Entry t) = instances
@@ -105,5 +105,5 @@ abbrev pub TypesInRange : ℕ → List Definition → Type 0
 TypesInRange types [] = Unit {0}
 TypesInRange types (d ∷ ds) = TypeInRange [] types d × TypesInRange (types + 1) ds
 
-abbrev pub FileInRange : File → Type 0
+abbrev pub FileInRange : BinaryFile → Type 0
 FileInRange f = TypesInRange 0 f.types × All (λ e. e.type < length f.types) f.exports

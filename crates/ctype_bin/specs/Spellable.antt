@@ -1,8 +1,8 @@
 -- What bytes can spell.
 use Rattle.std.specs.Prelude.{ℕ, List}
-use Rattle.ctype_format.specs.Raw.{File}
-use Rattle.ctype_format.specs.File.{file}
+use Rattle.ctype_format.specs.Raw.{BinaryFile}
+use Rattle.ctype_format.specs.File.{component_file}
 
 -- some bytes spell it
-abbrev pub IsSpellable : File → Type 0
-IsSpellable f = (bytes : List ℕ) × file.spells bytes f
+abbrev pub IsSpellable : BinaryFile → Type 0
+IsSpellable f = (bytes : List ℕ) × component_file.spells bytes f

@@ -1,7 +1,7 @@
 //! A whole component type binary.
 ghost use Rattle.std.specs.Prelude.{◌≡◌, [], IfOk, IfErr, MatchResult};
-ghost use Rattle.ctype_format.specs.Raw.{File};
-ghost use Rattle.ctype_format.specs.View.{file_of};
+ghost use Rattle.ctype_format.specs.Raw.{BinaryFile};
+ghost use Rattle.ctype_format.specs.View.{parts_file};
 ghost use Rattle.ctype_format.specs.Writing.{file_bytes};
 ghost use Rattle.ctype_bin.specs.Encoding.{AppendsSpelling};
 ghost use Rattle.ctype_format.specs.Formed.{FormedFile};
@@ -20,7 +20,7 @@ use std::alloc::{AllocError, Global};
 pub struct RawComponent {
     types: Vec<RawType>,
     exports: Vec<RawExport>,
-    ghost spellable: { ∥ IsSpellable (file_of types exports) ∥₁ },
+    ghost spellable: { ∥ IsSpellable (parts_file types exports) ∥₁ },
 }
 
 impl RawComponent {
@@ -34,9 +34,9 @@ impl RawComponent {
     ) -> Result<RawComponent, BinError>
         ensures types { IfOk result (λ c. c.types ≡ types) }
         ensures exports { IfOk result (λ c. c.exports ≡ exports) }
-        ensures only { IsSpellable (file_of types exports) → MatchResult result (λ _. Unit {0}) (λ e. e ≡ BinError.NoMemory) }
-        ensures accepted { IsAccepted (file_of types exports) → MatchResult result (λ _. Unit {0}) (λ e. e ≡ BinError.NoMemory) }
-        ensures err { IfErr result (λ e. ComponentRefuses (file_of types exports) e) }
+        ensures only { IsSpellable (parts_file types exports) → MatchResult result (λ _. Unit {0}) (λ e. e ≡ BinError.NoMemory) }
+        ensures accepted { IsAccepted (parts_file types exports) → MatchResult result (λ _. Unit {0}) (λ e. e ≡ BinError.NoMemory) }
+        ensures err { IfErr result (λ e. ComponentRefuses (parts_file types exports) e) }
     {
         let Ok(bytes) = spelling(alloc, types.as_slice(), exports.as_slice()) else {
             return Err(BinError::NoMemory);
@@ -52,11 +52,11 @@ impl RawComponent {
         types: Vec<RawType>,
         exports: Vec<RawExport>,
     ) -> Result<(RawComponent, Vec<u8>), AllocError>
-        requires { IsAccepted (file_of types exports) }
+        requires { IsAccepted (parts_file types exports) }
         ensures types { IfOk result (λ x. x.0.types ≡ types) }
         ensures exports { IfOk result (λ x. x.0.exports ≡ exports) }
-        ensures spelling { IfOk result (λ x. ∥ AppendsSpelling [] x.1.items (file_of types exports) ∥₁) }
-        ensures exact { IfOk result (λ x. x.1.items ≡ file_bytes (file_of types exports)) }
+        ensures spelling { IfOk result (λ x. ∥ AppendsSpelling [] x.1.items (parts_file types exports) ∥₁) }
+        ensures exact { IfOk result (λ x. x.1.items ≡ file_bytes (parts_file types exports)) }
     {
         let bytes = spelling(alloc, types.as_slice(), exports.as_slice())?;
         Ok((RawComponent::of(types, exports), bytes))
@@ -64,7 +64,7 @@ impl RawComponent {
 
     /// A component that is spelled.
     pub(crate) fn of(types: Vec<RawType>, exports: Vec<RawExport>) -> RawComponent
-        requires { ∥ IsSpellable (file_of types exports) ∥₁ }
+        requires { ∥ IsSpellable (parts_file types exports) ∥₁ }
         ensures types { result.types ≡ types }
         ensures exports { result.exports ≡ exports }
     {
@@ -88,8 +88,8 @@ impl RawComponent {
 
 /// Reads what was written of a component's parts, and so finds the first fault in them, which has no place.
 fn reread(alloc: Global, bytes: &[u8]) -> Result<(), BinError>
-    requires { (f : File) × (bytes.now ≡ file_bytes f) × FormedFile f }
-    ensures { (f : File) → bytes.now ≡ file_bytes f → FormedFile f → MatchResult result (λ _. ∥ IsSpellable f ∥₁) (λ e. ComponentRefuses f e) }
+    requires { (f : BinaryFile) × (bytes.now ≡ file_bytes f) × FormedFile f }
+    ensures { (f : BinaryFile) → bytes.now ≡ file_bytes f → FormedFile f → MatchResult result (λ _. ∥ IsSpellable f ∥₁) (λ e. ComponentRefuses f e) }
 {
     match parts_of(alloc, bytes) {
         Ok(_) => Ok(()),

@@ -1,8 +1,8 @@
 //! Reading types without scopes of their own. A stated count requests no memory: each list grows as its items are read.
 ghost use Rattle.std.specs.Prelude.{◌≡◌, false};
 ghost use Rattle.productions.specs.Production.{times};
-ghost use Rattle.ctype_format.specs.Bytes.{AnswersRead};
-ghost use Rattle.ctype_format.specs.Grammar.{valtype, label, field, case, record_type, variant_type, list_type, tuple_type, flags_type, enum_type, option_type, result_type, outcome, function_type, plain, is_nested};
+ghost use Rattle.ctype_format.specs.Bytes.{AnswersBytes};
+ghost use Rattle.ctype_format.specs.Grammar.{valtype, label, field, case, record_type, variant_type, list_type, tuple_type, flags_type, enum_type, option_type, result_entry, outcome, function_entry, plain_entry, is_nested};
 ghost use Rattle.ctype_format.specs.View.{type_view};
 
 use atoms::Label;
@@ -20,7 +20,7 @@ const MAX_FLAGS: u32 = 32;
 
 #[tactic(auto, unfolding(ctype_format::specs::Grammar::field))]
 fn field_of(alloc: Global, types: u32, bytes: &[u8]) -> Result<(RawField, &[u8]), ItemError>
-    ensures { AnswersRead (λ x. (x.0, x.1.now)) result ((field types).read bytes.now) }
+    ensures { AnswersBytes (λ x. (x.0, x.1.now)) result ((field types).read bytes.now) }
 {
     let (label, rest) = label_of(alloc, bytes)?;
     let (ty, rest) = valtype_of(types, rest)?;
@@ -33,7 +33,7 @@ fn fields_of(
     count: u32,
     bytes: &[u8],
 ) -> Result<(Vec<RawField>, &[u8]), ItemError>
-    ensures { AnswersRead (λ x. (x.0.items, x.1.now)) result ((times count (field types)).read bytes.now) }
+    ensures { AnswersBytes (λ x. (x.0.items, x.1.now)) result ((times count (field types)).read bytes.now) }
 {
     let mut fields = Vec::new(alloc);
     let mut rest = bytes;
@@ -47,7 +47,7 @@ fn fields_of(
 
 #[tactic(auto, unfolding(ctype_format::specs::Grammar::case))]
 fn case_of(alloc: Global, types: u32, bytes: &[u8]) -> Result<(RawCase, &[u8]), ItemError>
-    ensures { AnswersRead (λ x. (x.0, x.1.now)) result ((case types).read bytes.now) }
+    ensures { AnswersBytes (λ x. (x.0, x.1.now)) result ((case types).read bytes.now) }
 {
     let (label, rest) = label_of(alloc, bytes)?;
     let (payload, rest) = optional_of(types, rest)?;
@@ -61,7 +61,7 @@ fn cases_of(
     count: u32,
     bytes: &[u8],
 ) -> Result<(Vec<RawCase>, &[u8]), ItemError>
-    ensures { AnswersRead (λ x. (x.0.items, x.1.now)) result ((times count (case types)).read bytes.now) }
+    ensures { AnswersBytes (λ x. (x.0.items, x.1.now)) result ((times count (case types)).read bytes.now) }
 {
     let mut cases = Vec::new(alloc);
     let mut rest = bytes;
@@ -79,7 +79,7 @@ fn members_of(
     count: u32,
     bytes: &[u8],
 ) -> Result<(Vec<RawValType>, &[u8]), ItemError>
-    ensures { AnswersRead (λ x. (x.0.items, x.1.now)) result ((times count (valtype types)).read bytes.now) }
+    ensures { AnswersBytes (λ x. (x.0.items, x.1.now)) result ((times count (valtype types)).read bytes.now) }
 {
     let mut members = Vec::new(alloc);
     let mut rest = bytes;
@@ -92,7 +92,7 @@ fn members_of(
 }
 
 fn labels_of(alloc: Global, count: u32, bytes: &[u8]) -> Result<(Vec<Label>, &[u8]), ItemError>
-    ensures { AnswersRead (λ x. (x.0.items, x.1.now)) result ((times count label).read bytes.now) }
+    ensures { AnswersBytes (λ x. (x.0.items, x.1.now)) result ((times count label).read bytes.now) }
 {
     let mut labels = Vec::new(alloc);
     let mut rest = bytes;
@@ -106,7 +106,7 @@ fn labels_of(alloc: Global, count: u32, bytes: &[u8]) -> Result<(Vec<Label>, &[u
 
 #[tactic(auto, unfolding(ctype_format::specs::Grammar::record_type, ctype_format::specs::View::type_view))]
 fn record_of(alloc: Global, types: u32, bytes: &[u8]) -> Result<(RawType, &[u8]), ItemError>
-    ensures { AnswersRead (λ x. (type_view x.0, x.1.now)) result ((record_type types).read bytes.now) }
+    ensures { AnswersBytes (λ x. (type_view x.0, x.1.now)) result ((record_type types).read bytes.now) }
 {
     let (count, rest) = count_of(bytes)?;
     let (fields, rest) = fields_of(alloc, types, count, rest)?;
@@ -115,7 +115,7 @@ fn record_of(alloc: Global, types: u32, bytes: &[u8]) -> Result<(RawType, &[u8])
 
 #[tactic(auto, unfolding(ctype_format::specs::Grammar::variant_type, ctype_format::specs::View::type_view))]
 fn variant_of(alloc: Global, types: u32, bytes: &[u8]) -> Result<(RawType, &[u8]), ItemError>
-    ensures { AnswersRead (λ x. (type_view x.0, x.1.now)) result ((variant_type types).read bytes.now) }
+    ensures { AnswersBytes (λ x. (type_view x.0, x.1.now)) result ((variant_type types).read bytes.now) }
 {
     let (count, rest) = count_upto(MAX_CASES, bytes)?;
     let (cases, rest) = cases_of(alloc, types, count, rest)?;
@@ -124,7 +124,7 @@ fn variant_of(alloc: Global, types: u32, bytes: &[u8]) -> Result<(RawType, &[u8]
 
 #[tactic(auto, unfolding(ctype_format::specs::Grammar::list_type, ctype_format::specs::View::type_view))]
 fn list_of(types: u32, bytes: &[u8]) -> Result<(RawType, &[u8]), ItemError>
-    ensures { AnswersRead (λ x. (type_view x.0, x.1.now)) result ((list_type types).read bytes.now) }
+    ensures { AnswersBytes (λ x. (type_view x.0, x.1.now)) result ((list_type types).read bytes.now) }
 {
     let (element, rest) = valtype_of(types, bytes)?;
     Ok((RawType::Defined(RawDefinedType::List(element)), rest))
@@ -132,7 +132,7 @@ fn list_of(types: u32, bytes: &[u8]) -> Result<(RawType, &[u8]), ItemError>
 
 #[tactic(auto, unfolding(ctype_format::specs::Grammar::tuple_type, ctype_format::specs::View::type_view))]
 fn tuple_of(alloc: Global, types: u32, bytes: &[u8]) -> Result<(RawType, &[u8]), ItemError>
-    ensures { AnswersRead (λ x. (type_view x.0, x.1.now)) result ((tuple_type types).read bytes.now) }
+    ensures { AnswersBytes (λ x. (type_view x.0, x.1.now)) result ((tuple_type types).read bytes.now) }
 {
     let (count, rest) = count_of(bytes)?;
     let (members, rest) = members_of(alloc, types, count, rest)?;
@@ -141,7 +141,7 @@ fn tuple_of(alloc: Global, types: u32, bytes: &[u8]) -> Result<(RawType, &[u8]),
 
 #[tactic(auto, unfolding(ctype_format::specs::Grammar::flags_type, ctype_format::specs::View::type_view))]
 fn flags_of(alloc: Global, bytes: &[u8]) -> Result<(RawType, &[u8]), ItemError>
-    ensures { AnswersRead (λ x. (type_view x.0, x.1.now)) result (flags_type.read bytes.now) }
+    ensures { AnswersBytes (λ x. (type_view x.0, x.1.now)) result (flags_type.read bytes.now) }
 {
     let (count, rest) = count_upto(MAX_FLAGS, bytes)?;
     let (labels, rest) = labels_of(alloc, count, rest)?;
@@ -150,7 +150,7 @@ fn flags_of(alloc: Global, bytes: &[u8]) -> Result<(RawType, &[u8]), ItemError>
 
 #[tactic(auto, unfolding(ctype_format::specs::Grammar::enum_type, ctype_format::specs::View::type_view))]
 fn enum_of(alloc: Global, bytes: &[u8]) -> Result<(RawType, &[u8]), ItemError>
-    ensures { AnswersRead (λ x. (type_view x.0, x.1.now)) result (enum_type.read bytes.now) }
+    ensures { AnswersBytes (λ x. (type_view x.0, x.1.now)) result (enum_type.read bytes.now) }
 {
     let (count, rest) = count_upto(MAX_CASES, bytes)?;
     let (labels, rest) = labels_of(alloc, count, rest)?;
@@ -159,15 +159,15 @@ fn enum_of(alloc: Global, bytes: &[u8]) -> Result<(RawType, &[u8]), ItemError>
 
 #[tactic(auto, unfolding(ctype_format::specs::Grammar::option_type, ctype_format::specs::View::type_view))]
 fn option_of(types: u32, bytes: &[u8]) -> Result<(RawType, &[u8]), ItemError>
-    ensures { AnswersRead (λ x. (type_view x.0, x.1.now)) result ((option_type types).read bytes.now) }
+    ensures { AnswersBytes (λ x. (type_view x.0, x.1.now)) result ((option_type types).read bytes.now) }
 {
     let (some, rest) = valtype_of(types, bytes)?;
     Ok((RawType::Defined(RawDefinedType::Option(some)), rest))
 }
 
-#[tactic(auto, unfolding(ctype_format::specs::Grammar::result_type, ctype_format::specs::View::type_view))]
+#[tactic(auto, unfolding(ctype_format::specs::Grammar::result_entry, ctype_format::specs::View::type_view))]
 fn result_of(types: u32, bytes: &[u8]) -> Result<(RawType, &[u8]), ItemError>
-    ensures { AnswersRead (λ x. (type_view x.0, x.1.now)) result ((result_type types).read bytes.now) }
+    ensures { AnswersBytes (λ x. (type_view x.0, x.1.now)) result ((result_entry types).read bytes.now) }
 {
     let (ok, rest) = optional_of(types, bytes)?;
     let (error, rest) = optional_of(types, rest)?;
@@ -177,7 +177,7 @@ fn result_of(types: u32, bytes: &[u8]) -> Result<(RawType, &[u8]), ItemError>
 /// 0 and a value type, or 1 and 0.
 #[tactic(auto, unfolding(ctype_format::specs::Grammar::outcome))]
 fn outcome_of(types: u32, bytes: &[u8]) -> Result<(Option<RawValType>, &[u8]), ItemError>
-    ensures { AnswersRead (λ x. (x.0, x.1.now)) result ((outcome types).read bytes.now) }
+    ensures { AnswersBytes (λ x. (x.0, x.1.now)) result ((outcome types).read bytes.now) }
 {
     let (flag, rest) = flag_of(bytes)?;
     if flag == 0 {
@@ -188,9 +188,9 @@ fn outcome_of(types: u32, bytes: &[u8]) -> Result<(Option<RawValType>, &[u8]), I
     Ok((None, rest))
 }
 
-#[tactic(auto, unfolding(ctype_format::specs::Grammar::function_type, ctype_format::specs::View::type_view))]
+#[tactic(auto, unfolding(ctype_format::specs::Grammar::function_entry, ctype_format::specs::View::type_view))]
 fn function_of(alloc: Global, types: u32, bytes: &[u8]) -> Result<(RawType, &[u8]), ItemError>
-    ensures { AnswersRead (λ x. (type_view x.0, x.1.now)) result ((function_type types).read bytes.now) }
+    ensures { AnswersBytes (λ x. (type_view x.0, x.1.now)) result ((function_entry types).read bytes.now) }
 {
     let (count, rest) = u32_of(bytes)?;
     let (params, rest) = fields_of(alloc, types, count, rest)?;
@@ -199,7 +199,7 @@ fn function_of(alloc: Global, types: u32, bytes: &[u8]) -> Result<(RawType, &[u8
 }
 
 /// A type behind its opcode.
-#[tactic(auto, unfolding(ctype_format::specs::Grammar::plain, ctype_format::specs::View::type_view))]
+#[tactic(auto, unfolding(ctype_format::specs::Grammar::plain_entry, ctype_format::specs::View::type_view))]
 pub(crate) fn plain_of(
     alloc: Global,
     types: u32,
@@ -207,7 +207,7 @@ pub(crate) fn plain_of(
     bytes: &[u8],
 ) -> Result<(RawType, &[u8]), ItemError>
     requires { is_nested opcode ≡ false }
-    ensures { AnswersRead (λ x. (type_view x.0, x.1.now)) result ((plain types opcode).read bytes.now) }
+    ensures { AnswersBytes (λ x. (type_view x.0, x.1.now)) result ((plain_entry types opcode).read bytes.now) }
 {
     match opcode {
         Opcode::Primitive(primitive) => {

@@ -1,7 +1,7 @@
 //! Encoding a component.
 ghost use Rattle.std.specs.Prelude.{◌≡◌, ◌++◌, IfOk, IfErr, OnOk, OnErr, map};
 ghost use Rattle.ctype_format.specs.View.{type_view, export_view};
-ghost use Rattle.ctype_bin.specs.FileView.{file_view};
+ghost use Rattle.ctype_bin.specs.FileView.{raw_component_view};
 ghost use Rattle.ctype_format.specs.Writing.{file_bytes};
 ghost use Rattle.ctype_format.specs.Formed.{FormedFile};
 ghost use Rattle.ctype_bin.specs.Encoding.{AppendsSpelling};
@@ -34,11 +34,11 @@ pub(crate) fn spelling(
 /// number in its shortest spelling, and no custom section. 21 where memory is wanting; then what was there is as
 /// before. (Binary.md)
 pub fn encode(alloc: Global, component: &RawComponent, out: &mut Vec<u8>) -> Result<(), BinError>
-    ensures ok { OnOk result ∥ AppendsSpelling out.old.items out.new.items (file_view component.now) ∥₁ }
+    ensures ok { OnOk result ∥ AppendsSpelling out.old.items out.new.items (raw_component_view component.now) ∥₁ }
     ensures err { OnErr result (out.new.items ≡ out.old.items) }
     ensures memory { IfErr result (λ e. e ≡ BinError.NoMemory) }
     // The same as one function of the component.
-    ensures exact { OnOk result (out.new.items ≡ out.old.items ++ file_bytes (file_view component.now)) }
+    ensures exact { OnOk result (out.new.items ≡ out.old.items ++ file_bytes (raw_component_view component.now)) }
 {
     let Ok(bytes) = spelling(alloc, component.types(), component.exports()) else {
         return Err(BinError::NoMemory);

@@ -2,11 +2,11 @@
 ghost use Rattle.std.specs.Prelude.{◌≡◌, ◌≤◌, ◌∷◌, [], map, length, IfOk, Some, None, if◌then◌else◌};
 ghost use Rattle.productions.specs.Production.{run, times, at_end};
 ghost use Rattle.ctype_format.specs.declared.error.Stuck.TheVariants.{Past, End};
-ghost use Rattle.ctype_format.specs.Bytes.{AnswersRead, sized, in_section, StaysSmall};
-ghost use Rattle.ctype_format.specs.Grammar.{new_scope, IsWithin};
-ghost use Rattle.ctype_format.specs.File.{exactly, preamble, custom_content, custom, head, section, custom_next, trailing, trailing_byte, trailing_fault, max_length, entry, type_section, exported, export_section, file};
-ghost use Rattle.ctype_format.specs.View.{type_view, export_view, file_of};
-ghost use Rattle.ctype_bin.specs.FileView.{file_view};
+ghost use Rattle.ctype_format.specs.Bytes.{AnswersBytes, sized, in_section, StaysSmall};
+ghost use Rattle.ctype_format.specs.Grammar.{new_scope, IsScopeWithin};
+ghost use Rattle.ctype_format.specs.File.{exactly, preamble, custom_content, custom, head, section, custom_next, trailing, trailing_byte, trailing_fault, max_length, entry_of_type, type_section, exported, export_section, component_file};
+ghost use Rattle.ctype_format.specs.View.{type_view, export_view, parts_file};
+ghost use Rattle.ctype_bin.specs.FileView.{raw_component_view};
 
 use crate::component::RawComponent;
 use crate::types::Nesting;
@@ -33,7 +33,7 @@ pub(crate) const EXPORT_SECTION: u8 = 11;
 
 #[tactic(auto, unfolding(ctype_format::specs::File::exactly))]
 fn same_of(expected: u8, bytes: &[u8]) -> Result<&[u8], ItemError>
-    ensures { AnswersRead (λ x. (0, x.now)) result ((exactly (expected ∷ [])).read bytes.now) }
+    ensures { AnswersBytes (λ x. (0, x.now)) result ((exactly (expected ∷ [])).read bytes.now) }
 {
     let (found, rest) = byte_of(bytes)?;
     if found != expected {
@@ -44,7 +44,7 @@ fn same_of(expected: u8, bytes: &[u8]) -> Result<&[u8], ItemError>
 
 #[tactic(auto, unfolding(ctype_format::specs::File::exactly))]
 fn preamble_of(bytes: &[u8]) -> Result<&[u8], ItemError>
-    ensures { AnswersRead (λ x. (0, x.now)) result ((exactly preamble).read bytes.now) }
+    ensures { AnswersBytes (λ x. (0, x.now)) result ((exactly preamble).read bytes.now) }
 {
     let rest = same_of(0x00, bytes)?;
     let rest = same_of(0x61, rest)?;
@@ -69,7 +69,7 @@ fn in_section(stuck: Stuck, left: usize) -> Stuck
 
 #[tactic(auto, unfolding(ctype_format::specs::File::custom_content))]
 fn custom_content_of(bytes: &[u8]) -> Result<(), ItemError>
-    ensures { AnswersRead (λ _. (0, [])) result (custom_content.read bytes.now) }
+    ensures { AnswersBytes (λ _. (0, [])) result (custom_content.read bytes.now) }
 {
     utf8_of(bytes)?;
     Ok(())
@@ -77,7 +77,7 @@ fn custom_content_of(bytes: &[u8]) -> Result<(), ItemError>
 
 #[tactic(auto, unfolding(ctype_format::specs::Bytes::sized))]
 fn custom_within(size: u32, bytes: &[u8]) -> Result<&[u8], ItemError>
-    ensures { AnswersRead (λ x. (0, x.now)) result ((sized (λ _. End) size custom_content).read bytes.now) }
+    ensures { AnswersBytes (λ x. (0, x.now)) result ((sized (λ _. End) size custom_content).read bytes.now) }
 {
     if size as usize > bytes.len() {
         custom_content_of(bytes)?;
@@ -94,7 +94,7 @@ fn custom_within(size: u32, bytes: &[u8]) -> Result<&[u8], ItemError>
 /// A custom section behind its number.
 #[tactic(auto, unfolding(ctype_format::specs::File::custom))]
 fn custom_of(bytes: &[u8]) -> Result<&[u8], ItemError>
-    ensures { AnswersRead (λ x. (0, x.now)) result (custom.read bytes.now) }
+    ensures { AnswersBytes (λ x. (0, x.now)) result (custom.read bytes.now) }
 {
     let (size, rest) = u32_of(bytes)?;
     custom_within(size, rest)
@@ -103,7 +103,7 @@ fn custom_of(bytes: &[u8]) -> Result<&[u8], ItemError>
 /// The size of a section with this number, or nothing where a custom section was read.
 #[tactic(auto, unfolding(ctype_format::specs::File::head))]
 fn head_of(id: u8, bytes: &[u8]) -> Result<(Option<u32>, &[u8]), ItemError>
-    ensures { AnswersRead (λ x. (x.0, x.1.now)) result ((head id).read bytes.now) }
+    ensures { AnswersBytes (λ x. (x.0, x.1.now)) result ((head id).read bytes.now) }
 {
     let (found, rest) = byte_of(bytes)?;
     if found == 0 {
@@ -119,7 +119,7 @@ fn head_of(id: u8, bytes: &[u8]) -> Result<(Option<u32>, &[u8]), ItemError>
 
 /// The size of the section with this number, behind custom sections.
 fn section_of(id: u8, bytes: &[u8]) -> Result<(u32, &[u8]), ItemError>
-    ensures { AnswersRead (λ x. (x.0, x.1.now)) result ((section id max_length).read bytes.now) }
+    ensures { AnswersBytes (λ x. (x.0, x.1.now)) result ((section id max_length).read bytes.now) }
 {
     let mut rest = bytes;
     for _ in 0..MAX_LENGTH {
@@ -144,7 +144,7 @@ fn trailing_byte(first: u8) -> Fault
 
 /// Whether a custom section stands there, and what stands behind it.
 fn skipped(bytes: &[u8]) -> Result<(bool, &[u8]), ItemError>
-    ensures { AnswersRead (λ x. (if x.0 then Some 0 else None, x.1.now)) result (custom_next.read bytes.now) }
+    ensures { AnswersBytes (λ x. (if x.0 then Some 0 else None, x.1.now)) result (custom_next.read bytes.now) }
 {
     match bytes {
         [0, behind @ ..] => {
@@ -157,7 +157,7 @@ fn skipped(bytes: &[u8]) -> Result<(bool, &[u8]), ItemError>
 
 /// Nothing more stands there.
 fn ended(bytes: &[u8]) -> Result<(), ItemError>
-    ensures { AnswersRead (λ _. (0, [])) result ((at_end trailing_fault).read bytes.now) }
+    ensures { AnswersBytes (λ _. (0, [])) result ((at_end trailing_fault).read bytes.now) }
 {
     match bytes {
         [] => Ok(()),
@@ -167,7 +167,7 @@ fn ended(bytes: &[u8]) -> Result<(), ItemError>
 
 /// Custom sections to the end.
 fn trailing_of(bytes: &[u8]) -> Result<(), ItemError>
-    ensures { AnswersRead (λ _. (0, [])) result ((trailing max_length).read bytes.now) }
+    ensures { AnswersBytes (λ _. (0, [])) result ((trailing max_length).read bytes.now) }
 {
     let mut rest = bytes;
     for _ in 0..MAX_LENGTH {
@@ -180,11 +180,11 @@ fn trailing_of(bytes: &[u8]) -> Result<(), ItemError>
     Err(ItemError::Stuck(Stuck::End))
 }
 
-#[tactic(auto, unfolding(ctype_format::specs::File::entry))]
+#[tactic(auto, unfolding(ctype_format::specs::File::entry_of_type))]
 fn entry_of(alloc: Global, scope: Scope, bytes: &[u8]) -> Result<(RawType, Scope, &[u8]), ItemError>
-    requires { IsWithin scope }
-    ensures reads { AnswersRead (λ x. ((type_view x.0, x.1), x.2.now)) result ((entry scope).read bytes.now) }
-    ensures within { IfOk result (λ x. IsWithin x.1) }
+    requires { IsScopeWithin scope }
+    ensures reads { AnswersBytes (λ x. ((type_view x.0, x.1), x.2.now)) result ((entry_of_type scope).read bytes.now) }
+    ensures within { IfOk result (λ x. IsScopeWithin x.1) }
 {
     let outermost = Nesting {
         alloc,
@@ -200,7 +200,7 @@ fn entries_of(
     count: u32,
     bytes: &[u8],
 ) -> Result<(Vec<RawType>, Scope, &[u8]), ItemError>
-    ensures { AnswersRead (λ x. ((map type_view x.0.items, x.1), x.2.now)) result ((run entry count (new_scope 0)).read bytes.now) }
+    ensures { AnswersBytes (λ x. ((map type_view x.0.items, x.1), x.2.now)) result ((run entry_of_type count (new_scope 0)).read bytes.now) }
 {
     let mut types = Vec::new(alloc);
     let mut scope = new_scope(0);
@@ -216,7 +216,7 @@ fn entries_of(
 
 #[tactic(auto, unfolding(ctype_format::specs::File::type_section))]
 fn type_section_of(alloc: Global, bytes: &[u8]) -> Result<(Vec<RawType>, Scope, &[u8]), ItemError>
-    ensures { AnswersRead (λ x. ((map type_view x.0.items, x.1), x.2.now)) result (type_section.read bytes.now) }
+    ensures { AnswersBytes (λ x. ((map type_view x.0.items, x.1), x.2.now)) result (type_section.read bytes.now) }
 {
     let (count, rest) = u32_of(bytes)?;
     entries_of(alloc, count, rest)
@@ -224,7 +224,7 @@ fn type_section_of(alloc: Global, bytes: &[u8]) -> Result<(Vec<RawType>, Scope, 
 
 #[tactic(auto, unfolding(ctype_format::specs::File::exported))]
 fn exported_of(alloc: Global, types: u32, bytes: &[u8]) -> Result<(RawExport, &[u8]), ItemError>
-    ensures { AnswersRead (λ x. (export_view x.0, x.1.now)) result ((exported types).read bytes.now) }
+    ensures { AnswersBytes (λ x. (export_view x.0, x.1.now)) result ((exported types).read bytes.now) }
 {
     let (name, rest) = extern_name_of(alloc, bytes)?;
     let (sort, behind) = byte_of(rest)?;
@@ -242,7 +242,7 @@ fn exports_of(
     count: u32,
     bytes: &[u8],
 ) -> Result<(Vec<RawExport>, &[u8]), ItemError>
-    ensures { AnswersRead (λ x. (map export_view x.0.items, x.1.now)) result ((times count (exported types)).read bytes.now) }
+    ensures { AnswersBytes (λ x. (map export_view x.0.items, x.1.now)) result ((times count (exported types)).read bytes.now) }
 {
     let mut exports = Vec::new(alloc);
     let mut rest = bytes;
@@ -260,7 +260,7 @@ fn export_section_of(
     types: u32,
     bytes: &[u8],
 ) -> Result<(Vec<RawExport>, &[u8]), ItemError>
-    ensures { AnswersRead (λ x. (map export_view x.0.items, x.1.now)) result ((export_section types).read bytes.now) }
+    ensures { AnswersBytes (λ x. (map export_view x.0.items, x.1.now)) result ((export_section types).read bytes.now) }
 {
     let (count, rest) = u32_of(bytes)?;
     exports_of(alloc, types, count, rest)
@@ -272,7 +272,7 @@ fn types_within(
     size: u32,
     bytes: &[u8],
 ) -> Result<(Vec<RawType>, Scope, &[u8]), ItemError>
-    ensures { AnswersRead (λ x. ((map type_view x.0.items, x.1), x.2.now)) result ((sized Past size type_section).read bytes.now) }
+    ensures { AnswersBytes (λ x. ((map type_view x.0.items, x.1), x.2.now)) result ((sized Past size type_section).read bytes.now) }
 {
     let len = bytes.len();
     if size as usize > len {
@@ -297,7 +297,7 @@ fn exports_within(
     size: u32,
     bytes: &[u8],
 ) -> Result<(Vec<RawExport>, &[u8]), ItemError>
-    ensures { AnswersRead (λ x. (map export_view x.0.items, x.1.now)) result ((sized Past size (export_section types)).read bytes.now) }
+    ensures { AnswersBytes (λ x. (map export_view x.0.items, x.1.now)) result ((sized Past size (export_section types)).read bytes.now) }
 {
     let len = bytes.len();
     if size as usize > len {
@@ -316,12 +316,12 @@ fn exports_within(
 }
 
 /// The parts of a whole file.
-#[tactic(auto, unfolding(ctype_format::specs::File::file))]
+#[tactic(auto, unfolding(ctype_format::specs::File::component_file))]
 pub(crate) fn parts_of(
     alloc: Global,
     bytes: &[u8],
 ) -> Result<(Vec<RawType>, Vec<RawExport>), ItemError>
-    ensures { AnswersRead (λ x. (file_of x.0 x.1, [])) result (file.read bytes.now) }
+    ensures { AnswersBytes (λ x. (parts_file x.0 x.1, [])) result (component_file.read bytes.now) }
 {
     let rest = preamble_of(bytes)?;
     let (size, rest) = section_of(TYPE_SECTION, rest)?;
@@ -334,7 +334,7 @@ pub(crate) fn parts_of(
 
 /// A whole file.
 pub(crate) fn file_of(alloc: Global, bytes: &[u8]) -> Result<RawComponent, ItemError>
-    ensures { AnswersRead (λ x. (file_view x, [])) result (file.read bytes.now) }
+    ensures { AnswersBytes (λ x. (raw_component_view x, [])) result (component_file.read bytes.now) }
 {
     let (types, exports) = parts_of(alloc, bytes)?;
     Ok(RawComponent::of(types, exports))

@@ -1,9 +1,9 @@
 //! Reading types with scopes of their own, and the declarations in them. They nest at most four deep.
 ghost use Rattle.std.specs.Prelude.{◌≡◌, ◌<◌, ◌≤◌, ◌+◌, map, length, IfOk, OnOk, IsTrue};
 ghost use Rattle.productions.specs.Production.{run};
-ghost use Rattle.ctype_format.specs.Bytes.{AnswersRead};
+ghost use Rattle.ctype_format.specs.Bytes.{AnswersBytes};
 ghost use Rattle.ctype_format.specs.Raw.{Alias};
-ghost use Rattle.ctype_format.specs.Grammar.{IsWithin, is_nested, is_component, left_out, opcode, new_scope, entry_fault, instance_export, outer_type, alias, description, external, is_decl, decl, nested, scope_of, type};
+ghost use Rattle.ctype_format.specs.Grammar.{IsScopeWithin, is_nested, is_component, left_out, opcode, new_scope, opcode_entry_fault, instance_alias, outer_type, alias_entry, description, external, is_decl, decl, nested, scope_of, type};
 ghost use Rattle.ctype_format.specs.View.{decl_view, type_view};
 
 use crate::defined::plain_of;
@@ -38,7 +38,7 @@ fn left_out(byte: u8) -> Fault
 /// The first byte of a type.
 #[tactic(auto, unfolding(ctype_format::specs::Grammar::opcode))]
 fn type_opcode_of(depth: u32, entries: u32, bytes: &[u8]) -> Result<(Opcode, &[u8]), ItemError>
-    ensures reads { AnswersRead (λ x. (x.0, x.1.now)) result ((opcode depth entries).read bytes.now) }
+    ensures reads { AnswersBytes (λ x. (x.0, x.1.now)) result ((opcode depth entries).read bytes.now) }
     ensures room { OnOk result (entries < 65535) }
     ensures nested { IfOk result (λ x. IsTrue (is_nested x.0) → 0 < depth) }
 {
@@ -54,7 +54,7 @@ fn type_opcode_of(depth: u32, entries: u32, bytes: &[u8]) -> Result<(Opcode, &[u
 
 /// What is wrong with a byte where a type entry begins, if it is allowed there.
 fn entry_fault(entries: u32, allowed: bool, byte: u8) -> Option<Fault>
-    ensures { result ≡ entry_fault entries allowed byte }
+    ensures { result ≡ opcode_entry_fault entries allowed byte }
 {
     if !allowed {
         return Some(Fault::UnknownOpcode(byte));
@@ -65,13 +65,13 @@ fn entry_fault(entries: u32, allowed: bool, byte: u8) -> Option<Fault>
     None
 }
 
-#[tactic(auto, unfolding(ctype_format::specs::Grammar::instance_export))]
+#[tactic(auto, unfolding(ctype_format::specs::Grammar::instance_alias))]
 fn instance_export_of(
     alloc: Global,
     scope: Scope,
     bytes: &[u8],
 ) -> Result<(RawAlias, &[u8]), ItemError>
-    ensures { AnswersRead (λ x. (x.0, x.1.now)) result ((instance_export scope).read bytes.now) }
+    ensures { AnswersBytes (λ x. (x.0, x.1.now)) result ((instance_alias scope).read bytes.now) }
 {
     let (instance, rest) = index_of(scope.instances, bytes)?;
     let (name, rest) = label_of(alloc, rest)?;
@@ -84,7 +84,7 @@ fn outer_of<'a>(
     scope: Scope,
     bytes: &'a [u8],
 ) -> Result<(RawAlias, &'a [u8]), ItemError>
-    ensures { AnswersRead (λ x. (x.0, x.1.now)) result ((outer_type around.now scope).read bytes.now) }
+    ensures { AnswersBytes (λ x. (x.0, x.1.now)) result ((outer_type around.now scope).read bytes.now) }
 {
     let (count, rest) = u32_of(bytes)?;
     if count as usize > around.len() {
@@ -94,16 +94,16 @@ fn outer_of<'a>(
     Ok((RawAlias::Outer { count, index }, rest))
 }
 
-#[tactic(auto, unfolding(ctype_format::specs::Grammar::alias))]
+#[tactic(auto, unfolding(ctype_format::specs::Grammar::alias_entry))]
 fn alias_of<'a>(
     alloc: Global,
     around: &[u32],
     scope: Scope,
     bytes: &'a [u8],
 ) -> Result<(RawAlias, Scope, &'a [u8]), ItemError>
-    requires { IsWithin scope }
-    ensures reads { AnswersRead (λ x. ((Alias x.0, x.1), x.2.now)) result ((alias around.now scope).read bytes.now) }
-    ensures within { IfOk result (λ x. IsWithin x.1) }
+    requires { IsScopeWithin scope }
+    ensures reads { AnswersBytes (λ x. ((Alias x.0, x.1), x.2.now)) result ((alias_entry around.now scope).read bytes.now) }
+    ensures within { IfOk result (λ x. IsScopeWithin x.1) }
     ensures more { IfOk result (λ x. scope.entries ≤ x.1.entries) }
     ensures instances { IfOk result (λ x. x.1.instances ≡ scope.instances) }
 {
@@ -123,10 +123,10 @@ fn alias_of<'a>(
 /// What an import or export is, and the scope with it.
 #[tactic(auto, unfolding(ctype_format::specs::Grammar::description))]
 fn description_of(scope: Scope, bytes: &[u8]) -> Result<(RawDescription, Scope, &[u8]), ItemError>
-    requires within { IsWithin scope }
+    requires within { IsScopeWithin scope }
     requires instances { scope.instances < 4294967295 }
-    ensures reads { AnswersRead (λ x. ((x.0, x.1), x.2.now)) result ((description scope).read bytes.now) }
-    ensures within { IfOk result (λ x. IsWithin x.1) }
+    ensures reads { AnswersBytes (λ x. ((x.0, x.1), x.2.now)) result ((description scope).read bytes.now) }
+    ensures within { IfOk result (λ x. IsScopeWithin x.1) }
     ensures more { IfOk result (λ x. scope.entries ≤ x.1.entries) }
     ensures instances { IfOk result (λ x. x.1.instances ≤ scope.instances + 1) }
 {
@@ -162,10 +162,10 @@ fn external_of(
     sort: u8,
     bytes: &[u8],
 ) -> Result<(RawDecl, Scope, &[u8]), ItemError>
-    requires within { IsWithin scope }
+    requires within { IsScopeWithin scope }
     requires instances { scope.instances < 4294967295 }
-    ensures reads { AnswersRead (λ x. ((decl_view x.0, x.1), x.2.now)) result ((external scope sort).read bytes.now) }
-    ensures within { IfOk result (λ x. IsWithin x.1) }
+    ensures reads { AnswersBytes (λ x. ((decl_view x.0, x.1), x.2.now)) result ((external scope sort).read bytes.now) }
+    ensures within { IfOk result (λ x. IsScopeWithin x.1) }
     ensures more { IfOk result (λ x. scope.entries ≤ x.1.entries) }
     ensures instances { IfOk result (λ x. x.1.instances ≤ scope.instances + 1) }
 {
@@ -204,10 +204,10 @@ impl Nesting<'_> {
         scope: Scope,
         bytes: &'a [u8],
     ) -> Result<(RawDecl, Scope, &'a [u8]), ItemError>
-        requires within { IsWithin scope }
+        requires within { IsScopeWithin scope }
         requires instances { scope.instances < 4294967295 }
-        ensures reads { AnswersRead (λ x. ((decl_view x.0, x.1), x.2.now)) result ((decl (type self.now.depth) component self.now.around.now scope).read bytes.now) }
-        ensures within { IfOk result (λ x. IsWithin x.1) }
+        ensures reads { AnswersBytes (λ x. ((decl_view x.0, x.1), x.2.now)) result ((decl (type self.now.depth) component self.now.around.now scope).read bytes.now) }
+        ensures within { IfOk result (λ x. IsScopeWithin x.1) }
         ensures more { IfOk result (λ x. scope.entries ≤ x.1.entries) }
         ensures instances { IfOk result (λ x. x.1.instances ≤ scope.instances + 1) }
     {
@@ -238,7 +238,7 @@ impl Nesting<'_> {
         bytes: &'a [u8],
     ) -> Result<(Vec<RawDecl>, Scope, &'a [u8]), ItemError>
         requires { entries ≤ 65535 }
-        ensures reads { AnswersRead (λ x. ((map decl_view x.0.items, x.1), x.2.now)) result ((run (decl (type self.now.depth) component self.now.around.now) count (new_scope entries)).read bytes.now) }
+        ensures reads { AnswersBytes (λ x. ((map decl_view x.0.items, x.1), x.2.now)) result ((run (decl (type self.now.depth) component self.now.around.now) count (new_scope entries)).read bytes.now) }
         ensures within { IfOk result (λ x. (entries ≤ x.1.entries) × (x.1.entries ≤ 65535)) }
     {
         let mut decls = Vec::new(self.alloc);
@@ -263,7 +263,7 @@ impl Nesting<'_> {
         bytes: &'a [u8],
     ) -> Result<(RawType, u32, &'a [u8]), ItemError>
         requires { entries ≤ 65535 }
-        ensures reads { AnswersRead (λ x. ((type_view x.0, x.1), x.2.now)) result ((scope_of (type self.now.depth) opcode self.now.around.now entries).read bytes.now) }
+        ensures reads { AnswersBytes (λ x. ((type_view x.0, x.1), x.2.now)) result ((scope_of (type self.now.depth) opcode self.now.around.now entries).read bytes.now) }
         ensures within { IfOk result (λ x. (entries ≤ x.1) × (x.1 ≤ 65535)) }
     {
         let component = matches!(opcode, Opcode::Component);
@@ -279,8 +279,8 @@ impl Nesting<'_> {
         scope: Scope,
         bytes: &'a [u8],
     ) -> Result<(RawType, u32, &'a [u8]), ItemError>
-        requires { IsWithin scope }
-        ensures reads { AnswersRead (λ x. ((type_view x.0, x.1), x.2.now)) result ((type self.now.depth self.now.around.now scope).read bytes.now) }
+        requires { IsScopeWithin scope }
+        ensures reads { AnswersBytes (λ x. ((type_view x.0, x.1), x.2.now)) result ((type self.now.depth self.now.around.now scope).read bytes.now) }
         ensures within { IfOk result (λ x. (scope.entries < x.1) × (x.1 ≤ 65535)) }
     {
         let (opcode, rest) = type_opcode_of(self.depth, scope.entries, bytes)?;

@@ -10,7 +10,7 @@ use Rattle.atoms.specs.Label.{is_label}
 use Rattle.atoms.specs.FullName.{NameParts, Lacks, IsName, IsFullName, is_package_label, is_version, version_suffix, name_text, package_text}
 use Rattle.atoms.specs.declared.error.AtomError.TheVariants as error
 use Rattle.atoms.proofs.FullNames.{label_lacks, package_lacks, behind, first, second}
-use Rattle.ctype_format.specs.Names.{cut_at, behind_first, is_versioned, is_name, is_packaged, is_spaced, is_full_name, is_extern_name}
+use Rattle.ctype_format.specs.Names.{cut_at, behind_first, is_versioned, is_versioned_name, is_packaged, is_spaced, is_full_name, is_extern_name}
 
 -- ---- cutting a text
 
@@ -39,7 +39,7 @@ cut_is mark (c ∷ cs) x e = by (λ y is. cut_is mark cs y is) (eqb c mark) refl
 
 -- ---- a full name passes the test
 
-name_passes : (text name : List ℕ) (version : Option (List ℕ)) → IsName text name version → is_name text ≡ true
+name_passes : (text name : List ℕ) (version : Option (List ℕ)) → IsName text name version → is_versioned_name text ≡ true
 name_passes text name None h =
     let is : text ≡ name = h.spelt ∙ append-nil name in
     let labelled : IsTrue (is_label text) = subst (λ (t : List ℕ). IsTrue (is_label t)) (sym is) h.label in
@@ -57,24 +57,24 @@ full_name_passes text parts h =
     let next : cut_at 47 (package_text parts) ≡ Some (parts.package_name, name_text parts) = cut_found 47 parts.package_name (name_text parts) (package_lacks 47 parts.package_name refl h.package_name) in
     let a : is_package_label parts.namespace ≡ true = h.namespace in
     let b : is_package_label parts.package_name ≡ true = h.package_name in
-    let c : is_name (name_text parts) ≡ true = name_passes (name_text parts) parts.name parts.version h.name in
+    let c : is_versioned_name (name_text parts) ≡ true = name_passes (name_text parts) parts.name parts.version h.name in
     rw cut (rw (a, next) (rw (b, c) refl))
 
 -- ---- what passes the test is a full name
 
-name_parts : (text : List ℕ) → is_name text ≡ true → (name : List ℕ) × (version : Option (List ℕ)) × IsName text name version
+name_parts : (text : List ℕ) → is_versioned_name text ≡ true → (name : List ℕ) × (version : Option (List ℕ)) × IsName text name version
 name_parts text h = by (cut_at 64 text) refl h
   where
     by : (o : Option (List ℕ × List ℕ)) → cut_at 64 text ≡ o → is_versioned text o ≡ true → (name : List ℕ) × (version : Option (List ℕ)) × IsName text name version
     by None is h = (text, None, record { spelt = sym (append-nil text); label = h; reads = refl })
     by (Some x) is h = (x.0, Some x.1, record { spelt = cut_is 64 text x is; label = first (is_label x.0) (is_version x.1) h; reads = second (is_label x.0) (is_version x.1) h })
 
-packaged_parts : (text : List ℕ) → is_packaged (cut_at 47 text) ≡ true → (named : List ℕ) × (rest : List ℕ) × (text ≡ named ++ 47 ∷ rest) × IsTrue (is_package_label named) × (is_name rest ≡ true)
+packaged_parts : (text : List ℕ) → is_packaged (cut_at 47 text) ≡ true → (named : List ℕ) × (rest : List ℕ) × (text ≡ named ++ 47 ∷ rest) × IsTrue (is_package_label named) × (is_versioned_name rest ≡ true)
 packaged_parts text h = by (cut_at 47 text) refl h
   where
-    by : (o : Option (List ℕ × List ℕ)) → cut_at 47 text ≡ o → is_packaged o ≡ true → (named : List ℕ) × (rest : List ℕ) × (text ≡ named ++ 47 ∷ rest) × IsTrue (is_package_label named) × (is_name rest ≡ true)
+    by : (o : Option (List ℕ × List ℕ)) → cut_at 47 text ≡ o → is_packaged o ≡ true → (named : List ℕ) × (rest : List ℕ) × (text ≡ named ++ 47 ∷ rest) × IsTrue (is_package_label named) × (is_versioned_name rest ≡ true)
     by None is h = absurd cc
-    by (Some x) is h = (x.0, x.1, cut_is 47 text x is, first (is_package_label x.0) (is_name x.1) h, second (is_package_label x.0) (is_name x.1) h)
+    by (Some x) is h = (x.0, x.1, cut_is 47 text x is, first (is_package_label x.0) (is_versioned_name x.1) h, second (is_package_label x.0) (is_versioned_name x.1) h)
 
 spaced_parts : (text : List ℕ) → is_spaced (cut_at 58 text) ≡ true → (space : List ℕ) × (rest : List ℕ) × (text ≡ space ++ 58 ∷ rest) × IsTrue (is_package_label space) × (is_packaged (cut_at 47 rest) ≡ true)
 spaced_parts text h = by (cut_at 58 text) refl h

@@ -9,7 +9,7 @@ use Rattle.ctype_format.specs.File.{preamble}
 use Rattle.ctype_format.specs.Raw.{Decl}
 use Rattle.ctype_format.specs.View.{type_view, decl_view, export_view, decls_of}
 use Rattle.ctype_format.specs.Writing.{u32_bytes, each, counted, decl_count, type_bytes, decl_bytes, decls_bytes, exported_bytes, section_bytes, file_bytes}
-use Rattle.ctype_format.specs.Formed.{Fits, All, Counted, FormedType, FormedDecl, FormedDecls, FormedExport, FormedFile}
+use Rattle.ctype_format.specs.Formed.{FitsU32, All, Counted, FormedType, FormedDecl, FormedDecls, FormedExport, FormedFile}
 use Rattle.ctype_format.proofs.Views.{view-Component, view-Instance}
 
 pub count_is : (ds : List Decl) → decl_count (decls_of ds) ≡ length ds
@@ -57,7 +57,7 @@ unfolding FormedDecls
 all-decls [] h = tt
 all-decls (d ∷ ds) h = (h.0, all-decls ds h.1)
 
-formed-decls : (ds : List Decl) → Counted FormedDecl ds → Fits (decl_count (decls_of ds)) × FormedDecls (decls_of ds)
+formed-decls : (ds : List Decl) → Counted FormedDecl ds → FitsU32 (decl_count (decls_of ds)) × FormedDecls (decls_of ds)
 formed-decls ds h = (rw (count_is ds) h.0, all-decls ds h.1)
 
 pub formed-Component : (decls : Vec RawDecl) → Counted (λ d. FormedDecl (decl_view d)) decls.items → FormedType (type_view (t.Component decls))
@@ -69,7 +69,7 @@ unfolding FormedType
 formed-Instance decls h = subst FormedType (sym (view-Instance decls)) (formed-decls (map decl_view decls.items) (counted-all_map FormedDecl decl_view decls.items h))
 
 pub file_formed : (types : List RawType) (exports : List RawExport) (a b : List ℕ) → a ≡ counted (λ t. type_bytes (type_view t)) types → b ≡ counted (λ x. exported_bytes (export_view x)) exports → Counted (λ t. FormedType (type_view t)) types → Counted (λ e. FormedExport (export_view e)) exports
-    → Fits (length a) → Fits (length b) → FormedFile (record { types = map type_view types; exports = map export_view exports })
+    → FitsU32 (length a) → FitsU32 (length b) → FormedFile (record { types = map type_view types; exports = map export_view exports })
 file_formed types exports a b ha hb ft fe la lb = record {
   types = counted-all_map FormedType type_view types ft;
   exports = counted-all_map FormedExport export_view exports fe;

@@ -22,16 +22,16 @@ ended bytes = End
 abbrev pub byte : Bytes ℕ
 byte = one (λ b. true) ended
 
-abbrev pub placed_at : Option Fault → ℕ → Option Stuck
-placed_at None left = None
-placed_at (Some fault) left = Some (At fault left)
+abbrev pub stuck_if : Option Fault → ℕ → Option Stuck
+stuck_if None left = None
+stuck_if (Some fault) left = Some (At fault left)
 
 abbrev pub at : {X : Type 0} → (X → Option Fault) → X → List ℕ → Option Stuck
-at fault x bytes = placed_at (fault x) (length bytes)
+at fault x bytes = stuck_if (fault x) (length bytes)
 
 -- p, unless the test finds a fault in what p spells: it stands at the first byte of that
-abbrev pub only : {X : Type 0} → Bytes X → (X → Option Fault) → Bytes X
-only p fault = general.only p (at fault)
+abbrev pub only_bytes : {X : Type 0} → Bytes X → (X → Option Fault) → Bytes X
+only_bytes p fault = general.only p (at fault)
 
 -- a fault unless the test passes
 abbrev pub unless : Bool → Fault → Option Fault
@@ -120,16 +120,16 @@ StaysSmall (At fault n) left = n + left < 2 ^ 64
 StaysSmall (Past n) left = Unit {0}
 
 -- p takes a front of these bytes, and so many are left
-abbrev pub Begins : {X : Type 0} → Bytes X → List ℕ → ℕ → Type 0
-Begins p bytes left = (front back : List ℕ) × (x : _) × (bytes ≡ front ++ back) × (length back ≡ left) × p.stops front x (next back)
+abbrev pub HasFront : {X : Type 0} → Bytes X → List ℕ → ℕ → Type 0
+HasFront p bytes left = (front back : List ℕ) × (x : _) × (bytes ≡ front ++ back) × (length back ≡ left) × p.stops front x (next back)
 
 -- the section is whole, and a fault is in it, or bytes are left; or the input ends before the section does
 abbrev pub FailsInSection : {X : Type 0} → (ℕ → Stuck) → ℕ → Bytes X → List ℕ → Stuck → Type 0
 FailsInSection short size p bytes f =
     ((size ≤ length bytes) × ((inner : Stuck) × p.fails (take size bytes) inner × (f ≡ in_section (length bytes - size) inner)))
-    ⊎ (((size ≤ length bytes) × ((left : ℕ) × (0 < left) × Begins p (take size bytes) left × (f ≡ At SizeMismatch (length bytes - size))))
+    ⊎ (((size ≤ length bytes) × ((left : ℕ) × (0 < left) × HasFront p (take size bytes) left × (f ≡ At SizeMismatch (length bytes - size))))
     ⊎ (((length bytes < size) × p.fails bytes f)
-    ⊎ ((length bytes < size) × ((left : ℕ) × Begins p bytes left × (f ≡ short (size - length bytes))))))
+    ⊎ ((length bytes < size) × ((left : ℕ) × HasFront p bytes left × (f ≡ short (size - length bytes))))))
 
 -- p, in exactly so many bytes; short is the fault where p is there and the input ends so many bytes before the section
 unfoldable pub sized : {X : Type 0} → (ℕ → Stuck) → ℕ → Bytes X → Bytes X
@@ -168,6 +168,6 @@ Stops errors.Memory read = Unit {0}
 Stops (errors.Stuck f) read = read ≡ Err f
 
 -- What a function returned, seen by view, is what reading gives, unless memory ran out.
-abbrev pub AnswersRead : {X Y : Type 0} → (X → Y) → Result X ItemError → Result Y Stuck → Type 0
-AnswersRead view (Ok x) read = read ≡ Ok (view x)
-AnswersRead view (Err e) read = Stops e read
+abbrev pub AnswersBytes : {X Y : Type 0} → (X → Y) → Result X ItemError → Result Y Stuck → Type 0
+AnswersBytes view (Ok x) read = read ≡ Ok (view x)
+AnswersBytes view (Err e) read = Stops e read

@@ -9,13 +9,13 @@ use Rattle.ctype_format.specs.declared.error.Stuck.TheVariants.{End, At, Past}
 use Rattle.ctype_format.specs.declared.error.BinError.{BinError}
 use Rattle.ctype_format.specs.declared.error.BinError.TheVariants as errors
 use Rattle.ctype_format.specs.declared.scope.Scope.{Scope}
-use Rattle.ctype_format.specs.Raw.{Definition, Exported, File}
-use Rattle.ctype_format.specs.Bytes.{Bytes, byte, only, unless, u32, sized, remaining, ended}
+use Rattle.ctype_format.specs.Raw.{Definition, Exported, BinaryFile}
+use Rattle.ctype_format.specs.Bytes.{Bytes, byte, only_bytes, unless, u32, sized, remaining, ended}
 use Rattle.ctype_format.specs.Grammar.{zero_byte, index, utf8, extern_name, new_scope, with_entries, type}
 
 -- how many scopes may stand within one another
-abbrev pub max_depth : ℕ
-max_depth = 4
+abbrev pub max_scope_depth : ℕ
+max_scope_depth = 4
 
 -- the bytes that an input may have, and more than the custom sections in it
 abbrev pub max_length : ℕ
@@ -25,7 +25,7 @@ max_length = 1048576
 unfoldable pub exactly : List ℕ → Bytes ℕ
 exactly [] = give 0
 exactly (b ∷ bs) = do
-  first ← only byte (λ x. unless (x == b) NotComponent)
+  first ← only_bytes byte (λ x. unless (x == b) NotComponent)
   exactly bs
 
 abbrev pub preamble : List ℕ
@@ -57,7 +57,7 @@ announced = do
 -- a custom section, or the size of the section with this number
 unfoldable pub head : ℕ → Bytes (Option ℕ)
 head id = do
-  b ← only byte (λ b. unless (b == 0 || b == id) (BadSection b))
+  b ← only_bytes byte (λ b. unless (b == 0 || b == id) (BadSection b))
   when (b == 0) skipped announced
 
 -- the size of the section with this number, behind less than n custom sections
@@ -88,21 +88,21 @@ trailing (suc n) = do
 
 -- ---- the two sections and the file
 
-unfoldable pub entry : Scope → Bytes (Definition × Scope)
-entry scope = do
-  t ← type max_depth [] scope
+unfoldable pub entry_of_type : Scope → Bytes (Definition × Scope)
+entry_of_type scope = do
+  t ← type max_scope_depth [] scope
   give (t.0, with_entries scope t.1)
 
 unfoldable pub type_section : Bytes (List Definition × Scope)
 type_section = do
   n ← u32
-  run entry n (new_scope 0)
+  run entry_of_type n (new_scope 0)
 
 -- a name and the index of its type
 unfoldable pub exported : ℕ → Bytes Exported
 exported types = do
   text ← extern_name
-  sort ← only byte (λ b. unless (b == 3) (UnknownOpcode b))
+  sort ← only_bytes byte (λ b. unless (b == 3) (UnknownOpcode b))
   i ← index types
   close ← zero_byte
   give (record { name = text; type = i })
@@ -112,8 +112,8 @@ export_section types = do
   n ← u32
   times n (exported types)
 
-unfoldable pub file : Bytes File
-file = do
+unfoldable pub component_file : Bytes BinaryFile
+component_file = do
   mark ← exactly preamble
   size ← section 7 max_length
   types ← sized Past size type_section
@@ -125,36 +125,36 @@ file = do
 -- ---- what decoding answers
 
 -- where a fault stands in n bytes
-abbrev pub placed : ℕ → Stuck → BinError
-placed n End = errors.At Truncated n
-placed n (At fault left) = errors.At fault (n - left)
-placed n (Past more) = errors.At SizeMismatch (n + more)
+abbrev pub fault_placed : ℕ → Stuck → BinError
+fault_placed n End = errors.At Truncated n
+fault_placed n (At fault left) = errors.At fault (n - left)
+fault_placed n (Past more) = errors.At SizeMismatch (n + more)
 
-abbrev pub at_place : ℕ → Result (File × List ℕ) Stuck → Result File BinError
+abbrev pub at_place : ℕ → Result (BinaryFile × List ℕ) Stuck → Result BinaryFile BinError
 at_place n (Ok x) = Ok x.0
-at_place n (Err f) = Err (placed n f)
+at_place n (Err f) = Err (fault_placed n f)
 
 -- the component that all of the bytes spell, or the first fault
-unfoldable pub decoded : List ℕ → Result File BinError
-decoded bytes = if nat_lt max_length (length bytes) then Err (errors.At Limit max_length) else at_place (length bytes) (file.read bytes)
+unfoldable pub decoded : List ℕ → Result BinaryFile BinError
+decoded bytes = if nat_lt max_length (length bytes) then Err (errors.At Limit max_length) else at_place (length bytes) (component_file.read bytes)
 
 -- Why bytes are refused: there are too many, or the fault is the first that stands in them.
-abbrev pub Faulty : List ℕ → BinError → Type 0
-Faulty bytes (errors.At fault place) =
+abbrev pub FaultyBinary : List ℕ → BinError → Type 0
+FaultyBinary bytes (errors.At fault place) =
     ((max_length < length bytes) × (fault ≡ Limit) × (place ≡ max_length))
-    ⊎ ((length bytes ≤ max_length) × ((stuck : Stuck) × file.fails bytes stuck × (placed (length bytes) stuck ≡ errors.At fault place)))
-Faulty bytes (errors.Read place) = ⊥
-Faulty bytes errors.NoMemory = Unit {0}
+    ⊎ ((length bytes ≤ max_length) × ((stuck : Stuck) × component_file.fails bytes stuck × (fault_placed (length bytes) stuck ≡ errors.At fault place)))
+FaultyBinary bytes (errors.Read place) = ⊥
+FaultyBinary bytes errors.NoMemory = Unit {0}
 
 -- What decoding returned, unless memory ran out
-abbrev pub Decodes : {X : Type 0} → (X → File) → Result X BinError → List ℕ → Type 0
+abbrev pub Decodes : {X : Type 0} → (X → BinaryFile) → Result X BinError → List ℕ → Type 0
 Decodes view (Ok x) bytes = decoded bytes ≡ Ok (view x)
 Decodes view (Err (errors.At fault place)) bytes = decoded bytes ≡ Err (errors.At fault place)
 Decodes view (Err (errors.Read place)) bytes = ⊥
 Decodes view (Err errors.NoMemory) bytes = Unit {0}
 
 -- the same, or the reader failed
-abbrev pub DecodesOrReads : {X : Type 0} → (X → File) → Result X BinError → List ℕ → Type 0
+abbrev pub DecodesOrReads : {X : Type 0} → (X → BinaryFile) → Result X BinError → List ℕ → Type 0
 DecodesOrReads view (Ok x) bytes = decoded bytes ≡ Ok (view x)
 DecodesOrReads view (Err (errors.At fault place)) bytes = decoded bytes ≡ Err (errors.At fault place)
 DecodesOrReads view (Err (errors.Read place)) bytes = Unit {0}

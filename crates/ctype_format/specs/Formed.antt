@@ -10,29 +10,29 @@ use Rattle.ctype_format.specs.declared.raw.RawAlias.TheVariants as aliases
 use Rattle.ctype_format.specs.declared.raw.RawDescription.{RawDescription}
 use Rattle.ctype_format.specs.declared.raw.RawDescription.TheVariants as descriptions
 use Rattle.ctype_format.specs.Names.{is_extern_name}
-use Rattle.ctype_format.specs.Raw.{Defined, Prim, Record, Variant, ListOf, Tuple, FlagSet, Enumeration, OptionOf, ResultOf, Function, Definition, Define, Func, Component, Instance, Decl, Entry, Alias, Import, Export, Decls, none, then, Exported, File}
+use Rattle.ctype_format.specs.Raw.{Defined, Prim, Record, Variant, ListOf, Tuple, FlagSet, Enumeration, OptionOf, ResultOf, BinaryFunction, Definition, Define, Func, Component, Instance, Decl, Entry, Alias, Import, Export, Decls, none, then, Exported, BinaryFile}
 use Rattle.ctype_format.specs.Writing.{counted, decl_count, type_bytes, exported_bytes}
 
 -- a number of 32 bits
-abbrev pub Fits : ℕ → Type 0
-Fits n = n < 2 ^ 32
+abbrev pub FitsU32 : ℕ → Type 0
+FitsU32 n = n < 2 ^ 32
 
 abbrev pub All : {X : Type 0} → (X → Type 0) → List X → Type 0
 All P [] = Unit {0}
 All P (x ∷ xs) = P x × All P xs
 
 abbrev pub Counted : {X : Type 0} → (X → Type 0) → List X → Type 0
-Counted P xs = Fits (length xs) × All P xs
+Counted P xs = FitsU32 (length xs) × All P xs
 
 abbrev pub FormedLabel : List ℕ → Type 0
-FormedLabel text = Fits (length text) × (is_label text ≡ true)
+FormedLabel text = FitsU32 (length text) × (is_label text ≡ true)
 
 abbrev pub FormedName : List ℕ → Type 0
-FormedName text = Fits (length text) × (is_extern_name text ≡ true)
+FormedName text = FitsU32 (length text) × (is_extern_name text ≡ true)
 
 abbrev pub FormedValType : RawValType → Type 0
 FormedValType (valtypes.Primitive p) = Unit {0}
-FormedValType (valtypes.Index i) = Fits i
+FormedValType (valtypes.Index i) = FitsU32 i
 
 abbrev pub FormedOption : Option RawValType → Type 0
 FormedOption None = Unit {0}
@@ -55,25 +55,25 @@ FormedDefined (Enumeration ls) = Counted FormedLabel ls
 FormedDefined (OptionOf e) = FormedValType e
 FormedDefined (ResultOf ok error) = FormedOption ok × FormedOption error
 
-abbrev pub FormedFunction : Function → Type 0
+abbrev pub FormedFunction : BinaryFunction → Type 0
 FormedFunction f = Counted FormedField f.params × FormedOption f.outcome
 
 abbrev pub FormedAlias : RawAlias → Type 0
-FormedAlias (aliases.InstanceExport i text) = Fits i × FormedLabel text
-FormedAlias (aliases.Outer n i) = Fits n × Fits i
+FormedAlias (aliases.InstanceExport i text) = FitsU32 i × FormedLabel text
+FormedAlias (aliases.Outer n i) = FitsU32 n × FitsU32 i
 
 abbrev pub FormedDescription : RawDescription → Type 0
-FormedDescription (descriptions.Function i) = Fits i
-FormedDescription (descriptions.TypeEqual i) = Fits i
-FormedDescription (descriptions.Component i) = Fits i
-FormedDescription (descriptions.Instance i) = Fits i
+FormedDescription (descriptions.Function i) = FitsU32 i
+FormedDescription (descriptions.TypeEqual i) = FitsU32 i
+FormedDescription (descriptions.Component i) = FitsU32 i
+FormedDescription (descriptions.Instance i) = FitsU32 i
 
 unfoldable mutual
   pub FormedType : Definition → Type 0
   FormedType (Define d) = FormedDefined d
   FormedType (Func f) = FormedFunction f
-  FormedType (Component ds) = Fits (decl_count ds) × FormedDecls ds
-  FormedType (Instance ds) = Fits (decl_count ds) × FormedDecls ds
+  FormedType (Component ds) = FitsU32 (decl_count ds) × FormedDecls ds
+  FormedType (Instance ds) = FitsU32 (decl_count ds) × FormedDecls ds
 
   pub FormedDecl : Decl → Type 0
   FormedDecl (Entry t) = FormedType t
@@ -86,11 +86,11 @@ unfoldable mutual
   FormedDecls (then d ds) = FormedDecl d × FormedDecls ds
 
 abbrev pub FormedExport : Exported → Type 0
-FormedExport e = FormedName e.name × Fits e.type
+FormedExport e = FormedName e.name × FitsU32 e.type
 
 -- the sizes of the two sections too
-pub record FormedFile (f : File) : Type 0 where
+pub record FormedFile (f : BinaryFile) : Type 0 where
   pub types : Counted FormedType f.types
   pub exports : Counted FormedExport f.exports
-  pub type_size : Fits (length (counted type_bytes f.types))
-  pub export_size : Fits (length (counted exported_bytes f.exports))
+  pub type_size : FitsU32 (length (counted type_bytes f.types))
+  pub export_size : FitsU32 (length (counted exported_bytes f.exports))

@@ -23,15 +23,15 @@ use Rattle.ctype_format.specs.Opcodes.{primitive_of, opcode_of}
 use Rattle.ctype_format.specs.Names.{is_extern_name}
 use Rattle.ctype_format.specs.Raw.{Prim, Record, Variant, ListOf, Tuple, FlagSet, Enumeration, OptionOf, ResultOf, Definition, Define, Func, Component, Instance, Decl, Entry, Alias, Import, Export}
 use Rattle.ctype_format.specs.View.{decls_of}
-use Rattle.ctype_format.specs.Bytes.{Bytes, byte, several, only, unless, u32, s33, choose, ended}
+use Rattle.ctype_format.specs.Bytes.{Bytes, byte, several, only_bytes, unless, u32, s33, choose, ended}
 
 -- an index below the count of its space
 abbrev pub index : ℕ → Bytes ℕ
-index count = only u32 (λ i. unless (nat_lt i count) BadIndex)
+index count = only_bytes u32 (λ i. unless (nat_lt i count) BadIndex)
 
 -- a count that isn't 0
 abbrev pub some : Bytes ℕ
-some = only u32 (λ n. unless (nat_lt 0 n) EmptyType)
+some = only_bytes u32 (λ n. unless (nat_lt 0 n) EmptyType)
 
 abbrev pub count_fault : ℕ → ℕ → Option Fault
 count_fault limit zero = Some EmptyType
@@ -39,15 +39,15 @@ count_fault limit (suc n) = unless (nat_lt n limit) Limit
 
 -- a count that is neither 0 nor above the limit
 abbrev pub some_upto : ℕ → Bytes ℕ
-some_upto limit = only u32 (count_fault limit)
+some_upto limit = only_bytes u32 (count_fault limit)
 
 -- a byte that is 0
 abbrev pub zero_byte : Bytes ℕ
-zero_byte = only byte (λ b. unless (b == 0) (UnknownOpcode b))
+zero_byte = only_bytes byte (λ b. unless (b == 0) (UnknownOpcode b))
 
 -- a byte that is 0 or 1
 abbrev pub flag_byte : Bytes ℕ
-flag_byte = only byte (λ b. unless (b == 0 || b == 1) (UnknownOpcode b))
+flag_byte = only_bytes byte (λ b. unless (b == 0 || b == 1) (UnknownOpcode b))
 
 -- ---- names
 
@@ -58,16 +58,16 @@ name = do
   several n
 
 unfoldable pub label : Bytes (List ℕ)
-label = only name (λ text. unless (is_label text) BadName)
+label = only_bytes name (λ text. unless (is_label text) BadName)
 
 unfoldable pub utf8 : Bytes (List ℕ)
-utf8 = only name (λ text. unless (is_utf8 text) BadName)
+utf8 = only_bytes name (λ text. unless (is_utf8 text) BadName)
 
 -- behind a 0, a label or a full name
 unfoldable pub extern_name : Bytes (List ℕ)
 extern_name = do
   mark ← zero_byte
-  only name (λ text. unless (is_extern_name text) BadName)
+  only_bytes name (λ text. unless (is_extern_name text) BadName)
 
 -- ---- value types
 
@@ -83,12 +83,12 @@ primitive_at b = unwrap_or (primitive_of b) prim.Bool
 
 unfoldable pub primitive : Bytes RawValType
 primitive = do
-  b ← only byte valtype_fault
+  b ← only_bytes byte valtype_fault
   give (valtypes.Primitive (primitive_at b))
 
 unfoldable pub type_index : ℕ → Bytes RawValType
 type_index types = do
-  i ← only s33 (λ i. unless (nat_lt i types) BadIndex)
+  i ← only_bytes s33 (λ i. unless (nat_lt i types) BadIndex)
   give (valtypes.Index i)
 
 -- a primitive, or an index below types
@@ -101,8 +101,8 @@ present types = do
   give (Some type)
 
 -- 0, or 1 and a value type
-unfoldable pub optional : ℕ → Bytes (Option RawValType)
-optional types = do
+unfoldable pub optional_valtype : ℕ → Bytes (Option RawValType)
+optional_valtype types = do
   b ← flag_byte
   when (b == 0) (give None) (present types)
 
@@ -115,7 +115,7 @@ field types = do
 unfoldable pub case : ℕ → Bytes RawCase
 case types = do
   text ← label
-  payload ← optional types
+  payload ← optional_valtype types
   close ← zero_byte
   give (record { label = text; payload = payload })
 
@@ -167,10 +167,10 @@ option_type types = do
   some ← valtype types
   give (Define (OptionOf some))
 
-unfoldable pub result_type : ℕ → Bytes Definition
-result_type types = do
-  ok ← optional types
-  error ← optional types
+unfoldable pub result_entry : ℕ → Bytes Definition
+result_entry types = do
+  ok ← optional_valtype types
+  error ← optional_valtype types
   give (Define (ResultOf ok error))
 
 abbrev pub absent : Bytes (Option RawValType)
@@ -184,26 +184,26 @@ outcome types = do
   b ← flag_byte
   when (b == 0) (present types) absent
 
-unfoldable pub function_type : ℕ → Bytes Definition
-function_type types = do
+unfoldable pub function_entry : ℕ → Bytes Definition
+function_entry types = do
   n ← u32
   params ← times n (field types)
   result ← outcome types
   give (Func (record { params = params; outcome = result }))
 
-unfoldable pub plain : ℕ → Opcode → Bytes Definition
-plain types (op.Primitive p) = give (Define (Prim p))
-plain types op.Record = record_type types
-plain types op.Variant = variant_type types
-plain types op.List = list_type types
-plain types op.Tuple = tuple_type types
-plain types op.Flags = flags_type
-plain types op.Enum = enum_type
-plain types op.Option = option_type types
-plain types op.Result = result_type types
-plain types op.Function = function_type types
-plain types op.Component = never ended
-plain types op.Instance = never ended
+unfoldable pub plain_entry : ℕ → Opcode → Bytes Definition
+plain_entry types (op.Primitive p) = give (Define (Prim p))
+plain_entry types op.Record = record_type types
+plain_entry types op.Variant = variant_type types
+plain_entry types op.List = list_type types
+plain_entry types op.Tuple = tuple_type types
+plain_entry types op.Flags = flags_type
+plain_entry types op.Enum = enum_type
+plain_entry types op.Option = option_type types
+plain_entry types op.Result = result_entry types
+plain_entry types op.Function = function_entry types
+plain_entry types op.Component = never ended
+plain_entry types op.Instance = never ended
 
 -- ---- scopes
 
@@ -211,8 +211,8 @@ abbrev pub max_entries : ℕ
 max_entries = 65535
 
 -- no scope has more than all of them
-abbrev pub IsWithin : Scope → Type 0
-IsWithin scope = (scope.types ≤ scope.entries) × (scope.entries ≤ max_entries)
+abbrev pub IsScopeWithin : Scope → Type 0
+IsScopeWithin scope = (scope.types ≤ scope.entries) × (scope.entries ≤ max_entries)
 
 abbrev pub is_full : ℕ → Bool
 is_full entries = nat_le max_entries entries
@@ -249,7 +249,7 @@ opcode_at b = unwrap_or (opcode_of b) op.Record
 -- the first byte of a type, where depth more scopes may stand within one another
 unfoldable pub opcode : ℕ → ℕ → Bytes Opcode
 opcode depth entries = do
-  b ← only byte (λ b. opcode_fault depth entries b (opcode_of b))
+  b ← only_bytes byte (λ b. opcode_fault depth entries b (opcode_of b))
   give (opcode_at b)
 
 -- ---- aliases, around being the counts of types of the scopes around, the innermost last
@@ -258,28 +258,28 @@ abbrev pub types_at : List ℕ → ℕ → ℕ → ℕ
 types_at around types zero = types
 types_at around types (suc n) = slice_index around (length around - suc n)
 
-unfoldable pub instance_export : Scope → Bytes RawAlias
-instance_export scope = do
+unfoldable pub instance_alias : Scope → Bytes RawAlias
+instance_alias scope = do
   i ← index scope.instances
   text ← label
   give (aliases.InstanceExport i text)
 
 unfoldable pub outer_type : List ℕ → Scope → Bytes RawAlias
 outer_type around scope = do
-  n ← only u32 (λ n. unless (nat_le n (length around)) BadIndex)
+  n ← only_bytes u32 (λ n. unless (nat_le n (length around)) BadIndex)
   i ← index (types_at around scope.types n)
   give (aliases.Outer n i)
 
 -- what is wrong with a byte where a type entry begins, if it is allowed there
-abbrev pub entry_fault : ℕ → Bool → ℕ → Option Fault
-entry_fault entries false b = Some (UnknownOpcode b)
-entry_fault entries true b = unless (not (is_full entries)) Limit
+abbrev pub opcode_entry_fault : ℕ → Bool → ℕ → Option Fault
+opcode_entry_fault entries false b = Some (UnknownOpcode b)
+opcode_entry_fault entries true b = unless (not (is_full entries)) Limit
 
-unfoldable pub alias : List ℕ → Scope → Bytes (Decl × Scope)
-alias around scope = do
-  sort ← only byte (λ b. entry_fault scope.entries (b == 3) b)
-  target ← only byte (λ b. unless (b == 0 || b == 2) (UnknownOpcode b))
-  a ← when (target == 0) (instance_export scope) (outer_type around scope)
+unfoldable pub alias_entry : List ℕ → Scope → Bytes (Decl × Scope)
+alias_entry around scope = do
+  sort ← only_bytes byte (λ b. opcode_entry_fault scope.entries (b == 3) b)
+  target ← only_bytes byte (λ b. unless (b == 0 || b == 2) (UnknownOpcode b))
+  a ← when (target == 0) (instance_alias scope) (outer_type around scope)
   give (Alias a, with_type scope)
 
 -- ---- imports and exports
@@ -299,12 +299,12 @@ indexed scope sort = do
   give (described scope sort i)
 
 abbrev pub description_fault : ℕ → ℕ → Option Fault
-description_fault entries b = if b == 3 then entry_fault entries true b else unless (b == 1 || (b == 4 || b == 5)) (UnknownOpcode b)
+description_fault entries b = if b == 3 then opcode_entry_fault entries true b else unless (b == 1 || (b == 4 || b == 5)) (UnknownOpcode b)
 
 -- what an import or export is, and the scope with it
 unfoldable pub description : Scope → Bytes (RawDescription × Scope)
 description scope = do
-  sort ← only byte (description_fault scope.entries)
+  sort ← only_bytes byte (description_fault scope.entries)
   when (sort == 3) (equal_type scope) (indexed scope sort)
 
 unfoldable pub external : Scope → ℕ → Bytes (Decl × Scope)
@@ -318,8 +318,8 @@ external scope sort = do
 abbrev pub Reader : Type 1
 Reader = List ℕ → Scope → Bytes (Definition × ℕ)
 
-abbrev pub definition : Reader → List ℕ → Scope → Bytes (Decl × Scope)
-definition type around scope = do
+abbrev pub definition_entry : Reader → List ℕ → Scope → Bytes (Decl × Scope)
+definition_entry type around scope = do
   t ← type around scope
   give (Entry t.0, with_entries scope t.1)
 
@@ -330,8 +330,8 @@ is_decl component b = b == 1 || (b == 2 || (b == 4 || (component && b == 3)))
 -- a declaration, and the scope with it
 unfoldable pub decl : Reader → Bool → List ℕ → Scope → Bytes (Decl × Scope)
 decl type component around scope = do
-  sort ← only byte (λ b. unless (is_decl component b) (UnknownOpcode b))
-  when (sort == 1) (definition type around scope) (when (sort == 2) (alias around scope) (external scope sort))
+  sort ← only_bytes byte (λ b. unless (is_decl component b) (UnknownOpcode b))
+  when (sort == 1) (definition_entry type around scope) (when (sort == 2) (alias_entry around scope) (external scope sort))
 
 abbrev pub nested : Opcode → List Decl → Definition
 nested op.Component ds = Component (decls_of ds)
@@ -350,7 +350,7 @@ scope_of type o around entries = do
 
 abbrev pub plain_type : Scope → Opcode → Bytes (Definition × ℕ)
 plain_type scope o = do
-  t ← plain scope.types o
+  t ← plain_entry scope.types o
   give (t, scope.entries + 1)
 
 -- A type, and the entries after it. Depth is how many scopes may stand within one another here.

@@ -3,7 +3,7 @@ use Rattle.std.specs.Prelude.{ℕ, Bool, false, ◌&&◌, ◌||◌, ◌==◌, Li
 use Rattle.std.specs.Str.{is_utf8}
 use Rattle.atoms.specs.Label.{is_label}
 use Rattle.atoms.specs.FullName.{is_package_label, is_version, full_name_text}
-use Rattle.atoms.specs.FullNameView.{parts_of}
+use Rattle.atoms.specs.FullNameView.{name_parts_of}
 use Rattle.ctype_format.specs.declared.name.ExternName.{ExternName}
 use Rattle.ctype_format.specs.declared.name.ExternName.TheVariants as ext
 
@@ -21,12 +21,12 @@ abbrev pub is_versioned : List ℕ → Option (List ℕ × List ℕ) → Bool
 is_versioned text None = is_label text
 is_versioned text (Some x) = is_label x.0 && is_version x.1
 
-abbrev pub is_name : List ℕ → Bool
-is_name text = is_versioned text (cut_at 64 text)
+abbrev pub is_versioned_name : List ℕ → Bool
+is_versioned_name text = is_versioned text (cut_at 64 text)
 
 abbrev pub is_packaged : Option (List ℕ × List ℕ) → Bool
 is_packaged None = false
-is_packaged (Some x) = is_package_label x.0 && is_name x.1
+is_packaged (Some x) = is_package_label x.0 && is_versioned_name x.1
 
 abbrev pub is_spaced : Option (List ℕ × List ℕ) → Bool
 is_spaced None = false
@@ -42,4 +42,4 @@ is_extern_name text = is_label text || (is_utf8 text && is_full_name text)
 -- the text of a name
 abbrev pub name_view : ExternName → List ℕ
 name_view (ext.Label l) = l
-name_view (ext.FullName n) = full_name_text (parts_of n)
+name_view (ext.FullName n) = full_name_text (name_parts_of n)

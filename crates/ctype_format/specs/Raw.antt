@@ -18,14 +18,14 @@ pub data Defined : Type 0 where
   OptionOf : RawValType → Defined
   ResultOf : Option RawValType → Option RawValType → Defined
 
-pub record Function : Type 0 where
+pub record BinaryFunction : Type 0 where
   pub params : List RawField
   pub outcome : Option RawValType
 
 mutual
   pub data Definition : Type 0 where
     Define : Defined → Definition
-    Func : Function → Definition
+    Func : BinaryFunction → Definition
     Component : Decls → Definition
     Instance : Decls → Definition
 
@@ -44,6 +44,6 @@ pub record Exported : Type 0 where
   pub name : List ℕ
   pub type : ℕ
 
-pub record File : Type 0 where
+pub record BinaryFile : Type 0 where
   pub types : List Definition
   pub exports : List Exported

@@ -1,7 +1,7 @@
 -- The component type that a value of the crate's types stands for.
 use Rattle.std.specs.Prelude.{List, [], ◌∷◌, map}
 use Rattle.std.specs.Global.{Vec}
-use Rattle.ctype_format.specs.Raw.{Defined, Prim, Record, Variant, ListOf, Tuple, FlagSet, Enumeration, OptionOf, ResultOf, Function, Definition, Define, Func, Component, Instance, Decl, Entry, Alias, Import, Export, Decls, none, then, Exported, File}
+use Rattle.ctype_format.specs.Raw.{Defined, Prim, Record, Variant, ListOf, Tuple, FlagSet, Enumeration, OptionOf, ResultOf, BinaryFunction, Definition, Define, Func, Component, Instance, Decl, Entry, Alias, Import, Export, Decls, none, then, Exported, BinaryFile}
 use Rattle.ctype_format.specs.Names.{name_view}
 use Rattle.ctype_format.specs.declared.raw.RawExport.{RawExport}
 use Rattle.ctype_format.specs.declared.raw.RawFunction.{RawFunction}
@@ -23,8 +23,8 @@ defined_view (v.Enum ls) = Enumeration ls.items
 defined_view (v.Option e) = OptionOf e
 defined_view (v.Result ok error) = ResultOf ok error
 
-abbrev pub function_view : RawFunction → Function
-function_view f = record { params = f.params.items; outcome = f.result }
+abbrev pub raw_function_view : RawFunction → BinaryFunction
+raw_function_view f = record { params = f.params.items; outcome = f.result }
 
 abbrev pub decls_of : List Decl → Decls
 decls_of [] = none
@@ -33,7 +33,7 @@ decls_of (d ∷ ds) = then d (decls_of ds)
 unfoldable mutual
   pub type_view : RawType → Definition
   type_view (t.Defined x) = Define (defined_view x)
-  type_view (t.Function f) = Func (function_view f)
+  type_view (t.Function f) = Func (raw_function_view f)
   type_view (t.Component' shape all) = Component (row_view all)
   type_view (t.Instance' shape all) = Instance (row_view all)
 
@@ -50,5 +50,5 @@ unfoldable mutual
 abbrev pub export_view : RawExport → Exported
 export_view e = record { name = name_view e.name; type = e.ty }
 
-abbrev pub file_of : Vec RawType → Vec RawExport → File
-file_of types exports = record { types = map type_view types.items; exports = map export_view exports.items }
+abbrev pub parts_file : Vec RawType → Vec RawExport → BinaryFile
+parts_file types exports = record { types = map type_view types.items; exports = map export_view exports.items }

@@ -10,7 +10,7 @@ use Rattle.ctype_format.specs.declared.raw.RawAlias.{RawAlias}
 use Rattle.ctype_format.specs.declared.raw.RawAlias.TheVariants as aliases
 use Rattle.ctype_format.specs.declared.raw.RawDescription.{RawDescription}
 use Rattle.ctype_format.specs.declared.raw.RawDescription.TheVariants as descriptions
-use Rattle.ctype_format.specs.Raw.{Defined, Prim, Record, Variant, ListOf, Tuple, FlagSet, Enumeration, OptionOf, ResultOf, Function, Definition, Define, Func, Component, Instance, Decl, Entry, Alias, Import, Export, Decls, none, then, Exported, File}
+use Rattle.ctype_format.specs.Raw.{Defined, Prim, Record, Variant, ListOf, Tuple, FlagSet, Enumeration, OptionOf, ResultOf, BinaryFunction, Definition, Define, Func, Component, Instance, Decl, Entry, Alias, Import, Export, Decls, none, then, Exported, BinaryFile}
 use Rattle.ctype_format.specs.File.{preamble}
 use Rattle.ctype_format.specs.Shortest.{groups}
 
@@ -77,7 +77,7 @@ abbrev pub outcome_bytes : Option RawValType → List ℕ
 outcome_bytes (Some t) = 0 ∷ valtype_bytes t
 outcome_bytes None = 1 ∷ 0 ∷ []
 
-abbrev pub function_bytes : Function → List ℕ
+abbrev pub function_bytes : BinaryFunction → List ℕ
 function_bytes f = 0x40 ∷ (counted field_bytes f.params ++ outcome_bytes f.outcome)
 
 abbrev pub alias_bytes : RawAlias → List ℕ
@@ -118,5 +118,5 @@ exported_bytes e = extern_bytes e.name ++ (3 ∷ (u32_bytes e.type ++ 0 ∷ []))
 abbrev pub section_bytes : ℕ → List ℕ → List ℕ
 section_bytes id content = id ∷ (u32_bytes (length content) ++ content)
 
-unfoldable pub file_bytes : File → List ℕ
+unfoldable pub file_bytes : BinaryFile → List ℕ
 file_bytes f = preamble ++ (section_bytes 7 (counted type_bytes f.types) ++ section_bytes 11 (counted exported_bytes f.exports))

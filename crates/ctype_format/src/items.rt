@@ -1,7 +1,7 @@
 //! Reading from left to right, up to the first fault: numbers, names and value types.
 ghost use Rattle.std.specs.Prelude.{◌≡◌, ◌<◌, length, IfOk};
-ghost use Rattle.ctype_format.specs.Bytes.{AnswersRead, byte, u32, s33, is_negative};
-ghost use Rattle.ctype_format.specs.Grammar.{index, some, count_fault, some_upto, name, label, utf8, extern_name, zero_byte, flag_byte, primitive, type_index, valtype, optional};
+ghost use Rattle.ctype_format.specs.Bytes.{AnswersBytes, byte, u32, s33, is_negative};
+ghost use Rattle.ctype_format.specs.Grammar.{index, some, count_fault, some_upto, name, label, utf8, extern_name, zero_byte, flag_byte, primitive, type_index, valtype, optional_valtype};
 ghost use Rattle.std.specs.Str.{is_utf8};
 ghost use Rattle.ctype_format.specs.Names.{name_view};
 
@@ -20,7 +20,7 @@ pub fn at(fault: Fault, bytes: &[u8]) -> ItemError
 }
 
 pub fn byte_of(bytes: &[u8]) -> Result<(u8, &[u8]), ItemError>
-    ensures { AnswersRead (λ x. (x.0, x.1.now)) result (byte.read bytes.now) }
+    ensures { AnswersBytes (λ x. (x.0, x.1.now)) result (byte.read bytes.now) }
 {
     match bytes {
         [] => Err(ItemError::Stuck(Stuck::End)),
@@ -29,7 +29,7 @@ pub fn byte_of(bytes: &[u8]) -> Result<(u8, &[u8]), ItemError>
 }
 
 pub fn u32_of(bytes: &[u8]) -> Result<(u32, &[u8]), ItemError>
-    ensures { AnswersRead (λ x. (x.0, x.1.now)) result (u32.read bytes.now) }
+    ensures { AnswersBytes (λ x. (x.0, x.1.now)) result (u32.read bytes.now) }
 {
     match atoms::read_u32(bytes) {
         Ok((value, used)) => Ok((value, &bytes[used..])),
@@ -39,7 +39,7 @@ pub fn u32_of(bytes: &[u8]) -> Result<(u32, &[u8]), ItemError>
 }
 
 pub fn index_of(count: u32, bytes: &[u8]) -> Result<(u32, &[u8]), ItemError>
-    ensures reads { AnswersRead (λ x. (x.0, x.1.now)) result ((index count).read bytes.now) }
+    ensures reads { AnswersBytes (λ x. (x.0, x.1.now)) result ((index count).read bytes.now) }
     ensures below { IfOk result (λ x. x.0 < count) }
 {
     let (index, rest) = u32_of(bytes)?;
@@ -51,7 +51,7 @@ pub fn index_of(count: u32, bytes: &[u8]) -> Result<(u32, &[u8]), ItemError>
 
 /// A count that is not 0.
 pub fn count_of(bytes: &[u8]) -> Result<(u32, &[u8]), ItemError>
-    ensures { AnswersRead (λ x. (x.0, x.1.now)) result (some.read bytes.now) }
+    ensures { AnswersBytes (λ x. (x.0, x.1.now)) result (some.read bytes.now) }
 {
     let (count, rest) = u32_of(bytes)?;
     if count == 0 {
@@ -75,7 +75,7 @@ fn count_fault(limit: u32, count: u32) -> Option<Fault>
 
 /// A count that is neither 0 nor above the limit.
 pub fn count_upto(limit: u32, bytes: &[u8]) -> Result<(u32, &[u8]), ItemError>
-    ensures { AnswersRead (λ x. (x.0, x.1.now)) result ((some_upto limit).read bytes.now) }
+    ensures { AnswersBytes (λ x. (x.0, x.1.now)) result ((some_upto limit).read bytes.now) }
 {
     let (count, rest) = u32_of(bytes)?;
     match count_fault(limit, count) {
@@ -86,7 +86,7 @@ pub fn count_upto(limit: u32, bytes: &[u8]) -> Result<(u32, &[u8]), ItemError>
 
 /// A byte that is 0.
 pub fn zero_of(bytes: &[u8]) -> Result<&[u8], ItemError>
-    ensures { AnswersRead (λ x. (0, x.now)) result (zero_byte.read bytes.now) }
+    ensures { AnswersBytes (λ x. (0, x.now)) result (zero_byte.read bytes.now) }
 {
     let (mark, rest) = byte_of(bytes)?;
     if mark != 0 {
@@ -97,7 +97,7 @@ pub fn zero_of(bytes: &[u8]) -> Result<&[u8], ItemError>
 
 /// A byte that is 0 or 1.
 pub fn flag_of(bytes: &[u8]) -> Result<(u8, &[u8]), ItemError>
-    ensures { AnswersRead (λ x. (x.0, x.1.now)) result (flag_byte.read bytes.now) }
+    ensures { AnswersBytes (λ x. (x.0, x.1.now)) result (flag_byte.read bytes.now) }
 {
     let (flag, rest) = byte_of(bytes)?;
     if flag != 0 && flag != 1 {
@@ -108,7 +108,7 @@ pub fn flag_of(bytes: &[u8]) -> Result<(u8, &[u8]), ItemError>
 
 /// A count of bytes and the bytes.
 fn name_of(bytes: &[u8]) -> Result<(&[u8], &[u8]), ItemError>
-    ensures { AnswersRead (λ x. (x.0.now, x.1.now)) result (name.read bytes.now) }
+    ensures { AnswersBytes (λ x. (x.0.now, x.1.now)) result (name.read bytes.now) }
 {
     let (len, rest) = u32_of(bytes)?;
     let len = len as usize;
@@ -120,7 +120,7 @@ fn name_of(bytes: &[u8]) -> Result<(&[u8], &[u8]), ItemError>
 
 #[tactic(auto, unfolding(crate::specs::Grammar::label))]
 pub fn label_of(alloc: Global, bytes: &[u8]) -> Result<(Label, &[u8]), ItemError>
-    ensures { AnswersRead (λ x. (x.0, x.1.now)) result (label.read bytes.now) }
+    ensures { AnswersBytes (λ x. (x.0, x.1.now)) result (label.read bytes.now) }
 {
     let (text, rest) = name_of(bytes)?;
     if !is_label(text) {
@@ -132,7 +132,7 @@ pub fn label_of(alloc: Global, bytes: &[u8]) -> Result<(Label, &[u8]), ItemError
 /// A name that is only asked to be UTF-8.
 #[tactic(auto, unfolding(crate::specs::Grammar::utf8))]
 pub fn utf8_of(bytes: &[u8]) -> Result<(&[u8], &[u8]), ItemError>
-    ensures { AnswersRead (λ x. (x.0.now, x.1.now)) result (utf8.read bytes.now) }
+    ensures { AnswersBytes (λ x. (x.0.now, x.1.now)) result (utf8.read bytes.now) }
 {
     let (text, rest) = name_of(bytes)?;
     if !is_utf8(text) {
@@ -149,7 +149,7 @@ fn is_utf8(bytes: &[u8]) -> bool
 
 #[tactic(auto, unfolding(crate::specs::Grammar::extern_name))]
 pub fn extern_name_of(alloc: Global, bytes: &[u8]) -> Result<(ExternName, &[u8]), ItemError>
-    ensures { AnswersRead (λ x. (name_view x.0, x.1.now)) result (extern_name.read bytes.now) }
+    ensures { AnswersBytes (λ x. (name_view x.0, x.1.now)) result (extern_name.read bytes.now) }
 {
     let named = zero_of(bytes)?;
     let (text, rest) = name_of(named)?;
@@ -161,7 +161,7 @@ pub fn extern_name_of(alloc: Global, bytes: &[u8]) -> Result<(ExternName, &[u8])
 
 #[tactic(auto, unfolding(crate::specs::Grammar::primitive))]
 fn primitive_valtype_of(bytes: &[u8]) -> Result<(RawValType, &[u8]), ItemError>
-    ensures { AnswersRead (λ x. (x.0, x.1.now)) result (primitive.read bytes.now) }
+    ensures { AnswersBytes (λ x. (x.0, x.1.now)) result (primitive.read bytes.now) }
 {
     let (opcode, rest) = byte_of(bytes)?;
     match primitive_of(opcode) {
@@ -189,7 +189,7 @@ fn is_negative(bytes: &[u8]) -> bool
 }
 
 fn s33_of(bytes: &[u8]) -> Result<(u32, &[u8]), ItemError>
-    ensures { AnswersRead (λ x. (x.0, x.1.now)) result (s33.read bytes.now) }
+    ensures { AnswersBytes (λ x. (x.0, x.1.now)) result (s33.read bytes.now) }
 {
     match atoms::read_s33(bytes) {
         Ok((value, used)) => Ok((value, &bytes[used..])),
@@ -204,7 +204,7 @@ fn s33_of(bytes: &[u8]) -> Result<(u32, &[u8]), ItemError>
 
 #[tactic(auto, unfolding(crate::specs::Grammar::type_index))]
 fn type_index_of(types: u32, bytes: &[u8]) -> Result<(RawValType, &[u8]), ItemError>
-    ensures { AnswersRead (λ x. (x.0, x.1.now)) result ((type_index types).read bytes.now) }
+    ensures { AnswersBytes (λ x. (x.0, x.1.now)) result ((type_index types).read bytes.now) }
 {
     let (index, rest) = s33_of(bytes)?;
     if index >= types {
@@ -216,7 +216,7 @@ fn type_index_of(types: u32, bytes: &[u8]) -> Result<(RawValType, &[u8]), ItemEr
 /// A primitive, or an index below `types`.
 #[tactic(auto, unfolding(crate::specs::Grammar::valtype))]
 pub fn valtype_of(types: u32, bytes: &[u8]) -> Result<(RawValType, &[u8]), ItemError>
-    ensures { AnswersRead (λ x. (x.0, x.1.now)) result ((valtype types).read bytes.now) }
+    ensures { AnswersBytes (λ x. (x.0, x.1.now)) result ((valtype types).read bytes.now) }
 {
     match bytes {
         [] => Err(ItemError::Stuck(Stuck::End)),
@@ -226,9 +226,9 @@ pub fn valtype_of(types: u32, bytes: &[u8]) -> Result<(RawValType, &[u8]), ItemE
 }
 
 /// 0, or 1 and a value type.
-#[tactic(auto, unfolding(crate::specs::Grammar::optional))]
+#[tactic(auto, unfolding(crate::specs::Grammar::optional_valtype))]
 pub fn optional_of(types: u32, bytes: &[u8]) -> Result<(Option<RawValType>, &[u8]), ItemError>
-    ensures { AnswersRead (λ x. (x.0, x.1.now)) result ((optional types).read bytes.now) }
+    ensures { AnswersBytes (λ x. (x.0, x.1.now)) result ((optional_valtype types).read bytes.now) }
 {
     let (flag, rest) = flag_of(bytes)?;
     if flag == 0 {

@@ -1,9 +1,9 @@
 //! Writing a component in its shortest spelling.
 ghost use Rattle.std.specs.Prelude.{◌≡◌, ◌++◌, ◌∷◌, [], length, OnOk};
-ghost use Rattle.ctype_format.specs.View.{defined_view, function_view, type_view, decl_view, export_view};
+ghost use Rattle.ctype_format.specs.View.{defined_view, raw_function_view, type_view, decl_view, export_view};
 ghost use Rattle.ctype_format.specs.Names.{name_view};
 ghost use Rattle.ctype_format.specs.Writing.{u32_bytes, s33_bytes, each, counted, name_bytes, extern_bytes, primitive_byte, valtype_bytes, optional_bytes, field_bytes, case_bytes, defined_bytes, outcome_bytes, function_bytes, alias_bytes, description_bytes, type_bytes, decl_bytes, exported_bytes, section_bytes};
-ghost use Rattle.ctype_format.specs.Formed.{Fits, Counted, FormedLabel, FormedName, FormedValType, FormedOption, FormedField, FormedCase, FormedDefined, FormedFunction, FormedAlias, FormedDescription, FormedType, FormedDecl, FormedExport};
+ghost use Rattle.ctype_format.specs.Formed.{FitsU32, Counted, FormedLabel, FormedName, FormedValType, FormedOption, FormedField, FormedCase, FormedDefined, FormedFunction, FormedAlias, FormedDescription, FormedType, FormedDecl, FormedExport};
 
 use crate::name::ExternName;
 use crate::raw::{
@@ -34,7 +34,7 @@ fn put_s33(out: &mut Vec<u8>, value: u32) -> Result<(), AllocError>
 /// A count, for which there is no memory where it passes 32 bits.
 pub fn put_count(out: &mut Vec<u8>, count: usize) -> Result<(), AllocError>
     ensures bytes { OnOk result (out.new.items ≡ out.old.items ++ u32_bytes count) }
-    ensures formed { OnOk result (Fits count) }
+    ensures formed { OnOk result (FitsU32 count) }
 {
     match u32::try_from(count) {
         Ok(count) => put_u32(out, count),
@@ -44,7 +44,7 @@ pub fn put_count(out: &mut Vec<u8>, count: usize) -> Result<(), AllocError>
 
 fn put_name(out: &mut Vec<u8>, text: &[u8]) -> Result<(), AllocError>
     ensures bytes { OnOk result (out.new.items ≡ out.old.items ++ name_bytes text.now) }
-    ensures formed { OnOk result (Fits (length text.now)) }
+    ensures formed { OnOk result (FitsU32 (length text.now)) }
 {
     put_count(out, text.len())?;
     out.extend_from_slice(text)?;
@@ -228,8 +228,8 @@ fn put_outcome(out: &mut Vec<u8>, ty: Option<RawValType>) -> Result<(), AllocErr
 }
 
 fn put_function(out: &mut Vec<u8>, function: &RawFunction) -> Result<(), AllocError>
-    ensures bytes { OnOk result (out.new.items ≡ out.old.items ++ function_bytes (function_view function.now)) }
-    ensures formed { OnOk result (FormedFunction (function_view function.now)) }
+    ensures bytes { OnOk result (out.new.items ≡ out.old.items ++ function_bytes (raw_function_view function.now)) }
+    ensures formed { OnOk result (FormedFunction (raw_function_view function.now)) }
 {
     out.push(0x40)?;
     put_fields(out, function.params.as_slice())?;
@@ -389,7 +389,7 @@ pub fn put_exports(
 
 pub fn put_section(out: &mut Vec<u8>, id: u8, content: &[u8]) -> Result<(), AllocError>
     ensures bytes { OnOk result (out.new.items ≡ out.old.items ++ section_bytes id content.now) }
-    ensures formed { OnOk result (Fits (length content.now)) }
+    ensures formed { OnOk result (FitsU32 (length content.now)) }
 {
     out.push(id)?;
     put_count(out, content.len())?;

@@ -4,7 +4,7 @@ use Rattle.arrayvec.specs.ArrayVec.{ArrayVec}
 use Rattle.asking.specs.declared.request.Request.{Request}
 use Rattle.canonical_abi.specs.Call.{Parties, PostRun, Run, World}
 use Rattle.canonical_abi.specs.Guest.{Memory, with_bytes}
-use Rattle.canonical_abi.specs.Halves.{source, world, CallsInHalves, HalvesKeep}
+use Rattle.canonical_abi.specs.Halves.{source, as_world, CallsInHalves, HalvesKeep}
 use Rattle.canonical_abi.specs.Types.{FunctionType}
 use Rattle.canonical_abi.specs.declared.flat.Flat.{Flat}
 use Rattle.canonical_abi.specs.declared.trap.Fault.{Fault}
@@ -42,8 +42,8 @@ Enters f flats caller callee result new =
     (λ error. (name : ℕ) × EntryOfLentFails name f flats caller granted blocks error new)
 
 -- the caller's allocator granted some blocks, of which none meets the return area, and the answer was put into them, or this half was broken off
-abbrev pub Leaves : FunctionType → List Flat → List ℕ → List Flat → List ℕ → Result (ArrayVec Flat) HalfError → List ℕ → Type 0
-Leaves f flats callee answer caller result new =
+abbrev pub LeavesCall : FunctionType → List Flat → List ℕ → List Flat → List ℕ → Result (ArrayVec Flat) HalfError → List ℕ → Type 0
+LeavesCall f flats callee answer caller result new =
     (granted : List ℕ) × (blocks : List Block) × HasGranted caller granted × KeepsArea f flats granted blocks × MatchResult result
     (λ given. (name : ℕ) × ReturnsLent name f flats callee answer granted blocks given.items new)
     (λ error. (name : ℕ) × ReturnOfLentFails name f flats callee answer granted blocks error new)
@@ -86,5 +86,5 @@ pub record MakesCall (runs : Run) (posts : PostRun) (f : FunctionType) (flats : 
   -- by ways of so many nodes
   pub nodes_there : ℕ
   pub nodes_back : ℕ
-  pub calls : CallsInHalves (hosting runs posts) f flats (world (source caller) (lent name entering there) []) (lent other between back) ended nodes_there nodes_back new
-  pub promise : HalvesKeep (hosting runs posts) f flats (world (source caller) (lent name entering there) []) (lent other between back) ended new
+  pub calls : CallsInHalves (hosting runs posts) f flats (as_world (source caller) (lent name entering there) []) (lent other between back) ended nodes_there nodes_back new
+  pub promise : HalvesKeep (hosting runs posts) f flats (as_world (source caller) (lent name entering there) []) (lent other between back) ended new

@@ -2,7 +2,7 @@
 ghost use Rattle.std.specs.Prelude.{◌≡◌, ◌<◌, length};
 ghost use Rattle.layout.specs.Layout.{AreWithin};
 ghost use Rattle.tables.specs.Closed.{IsFunction, function_type};
-ghost use Rattle.example_host_halves.specs.Promise.{Enters, Leaves};
+ghost use Rattle.example_host_halves.specs.Promise.{Enters, LeavesCall};
 
 use crate::grants::{grant, lendable};
 use crate::requests::{request_answer, request_arguments};
@@ -63,7 +63,7 @@ pub fn leave(
     requires function { IsFunction types.now invocation.now.func }
     requires short { length callee.old < 4294967296 }
     requires limited { length caller.old < 4294967296 }
-    ensures left { Leaves (function_type types.now invocation.now.func) invocation.now.flats.now callee.old answer.now caller.old result caller.new }
+    ensures left { LeavesCall (function_type types.now invocation.now.func) invocation.now.flats.now callee.old answer.now caller.old result caller.new }
     ensures same_callee { callee.new ≡ callee.old }
 {
     let mut slots = [NOTHING; MOST];

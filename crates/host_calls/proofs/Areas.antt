@@ -7,7 +7,7 @@ use Rattle.canonical_abi.specs.Guest.{IsWithin}
 use Rattle.canonical_abi.specs.Layout.{size}
 use Rattle.canonical_abi.specs.Types.{FunctionType, record_type}
 use Rattle.canonical_abi.specs.declared.flat.Flat.{Flat}
-use Rattle.memory.specs.Blocks.{is_in, is_apart, are_good, can_lend}
+use Rattle.memory.specs.Blocks.{is_in_block, is_apart, are_good, can_lend}
 use Rattle.memory.specs.Lent.{is_kept}
 use Rattle.memory.specs.declared.block.Block.{Block}
 use Rattle.layout.specs.Layout.{AreWithin}
@@ -21,18 +21,18 @@ use Rattle.adapter.proofs.Functions.{same_types}
 use Rattle.adapter.proofs.Signatures.{result-known, result-inside, all-inside, result-small}
 use Rattle.host_calls.specs.Calling.{KeepsArea, area_block}
 
-within : (b : Block) (a : ℕ) → IsWithin a b.at b.size → is_in b a ≡ true
+within : (b : Block) (a : ℕ) → IsWithin a b.at b.size → is_in_block b a ≡ true
 within b a h = and_from (nat_le b.at a) (nat_lt a (b.at + b.size)) (le-leb b.at a h.0) (lt-ltb a (b.at + b.size) h.1)
 
-apart : (b c : Block) (a : ℕ) → is_apart b c ≡ true → is_in b a ≡ true → is_in c a ≡ false
+apart : (b c : Block) (a : ℕ) → is_apart b c ≡ true → is_in_block b a ≡ true → is_in_block c a ≡ false
 unfolding is_apart
 apart b c a h i = grind (arith, nat_tests)
 
-not-kept : (b : Block) (bs : List Block) (a : ℕ) → list_all (is_apart b) bs ≡ true → is_in b a ≡ true → is_kept bs a ≡ false
+not-kept : (b : Block) (bs : List Block) (a : ℕ) → list_all (is_apart b) bs ≡ true → is_in_block b a ≡ true → is_kept bs a ≡ false
 not-kept b [] a h i = refl
 not-kept b (c ∷ bs) a h i =
     let t = and_parts (is_apart b c) (list_all (is_apart b) bs) h in
-    or_from (is_in c a) (is_kept bs a) (apart b c a t.0 i) (not-kept b bs a t.1 i)
+    or_from (is_in_block c a) (is_kept bs a) (apart b c a t.0 i) (not-kept b bs a t.1 i)
 
 beside : (len : ℕ) (b : Block) (bs : List Block) → can_lend len b bs ≡ true → list_all (is_apart b) bs ≡ true
 beside len b bs h = (and_parts (are_good len bs) (list_all (is_apart b) bs) (and_parts (nat_lt len 4294967296) (are_good len bs && list_all (is_apart b) bs) h).1).1

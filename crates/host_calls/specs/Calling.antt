@@ -49,8 +49,8 @@ of_half (half.Fault fault) = error.Fault fault
 abbrev pub IsBadBlock : List ℕ → List ℕ → Block → List Block → Type 0
 IsBadBlock source target place blocks = (4294967296 ≤ length source) ⊎ (can_lend (length target) place blocks ≡ false)
 
-abbrev pub nowhere : Block
-nowhere = record { align = 1; size = 0; at = 0 }
+abbrev pub no_block : Block
+no_block = record { align = 1; size = 0; at = 0 }
 
 -- the return area of a call, as a block
 abbrev pub area_block : FunctionType → List Flat → Block
@@ -67,7 +67,7 @@ EnterRefuses f flats caller old blocks handed (error.Fault fault) new =
     ⊎ ((name : ℕ) × EntryOfLentFails name f (map flat_of flats) caller old blocks (half.Fault fault) new)
 EnterRefuses f flats caller old blocks handed (error.OtherBlock index) new = (name : ℕ) × EntryOfLentFails name f (map flat_of flats) caller old blocks (half.OtherBlock index) new
 EnterRefuses f flats caller old blocks handed (error.NoRoom count) new = (count ≡ 17) × (length handed < 17) × (new ≡ old)
-EnterRefuses f flats caller old blocks handed error.BadBlock new = KindsFit f (map flat_of flats) × IsBadBlock caller old nowhere blocks × (new ≡ old)
+EnterRefuses f flats caller old blocks handed error.BadBlock new = KindsFit f (map flat_of flats) × IsBadBlock caller old no_block blocks × (new ≡ old)
 EnterRefuses f flats caller old blocks handed error.NoMemory new = (rise 0 blocks ≡ false) × (new ≡ old)
 EnterRefuses f flats caller old blocks handed _ new = ⊥
 

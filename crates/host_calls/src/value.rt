@@ -1,7 +1,7 @@
 //! Core values as C has them.
 ghost use Rattle.std.specs.Prelude.{◌≡◌, ◌↔◌, ◌≤◌, [], drop, length, map, IsTrue};
 ghost use Rattle.arrayvec.specs.ArrayVec.{array_vec_len};
-ghost use Rattle.host_calls.specs.Values.{flat_of, value_of, HoldsFlats};
+ghost use Rattle.host_calls.specs.Values.{flat_of, core_value_of, HoldsFlats};
 
 use arrayvec::ArrayVec;
 use canonical_abi::Flat;
@@ -33,7 +33,7 @@ impl Value {
 
     /// A flat value as C has it.
     pub fn of(flat: Flat) -> Value
-        ensures { result ≡ value_of flat }
+        ensures { result ≡ core_value_of flat }
     {
         match flat {
             Flat::I32(number) => Value {

@@ -16,7 +16,7 @@ use Rattle.tables.specs.declared.tables.TypeDefKind.TheVariants as kind
 use Rattle.tables.specs.declared.tables.ValType.{ValType}
 use Rattle.tables.proofs.Rows.{earlier-at, get-at, option_below-later}
 use Rattle.values.specs.Types.{IsInside}
-use Rattle.host_lists.specs.Contents.{members_in, members_of, target_in, target_of}
+use Rattle.host_lists.specs.Contents.{member_types_in, types_of_members, target_in, target_of}
 use Rattle.host_lists.specs.Rows.{row_type}
 
 -- what holds of each holds of the one at a place
@@ -30,7 +30,7 @@ module _ (has : ValType → Bool) where
   no-types [] = refl
   no-types (x ∷ xs) = no-types xs
 
-  members-in : (k : TypeDefKind) → kind_all has k ≡ true → list_all (option_all has) (members_in k) ≡ true
+  members-in : (k : TypeDefKind) → kind_all has k ≡ true → list_all (option_all has) (member_types_in k) ≡ true
   members-in (kind.Use t) h = refl
   members-in (kind.Alias v) h = refl
   members-in (kind.List v) h = refl
@@ -42,7 +42,7 @@ module _ (has : ValType → Bool) where
   members-in (kind.Enum ns) h = no-types ns
   members-in (kind.Flags ns) h = no-types ns
 
-  members-of : (d : Definition) → definition_all has d ≡ true → list_all (option_all has) (members_of d) ≡ true
+  members-of : (d : Definition) → definition_all has d ≡ true → list_all (option_all has) (types_of_members d) ≡ true
   members-of (row.Type d) h = members-in d.kind h
   members-of (row.Function f) h = list_all-map (option_all has) (λ (p : Parameter). Some p.ty) f.params ∙ (and_parts _ _ h).0
 
@@ -74,8 +74,8 @@ module _ (r : Resolve) (k : ℕ) (d : Definition) (at : slice_get r.definitions 
   pub row-inside : IsInside r (row_type k)
   row-inside = lt-ltb k (length r.definitions) within
 
-  pub member-inside : (i : ℕ) (v : Option ValType) → slice_get (members_of d) i ≡ Some v → IsTrue (option_below (length r.definitions) v)
-  member-inside i v is = option_below-later k (length r.definitions) v (omega (arith, within)) (all-at (option_all (is_below k)) (members_of d) i v (members-of (is_below k) d below) is)
+  pub member-inside : (i : ℕ) (v : Option ValType) → slice_get (types_of_members d) i ≡ Some v → IsTrue (option_below (length r.definitions) v)
+  member-inside i v is = option_below-later k (length r.definitions) v (omega (arith, within)) (all-at (option_all (is_below k)) (types_of_members d) i v (members-of (is_below k) d below) is)
 
   pub target-inside : IsTrue (option_below (length r.definitions) (target_of d))
   target-inside = option_below-later k (length r.definitions) (target_of d) (omega (arith, within)) (target-of (is_below k) d below)

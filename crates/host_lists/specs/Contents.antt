@@ -8,22 +8,22 @@ use Rattle.tables.specs.declared.tables.Definition.{Definition}
 use Rattle.tables.specs.declared.tables.Definition.TheVariants as row
 
 -- the types of fields, elements and payloads; a case may have none, and a label has none
-abbrev pub members_in : TypeDefKind → List (Option ValType)
-members_in (kind.Use t) = []
-members_in (kind.Alias v) = []
-members_in (kind.List v) = []
-members_in (kind.Option v) = None ∷ Some v ∷ []
-members_in (kind.Result ok error) = ok ∷ error ∷ []
-members_in (kind.Tuple vs) = map (λ v. Some v) vs
-members_in (kind.Record fs) = map (λ f. Some f.ty) fs
-members_in (kind.Variant cs) = map (λ c. c.ty) cs
-members_in (kind.Enum names) = map (λ n. None) names
-members_in (kind.Flags names) = map (λ n. None) names
+abbrev pub member_types_in : TypeDefKind → List (Option ValType)
+member_types_in (kind.Use t) = []
+member_types_in (kind.Alias v) = []
+member_types_in (kind.List v) = []
+member_types_in (kind.Option v) = None ∷ Some v ∷ []
+member_types_in (kind.Result ok error) = ok ∷ error ∷ []
+member_types_in (kind.Tuple vs) = map (λ v. Some v) vs
+member_types_in (kind.Record fs) = map (λ f. Some f.ty) fs
+member_types_in (kind.Variant cs) = map (λ c. c.ty) cs
+member_types_in (kind.Enum names) = map (λ n. None) names
+member_types_in (kind.Flags names) = map (λ n. None) names
 
 -- a function has its parameters
-abbrev pub members_of : Definition → List (Option ValType)
-members_of (row.Type d) = members_in d.kind
-members_of (row.Function f) = map (λ p. Some p.ty) f.params
+abbrev pub types_of_members : Definition → List (Option ValType)
+types_of_members (row.Type d) = member_types_in d.kind
+types_of_members (row.Function f) = map (λ p. Some p.ty) f.params
 
 -- a list's element, and the type that a name stands for
 abbrev pub target_in : TypeDefKind → Option ValType

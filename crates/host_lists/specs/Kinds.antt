@@ -21,22 +21,22 @@ primitive_number primitive.S64 = 8
 primitive_number primitive.U64 = 9
 primitive_number primitive.Char = 10
 
-abbrev pub kind_number : TypeDefKind → ℕ
-kind_number (kind.List v) = 12
-kind_number (kind.Option v) = 13
-kind_number (kind.Result ok error) = 14
-kind_number (kind.Tuple vs) = 15
-kind_number (kind.Record fs) = 16
-kind_number (kind.Variant cs) = 17
-kind_number (kind.Enum names) = 18
-kind_number (kind.Flags names) = 19
-kind_number (kind.Alias v) = 20
-kind_number (kind.Use t) = 21
+abbrev pub definition_kind_number : TypeDefKind → ℕ
+definition_kind_number (kind.List v) = 12
+definition_kind_number (kind.Option v) = 13
+definition_kind_number (kind.Result ok error) = 14
+definition_kind_number (kind.Tuple vs) = 15
+definition_kind_number (kind.Record fs) = 16
+definition_kind_number (kind.Variant cs) = 17
+definition_kind_number (kind.Enum names) = 18
+definition_kind_number (kind.Flags names) = 19
+definition_kind_number (kind.Alias v) = 20
+definition_kind_number (kind.Use t) = 21
 
 -- a row of a table, if there is one
 abbrev pub row_number : Option Definition → ℕ
 row_number None = 0
-row_number (Some (row.Type d)) = kind_number d.kind
+row_number (Some (row.Type d)) = definition_kind_number d.kind
 row_number (Some (row.Function f)) = 22
 
 -- a type: of one of the table its row

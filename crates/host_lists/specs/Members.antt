@@ -7,7 +7,7 @@ use Rattle.tables.specs.Closed.{closed_type}
 use Rattle.tables.specs.declared.tables.ValType.{ValType}
 use Rattle.tables.specs.declared.tables.Definition.{Definition}
 use Rattle.tables.specs.declared.tables.Resolve.{Resolve}
-use Rattle.host_lists.specs.Contents.{members_of}
+use Rattle.host_lists.specs.Contents.{types_of_members}
 use Rattle.host_lists.specs.Rows.{row_type, type_info}
 use Rattle.host_lists.specs.declared.members.MemberInfo.{MemberInfo}
 
@@ -27,7 +27,7 @@ member_info r number i v = record { ty = type_info r v; offset = member_offset (
 
 abbrev pub member_in : Resolve → ℕ → ℕ → Option Definition → Option MemberInfo
 member_in r number i None = None
-member_in r number i (Some d) = option_map (member_info r number i) (slice_get (members_of d) i)
+member_in r number i (Some d) = option_map (member_info r number i) (slice_get (types_of_members d) i)
 
 abbrev pub member_at : Resolve → ℕ → ℕ → Option MemberInfo
 member_at r number i = member_in r number i (slice_get r.definitions number)

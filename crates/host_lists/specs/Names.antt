@@ -10,37 +10,37 @@ use Rattle.tables.specs.declared.tables.Definition.TheVariants as row
 use Rattle.tables.specs.declared.tables.Resolve.{Resolve}
 
 -- no bytes where there is no name
-abbrev pub name_in : Option TypeName → List ℕ
-name_in None = []
-name_in (Some n) = n.name
+abbrev pub type_name_bytes : Option TypeName → List ℕ
+type_name_bytes None = []
+type_name_bytes (Some n) = n.name
 
-abbrev pub own_name : Definition → List ℕ
-own_name (row.Type d) = name_in d.name
-own_name (row.Function f) = f.name
+abbrev pub definition_name : Definition → List ℕ
+definition_name (row.Type d) = type_name_bytes d.name
+definition_name (row.Function f) = f.name
 
 -- a label for each member, in order; no bytes for an element of a tuple
-abbrev pub labels_in : TypeDefKind → List (List ℕ)
-labels_in (kind.Use t) = []
-labels_in (kind.Alias v) = []
-labels_in (kind.List v) = []
-labels_in (kind.Option v) = none_label ∷ some_label ∷ []
-labels_in (kind.Result ok error) = ok_label ∷ error_label ∷ []
-labels_in (kind.Tuple vs) = map (λ v. []) vs
-labels_in (kind.Record fs) = map (λ f. f.name) fs
-labels_in (kind.Variant cs) = map (λ c. c.name) cs
-labels_in (kind.Enum names) = names
-labels_in (kind.Flags names) = names
+abbrev pub member_labels : TypeDefKind → List (List ℕ)
+member_labels (kind.Use t) = []
+member_labels (kind.Alias v) = []
+member_labels (kind.List v) = []
+member_labels (kind.Option v) = none_label ∷ some_label ∷ []
+member_labels (kind.Result ok error) = ok_label ∷ error_label ∷ []
+member_labels (kind.Tuple vs) = map (λ v. []) vs
+member_labels (kind.Record fs) = map (λ f. f.name) fs
+member_labels (kind.Variant cs) = map (λ c. c.name) cs
+member_labels (kind.Enum names) = names
+member_labels (kind.Flags names) = names
 
-abbrev pub labels_of : Definition → List (List ℕ)
-labels_of (row.Type d) = labels_in d.kind
-labels_of (row.Function f) = map (λ p. p.name) f.params
+abbrev pub definition_labels : Definition → List (List ℕ)
+definition_labels (row.Type d) = member_labels d.kind
+definition_labels (row.Function f) = map (λ p. p.name) f.params
 
 abbrev pub row_name_at : Resolve → ℕ → Option (List ℕ)
-row_name_at r number = option_map own_name (slice_get r.definitions number)
+row_name_at r number = option_map definition_name (slice_get r.definitions number)
 
 abbrev pub member_name_in : Option Definition → ℕ → Option (List ℕ)
 member_name_in None i = None
-member_name_in (Some d) i = slice_get (labels_of d) i
+member_name_in (Some d) i = slice_get (definition_labels d) i
 
 abbrev pub member_name_at : Resolve → ℕ → ℕ → Option (List ℕ)
 member_name_at r number i = member_name_in (slice_get r.definitions number) i

@@ -9,9 +9,9 @@ use Rattle.tables.specs.declared.tables.Owner.TheVariants as owner
 use Rattle.tables.specs.declared.tables.Resolve.{Resolve}
 
 -- a type that stands inside another definition has no name
-abbrev pub owner_of : Definition → Option Owner
-owner_of (row.Type d) = option_map (λ n. owner.Interface n.interface) d.name
-owner_of (row.Function f) = Some f.owner
+abbrev pub stated_owner : Definition → Option Owner
+stated_owner (row.Type d) = option_map (λ n. owner.Interface n.interface) d.name
+stated_owner (row.Function f) = Some f.owner
 
 abbrev pub owner_kind : Option Owner → ℕ
 owner_kind None = 0
@@ -34,9 +34,9 @@ abbrev pub owner_name : Resolve → Owner → Option (List ℕ)
 owner_name r (owner.Interface i) = option_map (full_name r) (slice_get r.interfaces i.0)
 owner_name r (owner.World w) = option_map (world_name r) (slice_get r.worlds w.0)
 
-abbrev pub name_if : Resolve → Option Owner → Option (List ℕ)
-name_if r None = None
-name_if r (Some o) = owner_name r o
+abbrev pub owner_name_if : Resolve → Option Owner → Option (List ℕ)
+owner_name_if r None = None
+owner_name_if r (Some o) = owner_name r o
 
 abbrev pub owner_name_at : Resolve → ℕ → ℕ → Option (List ℕ)
-owner_name_at r kind number = name_if r (numbered_owner kind number)
+owner_name_at r kind number = owner_name_if r (numbered_owner kind number)

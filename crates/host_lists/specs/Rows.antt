@@ -8,9 +8,9 @@ use Rattle.tables.specs.declared.tables.ValType.TheVariants as val
 use Rattle.tables.specs.declared.tables.Definition.{Definition}
 use Rattle.tables.specs.declared.tables.Resolve.{Resolve}
 use Rattle.host_calls.specs.Status.{told}
-use Rattle.host_lists.specs.Contents.{members_of, target_of}
+use Rattle.host_lists.specs.Contents.{types_of_members, target_of}
 use Rattle.host_lists.specs.Kinds.{type_number}
-use Rattle.host_lists.specs.Owners.{owner_of, owner_kind, owner_number}
+use Rattle.host_lists.specs.Owners.{stated_owner, owner_kind, owner_number}
 use Rattle.host_lists.specs.declared.rows.RowInfo.{RowInfo}
 use Rattle.host_lists.specs.declared.rows.TypeInfo.{TypeInfo}
 
@@ -39,10 +39,10 @@ abbrev pub row_info : Resolve → ℕ → Definition → RowInfo
 row_info r number d = record {
   ty = type_info r (Some (row_type number));
   target = type_info r (target_of d);
-  owner_kind = owner_kind (owner_of d);
-  owner = owner_number (owner_of d);
-  members = told (length (members_of d));
+  owner_kind = owner_kind (stated_owner d);
+  owner = owner_number (stated_owner d);
+  members = told (length (types_of_members d));
 }
 
-abbrev pub row_at : Resolve → ℕ → Option RowInfo
-row_at r number = option_map (row_info r number) (slice_get r.definitions number)
+abbrev pub row_info_at : Resolve → ℕ → Option RowInfo
+row_info_at r number = option_map (row_info r number) (slice_get r.definitions number)

@@ -11,9 +11,9 @@ BytesDone bytes old done new = MatchResult done
     (λ e. (e ≡ error.NoRoom (length bytes)) × (length old < length bytes) × (new ≡ old))
 
 -- what is there; 75 where nothing is, and what the host had before
-abbrev pub IsTold : {A : Type 0} → Option A → A → Result ℕ CallError → A → Type 0
-IsTold None old done new = (done ≡ Err error.NotThere) × (new ≡ old)
-IsTold (Some x) old done new = (done ≡ Ok 0) × (new ≡ x)
+abbrev pub IsToldIfThere : {A : Type 0} → Option A → A → Result ℕ CallError → A → Type 0
+IsToldIfThere None old done new = (done ≡ Err error.NotThere) × (new ≡ old)
+IsToldIfThere (Some x) old done new = (done ≡ Ok 0) × (new ≡ x)
 
 abbrev pub IsToldAsBytes : Option (List ℕ) → List ℕ → Result ℕ CallError → List ℕ → Type 0
 IsToldAsBytes None old done new = (done ≡ Err error.NotThere) × (new ≡ old)
@@ -22,7 +22,7 @@ IsToldAsBytes (Some bytes) old done new = BytesDone bytes old done new
 -- the same of a package's table; 70 where no package is open
 abbrev pub TellsOfTable : {A : Type 0} → Option Resolve → (Resolve → Option A) → A → Result ℕ CallError → A → Type 0
 TellsOfTable None at old done new = (done ≡ Err error.NotOpen) × (new ≡ old)
-TellsOfTable (Some r) at old done new = IsTold (at r) old done new
+TellsOfTable (Some r) at old done new = IsToldIfThere (at r) old done new
 
 abbrev pub TellsName : Option Resolve → (Resolve → Option (List ℕ)) → List ℕ → Result ℕ CallError → List ℕ → Type 0
 TellsName None at old done new = (done ≡ Err error.NotOpen) × (new ≡ old)

@@ -1,6 +1,6 @@
 //! The numbers of kinds, as the header has them.
 ghost use Rattle.std.specs.Prelude.{◌≡◌};
-ghost use Rattle.host_lists.specs.Kinds.{primitive_number, kind_number, type_number};
+ghost use Rattle.host_lists.specs.Kinds.{primitive_number, definition_kind_number, type_number};
 
 use tables::{Definition, Primitive, Resolve, TypeDefKind, ValType};
 
@@ -22,7 +22,7 @@ fn primitive_number(primitive: Primitive) -> u32
 }
 
 fn kind_number(kind: &TypeDefKind) -> u32
-    ensures { result ≡ kind_number kind.now }
+    ensures { result ≡ definition_kind_number kind.now }
 {
     match kind {
         TypeDefKind::List(_) => 12,

@@ -2,7 +2,7 @@
 ghost use Rattle.std.specs.Prelude.{◌≡◌, ◌<◌, map, length, slice_get, Some};
 ghost use Rattle.tables.specs.Closed.{closed_type};
 ghost use Rattle.values.specs.Types.{IsInside};
-ghost use Rattle.host_lists.specs.Contents.{members_in, members_of};
+ghost use Rattle.host_lists.specs.Contents.{member_types_in, types_of_members};
 ghost use Rattle.host_lists.specs.Members.{member_offset, member_at};
 ghost use Rattle.host_lists.specs.Told.{TellsOfTable};
 
@@ -21,7 +21,7 @@ pub struct MemberInfo {
 }
 
 fn kind_count(kind: &TypeDefKind) -> usize
-    ensures { result ≡ length (members_in kind.now) }
+    ensures { result ≡ length (member_types_in kind.now) }
 {
     match kind {
         TypeDefKind::Use(_) | TypeDefKind::Alias(_) | TypeDefKind::List(_) => 0,
@@ -35,7 +35,7 @@ fn kind_count(kind: &TypeDefKind) -> usize
 
 /// How many members a row has.
 pub(crate) fn member_count(definition: &Definition) -> usize
-    ensures { result ≡ length (members_of definition.now) }
+    ensures { result ≡ length (types_of_members definition.now) }
 {
     match definition {
         Definition::Type(definition) => kind_count(&definition.kind),
@@ -58,7 +58,7 @@ fn nth_payload<C: Choice>(choices: &[C], index: usize) -> Option<Option<ValType>
 }
 
 fn kind_member(kind: &TypeDefKind, index: usize) -> Option<Option<ValType>>
-    ensures { result ≡ slice_get (members_in kind.now) index }
+    ensures { result ≡ slice_get (member_types_in kind.now) index }
 {
     match kind {
         TypeDefKind::Use(_) | TypeDefKind::Alias(_) | TypeDefKind::List(_) => None,
@@ -75,7 +75,7 @@ fn kind_member(kind: &TypeDefKind, index: usize) -> Option<Option<ValType>>
 
 /// The type of a member, if there is such a member, and if it has one.
 fn member_of(definition: &Definition, index: usize) -> Option<Option<ValType>>
-    ensures { result ≡ slice_get (members_of definition.now) index }
+    ensures { result ≡ slice_get (types_of_members definition.now) index }
 {
     match definition {
         Definition::Type(definition) => kind_member(&definition.kind, index),

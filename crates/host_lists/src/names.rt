@@ -1,6 +1,6 @@
 //! The names of rows and of their members.
 ghost use Rattle.std.specs.Prelude.{◌≡◌, ◌∷◌, [], option_map, slice_get};
-ghost use Rattle.host_lists.specs.Names.{own_name, labels_in, labels_of, row_name_at, member_name_at};
+ghost use Rattle.host_lists.specs.Names.{definition_name, member_labels, definition_labels, row_name_at, member_name_at};
 ghost use Rattle.host_lists.specs.Told.{TellsName};
 
 use crate::bytes::tell_bytes;
@@ -11,7 +11,7 @@ use values::Types;
 
 /// The name of a row: no bytes where it has none.
 fn own_name(definition: &Definition) -> &[u8]
-    ensures { result.now ≡ own_name definition.now }
+    ensures { result.now ≡ definition_name definition.now }
 {
     match definition {
         Definition::Type(definition) => match &definition.name {
@@ -53,7 +53,7 @@ fn nth_label<'a>(labels: &'a [Label], index: usize) -> Option<&'a [u8]>
 }
 
 fn label_in<'a>(kind: &'a TypeDefKind, index: usize) -> Option<&'a [u8]>
-    ensures { option_map (λ l. l.now) result ≡ slice_get (labels_in kind.now) index }
+    ensures { option_map (λ l. l.now) result ≡ slice_get (member_labels kind.now) index }
 {
     match kind {
         TypeDefKind::Use(_) | TypeDefKind::Alias(_) | TypeDefKind::List(_) => None,
@@ -73,7 +73,7 @@ fn label_in<'a>(kind: &'a TypeDefKind, index: usize) -> Option<&'a [u8]>
 
 /// The label of a member: no bytes of an element of a tuple.
 fn label_of<'a>(definition: &'a Definition, index: usize) -> Option<&'a [u8]>
-    ensures { option_map (λ l. l.now) result ≡ slice_get (labels_of definition.now) index }
+    ensures { option_map (λ l. l.now) result ≡ slice_get (definition_labels definition.now) index }
 {
     match definition {
         Definition::Type(definition) => label_in(&definition.kind, index),

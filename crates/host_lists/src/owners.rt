@@ -1,7 +1,7 @@
 //! Where a row has its name: an interface or a world, and the full names of these.
 ghost use Rattle.std.specs.Prelude.{◌≡◌, IfOk, option_map, slice_get};
 ghost use Rattle.tables.specs.Names.{full_name_in};
-ghost use Rattle.host_lists.specs.Owners.{owner_of, owner_kind, owner_number, numbered_owner, owner_name, owner_name_at};
+ghost use Rattle.host_lists.specs.Owners.{stated_owner, owner_kind, owner_number, numbered_owner, owner_name, owner_name_at};
 ghost use Rattle.host_lists.specs.Told.{TellsNewName};
 
 use crate::bytes::tell_bytes;
@@ -13,7 +13,7 @@ use values::Types;
 
 /// Where a row has its name, if it has one.
 pub(crate) fn owner_of(definition: &Definition) -> Option<Owner>
-    ensures { result ≡ owner_of definition.now }
+    ensures { result ≡ stated_owner definition.now }
 {
     match definition {
         Definition::Type(definition) => match &definition.name {

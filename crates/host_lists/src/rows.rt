@@ -2,7 +2,7 @@
 ghost use Rattle.std.specs.Prelude.{◌≡◌, IsTrue, length};
 ghost use Rattle.tables.specs.Tables.{option_below};
 ghost use Rattle.host_lists.specs.Contents.{target_of};
-ghost use Rattle.host_lists.specs.Rows.{type_row, type_info, row_at};
+ghost use Rattle.host_lists.specs.Rows.{type_row, type_info, row_info_at};
 ghost use Rattle.host_lists.specs.Told.{TellsOfTable};
 
 use crate::kinds::type_number;
@@ -82,7 +82,7 @@ fn target_of(definition: &Definition) -> Option<ValType>
 
 /// The row of this number, if there is one.
 fn row_at(types: &Types, number: u32) -> Option<RowInfo>
-    ensures { result ≡ row_at types.now number }
+    ensures { result ≡ row_info_at types.now number }
 {
     let definitions = types.resolve().definitions.as_slice();
     let definition = definitions.get(number as usize)?;
@@ -98,7 +98,7 @@ fn row_at(types: &Types, number: u32) -> Option<RowInfo>
 
 /// Tells the row of this number: 70 where no package is open, 75 where no row has this number.
 pub fn row(types: &Option<Types>, number: u32, out: &mut RowInfo) -> Result<usize, CallError>
-    ensures { TellsOfTable types.now (λ r. row_at r number) out.old result out.new }
+    ensures { TellsOfTable types.now (λ r. row_info_at r number) out.old result out.new }
 {
     let Some(types) = types else {
         return Err(CallError::NotOpen);

@@ -15,7 +15,7 @@ use Rattle.tables.specs.declared.tables.Definition.{Definition}
 use Rattle.tables.specs.declared.tables.Definition.TheVariants as row
 use Rattle.tables.specs.declared.tables.Resolve.{Resolve}
 use Rattle.tables.proofs.Rows.{is_below-later}
-use Rattle.layout.specs.Parts.{payloads, end_of, followed, is_end, is_no_name, AreEnded, record_parts, variant_parts, kind_parts, definition_parts, parts_from}
+use Rattle.layout.specs.Parts.{payloads, final_type, behind_alias, is_end, is_no_name, AreEnded, record_parts, variant_parts, kind_parts, definition_parts, parts_from}
 use Rattle.layout.specs.Layout.{IsSound}
 use Rattle.layout.specs.Rows.{row_in, rows_at, choices_at, extent_at, extents, definition_row, IsLimitedDefinition}
 use Rattle.layout.specs.declared.parts.Parts.{Parts}
@@ -78,12 +78,12 @@ ended-more ps p ended ends = record {
   ];
 }
 
-pub end-ends : (ps : List Parts) (v : ValType) → AreEnded ps → IsTrue (is_below (length ps) v) → IsTrue (is_below (length ps) (end_of ps v)) × IsTrue (is_end ps (end_of ps v))
+pub end-ends : (ps : List Parts) (v : ValType) → AreEnded ps → IsTrue (is_below (length ps) v) → IsTrue (is_below (length ps) (final_type ps v)) × IsTrue (is_end ps (final_type ps v))
 end-ends ps (val.Primitive p) ended b = (refl, refl)
 end-ends ps val.String ended b = (refl, refl)
 end-ends ps (val.Id t) ended b = by (get_or ps t.0 none_such) refl
   where
-    by : (p : Parts) → get_or ps t.0 none_such ≡ p → IsTrue (is_below (length ps) (followed t p)) × IsTrue (is_end ps (followed t p))
+    by : (p : Parts) → get_or ps t.0 none_such ≡ p → IsTrue (is_below (length ps) (behind_alias t p)) × IsTrue (is_end ps (behind_alias t p))
     by (parts.Same v) e =
         let l = ltb-true t.0 (length ps) b in
         let old = ended.each t.0 v l e in
@@ -93,10 +93,10 @@ end-ends ps (val.Id t) ended b = by (get_or ps t.0 none_such) refl
     by (parts.Variant p os) e = (b, ap is_no_name e)
     by (parts.Flags n) e = (b, ap is_no_name e)
 
-name-ends : (ps : List Parts) (w : ValType) → AreEnded ps → IsTrue (is_below (length ps) w) → (v : ValType) → parts.Same (end_of ps w) ≡ parts.Same v → IsTrue (is_below (length ps) v) × IsTrue (is_end ps v)
+name-ends : (ps : List Parts) (w : ValType) → AreEnded ps → IsTrue (is_below (length ps) w) → (v : ValType) → parts.Same (final_type ps w) ≡ parts.Same v → IsTrue (is_below (length ps) v) × IsTrue (is_end ps v)
 name-ends ps w ended b v e =
     let ends = end-ends ps w ended b in
-    let same : end_of ps w ≡ v = cc in
+    let same : final_type ps w ≡ v = cc in
     (subst (λ (u : ValType). IsTrue (is_below (length ps) u)) same ends.0, subst (λ (u : ValType). IsTrue (is_end ps u)) same ends.1)
 
 kind-ends : (extent : ValType → Extent) (ps : List Parts) (k : TypeDefKind) → AreEnded ps → IsTrue (kind_below (length ps) k)

@@ -13,7 +13,7 @@ use Rattle.tables.specs.declared.tables.Resolve.{Resolve}
 use Rattle.layout.specs.Kinds.{kinds_of, passed, append_kinds}
 use Rattle.layout.specs.Layout.{row_of, result_of, layouts_of}
 use Rattle.layout.specs.Rows.{rows_at}
-use Rattle.layout.specs.Signature.{is_one, single, lifted_by, lowered_by}
+use Rattle.layout.specs.Signature.{is_one, single_result, lifted_by, lowered_by}
 use Rattle.layout.specs.declared.rows.Row.{Row}
 use Rattle.layout.specs.declared.kinds.Kinds.{Kinds}
 use Rattle.layout.proofs.Cuts.{kinds_of-flat, kinds_of-spilled, few-or-many}
@@ -41,7 +41,7 @@ one-of ks = elim (few-or-many (length ks)) [
   | inr h ↦ rw (kinds_of-spilled ks h) (grind (arith, nat_tests))
 ]
 
-single-of : (ks : List CoreKind) → single (kinds_of ks) ≡ (if nat_le (length ks) max_flat_results then ks else (I32 ∷ []))
+single-of : (ks : List CoreKind) → single_result (kinds_of ks) ≡ (if nat_le (length ks) max_flat_results then ks else (I32 ∷ []))
 single-of ks = elim (few-or-many (length ks)) [
   | inl h ↦ rw (kinds_of-flat ks h) refl
   | inr h ↦ rw (kinds_of-spilled ks h) (grind (arith, nat_tests))
@@ -85,8 +85,8 @@ pub lifted-is : (r : Resolve) (f : FunctionId) (params results : Kinds) → AreK
 lifted-is r f params results h =
     let g = function_type r f in
     let ps : passed params ≡ passed_kinds max_flat_params g.params = ap passed h.taken ∙ passed-of (field_kinds g.params) in
-    let rs : single results ≡ passed_kinds max_flat_results (result_fields g.result) = ap single h.answered ∙ single-of (field_kinds (result_fields g.result)) in
-    ap (λ (ks : List CoreKind). signature ks (single results)) ps ∙ ap (signature (passed_kinds max_flat_params g.params)) rs
+    let rs : single_result results ≡ passed_kinds max_flat_results (result_fields g.result) = ap single_result h.answered ∙ single-of (field_kinds (result_fields g.result)) in
+    ap (λ (ks : List CoreKind). signature ks (single_result results)) ps ∙ ap (signature (passed_kinds max_flat_params g.params)) rs
   where
     signature : List CoreKind → List CoreKind → CoreSignature
     signature ps rs = record { params = ps; results = rs }

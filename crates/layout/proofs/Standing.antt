@@ -17,7 +17,7 @@ use Rattle.tables.specs.declared.tables.Definition.{Definition}
 use Rattle.tables.specs.declared.tables.Definition.TheVariants as row
 use Rattle.tables.specs.declared.tables.Resolve.{Resolve}
 use Rattle.tables.proofs.Rows.{split, earlier-at, closed-at, closed_val-stays}
-use Rattle.layout.specs.Parts.{payloads, followed, end_of, record_parts, variant_parts, kind_parts, definition_parts, parts_from}
+use Rattle.layout.specs.Parts.{payloads, behind_alias, final_type, record_parts, variant_parts, kind_parts, definition_parts, parts_from}
 use Rattle.layout.specs.Queries.{PartsStand}
 use Rattle.layout.specs.declared.parts.Parts.{Parts}
 use Rattle.layout.specs.declared.parts.Parts.TheVariants as parts
@@ -88,7 +88,7 @@ module _ (c : ValType → ClosedType) (n : ℕ) where
       (e, ap (λ (k : ℕ). payload_at k (payloads (map (option_map room) os))) (count-cases os) ∙ ap (payload_at (case_count (cases_of (map (option_map c) os)))) (payloads-room os), h)
 
 kind-stands : (ts : List ClosedType) (n : ℕ) (ps : List Parts) (k : TypeDefKind) → IsTrue (kind_below n k)
-    → ((v : ValType) → IsTrue (is_below n v) → closed_val ts (end_of ps v) ≡ closed_val ts v)
+    → ((v : ValType) → IsTrue (is_below n v) → closed_val ts (final_type ps v) ≡ closed_val ts v)
     → PartsStand (closed_val ts) n (kind_parts (λ v. extent_of (closed_val ts v)) ps k) (closed_kind ts k)
 kind-stands ts n ps (kind.Use t) h ends = sym (ends (val.Id t) h)
 kind-stands ts n ps (kind.Alias v) h ends = sym (ends v h)
@@ -107,7 +107,7 @@ kind-stands ts n ps (kind.Enum names) h ends =
 kind-stands ts n ps (kind.Flags names) h ends = refl
 
 definition-stands : (ts : List ClosedType) (n : ℕ) (ps : List Parts) (d : Definition) → IsTrue (definition_below n d)
-    → ((v : ValType) → IsTrue (is_below n v) → closed_val ts (end_of ps v) ≡ closed_val ts v)
+    → ((v : ValType) → IsTrue (is_below n v) → closed_val ts (final_type ps v) ≡ closed_val ts v)
     → PartsStand (closed_val ts) n (definition_parts (λ v. extent_of (closed_val ts v)) ps d) (closed_definition ts d)
 definition-stands ts n ps (row.Type d) h ends = kind-stands ts n ps d.kind h ends
 definition-stands ts n ps (row.Function f) h ends =
@@ -131,7 +131,7 @@ module _ (r : Resolve) where
 
   -- names end at types that are closed alike, among the first i
   abbrev EndsAlike : ℕ → Type 0
-  EndsAlike i = (v : ValType) → IsTrue (is_below i v) → closed_type r (end_of (front i) v) ≡ closed_type r v
+  EndsAlike i = (v : ValType) → IsTrue (is_below i v) → closed_type r (final_type (front i) v) ≡ closed_type r v
 
   -- what stands in definition k, which is d
   stands-in : (k : ℕ) (d : Definition) → k < length r.definitions → EndsAlike k
@@ -145,7 +145,7 @@ module _ (r : Resolve) where
       (definition-stands (closed_types r) k (front k) (get_or r.definitions k d) below ends)
 
   -- a name that is made of these parts ends alike
-  followed-alike : (t : ℕ) (p : Parts) (n : ℕ) → PartsStand (closed_type r) n p (get_or (closed_types r) t string_type) → closed_type r (followed (record { 0 = t }) p) ≡ get_or (closed_types r) t string_type
+  followed-alike : (t : ℕ) (p : Parts) (n : ℕ) → PartsStand (closed_type r) n p (get_or (closed_types r) t string_type) → closed_type r (behind_alias (record { 0 = t }) p) ≡ get_or (closed_types r) t string_type
   followed-alike t (parts.Same v) n h = sym h
   followed-alike t (parts.List v) n h = refl
   followed-alike t (parts.Record vs ps) n h = refl
@@ -162,29 +162,29 @@ module _ (r : Resolve) where
   ends-alike zero d h (val.Id t) b = absurd (omega (arith, ltb-true t.0 0 b))
   ends-alike (suc i) d h (val.Id t) b = by (cases_lt t.0 i) (λ v c. ends-alike i d (omega arith) v c)
     where
-      by : (t.0 < i) ⊎ (i ≤ t.0) → EndsAlike i → closed_type r (end_of (front (suc i)) (val.Id t)) ≡ closed_type r (val.Id t)
+      by : (t.0 < i) ⊎ (i ≤ t.0) → EndsAlike i → closed_type r (final_type (front (suc i)) (val.Id t)) ≡ closed_type r (val.Id t)
       by (inl l) rest =
           let within : t.0 < length (front i) = omega (arith, length-front i (omega arith)) in
           let same : get_or (front (suc i)) t.0 none_such ≡ get_or (front i) t.0 none_such =
           ap (λ (ps : List Parts). get_or ps t.0 none_such) (front-more i d (omega arith)) ∙ get_or_append_left (front i) _ none_such t.0 within in
-          ap (λ (p : Parts). closed_type r (followed t p)) same ∙ rest (val.Id t) (lt-ltb t.0 i l)
+          ap (λ (p : Parts). closed_type r (behind_alias t p)) same ∙ rest (val.Id t) (lt-ltb t.0 i l)
       by (inr g) rest =
           let here : i ≡ t.0 = omega (arith, ltb-true t.0 (suc i) b) in
           let p = definition_parts (λ v. extent_of (closed_type r v)) (front i) (get_or r.definitions i d) in
           let at : length (front i) ≡ t.0 = length-front i (omega arith) ∙ here in
           let same : get_or (front (suc i)) t.0 none_such ≡ p =
           ap (λ (ps : List Parts). get_or ps t.0 none_such) (front-more i d (omega arith)) ∙ get_or_at (front i) p [] none_such t.0 at in
-          let alike : closed_type r (followed (record { 0 = i }) p) ≡ get_or (closed_types r) i string_type = followed-alike i p i (stands-in i d (omega arith) rest) in
-          ap (λ (q : Parts). closed_type r (followed t q)) same
-          ∙ subst (λ (j : ℕ). closed_type r (followed (record { 0 = j }) p) ≡ get_or (closed_types r) j string_type) here alike
+          let alike : closed_type r (behind_alias (record { 0 = i }) p) ≡ get_or (closed_types r) i string_type = followed-alike i p i (stands-in i d (omega arith) rest) in
+          ap (λ (q : Parts). closed_type r (behind_alias t q)) same
+          ∙ subst (λ (j : ℕ). closed_type r (behind_alias (record { 0 = j }) p) ≡ get_or (closed_types r) j string_type) here alike
 
   abbrev whole : List Parts
   whole = parts_from (λ v. extent_of (closed_type r v)) [] r.definitions
 
-  pub ends-whole : (d : Definition) (v : ValType) → IsTrue (is_below (length r.definitions) v) → closed_type r (end_of whole v) ≡ closed_type r v
+  pub ends-whole : (d : Definition) (v : ValType) → IsTrue (is_below (length r.definitions) v) → closed_type r (final_type whole v) ≡ closed_type r v
   ends-whole d v b =
       let all : front (length r.definitions) ≡ whole = ap (λ (ds : List Definition). parts_from (λ v. extent_of (closed_type r v)) [] ds) (take_all (length r.definitions) r.definitions (omega arith)) in
-      ap (λ (ps : List Parts). closed_type r (end_of ps v)) (sym all) ∙ ends-alike (length r.definitions) d (omega arith) v b
+      ap (λ (ps : List Parts). closed_type r (final_type ps v)) (sym all) ∙ ends-alike (length r.definitions) d (omega arith) v b
 
   parts-at : (k : ℕ) (d : Definition) → k < length r.definitions → get_or whole k none_such ≡ definition_parts (λ v. extent_of (closed_type r v)) (front k) (get_or r.definitions k d)
   parts-at k d h =

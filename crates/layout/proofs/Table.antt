@@ -9,14 +9,14 @@ use Rattle.tables.specs.declared.tables.Definition.{Definition}
 use Rattle.tables.specs.declared.tables.Definition.TheVariants as row
 use Rattle.tables.specs.declared.tables.Resolve.{Resolve}
 use Rattle.tables.proofs.Rows.{split, below-at, option_below-later, length-closed_rows, length-front, closed_rows-more, closed-at}
-use Rattle.layout.specs.Layout.{row_of, IsSound, IsWithin, LayoutRefuses, StandsAt, RefusesFirst, AreWithin}
+use Rattle.layout.specs.Layout.{row_of, IsSound, IsDefinitionWithin, LayoutRefuses, RefusesAt, RefusesFirst, AreWithin}
 use Rattle.layout.specs.Rows.{definition_row, result_below, IsLimitedDefinition, RefusesDefinition}
 use Rattle.layout.specs.declared.rows.Row.{Row}
 use Rattle.layout.specs.declared.error.LayoutError.{LayoutError}
 use Rattle.layout.specs.declared.error.LayoutError.TheVariants.{TooDeep, TooLarge, NoMemory}
 use Rattle.layout.proofs.Bridge.{definition_row-of}
 
-limited-within : (d : Definition) (t : ClosedType) → IsLimitedDefinition d (row_of t) → IsWithin d t
+limited-within : (d : Definition) (t : ClosedType) → IsLimitedDefinition d (row_of t) → IsDefinitionWithin d t
 limited-within (row.Type d) t h = (omega (arith, h.0), h.1)
 limited-within (row.Function f) t h = h
 
@@ -31,7 +31,7 @@ refused-closed NoMemory d t h = tt
 pub record RowsSoFar (r : Resolve) (i : ℕ) (rows : List Row) : Type 0 where
   pub rows_are : rows ≡ map row_of (closed_rows [] (take i r.definitions))
   pub sound : All IsSound rows
-  pub within : (k : ℕ) → k < i → (d : Definition) → get_or r.definitions k d ≡ d → IsWithin d (get_or (closed_types r) k string_type)
+  pub within : (k : ℕ) → k < i → (d : Definition) → get_or r.definitions k d ≡ d → IsDefinitionWithin d (get_or (closed_types r) k string_type)
 
 pub rows-none : (r : Resolve) → RowsSoFar r 0 []
 rows-none r = record {
@@ -72,7 +72,7 @@ module _ (r : Resolve) (i : ℕ) (rows : List Row) (d : Definition) (h : i < len
             (λ e e_is.
             let here : IsLimitedDefinition d (row_of (get_or (closed_types r) i string_type)) = subst (IsLimitedDefinition d) (x_is ∙ made) limited in
             let same : d ≡ e = is ∙ get_or-eq e ∙ e_is in
-            subst (λ (g : Definition). IsWithin g (get_or (closed_types r) i string_type)) same (limited-within d (get_or (closed_types r) i string_type) here));
+            subst (λ (g : Definition). IsDefinitionWithin g (get_or (closed_types r) i string_type)) same (limited-within d (get_or (closed_types r) i string_type) here));
       }
     where
       get_or-eq : (e : Definition) → get_or r.definitions i d ≡ get_or r.definitions i e
@@ -83,7 +83,7 @@ module _ (r : Resolve) (i : ℕ) (rows : List Row) (d : Definition) (h : i < len
       let closed : LayoutRefuses e d (get_or (closed_types r) i string_type) = refused-closed e d _ (subst (RefusesDefinition e d) made refused) in
       by e closed
     where
-      stands : (e : LayoutError) → LayoutRefuses e d (get_or (closed_types r) i string_type) → StandsAt e r i
+      stands : (e : LayoutError) → LayoutRefuses e d (get_or (closed_types r) i string_type) → RefusesAt e r i
       stands e q = record { definition = d; is = sym is; in_range = h; refused = q; before = λ k g l. so_far.within k l g }
 
       by : (e : LayoutError) → LayoutRefuses e d (get_or (closed_types r) i string_type) → RefusesFirst e r

@@ -16,9 +16,9 @@ use Rattle.tables.specs.declared.tables.Definition.{Definition}
 use Rattle.tables.specs.declared.tables.Definition.TheVariants as row
 use Rattle.tables.specs.declared.tables.Resolve.{Resolve}
 use Rattle.tables.proofs.Rows.{split, is_below-later, option_below-later, length-closed_rows}
-use Rattle.layout.specs.Parts.{end_of, is_end, is_no_name, AreEnded, parts_from}
-use Rattle.layout.specs.Layout.{row_of, Table, layouts_of}
-use Rattle.layout.specs.Queries.{HasShape, TellsField, TellsCase, shape_by, shape_of, field_by, field_of, placed, case_by, case_at, case_of, PartsStand}
+use Rattle.layout.specs.Parts.{final_type, is_end, is_no_name, AreEnded, parts_from}
+use Rattle.layout.specs.Layout.{row_of, LayoutTable, layouts_of}
+use Rattle.layout.specs.Queries.{IsShaped, TellsField, TellsCase, shape_by, shape_of, field_info_by, field_info_of, field_placed, case_info_by, case_at, case_info_of, PartsStand}
 use Rattle.layout.specs.declared.parts.Parts.{Parts}
 use Rattle.layout.specs.declared.parts.Parts.TheVariants as parts
 use Rattle.layout.specs.declared.rows.Row.{Row}
@@ -77,7 +77,7 @@ get-none (z ∷ xs) (y ∷ ys) (suc i) x h e q = get-none xs ys i x (omega arith
 
 -- ---- by parts
 
-shape-by : (c : ValType → ClosedType) (k n : ℕ) (p : Parts) (t : ClosedType) → k ≤ n → IsTrue (is_no_name p) → PartsStand c k p t → HasShape c n t (shape_by p)
+shape-by : (c : ValType → ClosedType) (k n : ℕ) (p : Parts) (t : ClosedType) → k ≤ n → IsTrue (is_no_name p) → PartsStand c k p t → IsShaped c n t (shape_by p)
 shape-by c k n (parts.Same v) t l h s = absurd (cc)
 shape-by c k n (parts.List v) t l h s = (s.0, is_below-later k n v l s.1)
 shape-by c k n (parts.Record vs ps) t l h s = (fields_of (map c vs), s.0, count-fields c vs)
@@ -85,7 +85,7 @@ shape-by c k n (parts.Variant p os) t l h s = (cases_of (map (option_map c) os),
 shape-by c k n (parts.Flags m) t l h s = s
 
 record-field : (c : ValType → ClosedType) (k n : ℕ) (vs : List ValType) (ps : List ℕ) (t : ClosedType) (i : ℕ) → k ≤ n → PartsStand c k (parts.Record vs ps) t
-    → TellsField c n t i (placed (slice_get vs i) (slice_get ps i))
+    → TellsField c n t i (field_placed (slice_get vs i) (slice_get ps i))
 record-field c k n vs ps t i l s = by (slice_get vs i) (slice_get ps i) refl refl
   where
     fields : record_fields t ≡ fields_of (map c vs)
@@ -100,12 +100,12 @@ record-field c k n vs ps t i l s = by (slice_get vs i) (slice_get ps i) refl ref
     count : length vs ≡ length ps
     count = sym (length-places c 0 vs) ∙ ap length (sym s.1)
 
-    by : (o : Option ValType) (q : Option ℕ) → slice_get vs i ≡ o → slice_get ps i ≡ q → TellsField c n t i (placed o q)
+    by : (o : Option ValType) (q : Option ℕ) → slice_get vs i ≡ o → slice_get ps i ≡ q → TellsField c n t i (field_placed o q)
     by None q e f = nth ∙ ap (option_map c) e
     by (Some v) None e f = absurd (get-none vs ps i v count e f)
     by (Some v) (Some p) e f = (nth ∙ ap (option_map c) e, places ∙ f, is_below-later k n v l (below-all k vs i v s.2 e))
 
-field-by : (c : ValType → ClosedType) (k n : ℕ) (p : Parts) (t : ClosedType) (i : ℕ) → k ≤ n → IsTrue (is_no_name p) → PartsStand c k p t → TellsField c n t i (field_by p i)
+field-by : (c : ValType → ClosedType) (k n : ℕ) (p : Parts) (t : ClosedType) (i : ℕ) → k ≤ n → IsTrue (is_no_name p) → PartsStand c k p t → TellsField c n t i (field_info_by p i)
 field-by c k n (parts.Same v) t i l h s = absurd (cc)
 field-by c k n (parts.List v) t i l h s = ap (λ (u : ClosedType). nth_field (record_fields u) i) s.0
 field-by c k n (parts.Record vs ps) t i l h s = record-field c k n vs ps t i l s
@@ -126,7 +126,7 @@ variant-case c k n p os t i l s = by (slice_get os i) refl
     by None e = nth ∙ ap (option_map (option_map c)) e
     by (Some o) e = (nth ∙ ap (option_map (option_map c)) e, s.1 ∙ ap payload_place (sym cases), option_below-later k n o l (below-options k os i o s.2 e))
 
-case-by : (c : ValType → ClosedType) (k n : ℕ) (p : Parts) (t : ClosedType) (i : ℕ) → k ≤ n → IsTrue (is_no_name p) → PartsStand c k p t → TellsCase c n t i (case_by p i)
+case-by : (c : ValType → ClosedType) (k n : ℕ) (p : Parts) (t : ClosedType) (i : ℕ) → k ≤ n → IsTrue (is_no_name p) → PartsStand c k p t → TellsCase c n t i (case_info_by p i)
 case-by c k n (parts.Same v) t i l h s = absurd (cc)
 case-by c k n (parts.List v) t i l h s = ap (λ (u : ClosedType). nth_case (variant_cases u) i) s.0
 case-by c k n (parts.Record vs ps) t i l h s = ap (λ (u : ClosedType). nth_case (variant_cases u) i) s.0
@@ -139,17 +139,17 @@ abbrev parts_of : Resolve → List Parts
 parts_of r = parts_from (λ v. extent_of (closed_type r v)) [] r.definitions
 
 module _ (r : Resolve) (n : ℕ) (count : length r.definitions ≡ n) (d : Definition) where
-  pub shape-told : (v : ValType) → IsTrue (is_below n v) → IsTrue (is_end (parts_of r) v) → HasShape (closed_type r) n (closed_type r v) (shape_of (parts_of r) v)
+  pub shape-told : (v : ValType) → IsTrue (is_below n v) → IsTrue (is_end (parts_of r) v) → IsShaped (closed_type r) n (closed_type r v) (shape_of (parts_of r) v)
   shape-told (val.Primitive p) b h = refl
   shape-told val.String b h = refl
   shape-told (val.Id t) b h = shape-by (closed_type r) t.0 n _ _ (omega (arith, ltb-true t.0 n b)) h (parts-stand r t.0 d (omega (arith, ltb-true t.0 n b)))
 
-  pub field-told : (v : ValType) (i : ℕ) → IsTrue (is_below n v) → IsTrue (is_end (parts_of r) v) → TellsField (closed_type r) n (closed_type r v) i (field_of (parts_of r) v i)
+  pub field-told : (v : ValType) (i : ℕ) → IsTrue (is_below n v) → IsTrue (is_end (parts_of r) v) → TellsField (closed_type r) n (closed_type r v) i (field_info_of (parts_of r) v i)
   field-told (val.Primitive p) i b h = refl
   field-told val.String i b h = refl
   field-told (val.Id t) i b h = field-by (closed_type r) t.0 n _ _ i (omega (arith, ltb-true t.0 n b)) h (parts-stand r t.0 d (omega (arith, ltb-true t.0 n b)))
 
-  pub case-told : (v : ValType) (i : ℕ) → IsTrue (is_below n v) → IsTrue (is_end (parts_of r) v) → TellsCase (closed_type r) n (closed_type r v) i (case_of (parts_of r) v i)
+  pub case-told : (v : ValType) (i : ℕ) → IsTrue (is_below n v) → IsTrue (is_end (parts_of r) v) → TellsCase (closed_type r) n (closed_type r v) i (case_info_of (parts_of r) v i)
   case-told (val.Primitive p) i b h = refl
   case-told val.String i b h = refl
   case-told (val.Id t) i b h = case-by (closed_type r) t.0 n _ _ i (omega (arith, ltb-true t.0 n b)) h (parts-stand r t.0 d (omega (arith, ltb-true t.0 n b)))
@@ -160,19 +160,19 @@ some_definition : Definition
 some_definition = row.Function (record { owner = owner.Interface (record { 0 = 0 }); name = []; params = []; result = None })
 
 -- the end of a type, by the fields of a table
-pub end-told : (t : Table) (rows : List Row) (ps : List Parts) (v w : ValType) → rows ≡ t.rows → ps ≡ t.parts → length ps ≡ length rows → AreEnded ps
-    → w ≡ end_of ps v → IsTrue (is_below (length t.rows) v) → IsTrue (is_below (length t.rows) w) × IsTrue (is_end t.parts w)
+pub end-told : (t : LayoutTable) (rows : List Row) (ps : List Parts) (v w : ValType) → rows ≡ t.rows → ps ≡ t.parts → length ps ≡ length rows → AreEnded ps
+    → w ≡ final_type ps v → IsTrue (is_below (length t.rows) v) → IsTrue (is_below (length t.rows) w) × IsTrue (is_end t.parts w)
 end-told t rows ps v w rows_are parts_are count ended is b =
     let same : length ps ≡ length t.rows = count ∙ ap length rows_are in
     let below : IsTrue (is_below (length ps) v) = subst (λ (n : ℕ). IsTrue (is_below n v)) (sym same) b in
     let ends = end-ends ps v ended below in
-    let here : IsTrue (is_below (length t.rows) (end_of ps v)) = subst (λ (n : ℕ). IsTrue (is_below n (end_of ps v))) same ends.0 in
-    let end : IsTrue (is_end t.parts (end_of ps v)) = subst (λ (qs : List Parts). IsTrue (is_end qs (end_of ps v))) parts_are ends.1 in
+    let here : IsTrue (is_below (length t.rows) (final_type ps v)) = subst (λ (n : ℕ). IsTrue (is_below n (final_type ps v))) same ends.0 in
+    let end : IsTrue (is_end t.parts (final_type ps v)) = subst (λ (qs : List Parts). IsTrue (is_end qs (final_type ps v))) parts_are ends.1 in
     (subst (λ (u : ValType). IsTrue (is_below (length t.rows) u)) (sym is) here, subst (λ (u : ValType). IsTrue (is_end t.parts u)) (sym is) end)
 
 -- e is what v stands for in the end
-pub record IsEndOf (t : Table) (v e : ValType) : Type 0 where
-  pub is : e ≡ end_of t.parts v
+pub record IsEndOf (t : LayoutTable) (v e : ValType) : Type 0 where
+  pub is : e ≡ final_type t.parts v
   pub within : IsTrue (is_below (length t.rows) v)
   pub below : IsTrue (is_below (length t.rows) e)
   pub end : IsTrue (is_end t.parts e)
@@ -186,43 +186,43 @@ module _ (r : Resolve) where
       let below : IsTrue (is_below (length r.definitions) v) = subst (λ (n : ℕ). IsTrue (is_below n v)) (sym count-rows) h.within in
       ap (closed_type r) h.is ∙ ends-whole r some_definition v below
 
-  abbrev ShapeAnswer : Table → Type 0
-  ShapeAnswer t = (v e : ValType) (s : Shape) → IsEndOf t v e → s ≡ shape_of t.parts e → HasShape (closed_type r) (length t.rows) (closed_type r v) s
+  abbrev ShapeAnswer : LayoutTable → Type 0
+  ShapeAnswer t = (v e : ValType) (s : Shape) → IsEndOf t v e → s ≡ shape_of t.parts e → IsShaped (closed_type r) (length t.rows) (closed_type r v) s
 
   shape-here : ShapeAnswer (layouts_of r)
   shape-here v e s h is =
       let n = length (layouts_of r).rows in
       let told = shape-told r n count-rows some_definition e h.below h.end in
-      subst (λ (x : Shape). HasShape (closed_type r) n (closed_type r v) x) (sym is)
-      (subst (λ (t : ClosedType). HasShape (closed_type r) n t (shape_of (layouts_of r).parts e)) (closed-end v e h) told)
+      subst (λ (x : Shape). IsShaped (closed_type r) n (closed_type r v) x) (sym is)
+      (subst (λ (t : ClosedType). IsShaped (closed_type r) n t (shape_of (layouts_of r).parts e)) (closed-end v e h) told)
 
-  pub shape-answer : (t : Table) → t ≡ layouts_of r → ShapeAnswer t
+  pub shape-answer : (t : LayoutTable) → t ≡ layouts_of r → ShapeAnswer t
   shape-answer t same = subst ShapeAnswer (sym same) shape-here
 
-  abbrev FieldAnswer : Table → Type 0
-  FieldAnswer t = (v e : ValType) (i : ℕ) (x : Option FieldInfo) → IsEndOf t v e → x ≡ field_of t.parts e i → TellsField (closed_type r) (length t.rows) (closed_type r v) i x
+  abbrev FieldAnswer : LayoutTable → Type 0
+  FieldAnswer t = (v e : ValType) (i : ℕ) (x : Option FieldInfo) → IsEndOf t v e → x ≡ field_info_of t.parts e i → TellsField (closed_type r) (length t.rows) (closed_type r v) i x
 
   field-here : FieldAnswer (layouts_of r)
   field-here v e i x h is =
       let n = length (layouts_of r).rows in
       let told = field-told r n count-rows some_definition e i h.below h.end in
       subst (λ (y : Option FieldInfo). TellsField (closed_type r) n (closed_type r v) i y) (sym is)
-      (subst (λ (t : ClosedType). TellsField (closed_type r) n t i (field_of (layouts_of r).parts e i)) (closed-end v e h) told)
+      (subst (λ (t : ClosedType). TellsField (closed_type r) n t i (field_info_of (layouts_of r).parts e i)) (closed-end v e h) told)
 
-  pub field-answer : (t : Table) → t ≡ layouts_of r → FieldAnswer t
+  pub field-answer : (t : LayoutTable) → t ≡ layouts_of r → FieldAnswer t
   field-answer t same = subst FieldAnswer (sym same) field-here
 
-  abbrev CaseAnswer : Table → Type 0
-  CaseAnswer t = (v e : ValType) (i : ℕ) (x : Option CaseInfo) → IsEndOf t v e → x ≡ case_of t.parts e i → TellsCase (closed_type r) (length t.rows) (closed_type r v) i x
+  abbrev CaseAnswer : LayoutTable → Type 0
+  CaseAnswer t = (v e : ValType) (i : ℕ) (x : Option CaseInfo) → IsEndOf t v e → x ≡ case_info_of t.parts e i → TellsCase (closed_type r) (length t.rows) (closed_type r v) i x
 
   case-here : CaseAnswer (layouts_of r)
   case-here v e i x h is =
       let n = length (layouts_of r).rows in
       let told = case-told r n count-rows some_definition e i h.below h.end in
       subst (λ (y : Option CaseInfo). TellsCase (closed_type r) n (closed_type r v) i y) (sym is)
-      (subst (λ (t : ClosedType). TellsCase (closed_type r) n t i (case_of (layouts_of r).parts e i)) (closed-end v e h) told)
+      (subst (λ (t : ClosedType). TellsCase (closed_type r) n t i (case_info_of (layouts_of r).parts e i)) (closed-end v e h) told)
 
-  pub case-answer : (t : Table) → t ≡ layouts_of r → CaseAnswer t
+  pub case-answer : (t : LayoutTable) → t ≡ layouts_of r → CaseAnswer t
   case-answer t same = subst CaseAnswer (sym same) case-here
 
 -- a type without this field has no place for it

@@ -37,13 +37,13 @@ result_of ts (row.Type d) = kinds_of []
 result_of ts (row.Function f) = kinds_of (field_kinds (result_fields (option_map (closed_val ts) f.result)))
 
 -- what a layout table has: a row for each definition, a result for each, what stands directly in each, and the count of the steps that it takes
-pub record Table : Type 0 where
+pub record LayoutTable : Type 0 where
   pub rows : List Row
   pub results : List Kinds
   pub parts : List Parts
   pub work : ℕ
 
-abbrev pub layouts_of : Resolve → Table
+abbrev pub layouts_of : Resolve → LayoutTable
 layouts_of r = record {
   rows = map row_of (closed_types r);
   results = map (result_of (closed_types r)) r.definitions;
@@ -60,9 +60,9 @@ pub record IsSound (r : Row) : Type 0 where
   pub fits : length (passed r.kinds) ≤ 16
 
 -- a definition of this closed type is within the limits; a function's parameters have no limit of depth
-abbrev pub IsWithin : Definition → ClosedType → Type 0
-IsWithin (row.Type d) t = (depth t ≤ max_depth) × (size t ≤ max_size)
-IsWithin (row.Function f) t = size t ≤ max_size
+abbrev pub IsDefinitionWithin : Definition → ClosedType → Type 0
+IsDefinitionWithin (row.Type d) t = (depth t ≤ max_depth) × (size t ≤ max_size)
+IsDefinitionWithin (row.Function f) t = size t ≤ max_size
 
 -- the refusal stands for a definition of this closed type
 abbrev pub LayoutRefuses : LayoutError → Definition → ClosedType → Type 0
@@ -73,25 +73,25 @@ LayoutRefuses TooLarge (row.Function f) t = max_size < size t
 LayoutRefuses NoMemory d t = Unit {0}
 
 -- the refusal stands for definition k, and all before it are within the limits
-pub record StandsAt (e : LayoutError) (r : Resolve) (k : ℕ) : Type 0 where
+pub record RefusesAt (e : LayoutError) (r : Resolve) (k : ℕ) : Type 0 where
   pub definition : Definition
   pub is : slice_index_or r.definitions k definition ≡ definition
   pub in_range : k < length r.definitions
   pub refused : LayoutRefuses e definition (slice_index_or (closed_types r) k string_type)
-  pub before : (i : ℕ) (d : Definition) → i < k → slice_index_or r.definitions i d ≡ d → IsWithin d (slice_index_or (closed_types r) i string_type)
+  pub before : (i : ℕ) (d : Definition) → i < k → slice_index_or r.definitions i d ≡ d → IsDefinitionWithin d (slice_index_or (closed_types r) i string_type)
 
 abbrev pub RefusesFirst : LayoutError → Resolve → Type 0
-RefusesFirst TooDeep r = (k : ℕ) × StandsAt TooDeep r k
-RefusesFirst TooLarge r = (k : ℕ) × StandsAt TooLarge r k
+RefusesFirst TooDeep r = (k : ℕ) × RefusesAt TooDeep r k
+RefusesFirst TooLarge r = (k : ℕ) × RefusesAt TooLarge r k
 RefusesFirst NoMemory r = Unit {0}
 
 pub record AreWithin (r : Resolve) : Type 0 where
-  pub each : (i : ℕ) (d : Definition) → i < length r.definitions → slice_index_or r.definitions i d ≡ d → IsWithin d (slice_index_or (closed_types r) i string_type)
+  pub each : (i : ℕ) (d : Definition) → i < length r.definitions → slice_index_or r.definitions i d ≡ d → IsDefinitionWithin d (slice_index_or (closed_types r) i string_type)
 
 -- a core signature, its result as a list
 abbrev pub results_of : Option CoreKind → List CoreKind
 results_of None = []
 results_of (Some k) = k ∷ []
 
-abbrev pub signature_of : Signature → CoreSignature
-signature_of s = record { params = s.params.items; results = results_of s.result }
+abbrev pub core_signature_of : Signature → CoreSignature
+core_signature_of s = record { params = s.params.items; results = results_of s.result }

@@ -20,14 +20,14 @@ payloads (None ∷ cs) = payloads cs
 payloads (Some p ∷ cs) = p ∷ payloads cs
 
 -- what a type stands for in the end
-abbrev pub followed : TypeId → Parts → ValType
-followed t (parts.Same v) = v
-followed t _ = val.Id t
+abbrev pub behind_alias : TypeId → Parts → ValType
+behind_alias t (parts.Same v) = v
+behind_alias t _ = val.Id t
 
-abbrev pub end_of : List Parts → ValType → ValType
-end_of ps (val.Primitive p) = val.Primitive p
-end_of ps val.String = val.String
-end_of ps (val.Id t) = followed t (slice_index_or ps t.0 (parts.Same val.String))
+abbrev pub final_type : List Parts → ValType → ValType
+final_type ps (val.Primitive p) = val.Primitive p
+final_type ps val.String = val.String
+final_type ps (val.Id t) = behind_alias t (slice_index_or ps t.0 (parts.Same val.String))
 
 abbrev pub record_parts : (ValType → Extent) → List ValType → Parts
 record_parts extent vs = parts.Record vs (places_from 0 (map extent vs))
@@ -36,8 +36,8 @@ abbrev pub variant_parts : (ValType → Extent) → List (Option ValType) → Pa
 variant_parts extent os = parts.Variant (payload_at (length os) (payloads (map (option_map extent) os))) os
 
 abbrev pub kind_parts : (ValType → Extent) → List Parts → TypeDefKind → Parts
-kind_parts extent ps (kind.Use t) = parts.Same (end_of ps (val.Id t))
-kind_parts extent ps (kind.Alias v) = parts.Same (end_of ps v)
+kind_parts extent ps (kind.Use t) = parts.Same (final_type ps (val.Id t))
+kind_parts extent ps (kind.Alias v) = parts.Same (final_type ps v)
 kind_parts extent ps (kind.List v) = parts.List v
 kind_parts extent ps (kind.Option v) = variant_parts extent (None ∷ Some v ∷ [])
 kind_parts extent ps (kind.Result ok error) = variant_parts extent (ok ∷ error ∷ [])

@@ -18,13 +18,13 @@ use Rattle.layout.specs.declared.queries.CaseInfo.{CaseInfo}
 -- ---- by closed types: c is the closed type of each type, and types stand before place n
 
 -- t has this shape
-abbrev pub HasShape : (ValType → ClosedType) → ℕ → ClosedType → Shape → Type 0
-HasShape c n t (shape.Primitive p) = t ≡ prim_type (prim_of p)
-HasShape c n t shape.String = t ≡ string_type
-HasShape c n t (shape.List element) = (t ≡ list_type (c element)) × IsTrue (is_below n element)
-HasShape c n t (shape.Record k) = (fs : Fields) × (t ≡ record_type fs) × (field_count fs ≡ k)
-HasShape c n t (shape.Variant k) = (cs : Cases) × (t ≡ variant_type cs) × (case_count cs ≡ k)
-HasShape c n t (shape.Flags k) = t ≡ flags_type k
+abbrev pub IsShaped : (ValType → ClosedType) → ℕ → ClosedType → Shape → Type 0
+IsShaped c n t (shape.Primitive p) = t ≡ prim_type (prim_of p)
+IsShaped c n t shape.String = t ≡ string_type
+IsShaped c n t (shape.List element) = (t ≡ list_type (c element)) × IsTrue (is_below n element)
+IsShaped c n t (shape.Record k) = (fs : Fields) × (t ≡ record_type fs) × (field_count fs ≡ k)
+IsShaped c n t (shape.Variant k) = (cs : Cases) × (t ≡ variant_type cs) × (case_count cs ≡ k)
+IsShaped c n t (shape.Flags k) = t ≡ flags_type k
 
 -- what is told of field i of t; a type that is no record has no fields
 abbrev pub TellsField : (ValType → ClosedType) → ℕ → ClosedType → ℕ → Option FieldInfo → Type 0
@@ -47,21 +47,21 @@ shape_by (parts.Record vs ps) = shape.Record (length vs)
 shape_by (parts.Variant p os) = shape.Variant (length os)
 shape_by (parts.Flags n) = shape.Flags n
 
-abbrev pub placed : Option ValType → Option ℕ → Option FieldInfo
-placed None p = None
-placed (Some v) None = None
-placed (Some v) (Some p) = Some (record { ty = v; offset = p })
+abbrev pub field_placed : Option ValType → Option ℕ → Option FieldInfo
+field_placed None p = None
+field_placed (Some v) None = None
+field_placed (Some v) (Some p) = Some (record { ty = v; offset = p })
 
-abbrev pub field_by : Parts → ℕ → Option FieldInfo
-field_by (parts.Record vs ps) i = placed (slice_get vs i) (slice_get ps i)
-field_by _ i = None
+abbrev pub field_info_by : Parts → ℕ → Option FieldInfo
+field_info_by (parts.Record vs ps) i = field_placed (slice_get vs i) (slice_get ps i)
+field_info_by _ i = None
 
 abbrev pub case_at : ℕ → Option ValType → CaseInfo
 case_at p o = record { place = p; payload = o }
 
-abbrev pub case_by : Parts → ℕ → Option CaseInfo
-case_by (parts.Variant p os) i = option_map (case_at p) (slice_get os i)
-case_by _ i = None
+abbrev pub case_info_by : Parts → ℕ → Option CaseInfo
+case_info_by (parts.Variant p os) i = option_map (case_at p) (slice_get os i)
+case_info_by _ i = None
 
 -- the shape, the field and the case of a type that is no name
 abbrev pub shape_of : List Parts → ValType → Shape
@@ -69,13 +69,13 @@ shape_of ps (val.Primitive p) = shape.Primitive p
 shape_of ps val.String = shape.String
 shape_of ps (val.Id t) = shape_by (slice_index_or ps t.0 (parts.Same val.String))
 
-abbrev pub field_of : List Parts → ValType → ℕ → Option FieldInfo
-field_of ps (val.Id t) i = field_by (slice_index_or ps t.0 (parts.Same val.String)) i
-field_of ps _ i = None
+abbrev pub field_info_of : List Parts → ValType → ℕ → Option FieldInfo
+field_info_of ps (val.Id t) i = field_info_by (slice_index_or ps t.0 (parts.Same val.String)) i
+field_info_of ps _ i = None
 
-abbrev pub case_of : List Parts → ValType → ℕ → Option CaseInfo
-case_of ps (val.Id t) i = case_by (slice_index_or ps t.0 (parts.Same val.String)) i
-case_of ps _ i = None
+abbrev pub case_info_of : List Parts → ValType → ℕ → Option CaseInfo
+case_info_of ps (val.Id t) i = case_info_by (slice_index_or ps t.0 (parts.Same val.String)) i
+case_info_of ps _ i = None
 
 -- ---- the law between them: these parts stand for a closed type
 abbrev pub PartsStand : (ValType → ClosedType) → ℕ → Parts → ClosedType → Type 0

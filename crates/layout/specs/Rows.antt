@@ -101,17 +101,17 @@ abbrev pub number_row : ℕ → CoreKind → Row
 number_row bytes k = record { depth = 1; size = bytes; align = bytes; kinds = kinds_of (k ∷ []) }
 
 -- what is true of a row before its limits were tested
-pub record IsKept (r : Row) : Type 0 where
+pub record IsKeptRow (r : Row) : Type 0 where
   pub depth : r.depth ≤ 65
   pub least_align : 1 ≤ r.align
   pub most_align : r.align ≤ 8
   pub fits : length (passed r.kinds) ≤ 16
 
-abbrev pub IsLimited : Row → Type 0
-IsLimited r = (r.depth ≤ max_depth) × (r.size ≤ max_size)
+abbrev pub IsLimitedRow : Row → Type 0
+IsLimitedRow r = (r.depth ≤ max_depth) × (r.size ≤ max_size)
 
 abbrev pub IsLimitedDefinition : Definition → Row → Type 0
-IsLimitedDefinition (row.Type d) r = IsLimited r
+IsLimitedDefinition (row.Type d) r = IsLimitedRow r
 IsLimitedDefinition (row.Function f) r = r.size ≤ max_size
 
 -- the refusal stands for a row whose depth is to be at most so much

@@ -13,12 +13,12 @@ is_one (Flat ks) = nat_le (length ks.items) max_flat_results
 is_one Spilled = false
 
 -- how it is passed where it does, and else by an address
-abbrev pub single : Kinds → List CoreKind
-single (Flat ks) = if nat_le (length ks.items) max_flat_results then ks.items else (I32 ∷ [])
-single Spilled = I32 ∷ []
+abbrev pub single_result : Kinds → List CoreKind
+single_result (Flat ks) = if nat_le (length ks.items) max_flat_results then ks.items else (I32 ∷ [])
+single_result Spilled = I32 ∷ []
 
 abbrev pub lifted_by : Kinds → Kinds → CoreSignature
-lifted_by params results = record { params = passed params; results = single results }
+lifted_by params results = record { params = passed params; results = single_result results }
 
 abbrev pub lowered_by : Kinds → Kinds → CoreSignature
 lowered_by params results =

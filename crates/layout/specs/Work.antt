@@ -10,25 +10,25 @@ count None = 0
 count (Some x) = 1
 
 -- the types that stand directly in a type
-abbrev pub members_in : TypeDefKind → ℕ
-members_in (kind.Use t) = 1
-members_in (kind.Alias v) = 1
-members_in (kind.List v) = 1
-members_in (kind.Option v) = 1
-members_in (kind.Result ok error) = count ok + count error
-members_in (kind.Tuple vs) = length vs
-members_in (kind.Record fs) = length fs
-members_in (kind.Variant cs) = length (filter (λ c. is_some c.ty) cs)
-members_in (kind.Enum names) = 0
-members_in (kind.Flags names) = 0
+abbrev pub direct_types : TypeDefKind → ℕ
+direct_types (kind.Use t) = 1
+direct_types (kind.Alias v) = 1
+direct_types (kind.List v) = 1
+direct_types (kind.Option v) = 1
+direct_types (kind.Result ok error) = count ok + count error
+direct_types (kind.Tuple vs) = length vs
+direct_types (kind.Record fs) = length fs
+direct_types (kind.Variant cs) = length (filter (λ c. is_some c.ty) cs)
+direct_types (kind.Enum names) = 0
+direct_types (kind.Flags names) = 0
 
 abbrev pub types_in : Definition → ℕ
-types_in (row.Type d) = members_in d.kind
+types_in (row.Type d) = direct_types d.kind
 types_in (row.Function f) = length f.params + count f.result
 
 -- of these, those that are looked at while the definition's row is made, and while its result is
 abbrev pub laid_in : Definition → ℕ
-laid_in (row.Type d) = members_in d.kind
+laid_in (row.Type d) = direct_types d.kind
 laid_in (row.Function f) = length f.params
 
 abbrev pub results_in : Definition → ℕ

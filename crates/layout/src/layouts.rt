@@ -7,9 +7,9 @@ ghost use Rattle.canonical_abi.specs.Types.{fields_of, record_fields};
 ghost use Rattle.canonical_abi.specs.Layout.{extent_of, size, align, field_kinds, field_places, lifted_signature, lowered_signature};
 ghost use Rattle.canonical_abi.specs.Reading.{kind_of};
 ghost use Rattle.layout.specs.Kinds.{kinds_of, count_of};
-ghost use Rattle.layout.specs.Layout.{row_of, result_of, layouts_of, results_of, signature_of, RefusesFirst, AreWithin, IsSound};
-ghost use Rattle.layout.specs.Parts.{parts_from, AreEnded, end_of, is_end};
-ghost use Rattle.layout.specs.Queries.{shape_of, field_of, case_of, HasShape, TellsField, TellsCase};
+ghost use Rattle.layout.specs.Layout.{row_of, result_of, layouts_of, results_of, core_signature_of, RefusesFirst, AreWithin, IsSound};
+ghost use Rattle.layout.specs.Parts.{parts_from, AreEnded, final_type, is_end};
+ghost use Rattle.layout.specs.Queries.{shape_of, field_info_of, case_info_of, IsShaped, TellsField, TellsCase};
 ghost use Rattle.layout.specs.Rows.{definition_result, result_below};
 ghost use Rattle.layout.specs.Work.{laid_work, results_work, results_in, total_work, saturated};
 
@@ -102,10 +102,10 @@ pub struct Layouts {
 
 impl Model for Layouts {
     ghost use Rattle.std.specs.Prelude.{◌≡◌, All, length};
-    ghost use Rattle.layout.specs.Layout.{Table, IsSound};
+    ghost use Rattle.layout.specs.Layout.{LayoutTable, IsSound};
     ghost use Rattle.layout.specs.Parts.{AreEnded};
 
-    ghost Value = { Table };
+    ghost Value = { LayoutTable };
 
     ghost view = { λ l. record { rows = l.rows.items; results = l.results.items; parts = l.parts.items; work = l.work } };
 
@@ -194,7 +194,7 @@ impl Layouts {
     /// The core signature of the callee's function.
     pub fn lifted(&self, func: FunctionId) -> CoreSignature
         requires { func.0 < length self.now.rows }
-        ensures { (r : Resolve) → self.now ≡ layouts_of r → IsFunction r func → signature_of result ≡ lifted_signature (function_type r func) }
+        ensures { (r : Resolve) → self.now ≡ layouts_of r → IsFunction r func → core_signature_of result ≡ lifted_signature (function_type r func) }
     {
         let place = func.0 as usize;
         lifted_of(&self.rows[place].kinds, &self.results[place])
@@ -203,7 +203,7 @@ impl Layouts {
     /// The core signature of the caller's import.
     pub fn lowered(&self, func: FunctionId) -> CoreSignature
         requires { func.0 < length self.now.rows }
-        ensures { (r : Resolve) → self.now ≡ layouts_of r → IsFunction r func → signature_of result ≡ lowered_signature (function_type r func) }
+        ensures { (r : Resolve) → self.now ≡ layouts_of r → IsFunction r func → core_signature_of result ≡ lowered_signature (function_type r func) }
     {
         let place = func.0 as usize;
         lowered_of(&self.rows[place].kinds, &self.results[place])
@@ -246,7 +246,7 @@ impl Layouts {
     /// What a type stands for in the end.
     fn end(&self, ty: ValType) -> ValType
         requires { IsTrue (is_below (length self.now.rows) ty) }
-        ensures value { result ≡ end_of self.now.parts ty }
+        ensures value { result ≡ final_type self.now.parts ty }
         ensures below { IsTrue (is_below (length self.now.rows) result) }
         ensures end { IsTrue (is_end self.now.parts result) }
     {
@@ -267,7 +267,7 @@ impl Layouts {
 
     fn field_of(&self, end: ValType, index: usize) -> Option<FieldInfo>
         requires { IsTrue (is_below (length self.now.rows) end) }
-        ensures { result ≡ field_of self.now.parts end index }
+        ensures { result ≡ field_info_of self.now.parts end index }
     {
         match end {
             ValType::Id(id) => self.parts[id.0 as usize].field(index),
@@ -277,7 +277,7 @@ impl Layouts {
 
     fn case_of(&self, end: ValType, index: usize) -> Option<CaseInfo>
         requires { IsTrue (is_below (length self.now.rows) end) }
-        ensures { result ≡ case_of self.now.parts end index }
+        ensures { result ≡ case_info_of self.now.parts end index }
     {
         match end {
             ValType::Id(id) => self.parts[id.0 as usize].case(index),
@@ -288,7 +288,7 @@ impl Layouts {
     /// The shape of a type of the package.
     pub fn shape(&self, ty: ValType) -> Shape
         requires { IsTrue (is_below (length self.now.rows) ty) }
-        ensures { (r : Resolve) → self.now ≡ layouts_of r → HasShape (closed_type r) (length self.now.rows) (closed_type r ty) result }
+        ensures { (r : Resolve) → self.now ≡ layouts_of r → IsShaped (closed_type r) (length self.now.rows) (closed_type r ty) result }
     {
         self.shape_of(self.end(ty))
     }

@@ -2,7 +2,7 @@
 //! are variants.
 ghost use Rattle.std.specs.Prelude.{◌≡◌, IsTrue};
 ghost use Rattle.layout.specs.Parts.{is_no_name};
-ghost use Rattle.layout.specs.Queries.{shape_by, field_by, case_by};
+ghost use Rattle.layout.specs.Queries.{shape_by, field_info_by, case_info_by};
 
 use crate::parts::Parts;
 use tables::{Primitive, ValType};
@@ -53,7 +53,7 @@ impl Parts {
     }
 
     pub(crate) fn field(&self, index: usize) -> Option<FieldInfo>
-        ensures { result ≡ field_by self.now index }
+        ensures { result ≡ field_info_by self.now index }
     {
         match self {
             Parts::Record(types, offsets) => Some(FieldInfo {
@@ -65,7 +65,7 @@ impl Parts {
     }
 
     pub(crate) fn case(&self, index: usize) -> Option<CaseInfo>
-        ensures { result ≡ case_by self.now index }
+        ensures { result ≡ case_info_by self.now index }
     {
         match self {
             Parts::Variant(place, payloads) => Some(CaseInfo {

@@ -7,9 +7,9 @@ ghost use Rattle.tables.specs.Closed.{prim_of};
 ghost use Rattle.tables.specs.Tables.{is_below, option_below, kind_below, definition_below};
 ghost use Rattle.layout.specs.Kinds.{count_of};
 ghost use Rattle.layout.specs.Layout.{row_of, capped, IsSound, max_size};
-ghost use Rattle.layout.specs.Parts.{payloads, end_of, record_parts, variant_parts, kind_parts, definition_parts};
-ghost use Rattle.layout.specs.Rows.{row_in, rows_at, extent_at, extents, deepest, record_row, choices_at, variant_row, list_row, kind_row, definition_row, number_row, IsKept, IsLimited, IsLimitedDefinition, RefusesDeeper, RefusesRow, RefusesDefinition};
-ghost use Rattle.layout.specs.Work.{members_in, laid_in, saturated};
+ghost use Rattle.layout.specs.Parts.{payloads, final_type, record_parts, variant_parts, kind_parts, definition_parts};
+ghost use Rattle.layout.specs.Rows.{row_in, rows_at, extent_at, extents, deepest, record_row, choices_at, variant_row, list_row, kind_row, definition_row, number_row, IsKeptRow, IsLimitedRow, IsLimitedDefinition, RefusesDeeper, RefusesRow, RefusesDefinition};
+ghost use Rattle.layout.specs.Work.{direct_types, laid_in, saturated};
 
 use crate::error::LayoutError;
 use crate::kinds::Kinds;
@@ -325,7 +325,7 @@ fn variant_row<C: Choice>(rows: &[Row], cases: &[C], steps: &mut Steps) -> Varia
     requires sound { All IsSound rows.now }
     ensures value { result.row ≡ variant_row (choices_at rows.now C.payload_of cases.now) }
     ensures payload { result.payload ≡ payload_at (length cases.now) (extents (payloads (choices_at rows.now C.payload_of cases.now))) }
-    ensures kept { IsKept result.row }
+    ensures kept { IsKeptRow result.row }
     ensures steps { steps.new.count ≡ saturated (steps.old.count + length (payloads (choices_at rows.now C.payload_of cases.now))) }
 {
     let discriminant = discriminant_size(cases.len());
@@ -357,10 +357,10 @@ fn variant_row<C: Choice>(rows: &[Row], cases: &[C], steps: &mut Steps) -> Varia
 
 /// The row, where it is within the limits of a type.
 fn limited(row: Row) -> Result<Row, LayoutError>
-    requires { IsKept row }
+    requires { IsKeptRow row }
     ensures row { IfOk result (λ x. x ≡ row) }
     ensures sound { IfOk result IsSound }
-    ensures within { IfOk result IsLimited }
+    ensures within { IfOk result IsLimitedRow }
     ensures err { IfErr result (λ e. RefusesRow e row) }
 {
     if row.depth > MAX_DEPTH {
@@ -384,7 +384,7 @@ fn lay_variant<C: Choice>(
     ensures row { IfOk result (λ x. x.row ≡ variant_row (choices_at rows.now C.payload_of cases.now)) }
     ensures parts { IfOk result (λ x. x.parts ≡ variant_parts (extent_at rows.now) (map C.payload_of cases.now)) }
     ensures sound { IfOk result (λ x. IsSound x.row) }
-    ensures within { IfOk result (λ x. IsLimited x.row) }
+    ensures within { IfOk result (λ x. IsLimitedRow x.row) }
     ensures steps { IfOk result (λ x. steps.new.count ≡ saturated (steps.old.count + length (payloads (choices_at rows.now C.payload_of cases.now)))) }
     ensures err { IfErr result (λ e. RefusesRow e (variant_row (choices_at rows.now C.payload_of cases.now))) }
 {
@@ -400,7 +400,7 @@ fn lay_variant<C: Choice>(
 /// What a type stands for in the end.
 pub(crate) fn end_of(parts: &[Parts], ty: ValType) -> ValType
     requires { IsTrue (is_below (length parts.now) ty) }
-    ensures { result ≡ end_of parts.now ty }
+    ensures { result ≡ final_type parts.now ty }
 {
     match ty {
         ValType::Id(id) => match &parts[id.0 as usize] {
@@ -422,9 +422,9 @@ fn lay_name(
     requires same { length parts.now ≡ length rows.now }
     requires sound { All IsSound rows.now }
     ensures row { IfOk result (λ x. x.row ≡ row_in rows.now target) }
-    ensures parts { IfOk result (λ x. x.parts ≡ Parts.Same (end_of parts.now target)) }
+    ensures parts { IfOk result (λ x. x.parts ≡ Parts.Same (final_type parts.now target)) }
     ensures sound { IfOk result (λ x. IsSound x.row) }
-    ensures within { IfOk result (λ x. IsLimited x.row) }
+    ensures within { IfOk result (λ x. IsLimitedRow x.row) }
     ensures steps { steps.new.count ≡ saturated (steps.old.count + 1) }
     ensures err { IfErr result (λ e. RefusesRow e (row_in rows.now target)) }
 {
@@ -442,7 +442,7 @@ fn lay_list(rows: &[Row], element: ValType, steps: &mut Steps) -> Result<Laid, L
     ensures row { IfOk result (λ x. x.row ≡ list_row (row_in rows.now element)) }
     ensures parts { IfOk result (λ x. x.parts ≡ Parts.List element) }
     ensures sound { IfOk result (λ x. IsSound x.row) }
-    ensures within { IfOk result (λ x. IsLimited x.row) }
+    ensures within { IfOk result (λ x. IsLimitedRow x.row) }
     ensures steps { steps.new.count ≡ saturated (steps.old.count + 1) }
     ensures err { IfErr result (λ e. RefusesRow e (list_row (row_in rows.now element))) }
 {
@@ -467,8 +467,8 @@ fn lay_kind(
     ensures row { IfOk result (λ x. x.row ≡ kind_row rows.now kind.now) }
     ensures parts { IfOk result (λ x. x.parts ≡ kind_parts (extent_at rows.now) parts.now kind.now) }
     ensures sound { IfOk result (λ x. IsSound x.row) }
-    ensures within { IfOk result (λ x. IsLimited x.row) }
-    ensures steps { IfOk result (λ x. steps.new.count ≡ saturated (steps.old.count + members_in kind.now)) }
+    ensures within { IfOk result (λ x. IsLimitedRow x.row) }
+    ensures steps { IfOk result (λ x. steps.new.count ≡ saturated (steps.old.count + direct_types kind.now)) }
     ensures err { IfErr result (λ e. RefusesRow e (kind_row rows.now kind.now)) }
 {
     match kind {

@@ -2,8 +2,8 @@
 ghost use Rattle.std.specs.Prelude.{◌≡◌, ◌≤◌, ◌↔◌, length, map, IsTrue};
 ghost use Rattle.canonical_abi.specs.Reading.{kind_of};
 ghost use Rattle.layout.specs.Kinds.{passed};
-ghost use Rattle.layout.specs.Layout.{results_of, signature_of};
-ghost use Rattle.layout.specs.Signature.{is_one, single, lifted_by, lowered_by};
+ghost use Rattle.layout.specs.Layout.{results_of, core_signature_of};
+ghost use Rattle.layout.specs.Signature.{is_one, single_result, lifted_by, lowered_by};
 
 use crate::kind_list::KindList;
 use crate::kinds::Kinds;
@@ -53,7 +53,7 @@ fn is_one(kinds: &Kinds) -> bool
 
 /// How a result of these kinds is passed: by one value, by none, or by an address.
 pub(crate) fn result_of(kinds: &Kinds) -> Option<CoreKind>
-    ensures { results_of result ≡ single kinds.now }
+    ensures { results_of result ≡ single_result kinds.now }
 {
     match kinds {
         Kinds::Flat(kinds) => match kinds.as_slice() {
@@ -67,7 +67,7 @@ pub(crate) fn result_of(kinds: &Kinds) -> Option<CoreKind>
 
 /// The signature of the callee's function.
 pub(crate) fn lifted_of(params: &Kinds, results: &Kinds) -> CoreSignature
-    ensures { signature_of result ≡ lifted_by params.now results.now }
+    ensures { core_signature_of result ≡ lifted_by params.now results.now }
 {
     CoreSignature {
         params: params_of(params),
@@ -78,7 +78,7 @@ pub(crate) fn lifted_of(params: &Kinds, results: &Kinds) -> CoreSignature
 /// The signature of the caller's import.
 pub(crate) fn lowered_of(params: &Kinds, results: &Kinds) -> CoreSignature
     requires { length (passed params.now) ≤ 16 }
-    ensures { signature_of result ≡ lowered_by params.now results.now }
+    ensures { core_signature_of result ≡ lowered_by params.now results.now }
 {
     let mut lowered = lifted_of(params, results);
     if !is_one(results) {

@@ -1,7 +1,7 @@
 -- A type of a table, by its closed type.
 use Rattle.std.specs.Prelude.{ℕ}
 use Rattle.canonical_abi.specs.Types.{ClosedType}
-use Rattle.layout.specs.Queries.{HasShape}
+use Rattle.layout.specs.Queries.{IsShaped}
 use Rattle.layout.specs.declared.queries.Shape.{Shape}
 use Rattle.tables.specs.Closed.{closed_type}
 use Rattle.tables.specs.declared.tables.Resolve.{Resolve}
@@ -12,4 +12,4 @@ closed t = closed_type t.0 t.1
 
 -- what it is for the ABI
 abbrev pub IsShape : Resolve × ValType → Shape → Type 0
-IsShape t s = (rows : ℕ) × HasShape (closed_type t.0) rows (closed t) s
+IsShape t s = (rows : ℕ) × IsShaped (closed_type t.0) rows (closed t) s

@@ -11,7 +11,7 @@ use Rattle.canonical_abi.specs.declared.flat.CoreKind.TheVariants as kind
 use Rattle.canonical_abi.specs.declared.flat.Flat.{Flat}
 use Rattle.canonical_abi.specs.declared.trap.TrapKind.{TrapKind}
 use Rattle.canonical_abi.proofs.Sizes.{is-alignment}
-use Rattle.lift_lower.specs.NoValue.{ReadsAs}
+use Rattle.lift_lower.specs.NoValue.{AnswersAs}
 use Rattle.lift_lower.specs.Loading.{reading_block, reading_members}
 use Rattle.values.specs.Val.{value_of}
 use Rattle.lift_lower.specs.declared.no_value.NoValue.{NoValue}
@@ -76,7 +76,7 @@ alone-members t m at =
     ∙ ap (λ x. block_at m at (align t) x >>= λ a. reading t m (a + next_multiple_of 0 (align t)) >>= alone) (alone-size t)
     ∙ alone-behind (block_at m at (align t) (size t)) (reading t m) (next_multiple_of 0 (align t)) (first-place t)
 
-gives-alone : (r : Result Val NoValue) (read : Result Value TrapKind) → ReadsAs value_of r read → ReadsAs (λ v. value_of v ∷ []) r (read >>= alone)
+gives-alone : (r : Result Val NoValue) (read : Result Value TrapKind) → AnswersAs value_of r read → AnswersAs (λ v. value_of v ∷ []) r (read >>= alone)
 gives-alone (Ok v) read h = rw h refl
 gives-alone (Err no_value.NoMemory) read h = tt
 gives-alone (Err (no_value.Trap k)) read h = rw h refl
@@ -84,10 +84,10 @@ gives-alone (Err (no_value.Trap k)) read h = rw h refl
 -- what is read of the value is what its flat values denote
 module _ (t : ClosedType) (m : List ℕ) (flats : List Flat) (r : Result Val NoValue) where
   pub gives-flat : fits_flat max_flat_results (field t no_field) ≡ true → map kind_of flats ≡ field_kinds (field t no_field)
-      → ReadsAs value_of r (lifting t m (map number_of flats)) → ReadsAs (λ v. value_of v ∷ []) r (denoting max_flat_results (field t no_field) m flats)
+      → AnswersAs value_of r (lifting t m (map number_of flats)) → AnswersAs (λ v. value_of v ∷ []) r (denoting max_flat_results (field t no_field) m flats)
   gives-flat fits kinds h = rw (denotes-flat max_flat_results (field t no_field) m flats fits kinds) (gives-alone r _ h)
 
   pub gives-spilled : fits_flat max_flat_results (field t no_field) ≡ false → map kind_of flats ≡ kind.I32 ∷ []
-      → ReadsAs value_of r (reading_block t m (low_bits (map number_of flats) 0 32)) → ReadsAs (λ v. value_of v ∷ []) r (denoting max_flat_results (field t no_field) m flats)
+      → AnswersAs value_of r (reading_block t m (low_bits (map number_of flats) 0 32)) → AnswersAs (λ v. value_of v ∷ []) r (denoting max_flat_results (field t no_field) m flats)
   gives-spilled spilled kinds h =
       rw (denotes-spilled max_flat_results (field t no_field) m flats spilled kinds, alone-members t m (low_bits (map number_of flats) 0 32)) (gives-alone r _ h)

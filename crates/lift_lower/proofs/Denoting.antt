@@ -11,7 +11,7 @@ use Rattle.canonical_abi.specs.declared.trap.Fault.{Fault}
 use Rattle.canonical_abi.specs.declared.trap.Step.TheVariants.{Take}
 use Rattle.canonical_abi.specs.declared.trap.TrapKind.TheVariants as trap
 use Rattle.lift_lower.specs.Crossing.{LiftFails}
-use Rattle.lift_lower.specs.NoValue.{FailsAs, fault_at}
+use Rattle.lift_lower.specs.NoValue.{FailsAs, fault_in_step}
 use Rattle.lift_lower.specs.declared.no_value.NoValue.{NoValue}
 use Rattle.lift_lower.specs.declared.no_value.NoValue.TheVariants as no_value
 use Rattle.lift_lower.specs.Loading.{reading_members}
@@ -44,6 +44,6 @@ module _ (limit : ℕ) (ts : Fields) (m : List ℕ) (flats : List Flat) where
   denotes-spilled-not fits other = rw (fits, same-false _ _ other) refl
 
 -- what flat values do not denote is a fault of lifting
-pub lift-fails : (ts : Fields) (m : List ℕ) (flats : List Flat) (e : NoValue) (f : Fault) → f ≡ fault_at Take e → FailsAs e (denoting max_flat_params ts m flats) → LiftFails ts m flats f
+pub lift-fails : (ts : Fields) (m : List ℕ) (flats : List Flat) (e : NoValue) (f : Fault) → f ≡ fault_in_step Take e → FailsAs e (denoting max_flat_params ts m flats) → LiftFails ts m flats f
 lift-fails ts m flats no_value.NoMemory f is h = rw is tt
 lift-fails ts m flats (no_value.Trap k) f is h = rw is (refl, (denoting-tells max_flat_params ts m flats).err k h)

@@ -11,7 +11,7 @@ use Rattle.canonical_abi.specs.Memory.{Holds, Faulty, HoldsInBlock, FaultyInBloc
 use Rattle.canonical_abi.specs.declared.trap.Fault.{Fault}
 use Rattle.canonical_abi.specs.declared.trap.Step.{Step}
 use Rattle.canonical_abi.proofs.Tells.{block-at-tells, reading-tells}
-use Rattle.lift_lower.specs.NoValue.{FailsAs, fault_at, AnswerStands}
+use Rattle.lift_lower.specs.NoValue.{FailsAs, fault_in_step, AnswerStands}
 use Rattle.lift_lower.specs.Loading.{reading_block}
 use Rattle.lift_lower.specs.declared.no_value.NoValue.{NoValue}
 use Rattle.lift_lower.specs.declared.no_value.NoValue.TheVariants as no_value
@@ -38,6 +38,6 @@ pub block-tells : (t : ClosedType) (m : List ℕ) (at : ℕ) → Tells (reading_
 block-tells t m at = block-at-tells (λ a. reading t m a) (Holds t m at) (Faulty t m at) m at (align t) (size t) (reading-tells t m at)
 
 -- where no value is read, the fault stands
-pub fails-stand : {X Y : Type 0} (step : Step) (e : NoValue) (f : Fault) (read : Result Y TrapKind) (P : X → Type 0) (F : TrapKind → Type 0) → f ≡ fault_at step e → FailsAs e read → ((k : TrapKind) → read ≡ Err k → F k) → AnswerStands step P F (Err f)
+pub fails-stand : {X Y : Type 0} (step : Step) (e : NoValue) (f : Fault) (read : Result Y TrapKind) (P : X → Type 0) (F : TrapKind → Type 0) → f ≡ fault_in_step step e → FailsAs e read → ((k : TrapKind) → read ≡ Err k → F k) → AnswerStands step P F (Err f)
 fails-stand step no_value.NoMemory f read P F is h stands = rw is tt
 fails-stand step (no_value.Trap k) f read P F is h stands = rw is (refl, stands k h)

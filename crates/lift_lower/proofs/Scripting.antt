@@ -2,12 +2,12 @@
 use Rattle.std.proofs.Common.{◌≡◌, ℕ, ◌+◌, ◌%◌, ◌≤◌, List, [], ◌∷◌, Some, inl, ◌++◌, length, refl, sym, ap, ◌∙◌, subst, inr, append_assoc, append-nil, arith}
 use Rattle.canonical_abi.specs.Guest.{Memory, Allocation}
 use Rattle.std.specs.Prelude.{slice_range}
-use Rattle.canonical_abi.specs.Trace.{Grant, Event, node, grant, write, EventLeads, LeavesOutWrites, AreWithin, RequestEnds}
+use Rattle.canonical_abi.specs.Trace.{Grant, Event, node, grant, write, EventLeads, LeavesOutWrites, AreGrantsWithin, RequestEnds}
 use Rattle.canonical_abi.specs.declared.trap.TrapKind.{TrapKind}
 use Rattle.canonical_abi.proofs.Fine.{leads-both}
 use Rattle.lift_lower.specs.Scripts.{IsDone, HasEnded, IsBegun, AsksBlock, GrantsBlock, PutsText, PutsTextAt}
 
-pub within-both : (limit : ℕ) (es fs : List Event) → AreWithin limit es → AreWithin limit fs → AreWithin limit (es ++ fs)
+pub within-both : (limit : ℕ) (es fs : List Event) → AreGrantsWithin limit es → AreGrantsWithin limit fs → AreGrantsWithin limit (es ++ fs)
 within-both limit [] fs p q = q
 within-both limit (node ∷ es) fs p q = within-both limit es fs p q
 within-both limit (grant g ∷ es) fs p q = (p.0, within-both limit es fs p.1 q)

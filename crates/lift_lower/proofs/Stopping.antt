@@ -7,7 +7,7 @@ use Rattle.canonical_abi.specs.Reading.{number_at, low_bits, byte_width, case_nu
 use Rattle.canonical_abi.specs.Memory.{EachFaulty, ListFaulty, Holds, Faulty, FieldsFaulty, CaseFaulty}
 use Rattle.canonical_abi.specs.Flat.{LiftFaulty, FieldsLiftFaulty, CaseLiftFaulty}
 use Rattle.canonical_abi.specs.Script.{EachStops, ListStops, StoresUntil, FieldsStoreUntil, CaseStoresUntil, LowersUntil, FieldsLowerUntil, CaseLowersUntil}
-use Rattle.canonical_abi.specs.Storing.{header, Stores}
+use Rattle.canonical_abi.specs.Storing.{pointer_pair, Stores}
 use Rattle.canonical_abi.specs.Trace.{Grant, Event, node, grant, write}
 use Rattle.canonical_abi.specs.declared.trap.TrapKind.{TrapKind}
 use Rattle.values.specs.Bytes.{AreBytes}
@@ -38,7 +38,7 @@ module _ (m : List ℕ) (bytes : AreBytes m) (short : length m < 2 ^ 32) where
     stores-until string_type a at k h = (node ∷ [], (h, refl))
     stores-until (list_type t) a at k h =
         let n = number_at m (a + 4) w32 in
-        list-until t (λ b c j f. stores-until t b c j f) (number_at m a w32) n (λ g rest. node ∷ grant g ∷ write at (header g.at n) ∷ rest) k h
+        list-until t (λ b c j f. stores-until t b c j f) (number_at m a w32) n (λ g rest. node ∷ grant g ∷ write at (pointer_pair g.at n) ∷ rest) k h
     stores-until (record_type fs) a at k h = let rest = fields-store-until fs a at 0 k h in (node ∷ rest.0, (rest.0, refl, rest.1))
     stores-until (variant_type cs) a at k h =
         let i = case_number cs m a in

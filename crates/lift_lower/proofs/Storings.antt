@@ -11,7 +11,7 @@ use Rattle.canonical_abi.specs.Values.{Value, HasPrimType, HasType, HaveTypes, v
 use Rattle.canonical_abi.specs.Layout.{align, size, prim_width, flags_size, discriminant_size, payload_place}
 use Rattle.canonical_abi.specs.Reading.{byte_width}
 use Rattle.canonical_abi.specs.Trace.{Event, node, grant, write, EventLeads}
-use Rattle.canonical_abi.specs.Storing.{header, number_in, EachStores, Stores, FieldsStore, CaseStores}
+use Rattle.canonical_abi.specs.Storing.{pointer_pair, number_in, EachStores, Stores, FieldsStore, CaseStores}
 use Rattle.canonical_abi.specs.declared.trap.TrapKind.{TrapKind}
 use Rattle.lift_lower.specs.Scripts.{IsDone, HasEnded, IsBegun, AsksBlock, GrantsBlock, PutsText, PutsTextAt}
 use Rattle.lift_lower.proofs.Scripted.{each-script, stores-script, fields-script}
@@ -139,11 +139,11 @@ module _ (limit : ℕ) (allocates : Allocation) where
       begun-event limit allocates S S node old old old (begun limit allocates S old) (visited limit allocates old)
 
   pub text-done : (text : List ℕ) (start at : ℕ) (old mid new : Memory) → is_utf8 text ≡ true → IsDone limit allocates (PutsTextAt text start) old mid
-      → EventLeads allocates mid (write at (header start (length text))) new → length new.bytes ≡ length mid.bytes
+      → EventLeads allocates mid (write at (pointer_pair start (length text))) new → length new.bytes ≡ length mid.bytes
       → IsDone limit allocates (Stores string_type at (string_value text)) old new
   text-done text start at old mid new utf8 put led same =
       let S = Stores string_type at (string_value text) in
-      let told = write at (header start (length text)) in
+      let told = write at (pointer_pair start (length text)) in
       let T : List Event → Type 0 = λ rest. rest ≡ told ∷ [] in
       let b = begun-then limit allocates S (λ rest. S (node ∷ rest)) (PutsTextAt text start) T old old mid (text-begun text at old) put (λ first rest p r. (
         text,
@@ -151,16 +151,16 @@ module _ (limit : ℕ) (allocates : Allocation) where
         refl,
         utf8,
         p.1,
-        ap (λ es. node ∷ (es ++ rest)) p.3 ∙ ap (λ es. node ∷ grant p.0 ∷ write p.0.at text ∷ es) r ∙ ap (λ b. node ∷ grant p.0 ∷ write p.0.at text ∷ write at (header b (length text)) ∷ []) (sym p.2),
+        ap (λ es. node ∷ (es ++ rest)) p.3 ∙ ap (λ es. node ∷ grant p.0 ∷ write p.0.at text ∷ es) r ∙ ap (λ b. node ∷ grant p.0 ∷ write p.0.at text ∷ write at (pointer_pair b (length text)) ∷ []) (sym p.2),
       )) in
-      begun-last limit allocates S T (λ es. es ≡ told ∷ []) old mid new b (wrote limit allocates mid new at (header start (length text)) led same) (λ es u. u)
+      begun-last limit allocates S T (λ es. es ≡ told ∷ []) old mid new b (wrote limit allocates mid new at (pointer_pair start (length text)) led same) (λ es u. u)
 
   pub text-ended : (text : List ℕ) (at : ℕ) (old : Memory) (k : TrapKind) (new : Memory) → is_utf8 text ≡ true → HasEnded limit allocates (PutsText text) old k new
       → HasEnded limit allocates (Stores string_type at (string_value text)) old k new
   text-ended text at old k new utf8 ended =
       let S = Stores string_type at (string_value text) in
       begun-ended limit allocates S (λ rest. S (node ∷ rest)) (PutsText text) old old k new (text-begun text at old) ended (λ first p.
-      (write at (header p.0.at (length text)) ∷ [], (text, p.0, refl, utf8, p.1, ap (λ es. node ∷ (es ++ write at (header p.0.at (length text)) ∷ [])) p.2)))
+      (write at (pointer_pair p.0.at (length text)) ∷ [], (text, p.0, refl, utf8, p.1, ap (λ es. node ∷ (es ++ write at (pointer_pair p.0.at (length text)) ∷ [])) p.2)))
 
   module _ (t : ClosedType) (at : ℕ) (vs : List Value) where
     abbrev ListScript : List Event → Type 0
@@ -168,39 +168,39 @@ module _ (limit : ℕ) (allocates : Allocation) where
 
     -- the header and the elements of a list whose block is at this address
     abbrev Headed : ℕ → List Event → Type 0
-    Headed start es = (rest : List Event) × (es ≡ write at (header start (length vs)) ∷ rest) × EachStores (Stores t) (size t) start vs rest
+    Headed start es = (rest : List Event) × (es ≡ write at (pointer_pair start (length vs)) ∷ rest) × EachStores (Stores t) (size t) start vs rest
 
     list-begun : (old : Memory) → IsBegun limit allocates ListScript (λ rest. ListScript (node ∷ rest)) old old
     list-begun old = begun-event limit allocates ListScript ListScript node old old old (begun limit allocates ListScript old) (visited limit allocates old)
 
     list-headed : (start : ℕ) (old mid next : Memory) → IsDone limit allocates (GrantsBlock (align t) (length vs * size t) start) old mid
-        → EventLeads allocates mid (write at (header start (length vs))) next → length next.bytes ≡ length mid.bytes
-        → IsBegun limit allocates ListScript (λ rest. Headed start (write at (header start (length vs)) ∷ rest)) old next
+        → EventLeads allocates mid (write at (pointer_pair start (length vs))) next → length next.bytes ≡ length mid.bytes
+        → IsBegun limit allocates ListScript (λ rest. Headed start (write at (pointer_pair start (length vs)) ∷ rest)) old next
     list-headed start old mid next granted led same =
-        let told = write at (header start (length vs)) in
+        let told = write at (pointer_pair start (length vs)) in
         let b = begun-then limit allocates ListScript (λ rest. ListScript (node ∷ rest)) (GrantsBlock (align t) (length vs * size t) start) (Headed start) old old mid (list-begun old) granted (λ first rest p r. (
           vs,
           p.0,
           r.0,
           refl,
           p.1,
-          ap (λ es. node ∷ (es ++ rest)) p.3 ∙ ap (λ es. node ∷ grant p.0 ∷ es) r.1 ∙ ap (λ b. node ∷ grant p.0 ∷ write at (header b (length vs)) ∷ r.0) (sym p.2),
+          ap (λ es. node ∷ (es ++ rest)) p.3 ∙ ap (λ es. node ∷ grant p.0 ∷ es) r.1 ∙ ap (λ b. node ∷ grant p.0 ∷ write at (pointer_pair b (length vs)) ∷ r.0) (sym p.2),
           subst (λ b. EachStores (Stores t) (size t) b vs r.0) (sym p.2) r.2,
         )) in
-        begun-event limit allocates ListScript (Headed start) told old mid next b (wrote limit allocates mid next at (header start (length vs)) led same)
+        begun-event limit allocates ListScript (Headed start) told old mid next b (wrote limit allocates mid next at (pointer_pair start (length vs)) led same)
 
     pub list-done : (start : ℕ) (old mid next new : Memory) → IsDone limit allocates (GrantsBlock (align t) (length vs * size t) start) old mid
-        → EventLeads allocates mid (write at (header start (length vs))) next → length next.bytes ≡ length mid.bytes
+        → EventLeads allocates mid (write at (pointer_pair start (length vs))) next → length next.bytes ≡ length mid.bytes
         → IsDone limit allocates (EachStores (Stores t) (size t) start vs) next new → IsDone limit allocates ListScript old new
     list-done start old mid next new granted led same items =
-        begun-last limit allocates ListScript (λ rest. Headed start (write at (header start (length vs)) ∷ rest)) (EachStores (Stores t) (size t) start vs) old next new
+        begun-last limit allocates ListScript (λ rest. Headed start (write at (pointer_pair start (length vs)) ∷ rest)) (EachStores (Stores t) (size t) start vs) old next new
         (list-headed start old mid next granted led same) items (λ es u. (es, refl, u))
 
     pub list-ended : (start : ℕ) (old mid next : Memory) (k : TrapKind) (new : Memory) → IsDone limit allocates (GrantsBlock (align t) (length vs * size t) start) old mid
-        → EventLeads allocates mid (write at (header start (length vs))) next → length next.bytes ≡ length mid.bytes
+        → EventLeads allocates mid (write at (pointer_pair start (length vs))) next → length next.bytes ≡ length mid.bytes
         → HasEnded limit allocates (EachStores (Stores t) (size t) start vs) next k new → HasEnded limit allocates ListScript old k new
     list-ended start old mid next k new granted led same items =
-        ended-last limit allocates ListScript (λ rest. Headed start (write at (header start (length vs)) ∷ rest)) (EachStores (Stores t) (size t) start vs) old next k new
+        ended-last limit allocates ListScript (λ rest. Headed start (write at (pointer_pair start (length vs)) ∷ rest)) (EachStores (Stores t) (size t) start vs) old next k new
         (list-headed start old mid next granted led same) items (λ es u. (es, refl, u))
 
     pub list-refused : (old : Memory) (k : TrapKind) (new : Memory) → AllByRecursion (λ w. HasType w t) vs → HasEnded limit allocates (AsksBlock (align t) (length vs * size t)) old k new
@@ -208,7 +208,7 @@ module _ (limit : ℕ) (allocates : Allocation) where
     list-refused old k new typed ended =
         begun-ended limit allocates ListScript (λ rest. ListScript (node ∷ rest)) (AsksBlock (align t) (length vs * size t)) old old k new (list-begun old) ended (λ first p.
         let rest = each-script (Stores t) (λ w. HasType w t) (size t) (λ b w typed. stores-script t b w typed) p.0.at vs typed in
-        (write at (header p.0.at (length vs)) ∷ rest.0, (vs, p.0, rest.0, refl, p.1, ap (λ es. node ∷ (es ++ write at (header p.0.at (length vs)) ∷ rest.0)) p.2, rest.1)))
+        (write at (pointer_pair p.0.at (length vs)) ∷ rest.0, (vs, p.0, rest.0, refl, p.1, ap (λ es. node ∷ (es ++ write at (pointer_pair p.0.at (length vs)) ∷ rest.0)) p.2, rest.1)))
 
   module _ (fs : Fields) (at : ℕ) (vs : List Value) where
     abbrev RecordScript : List Event → Type 0

@@ -5,7 +5,7 @@ use Rattle.canonical_abi.specs.Types.{Prim, ClosedType, prim_type, string_type, 
 use Rattle.canonical_abi.specs.Layout.{align, size, prim_width, flags_size, discriminant_size}
 use Rattle.canonical_abi.specs.Memory.{PrimIs, PrimFaulty, BlockHolds, BlockFaulty}
 use Rattle.canonical_abi.specs.Reading.{number_at, byte_width, case_number, low_bits, flat_bits}
-use Rattle.canonical_abi.specs.Storing.{header, number_in}
+use Rattle.canonical_abi.specs.Storing.{pointer_pair, number_in}
 use Rattle.canonical_abi.specs.Trace.{Event, write}
 use Rattle.canonical_abi.specs.declared.trap.TrapKind.{TrapKind}
 use Rattle.canonical_abi.specs.declared.trap.TrapKind.TheVariants as trap
@@ -96,7 +96,7 @@ number_width _ = w8
 -- the writes that put a head of this type at a
 abbrev pub head_writes : Head → ClosedType → ℕ → List Event
 head_writes (head.Scalar s) t a = write a (to_le_bytes (prim_width (prim_in s)) (number_in (prim_width (prim_in s)) (value_in s))) ∷ []
-head_writes (head.Block at n) t a = write a (header at n) ∷ []
+head_writes (head.Block at n) t a = write a (pointer_pair at n) ∷ []
 head_writes (head.Case i) t a = write a (to_le_bytes (number_width t) i) ∷ []
 head_writes (head.Flags labels) t a = write a (to_le_bytes (number_width t) labels) ∷ []
 head_writes head.Nothing t a = []

@@ -7,9 +7,9 @@ use Rattle.canonical_abi.specs.declared.trap.TrapKind.{TrapKind}
 use Rattle.lift_lower.specs.declared.no_value.NoValue.{NoValue}
 use Rattle.lift_lower.specs.declared.no_value.NoValue.TheVariants as no_value
 
-abbrev pub fault_at : Step → NoValue → Fault
-fault_at step (no_value.Trap k) = ended.Trap (record { kind = k; step = step })
-fault_at step no_value.NoMemory = ended.NoMemory
+abbrev pub fault_in_step : Step → NoValue → Fault
+fault_in_step step (no_value.Trap k) = ended.Trap (record { kind = k; step = step })
+fault_in_step step no_value.NoMemory = ended.NoMemory
 
 -- a trap is what is read; memory may be wanting
 abbrev pub FailsAs : {Y : Type 0} → NoValue → Result Y TrapKind → Type 0
@@ -17,9 +17,9 @@ FailsAs no_value.NoMemory read = Unit {0}
 FailsAs (no_value.Trap k) read = read ≡ Err k
 
 -- what a function answered, seen by view, is what is read, unless memory was wanting
-abbrev pub ReadsAs : {X Y : Type 0} → (X → Y) → Result X NoValue → Result Y TrapKind → Type 0
-ReadsAs view (Ok x) read = read ≡ Ok (view x)
-ReadsAs view (Err e) read = FailsAs e read
+abbrev pub AnswersAs : {X Y : Type 0} → (X → Y) → Result X NoValue → Result Y TrapKind → Type 0
+AnswersAs view (Ok x) read = read ≡ Ok (view x)
+AnswersAs view (Err e) read = FailsAs e read
 
 -- the answer stands: a value that P allows, a trap in this step that F allows, or want of memory
 abbrev pub AnswerStands : {X : Type 0} → Step → (X → Type 0) → (TrapKind → Type 0) → Result X Fault → Type 0

@@ -2,14 +2,14 @@
 use Rattle.std.specs.Prelude.{◌≡◌, ℕ, ◌≤◌, List, [], ◌∷◌, ◌++◌, length}
 use Rattle.canonical_abi.specs.Guest.{Memory, Allocation}
 use Rattle.canonical_abi.specs.Storing.{IsBlock}
-use Rattle.canonical_abi.specs.Trace.{Grant, Event, grant, write, AreWithin, TraceLeads, TraceEnds}
+use Rattle.canonical_abi.specs.Trace.{Grant, Event, grant, write, AreGrantsWithin, TraceLeads, TraceEnds}
 use Rattle.canonical_abi.specs.declared.trap.TrapKind.{TrapKind}
 
 -- the whole script was done
 pub record IsDone (limit : ℕ) (allocates : Allocation) (S : List Event → Type 0) (old new : Memory) : Type 0 where
   pub events : List Event
   pub scripted : S events
-  pub within : AreWithin limit events
+  pub within : AreGrantsWithin limit events
   pub leads : TraceLeads allocates old events new
   pub no_shorter : length old.bytes ≤ length new.bytes
 
@@ -23,7 +23,7 @@ pub record HasEnded (limit : ℕ) (allocates : Allocation) (S : List Event → T
 pub record IsBegun (limit : ℕ) (allocates : Allocation) (S T : List Event → Type 0) (old now : Memory) : Type 0 where
   pub events : List Event
   pub completed : (rest : List Event) → T rest → S (events ++ rest)
-  pub within : AreWithin limit events
+  pub within : AreGrantsWithin limit events
   pub leads : TraceLeads allocates old events now
   pub no_shorter : length old.bytes ≤ length now.bytes
 

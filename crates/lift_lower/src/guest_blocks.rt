@@ -3,7 +3,7 @@ ghost use Rattle.std.specs.Prelude.{◌≡◌, ◌+◌, ◌^◌, ◌<◌, ◌≤
 ghost use Rattle.canonical_abi.specs.Guest.{IsAlignment};
 ghost use Rattle.canonical_abi.specs.Layout.{prim_width};
 ghost use Rattle.canonical_abi.specs.Reading.{byte_width};
-ghost use Rattle.canonical_abi.specs.Storing.{header, number_in};
+ghost use Rattle.canonical_abi.specs.Storing.{pointer_pair, number_in};
 ghost use Rattle.canonical_abi.specs.Trace.{EventLeads, RequestEnds, write};
 ghost use Rattle.std.specs.Int.{to_le_bytes, byte_len};
 ghost use Rattle.values.specs.Scalar.{prim_in, value_in};
@@ -29,7 +29,7 @@ pub fn write_header<G: Guest>(guest: &mut G, at: usize, start: usize, count: usi
     requires small { at < 2 ^ 32 }
     requires start { start < 2 ^ 32 }
     requires count { count < 2 ^ 32 }
-    ensures led { EventLeads G.allocates (G.memory guest.old) (write at (header start count)) (G.memory guest.new) }
+    ensures led { EventLeads G.allocates (G.memory guest.old) (write at (pointer_pair start count)) (G.memory guest.new) }
     ensures same_length { length (G.memory guest.new).bytes ≡ length (G.memory guest.old).bytes }
 {
     let mut bytes = [0; 8];

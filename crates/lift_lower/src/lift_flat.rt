@@ -6,7 +6,7 @@ ghost use Rattle.canonical_abi.specs.Types.{IsPlain, AllPlain, variant_cases, fi
 ghost use Rattle.canonical_abi.specs.Layout.{flat_kinds, field_kinds, payload_kinds};
 ghost use Rattle.canonical_abi.specs.Reading.{number_of, low_bits, lifting, lifting_fields, lifting_case};
 ghost use Rattle.tables.specs.Closed.{prim_of, closed_type};
-ghost use Rattle.lift_lower.specs.NoValue.{ReadsAs};
+ghost use Rattle.lift_lower.specs.NoValue.{AnswersAs};
 ghost use Rattle.values.specs.Members.{AreInside, members_fields};
 ghost use Rattle.values.specs.Types.{IsInside};
 ghost use Rattle.values.specs.Val.{value_of};
@@ -31,7 +31,7 @@ pub fn low_word(flats: &[Flat], index: usize) -> u32
 #[tactic(auto, unfolding(canonical_abi::specs::Reading::low_bits))]
 fn lift_primitive(primitive: Primitive, flats: &[Flat]) -> Result<Val, NoValue>
     requires { 0 < length flats.now }
-    ensures value { (m : List ℕ) → ReadsAs value_of result (lifting (prim_type (prim_of primitive)) m (map number_of flats.now)) }
+    ensures value { (m : List ℕ) → AnswersAs value_of result (lifting (prim_type (prim_of primitive)) m (map number_of flats.now)) }
     ensures plain { result ≢ Err NoValue.NoMemory }
 {
     match lift_scalar(primitive, flats[0]) {
@@ -52,7 +52,7 @@ pub(crate) fn lift_at(
     requires inside { IsInside table.now ty }
     requires carried { length (flat_kinds (closed_type table.now ty)) ≤ length flats.now }
     requires few { length flats.now ≤ 16 }
-    ensures value { ReadsAs value_of result (lifting (closed_type table.now ty) memory.now (map number_of flats.now)) }
+    ensures value { AnswersAs value_of result (lifting (closed_type table.now ty) memory.now (map number_of flats.now)) }
     ensures plain { IsPlain (closed_type table.now ty) → result ≢ Err NoValue.NoMemory }
 {
     match table.shape_of(ty) {
@@ -92,7 +92,7 @@ pub(crate) fn lift_fields(
     requires counted { field_count (members_fields table.now members.now) ≡ count }
     requires carried { length (field_kinds (members_fields table.now members.now)) ≤ length flats.now }
     requires few { length flats.now ≤ 16 }
-    ensures { ReadsAs (λ v. map value_of v.items) result
+    ensures { AnswersAs (λ v. map value_of v.items) result
         (lifting_fields (members_fields table.now members.now) memory.now (map number_of flats.now)) }
 {
     let mut fields = Vec::new(alloc);
@@ -123,7 +123,7 @@ fn lift_variant(
     requires carried { length (payload_kinds (variant_cases (closed_type table.now ty))) < length flats.now }
     requires few { length flats.now ≤ 16 }
     ensures value { let ns = map number_of flats.now in
-        ReadsAs value_of result (lifting_case (variant_cases (closed_type table.now ty)) memory.now (drop 1 ns) (low_bits ns 0 32) (low_bits ns 0 32)) }
+        AnswersAs value_of result (lifting_case (variant_cases (closed_type table.now ty)) memory.now (drop 1 ns) (low_bits ns 0 32) (low_bits ns 0 32)) }
     ensures plain { AllPlain (variant_cases (closed_type table.now ty)) → result ≢ Err NoValue.NoMemory }
 {
     let case = low_word(flats, 0);

@@ -11,7 +11,7 @@ ghost use Rattle.layout.specs.Layout.{layouts_of};
 ghost use Rattle.tables.specs.Closed.{closed_type};
 ghost use Rattle.values.specs.Members.{fields_of_types, AreAllInside};
 ghost use Rattle.lift_lower.specs.Crossing.{LiftFails};
-ghost use Rattle.lift_lower.specs.NoValue.{ReadsAs, AnswerStands};
+ghost use Rattle.lift_lower.specs.NoValue.{AnswersAs, AnswerStands};
 ghost use Rattle.lift_lower.specs.Loading.{reading_members};
 ghost use Rattle.values.specs.Bytes.{AreBytes};
 ghost use Rattle.values.specs.Types.{IsInside};
@@ -113,7 +113,7 @@ fn lift_value(
     memory: &[u8],
 ) -> Result<Val, NoValue>
     requires inside { IsInside table.now ty }
-    ensures value { ReadsAs (λ v. value_of v ∷ []) result
+    ensures value { AnswersAs (λ v. value_of v ∷ []) result
         (denoting max_flat_results (field (closed_type table.now ty) no_field) memory.now flats.now) }
     ensures plain { IsPlain (closed_type table.now ty) → result ≢ Err NoValue.NoMemory }
     ensures bytes { AreBytes memory.now }
@@ -143,7 +143,7 @@ pub(crate) fn lift_values(
     requires inside { AreAllInside table.now types.now }
     requires small { size (record_type (fields_of_types table.now types.now)) ≤ 16777216 }
     requires limit { limit ≤ 16 }
-    ensures value { ReadsAs (λ v. map value_of v.items) result
+    ensures value { AnswersAs (λ v. map value_of v.items) result
         (denoting limit (fields_of_types table.now types.now) memory.now flats.now) }
     ensures bytes { AreBytes memory.now }
 {
@@ -172,7 +172,7 @@ fn load_spilled(
     requires inside { AreAllInside table.now types.now }
     requires small { size (record_type (fields_of_types table.now types.now)) ≤ 16777216 }
     requires at { at < 2 ^ 32 }
-    ensures { ReadsAs (λ v. map value_of v.items) result
+    ensures { AnswersAs (λ v. map value_of v.items) result
         (reading_members (fields_of_types table.now types.now) memory.now at) }
 {
     let (size, align) = table.record_extent(types);

@@ -10,7 +10,7 @@ ghost use Rattle.canonical_abi.specs.Reading.{reading, text_at, block_at, list_a
 ghost use Rattle.canonical_abi.specs.declared.trap.Step.TheVariants.{Take};
 ghost use Rattle.layout.specs.Layout.{layouts_of};
 ghost use Rattle.tables.specs.Closed.{prim_of, closed_type};
-ghost use Rattle.lift_lower.specs.NoValue.{ReadsAs, AnswerStands};
+ghost use Rattle.lift_lower.specs.NoValue.{AnswersAs, AnswerStands};
 ghost use Rattle.lift_lower.specs.Loading.{reading_block};
 ghost use Rattle.values.specs.Bytes.{AreBytes};
 ghost use Rattle.values.specs.Members.{AreInside, members_fields};
@@ -37,7 +37,7 @@ pub(crate) fn check_block(
 ) -> Result<(), NoValue>
     requires aligned { 0 < align }
     requires fits { at + size < 2 ^ 64 }
-    ensures value { ReadsAs (λ _. at) result (block_at memory.now at align size) }
+    ensures value { AnswersAs (λ _. at) result (block_at memory.now at align size) }
     ensures plain { result ≢ Err NoValue.NoMemory }
 {
     match test_block(memory.len(), at, align, size) {
@@ -48,7 +48,7 @@ pub(crate) fn check_block(
 
 fn load_primitive(primitive: Primitive, memory: &[u8], at: usize) -> Result<Val, NoValue>
     requires { at + size (prim_type (prim_of primitive)) ≤ length memory.now }
-    ensures value { ReadsAs value_of result (reading (prim_type (prim_of primitive)) memory.now at) }
+    ensures value { AnswersAs value_of result (reading (prim_type (prim_of primitive)) memory.now at) }
     ensures plain { result ≢ Err NoValue.NoMemory }
 {
     match primitive {
@@ -76,7 +76,7 @@ pub(crate) fn load_text(
     size: usize,
 ) -> Result<Val, NoValue>
     requires { start + size < 2 ^ 64 }
-    ensures { ReadsAs value_of result (text_at memory.now start size) }
+    ensures { AnswersAs value_of result (text_at memory.now start size) }
 {
     match text_in(memory, start, size) {
         Ok(text) => Ok(Val::String(String::from_str(alloc, text)?)),
@@ -94,7 +94,7 @@ pub(crate) fn load_at(
 ) -> Result<Val, NoValue>
     requires inside { IsInside table.now ty }
     requires fits { at + size (closed_type table.now ty) ≤ length memory.now }
-    ensures value { ReadsAs value_of result (reading (closed_type table.now ty) memory.now at) }
+    ensures value { AnswersAs value_of result (reading (closed_type table.now ty) memory.now at) }
     ensures plain { IsPlain (closed_type table.now ty) → result ≢ Err NoValue.NoMemory }
 {
     match table.shape_of(ty) {
@@ -137,7 +137,7 @@ pub(crate) fn load_list(
     requires start { start < 2 ^ 32 }
     requires count { count < 2 ^ 32 }
     ensures { let t = closed_type table.now element in
-        ReadsAs (λ v. list_value (values_of (map value_of v.items))) result
+        AnswersAs (λ v. list_value (values_of (map value_of v.items))) result
         (list_at (reading t memory.now) memory.now (align t) (size t) start count) }
 {
     let step = table.size_of(element);
@@ -164,7 +164,7 @@ pub(crate) fn load_fields(
     requires inside { AreInside table.now members.now }
     requires counted { field_count (members_fields table.now members.now) ≡ count }
     requires fits { at + end_from 0 (field_extents (members_fields table.now members.now)) ≤ length memory.now }
-    ensures { ReadsAs (λ v. map value_of v.items) result
+    ensures { AnswersAs (λ v. map value_of v.items) result
         (reading_fields (members_fields table.now members.now) memory.now at 0) }
 {
     let mut fields = Vec::new(alloc);
@@ -197,7 +197,7 @@ fn load_variant(
     requires fits { at + size (closed_type table.now ty) ≤ length memory.now }
     ensures value { let cs = variant_cases (closed_type table.now ty) in
         let i = case_number cs memory.now at in
-        ReadsAs value_of result (reading_case cs memory.now (at + payload_place cs) i i) }
+        AnswersAs value_of result (reading_case cs memory.now (at + payload_place cs) i i) }
     ensures plain { AllPlain (variant_cases (closed_type table.now ty)) → result ≢ Err NoValue.NoMemory }
 {
     let case = number_of_size(memory, at, discriminant_bytes(count));
@@ -251,7 +251,7 @@ pub(crate) fn load_block(
 ) -> Result<Val, NoValue>
     requires inside { IsInside table.now ty }
     ensures value { let t = closed_type table.now ty in
-        ReadsAs value_of result (reading_block t memory.now at) }
+        AnswersAs value_of result (reading_block t memory.now at) }
     ensures plain { IsPlain (closed_type table.now ty) → result ≢ Err NoValue.NoMemory }
     ensures bytes { AreBytes memory.now }
 {

@@ -1,6 +1,6 @@
 //! Why no value was read.
 ghost use Rattle.std.specs.Prelude.{◌≡◌};
-ghost use Rattle.lift_lower.specs.NoValue.{fault_at};
+ghost use Rattle.lift_lower.specs.NoValue.{fault_in_step};
 
 use canonical_abi::{Fault, Step, Trap, TrapKind};
 use std::alloc::{AllocError, AllocFailed};
@@ -15,7 +15,7 @@ pub(crate) enum NoValue {
 impl NoValue {
     /// The fault of a step.
     pub(crate) fn at(self, step: Step) -> Fault
-        ensures { result ≡ fault_at step self }
+        ensures { result ≡ fault_in_step step self }
     {
         match self {
             NoValue::Trap(kind) => Fault::Trap(Trap { kind, step }),

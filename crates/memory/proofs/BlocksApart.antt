@@ -6,7 +6,7 @@ use Rattle.std.proofs.lemmas.Bool.{both_ways, false≢true, and_from, and_parts,
 use Rattle.std.proofs.lemmas.Bool.Decides.{nat_tests}
 use Rattle.std.proofs.lemmas.List.Sorted.{sum_by-IsPermutation, IsPermutation-sym}
 use Rattle.std.proofs.lemmas.List.Sums.{sum_by-cons}
-use Rattle.memory.specs.Blocks.{is_in, is_apart, are_apart, rise, IsRisingByAddress}
+use Rattle.memory.specs.Blocks.{is_in_block, is_apart, are_blocks_apart, rise, IsRisingByAddress}
 use Rattle.memory.specs.declared.block.Block.{Block}
 
 -- ---- tests of blocks
@@ -64,17 +64,17 @@ rise_behind low end (b ∷ bs) le h =
     h
 
 -- so no two meet
-pub apart_from_rise : (end : ℕ) (bs : List Block) → rise end bs ≡ true → are_apart bs ≡ true
+pub apart_from_rise : (end : ℕ) (bs : List Block) → rise end bs ≡ true → are_blocks_apart bs ≡ true
 apart_from_rise end [] h = refl
 apart_from_rise end (b ∷ bs) h =
-    from_choice (b.size == 0) (rise end bs) (nat_le end b.at && rise (b.at + b.size) bs) (are_apart (b ∷ bs) ≡ true)
+    from_choice (b.size == 0) (rise end bs) (nat_le end b.at && rise (b.at + b.size) bs) (are_blocks_apart (b ∷ bs) ≡ true)
     (λ none more.
     let beside = all_imply (λ c. true) (is_apart b) (λ c x. empty_apart b c (eqb-true b.size 0 none)) bs (all_true bs) in
-    and_from (list_all (is_apart b) bs) (are_apart bs) beside (apart_from_rise end bs more))
+    and_from (list_all (is_apart b) bs) (are_blocks_apart bs) beside (apart_from_rise end bs more))
     (λ some more.
     let t = and_parts (nat_le end b.at) (rise (b.at + b.size) bs) more in
     let beside = all_imply (is_behind (b.at + b.size)) (is_apart b) (λ c x. behind_apart b c x) bs (rise_behind (b.at + b.size) (b.at + b.size) bs (omega arith) t.1) in
-    and_from (list_all (is_apart b) bs) (are_apart bs) beside (apart_from_rise (b.at + b.size) bs t.1))
+    and_from (list_all (is_apart b) bs) (are_blocks_apart bs) beside (apart_from_rise (b.at + b.size) bs t.1))
     h
   where
     all_true : (cs : List Block) → list_all (λ c. true) cs ≡ true
@@ -89,11 +89,11 @@ least_first low (b ∷ bs) h =
     and_from (nat_le low b.at) (list_all (λ c. nat_le low c.at) bs) (le-leb low b.at (h 0 b (omega arith)))
     (least_first low bs (λ j d below. h (suc j) d (omega arith)))
 
-rise_in_order : (end : ℕ) (bs : List Block) → list_all (is_behind end) bs ≡ true → are_apart bs ≡ true → IsNonDecreasingBy (λ b. b.at) bs → rise end bs ≡ true
+rise_in_order : (end : ℕ) (bs : List Block) → list_all (is_behind end) bs ≡ true → are_blocks_apart bs ≡ true → IsNonDecreasingBy (λ b. b.at) bs → rise end bs ≡ true
 rise_in_order end [] behind apart sorted = refl
 rise_in_order end (b ∷ bs) behind apart sorted =
     let first = and_parts (is_behind end b) (list_all (is_behind end) bs) behind in
-    let t = and_parts (list_all (is_apart b) bs) (are_apart bs) apart in
+    let t = and_parts (list_all (is_apart b) bs) (are_blocks_apart bs) apart in
     let rest : IsNonDecreasingBy (λ b. b.at) bs = λ i j d le below. sorted (suc i) (suc j) d (omega arith) (omega arith) in
     let low : list_all (λ c. nat_le b.at c.at) bs ≡ true = least_first b.at bs (λ j d below. sorted 0 (suc j) d (omega arith) (omega arith)) in
     chosen (b.size == 0) (rise end bs) (nat_le end b.at && rise (b.at + b.size) bs)
@@ -109,16 +109,16 @@ rise_in_order end (b ∷ bs) behind apart sorted =
 -- ---- blocks that are apart, by their addresses: none lies in two of them
 
 abbrev one_in : ℕ → Block → ℕ
-one_in a b = cond (is_in b a) 1 0
+one_in a b = cond (is_in_block b a) 1 0
 
 abbrev count_at : ℕ → List Block → ℕ
 count_at a bs = sum_by (one_in a) bs
 
-apart_at : (b c : Block) (a : ℕ) → is_apart b c ≡ true → is_in b a ≡ true → one_in a c ≡ 0
+apart_at : (b c : Block) (a : ℕ) → is_apart b c ≡ true → is_in_block b a ≡ true → one_in a c ≡ 0
 unfolding is_apart
 apart_at b c a h i = grind (arith, nat_tests)
 
-none_at : (b : Block) (bs : List Block) (a : ℕ) → list_all (is_apart b) bs ≡ true → is_in b a ≡ true → count_at a bs ≡ 0
+none_at : (b : Block) (bs : List Block) (a : ℕ) → list_all (is_apart b) bs ≡ true → is_in_block b a ≡ true → count_at a bs ≡ 0
 none_at b [] a h i = refl
 none_at b (c ∷ cs) a h i =
     let t = and_parts (is_apart b c) (list_all (is_apart b) cs) h in
@@ -126,11 +126,11 @@ none_at b (c ∷ cs) a h i =
     let more = none_at b cs a t.1 i in
     omega (arith, sum_by-cons (one_in a) c cs)
 
-one_at : (bs : List Block) (a : ℕ) → are_apart bs ≡ true → count_at a bs ≤ 1
+one_at : (bs : List Block) (a : ℕ) → are_blocks_apart bs ≡ true → count_at a bs ≤ 1
 one_at [] a h = omega arith
 one_at (b ∷ bs) a h =
-    let t = and_parts (list_all (is_apart b) bs) (are_apart bs) h in
-    elim (cases_Bool (is_in b a)) [
+    let t = and_parts (list_all (is_apart b) bs) (are_blocks_apart bs) h in
+    elim (cases_Bool (is_in_block b a)) [
       | inl is ↦ let none = none_at b bs a t.0 is in let here : one_in a b ≡ 1 = ap (λ x. cond x 1 0) is in omega (arith, sum_by-cons (one_in a) b bs)
       | inr out ↦ let more = one_at bs a t.1 in let here : one_in a b ≡ 0 = ap (λ x. cond x 1 0) out in omega (arith, sum_by-cons (one_in a) b bs)
     ]
@@ -139,11 +139,11 @@ one_at (b ∷ bs) a h =
 abbrev meeting : Block → Block → ℕ
 meeting b c = cond (nat_le b.at c.at) c.at b.at
 
-meets : (b c : Block) → is_apart b c ≡ false → (is_in b (meeting b c) ≡ true) × (one_in (meeting b c) c ≡ 1)
+meets : (b c : Block) → is_apart b c ≡ false → (is_in_block b (meeting b c) ≡ true) × (one_in (meeting b c) c ≡ 1)
 unfolding is_apart
 meets b c h = (grind (arith, nat_tests), grind (arith, nat_tests))
 
-beside : (b : Block) (bs : List Block) → ((a : ℕ) → is_in b a ≡ true → count_at a bs ≡ 0) → list_all (is_apart b) bs ≡ true
+beside : (b : Block) (bs : List Block) → ((a : ℕ) → is_in_block b a ≡ true → count_at a bs ≡ 0) → list_all (is_apart b) bs ≡ true
 beside b [] h = refl
 beside b (c ∷ cs) h =
     let rest = beside b cs (λ a is. let all = h a is in omega (arith, sum_by-cons (one_in a) c cs)) in
@@ -152,25 +152,25 @@ beside b (c ∷ cs) h =
       | inr not_apart ↦ let m = meets b c not_apart in let none = h (meeting b c) m.0 in absurd (omega (arith, sum_by-cons (one_in (meeting b c)) c cs))
     ]
 
-apart_from_one : (bs : List Block) → ((a : ℕ) → count_at a bs ≤ 1) → are_apart bs ≡ true
+apart_from_one : (bs : List Block) → ((a : ℕ) → count_at a bs ≤ 1) → are_blocks_apart bs ≡ true
 apart_from_one [] h = refl
 apart_from_one (b ∷ bs) h =
-    and_from (list_all (is_apart b) bs) (are_apart bs)
+    and_from (list_all (is_apart b) bs) (are_blocks_apart bs)
     (beside b bs (λ a is. let here : one_in a b ≡ 1 = ap (λ x. cond x 1 0) is in let all = h a in omega (arith, sum_by-cons (one_in a) b bs)))
     (apart_from_one bs (λ a. let all = h a in omega (arith, sum_by-cons (one_in a) b bs)))
 
 -- in another order they are apart as well
-are_apart-IsPermutation : (xs ys : List Block) → IsPermutation xs ys → are_apart xs ≡ true → are_apart ys ≡ true
+are_apart-IsPermutation : (xs ys : List Block) → IsPermutation xs ys → are_blocks_apart xs ≡ true → are_blocks_apart ys ≡ true
 are_apart-IsPermutation xs ys same h =
     apart_from_one ys (λ a. let e = sum_by-IsPermutation (one_in a) xs ys same in let one = one_at xs a h in omega arith)
 
 -- blocks by their addresses rise exactly where they are apart
-pub rise_by_address : (bs sorted : List Block) → IsRisingByAddress bs sorted → rise 0 sorted ≡ are_apart bs
+pub rise_by_address : (bs sorted : List Block) → IsRisingByAddress bs sorted → rise 0 sorted ≡ are_blocks_apart bs
 rise_by_address bs sorted (same, rising) =
     elim (cases_Bool (rise 0 sorted)) [
       | inl is ↦ is ∙ sym (are_apart-IsPermutation sorted bs (IsPermutation-sym bs sorted same) (apart_from_rise 0 sorted is))
       | inr not_so ↦
-          elim (cases_Bool (are_apart bs)) [
+          elim (cases_Bool (are_blocks_apart bs)) [
             | inl apart ↦ absurd (both_ways (rise 0 sorted) not_so (rise_in_order 0 sorted (all_behind sorted) (are_apart-IsPermutation bs sorted same apart) rising))
             | inr meet ↦ not_so ∙ sym meet
           ]

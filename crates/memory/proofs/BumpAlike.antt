@@ -4,7 +4,7 @@ use Rattle.std.proofs.lemmas.Bool.{lt-ltb, both_ways, le-ltb, cases_order}
 use Rattle.canonical_abi.specs.Guest.{Memory, IsAlignment}
 use Rattle.memory.specs.Alike.{AreAlike, AnswersAlike, ReleasesAlike}
 use Rattle.memory.specs.Bump.{bump, IsRoundedUp, BumpAllocates, BumpReleases}
-use Rattle.memory.specs.Growth.{Reaches, most_bytes}
+use Rattle.memory.specs.Growth.{ReachesEnd, most_bytes}
 use Rattle.memory.specs.GrowthLaws.{length-with_pages}
 use Rattle.memory.proofs.Growths.{one_growth, no_growth, one_most, unchanged}
 
@@ -50,7 +50,7 @@ bumps_alike m n align size (Some x) (Some y) m' n' alignment alike (max, s, m_is
     let bound = same_most m n s t max most alike m_is n_is in
     let ends : x + size ≡ y + size = omega arith in
     let far = alike.same_length in
-    let pages : p ≡ u = one_growth (length m.bytes) (length n.bytes) max most (Reaches (length m.bytes) (x + size)) (Reaches (length n.bytes) (y + size)) p u (λ k enough. omega arith) (λ k enough. omega arith) g h in
+    let pages : p ≡ u = one_growth (length m.bytes) (length n.bytes) max most (ReachesEnd (length m.bytes) (x + size)) (ReachesEnd (length n.bytes) (y + size)) p u (λ k enough. omega arith) (λ k enough. omega arith) g h in
     let long : length m'.bytes ≡ length m.bytes + p * 65536 = ap (λ bytes. length bytes) m'_bytes ∙ length-with_pages m.bytes p in
     let tall : length n'.bytes ≡ length n.bytes + u * 65536 = ap (λ bytes. length bytes) n'_bytes ∙ length-with_pages n.bytes u in (
       ap Some same,
@@ -64,12 +64,12 @@ bumps_alike m n align size (Some x) None m' n' alignment alike (max, s, m_is, fe
     let same = same_address m n align s t x y max most alignment alike m_is n_is r q in
     let ends : x + size ≡ y + size = omega arith in
     let far = alike.same_length in
-    absurd (no_growth (length m.bytes) (length n.bytes) max most (Reaches (length m.bytes) (x + size)) (Reaches (length n.bytes) (y + size)) p far (same_most m n s t max most alike m_is n_is) (λ k enough. omega arith) g none)
+    absurd (no_growth (length m.bytes) (length n.bytes) max most (ReachesEnd (length m.bytes) (x + size)) (ReachesEnd (length n.bytes) (y + size)) p far (same_most m n s t max most alike m_is n_is) (λ k enough. omega arith) g none)
 bumps_alike m n align size None (Some y) m' n' alignment alike (max, s, x, m_is, r, none, m'_is) (most, t, n_is, few, q, (u, h, n'_bytes), n'_is) =
     let same = same_address m n align s t x y max most alignment alike m_is n_is r q in
     let ends : x + size ≡ y + size = omega arith in
     let far = alike.same_length in
-    absurd (no_growth (length n.bytes) (length m.bytes) most max (Reaches (length n.bytes) (y + size)) (Reaches (length m.bytes) (x + size)) u (sym far) (sym (same_most m n s t max most alike m_is n_is)) (λ k enough. omega arith) h none)
+    absurd (no_growth (length n.bytes) (length m.bytes) most max (ReachesEnd (length n.bytes) (y + size)) (ReachesEnd (length m.bytes) (x + size)) u (sym far) (sym (same_most m n s t max most alike m_is n_is)) (λ k enough. omega arith) h none)
 bumps_alike m n align size None None m' n' alignment alike (max, s, x, m_is, r, m_full, m'_is) (most, t, y, n_is, q, n_full, n'_is) = (refl, unchanged m n m' n' alike m'_is n'_is)
 
 pub bumps_free_alike : ReleasesAlike most_bytes BumpReleases

@@ -3,7 +3,7 @@ use Rattle.std.proofs.Common.{◌≡◌, inl, inr, ◌+◌, ◌*◌, ◌<◌, �
 use Rattle.std.proofs.lemmas.Bool.{cases_order}
 use Rattle.canonical_abi.specs.Guest.{Memory, rounded_to_eight}
 use Rattle.memory.specs.Alike.{AreAlike, AnswersAlike, ReleasesAlike}
-use Rattle.memory.specs.FirstFit.{IsHole, IsFirstWith, HasRoom, CanBeFreed, is_within, FirstFitAllocates, FirstFitReleases}
+use Rattle.memory.specs.FirstFit.{IsHole, IsFirstWith, HasRoomGrown, CanBeFreed, is_address_within, FirstFitAllocates, FirstFitReleases}
 use Rattle.memory.specs.Growth.{grown, most_bytes}
 use Rattle.memory.specs.GrowthLaws.{length-with_pages}
 use Rattle.memory.proofs.Growths.{one_growth, no_growth, one_most, grown_alike, unchanged}
@@ -23,7 +23,7 @@ same_hole m n alike s e h =
 turned : (m n : Memory) → AreAlike most_bytes m n → AreAlike most_bytes n m
 turned m n alike = record { same_make = sym alike.same_make; same_length = sym alike.same_length; same_live = λ a. sym (alike.same_live a) }
 
-same_room : (m n : Memory) (size : ℕ) → AreAlike most_bytes m n → (pages : ℕ) → HasRoom m size pages → HasRoom n size pages
+same_room : (m n : Memory) (size : ℕ) → AreAlike most_bytes m n → (pages : ℕ) → HasRoomGrown m size pages → HasRoomGrown n size pages
 same_room m n size alike pages (s, e, h, room) = (s, e, same_hole (grown m pages) (grown n pages) (grown_alike m n pages alike) s e h, room)
 
 -- the first hole that has so many bytes begins at one address in both
@@ -48,7 +48,7 @@ first_fits_alike m n align size (Some x) (Some y) m' n' alignment alike (inr (so
 first_fits_alike m n align size (Some x) (Some y) m' n' alignment alike (inr (some, max, p, d, m_state, few, least, f, takes)) (inr (more, most, q, e, n_state, fewer, h, g, seizes)) =
     let wanted = rounded_to_eight size in
     let far = alike.same_length in
-    let pages : p ≡ q = one_growth (length m.bytes) (length n.bytes) max most (HasRoom m wanted) (HasRoom n wanted) p q (same_room m n wanted alike) (same_room n m wanted (turned m n alike)) least h in
+    let pages : p ≡ q = one_growth (length m.bytes) (length n.bytes) max most (HasRoomGrown m wanted) (HasRoomGrown n wanted) p q (same_room m n wanted alike) (same_room n m wanted (turned m n alike)) least h in
     let same = one_first (grown m p) (grown n p) wanted x y d e (grown_alike m n p alike) f (subst (λ k. IsFirstWith (grown n k) wanted y e) (sym pages) g) in
     let long : length m'.bytes ≡ length m.bytes + p * 65536 = ap (λ bytes. length bytes) takes.same_bytes ∙ length-with_pages m.bytes p in
     let tall : length n'.bytes ≡ length n.bytes + q * 65536 = ap (λ bytes. length bytes) seizes.same_bytes ∙ length-with_pages n.bytes q in (
@@ -56,17 +56,17 @@ first_fits_alike m n align size (Some x) (Some y) m' n' alignment alike (inr (so
       record {
         same_make = ap most_bytes takes.same_state ∙ alike.same_make ∙ sym (ap most_bytes seizes.same_state);
         same_length = omega arith;
-        same_live = λ a. takes.live a ∙ ap (λ b. b || is_within a x wanted) (alike.same_live a) ∙ ap (λ z. n.live a || is_within a z wanted) same ∙ sym (seizes.live a);
+        same_live = λ a. takes.live a ∙ ap (λ b. b || is_address_within a x wanted) (alike.same_live a) ∙ ap (λ z. n.live a || is_address_within a z wanted) same ∙ sym (seizes.live a);
       },
     )
 first_fits_alike m n align size (Some x) None m' n' alignment alike (inl (none, at, m'_is)) (some, most, n_state, never, n'_is) = absurd (omega arith)
 first_fits_alike m n align size (Some x) None m' n' alignment alike (inr (some, max, p, d, m_state, few, least, f, takes)) (more, most, n_state, never, n'_is) =
     let wanted = rounded_to_eight size in
-    absurd (no_growth (length m.bytes) (length n.bytes) max most (HasRoom m wanted) (HasRoom n wanted) p alike.same_length (one_most m n max most [] [] alike.same_make m_state n_state) (same_room m n wanted alike) least never)
+    absurd (no_growth (length m.bytes) (length n.bytes) max most (HasRoomGrown m wanted) (HasRoomGrown n wanted) p alike.same_length (one_most m n max most [] [] alike.same_make m_state n_state) (same_room m n wanted alike) least never)
 first_fits_alike m n align size None (Some y) m' n' alignment alike (some, max, m_state, never, m'_is) (inl (none, at, n'_is)) = absurd (omega arith)
 first_fits_alike m n align size None (Some y) m' n' alignment alike (some, max, m_state, never, m'_is) (inr (more, most, q, e, n_state, few, least, g, takes)) =
     let wanted = rounded_to_eight size in
-    absurd (no_growth (length n.bytes) (length m.bytes) most max (HasRoom n wanted) (HasRoom m wanted) q (sym alike.same_length) (sym (one_most m n max most [] [] alike.same_make m_state n_state)) (same_room n m wanted (turned m n alike)) least never)
+    absurd (no_growth (length n.bytes) (length m.bytes) most max (HasRoomGrown n wanted) (HasRoomGrown m wanted) q (sym alike.same_length) (sym (one_most m n max most [] [] alike.same_make m_state n_state)) (same_room n m wanted (turned m n alike)) least never)
 first_fits_alike m n align size None None m' n' alignment alike (some, max, m_state, never, m'_is) (more, most, n_state, nor, n'_is) = (refl, unchanged m n m' n' alike m'_is n'_is)
 
 -- what can be freed in one can be freed in the other
@@ -85,7 +85,7 @@ first_fits_free_alike m n at size true true m' n' alike (can, frees) (could, giv
   record {
     same_make = ap most_bytes frees.same_state ∙ alike.same_make ∙ sym (ap most_bytes gives.same_state);
     same_length = ap length frees.same_bytes ∙ alike.same_length ∙ sym (ap length gives.same_bytes);
-    same_live = λ a. frees.live a ∙ ap (λ b. b && not (is_within a at (rounded_to_eight size))) (alike.same_live a) ∙ sym (gives.live a);
+    same_live = λ a. frees.live a ∙ ap (λ b. b && not (is_address_within a at (rounded_to_eight size))) (alike.same_live a) ∙ sym (gives.live a);
   },
 )
 first_fits_free_alike m n at size true false m' n' alike (can, frees) (never, n'_is) = absurd (never (same_freeing m n at (rounded_to_eight size) alike can))

@@ -3,7 +3,7 @@ use Rattle.std.proofs.Common.{◌≡◌, ◌≢◌, ◌+◌, ◌*◌, ◌%◌, �
 use Rattle.std.specs.Prelude.{remove, insert}
 use Rattle.std.proofs.lemmas.List.{get_or-set_other, length-set}
 use Rattle.std.proofs.lemmas.Bool.{cases_lt}
-use Rattle.memory.specs.Holes.{Hole, AreApart, start_of, end_of, holes_of, whole}
+use Rattle.memory.specs.Holes.{Hole, AreHolesApart, start_of, hole_end, holes_of, whole}
 use Rattle.memory.proofs.HoleLists.{holes_rise, end_below}
 
 -- ---- lists
@@ -86,7 +86,7 @@ rank-cleared (suc v) (suc w) (suc n ∷ row) some order = ap suc (rank-cleared v
 pub record Begins (unit : ℕ) (row : List ℕ) (v : ℕ) : Type 0 where
   pub below : rank v row < length (holes_of unit row)
   pub starts : start_of (holes_of unit row) (rank v row) ≡ 8 * (unit + v)
-  pub ends : end_of (holes_of unit row) (rank v row) ≡ 8 * (unit + v + get_or row v 0)
+  pub ends : hole_end (holes_of unit row) (rank v row) ≡ 8 * (unit + v + get_or row v 0)
 
 pub begins : (v unit : ℕ) (row : List ℕ) → 0 < get_or row v 0 → Begins unit row v
 begins v unit [] some = absurd (omega arith)
@@ -109,7 +109,7 @@ starts_from (suc v) unit (zero ∷ row) below = let rest = starts_from v (suc un
 starts_from (suc v) unit (suc n ∷ row) below = let rest = starts_from v (suc unit) row (omega arith) in omega arith
 
 -- where all numbers before a unit are too small, so are the holes that begin before it
-pub are_short : (v unit n : ℕ) (row : List ℕ) (k : ℕ) → ((j : ℕ) → j < v → get_or row j 0 < n) → k < rank v row → end_of (holes_of unit row) k < start_of (holes_of unit row) k + 8 * n
+pub are_short : (v unit n : ℕ) (row : List ℕ) (k : ℕ) → ((j : ℕ) → j < v → get_or row j 0 < n) → k < rank v row → hole_end (holes_of unit row) k < start_of (holes_of unit row) k + 8 * n
 are_short zero unit n row k few less = absurd (omega arith)
 are_short (suc v) unit n [] k few less = absurd (omega arith)
 are_short (suc v) unit n (zero ∷ row) k few less = are_short v (suc unit) n row k (λ j a. few (suc j) (omega arith)) less
@@ -117,7 +117,7 @@ are_short (suc v) unit n (suc m ∷ row) zero few less = let is = few 0 (omega a
 are_short (suc v) unit n (suc m ∷ row) (suc k) few less = are_short v (suc unit) n row k (λ j a. few (suc j) (omega arith)) (omega arith)
 
 -- no hole begins inside another or where it ends
-pub none_inside : (row : List ℕ) (high v k : ℕ) → AreApart 0 (holes_of 0 row) high → 0 < get_or row v 0 → v < k → k ≤ v + get_or row v 0 → get_or row k 0 ≡ 0
+pub none_inside : (row : List ℕ) (high v k : ℕ) → AreHolesApart 0 (holes_of 0 row) high → 0 < get_or row v 0 → v < k → k ≤ v + get_or row v 0 → get_or row k 0 ≡ 0
 none_inside row high v k apart some order inside =
     elim (cases_lt 0 (get_or row k 0)) [
       | inr none ↦ omega arith
@@ -129,7 +129,7 @@ none_inside row high v k apart some order inside =
     ]
 
 -- a hole lies below the limit
-pub ends_inside : (row : List ℕ) (high v : ℕ) → AreApart 0 (holes_of 0 row) high → 0 < get_or row v 0 → 8 * (v + get_or row v 0) ≤ high
+pub ends_inside : (row : List ℕ) (high v : ℕ) → AreHolesApart 0 (holes_of 0 row) high → 0 < get_or row v 0 → 8 * (v + get_or row v 0) ≤ high
 ends_inside row high v apart some =
     let one = begins v 0 row some in
     let most = end_below (rank v row) 0 (holes_of 0 row) high apart one.below in
@@ -232,6 +232,6 @@ one_hole (suc n) (suc u) limit some is = whole_of limit (omega arith)
     whole_of zero e = absurd (omega arith)
     whole_of (suc m) e = rw (none_yet n 1, ← e) refl
 
-pub whole_apart : (limit : ℕ) → limit % 8 ≡ 0 → AreApart 0 (whole limit) limit
+pub whole_apart : (limit : ℕ) → limit % 8 ≡ 0 → AreHolesApart 0 (whole limit) limit
 whole_apart zero units = tt
 whole_apart (suc n) units = (omega arith, omega arith, omega arith, omega arith, units, tt)

@@ -1,24 +1,24 @@
 -- Where the last hole begins, and what a limit that moves on adds to the holes.
 use Rattle.std.proofs.Common.{◌≡◌, ◌≢◌, ◌+◌, ◌*◌, ◌<◌, ◌≤◌, ℕ, suc, Bool, true, false, List, [], ◌∷◌, length, get_or, refl, ◌∙◌, arith, inl, inr}
 use Rattle.std.proofs.lemmas.Bool.{cases_lt}
-use Rattle.memory.specs.Holes.{Hole, in_holes, AreApart, IsTail, GivesBack, start_of, end_of, holes_of}
+use Rattle.memory.specs.Holes.{Hole, in_holes, AreHolesApart, IsTail, GivesHoleBack, start_of, hole_end, holes_of}
 use Rattle.memory.proofs.HoleLists.{above_holes, end_above, holes_rise, ends_rise, in_its_hole, before_hole, lies_in}
 use Rattle.memory.proofs.HoleRows.{rank, rank_same, rank_past, begins, starts_from, ends_inside}
 
 -- ---- a limit that moves on
 
-pub higher : (low : ℕ) (holes : List Hole) (high above : ℕ) → AreApart low holes high → high ≤ above → AreApart low holes above
+pub higher : (low : ℕ) (holes : List Hole) (high above : ℕ) → AreHolesApart low holes high → high ≤ above → AreHolesApart low holes above
 higher low [] high above h le = tt
 higher low (hole ∷ holes) high above h le = (h.0, h.1, omega (arith, h.2), h.3, h.4, higher (hole.end + 1) holes high above h.5 le)
 
 -- nothing past the limit lies in a hole, so it all comes
-pub all_given : (old new : List Hole) (limit to : ℕ) (answer : Bool) → AreApart 0 old limit → GivesBack old limit to answer new → GivesBack old limit to true new
+pub all_given : (old new : List Hole) (limit to : ℕ) (answer : Bool) → AreHolesApart 0 old limit → GivesHoleBack old limit to answer new → GivesHoleBack old limit to true new
 all_given old new limit to true apart gives = gives
 all_given old new limit to false apart ((a, from, below, is), same) = let out = above_holes 0 old limit a apart from in absurd (cc)
 
 -- ---- the last hole
 
-module _ (row : List ℕ) (limit end : ℕ) (apart : AreApart 0 (holes_of 0 row) limit) (stop : limit ≡ 8 * end) where
+module _ (row : List ℕ) (limit end : ℕ) (apart : AreHolesApart 0 (holes_of 0 row) limit) (stop : limit ≡ 8 * end) where
   -- there is no hole behind those that begin before the limit
   none_behind : (i : ℕ) → rank end row ≤ i → i < length (holes_of 0 row) → limit ≤ start_of (holes_of 0 row) i
   none_behind i least below =
@@ -32,7 +32,7 @@ module _ (row : List ℕ) (limit end : ℕ) (apart : AreApart 0 (holes_of 0 row)
         | inr le ↦ (let is : i ≡ rank end row = omega arith in rw is (omega arith))
       ]
 
-  no_tail : (count : ℕ) → rank end row ≡ count → ((k : ℕ) → k < count → end_of (holes_of 0 row) k < limit) → IsTail (holes_of 0 row) limit limit
+  no_tail : (count : ℕ) → rank end row ≡ count → ((k : ℕ) → k < count → hole_end (holes_of 0 row) k < limit) → IsTail (holes_of 0 row) limit limit
   no_tail count is before = record {
     inside = omega arith;
     unit = omega arith;
@@ -58,11 +58,11 @@ module _ (row : List ℕ) (limit end : ℕ) (apart : AreApart 0 (holes_of 0 row)
   tail_of_other p held less apart_from none =
       no_tail (suc (rank p row)) (rank_same (suc p) end row (omega arith) (λ k a b. none k (omega arith) b) ∙ rank_past p row held) before
     where
-      before : (k : ℕ) → k < suc (rank p row) → end_of (holes_of 0 row) k < limit
+      before : (k : ℕ) → k < suc (rank p row) → hole_end (holes_of 0 row) k < limit
       before k less =
           let b = begins p 0 row held in
           let most = ends_inside row limit p apart held in
-          let ends : end_of (holes_of 0 row) (rank p row) < limit = omega (arith, b.ends) in
+          let ends : hole_end (holes_of 0 row) (rank p row) < limit = omega (arith, b.ends) in
           elim (cases_lt k (rank p row)) [
             | inl earlier ↦ (let rise = ends_rise 0 (holes_of 0 row) limit apart k (rank p row) earlier b.below in omega arith)
             | inr last ↦ (let is : k ≡ rank p row = omega arith in rw is ends)

@@ -4,7 +4,7 @@ use mathlib.Core.Path.{fun_ext}
 use Rattle.canonical_abi.specs.Guest.{Memory}
 use Rattle.canonical_abi.specs.Told.{AllocatesInOneWay, IgnoresBytes, SameButBytes}
 use Rattle.memory.specs.declared.block.Block.{Block}
-use Rattle.memory.specs.Lent.{is_kept, numbers, lent, IsNext, LentAllocates}
+use Rattle.memory.specs.Lent.{is_kept, numbers, lent, IsNextBlock, LentAllocates}
 
 -- a block is told by its parts
 block_of : (a b c d e f : ℕ) → a ≡ d → b ≡ e → c ≡ f → ◌≡◌ {A = Block} (record { align = a; size = b; at = c }) (record { align = d; size = e; at = f })
@@ -29,7 +29,7 @@ same_state name other bs cs e =
 head_same : (b c : Block) (bs cs : List Block) → b ∷ bs ≡ c ∷ cs → (b ≡ c) × (bs ≡ cs)
 head_same b c bs cs e = (cc, cc)
 
-next_is : (m : Memory) (align size name other : ℕ) (b c : Block) (bs cs : List Block) → IsNext m align size name b bs → IsNext m align size other c cs → (name ≡ other) × (b ≡ c) × (bs ≡ cs)
+next_is : (m : Memory) (align size name other : ℕ) (b c : Block) (bs cs : List Block) → IsNextBlock m align size name b bs → IsNextBlock m align size other c cs → (name ≡ other) × (b ≡ c) × (bs ≡ cs)
 next_is m align size name other b c bs cs next follows =
     let both = same_state name other (b ∷ bs) (c ∷ cs) (sym (ap (λ w. w.state) next.memory_is) ∙ ap (λ w. w.state) follows.memory_is) in
     let heads = head_same b c bs cs both.1 in
@@ -49,7 +49,7 @@ lents_in_one_way old align size None None m n alignment (none, m_is) (never, n_i
 made_of : (bs : List ℕ) (f g : ℕ → Bool) (s t : List ℕ) → f ≡ g → s ≡ t → ◌≡◌ {A = Memory} (record { bytes = bs; live = f; state = s }) (record { bytes = bs; live = g; state = t })
 made_of bs f g s t q r = rw (q, r) refl
 
-next_of_other : (m n : Memory) (align size name : ℕ) (b : Block) (bs : List Block) → SameButBytes m n → IsNext m align size name b bs → IsNext n align size name b bs
+next_of_other : (m n : Memory) (align size name : ℕ) (b : Block) (bs : List Block) → SameButBytes m n → IsNextBlock m align size name b bs → IsNextBlock n align size name b bs
 next_of_other m n align size name b bs s next = record {
   memory_is =
       made_of n.bytes n.live (λ a. not (is_kept (b ∷ bs) a)) n.state (name ∷ numbers (b ∷ bs)) (fun_ext (λ a. sym (s.same_live a) ∙ ap (λ w. w.live a) next.memory_is))

@@ -5,28 +5,28 @@ use Rattle.std.specs.List.Sorted.{IsPermutation, IsNonDecreasingBy}
 use Rattle.memory.specs.declared.block.Block.{Block}
 
 -- an address lies in a block
-abbrev pub is_in : Block → ℕ → Bool
-is_in b a = nat_le b.at a && nat_lt a (b.at + b.size)
+abbrev pub is_in_block : Block → ℕ → Bool
+is_in_block b a = nat_le b.at a && nat_lt a (b.at + b.size)
 
 -- two blocks have no address in common
 unfoldable pub is_apart : Block → Block → Bool
 is_apart b c = b.size == 0 || (c.size == 0 || (nat_le (b.at + b.size) c.at || nat_le (c.at + c.size) b.at))
 
 -- no two of the blocks have
-abbrev pub are_apart : List Block → Bool
-are_apart [] = true
-are_apart (b ∷ bs) = list_all (is_apart b) bs && are_apart bs
+abbrev pub are_blocks_apart : List Block → Bool
+are_blocks_apart [] = true
+are_blocks_apart (b ∷ bs) = list_all (is_apart b) bs && are_blocks_apart bs
 
 -- a block has an alignment, stands at a multiple of it, and lies inside a memory of this length
 abbrev pub has_alignment : Block → Bool
 has_alignment b = b.align == 1 || (b.align == 2 || (b.align == 4 || b.align == 8))
 
-unfoldable pub is_placed : ℕ → Block → Bool
-is_placed len b = has_alignment b && (b.at % b.align == 0 && nat_le (b.at + b.size) len)
+unfoldable pub is_block_placed : ℕ → Block → Bool
+is_block_placed len b = has_alignment b && (b.at % b.align == 0 && nat_le (b.at + b.size) len)
 
 -- all of them do, and no two meet
 abbrev pub are_good : ℕ → List Block → Bool
-are_good len bs = list_all (is_placed len) bs && are_apart bs
+are_good len bs = list_all (is_block_placed len) bs && are_blocks_apart bs
 
 -- they can be handed out of a memory of this length, with a place beside them that is lent
 abbrev pub can_lend : ℕ → Block → List Block → Bool

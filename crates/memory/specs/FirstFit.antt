@@ -16,20 +16,20 @@ pub record IsHole (m : Memory) (start end : ℕ) : Type 0 where
   pub ends : end < usable m → m.live end ≡ true
 
 -- an address lies in the block of a size at an address
-abbrev pub is_within : ℕ → ℕ → ℕ → Bool
-is_within a at size = nat_le at a && nat_lt a (at + size)
+abbrev pub is_address_within : ℕ → ℕ → ℕ → Bool
+is_address_within a at size = nat_le at a && nat_lt a (at + size)
 
 -- the block is live from now on, and nothing else changes
-pub record Takes (old : Memory) (at size : ℕ) (new : Memory) : Type 0 where
+pub record TakesBlock (old : Memory) (at size : ℕ) (new : Memory) : Type 0 where
   pub same_bytes : new.bytes ≡ old.bytes
   pub same_state : new.state ≡ old.state
-  pub live : (a : ℕ) → new.live a ≡ (old.live a || is_within a at size)
+  pub live : (a : ℕ) → new.live a ≡ (old.live a || is_address_within a at size)
 
 -- the block is not live from now on, and nothing else changes
 pub record Frees (old : Memory) (at size : ℕ) (new : Memory) : Type 0 where
   pub same_bytes : new.bytes ≡ old.bytes
   pub same_state : new.state ≡ old.state
-  pub live : (a : ℕ) → new.live a ≡ (old.live a && not (is_within a at size))
+  pub live : (a : ℕ) → new.live a ≡ (old.live a && not (is_address_within a at size))
 
 -- the first hole that has so many bytes
 pub record IsFirstWith (m : Memory) (size start end : ℕ) : Type 0 where
@@ -39,17 +39,17 @@ pub record IsFirstWith (m : Memory) (size start end : ℕ) : Type 0 where
   pub first : (s e : ℕ) → IsHole m s e → s < start → e < s + size
 
 -- with so many pages more, a hole has so many bytes
-abbrev pub HasRoom : Memory → ℕ → ℕ → Type 0
-HasRoom m size pages = (start end : ℕ) × IsHole (grown m pages) start end × (start + size ≤ end)
+abbrev pub HasRoomGrown : Memory → ℕ → ℕ → Type 0
+HasRoomGrown m size pages = (start end : ℕ) × IsHole (grown m pages) start end × (start + size ≤ end)
 
 -- the front of the first hole that has the block, once the memory has grown until one has it; none only where it can't. No byte is asked for at address 0, and takes nothing
 abbrev pub FirstFitAllocates : Memory → ℕ → ℕ → Option ℕ → Memory → Type 0
 FirstFitAllocates old align size (Some at) new =
     ((size ≡ 0) × (at ≡ 0) × (new ≡ old))
-    ⊎ ((0 < size) × (max pages end : ℕ) × (old.state ≡ max ∷ []) × (max ≤ 16777216) × IsLeastGrowth (length old.bytes) max (HasRoom old (rounded_to_eight size)) pages
-    × IsFirstWith (grown old pages) (rounded_to_eight size) at end × Takes (grown old pages) at (rounded_to_eight size) new)
+    ⊎ ((0 < size) × (max pages end : ℕ) × (old.state ≡ max ∷ []) × (max ≤ 16777216) × IsLeastGrowth (length old.bytes) max (HasRoomGrown old (rounded_to_eight size)) pages
+    × IsFirstWith (grown old pages) (rounded_to_eight size) at end × TakesBlock (grown old pages) at (rounded_to_eight size) new)
 FirstFitAllocates old align size None new =
-    (0 < size) × (max : ℕ) × (old.state ≡ max ∷ []) × HasNoGrowth (length old.bytes) max (HasRoom old (rounded_to_eight size)) × (new ≡ old)
+    (0 < size) × (max : ℕ) × (old.state ≡ max ∷ []) × HasNoGrowth (length old.bytes) max (HasRoomGrown old (rounded_to_eight size)) × (new ≡ old)
 
 -- the block begins at a unit, is usable, and meets no hole
 pub record CanBeFreed (m : Memory) (at size : ℕ) : Type 0 where

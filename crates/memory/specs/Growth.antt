@@ -25,12 +25,12 @@ abbrev pub HasNoGrowth : ℕ → ℕ → (ℕ → Type 0) → Type 0
 HasNoGrowth len max IsEnough = (pages : ℕ) → len + pages * 65536 ≤ max → IsEnough pages → ⊥
 
 -- with so many pages, `len` bytes come to `end`
-abbrev pub Reaches : ℕ → ℕ → ℕ → Type 0
-Reaches len end pages = end ≤ len + pages * 65536
+abbrev pub ReachesEnd : ℕ → ℕ → ℕ → Type 0
+ReachesEnd len end pages = end ≤ len + pages * 65536
 
 -- the bytes grow by the least number of pages with which they come to `end`
 abbrev pub GrowsTo : List ℕ → ℕ → ℕ → List ℕ → Type 0
-GrowsTo old max end new = (pages : ℕ) × IsLeastGrowth (length old) max (Reaches (length old) end) pages × (new ≡ with_pages old pages)
+GrowsTo old max end new = (pages : ℕ) × IsLeastGrowth (length old) max (ReachesEnd (length old) end) pages × (new ≡ with_pages old pages)
 
 -- the most bytes are given when a memory is made, and its state begins with them
 abbrev pub most_bytes : List ℕ → List ℕ

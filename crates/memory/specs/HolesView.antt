@@ -4,5 +4,5 @@ use Rattle.memory.specs.declared.holes.Holes as declared
 use Rattle.memory.specs.Holes.{Hole, holes_of}
 
 -- from the first to the last
-abbrev pub listed : declared.Holes → List Hole
-listed holes = holes_of 0 holes.row
+abbrev pub listed_holes : declared.Holes → List Hole
+listed_holes holes = holes_of 0 holes.row

@@ -1,13 +1,13 @@
 -- An allocator of a host's own memory: the blocks that the host has granted before are handed out in turn.
 use Rattle.std.specs.Prelude.{◌≡◌, ℕ, Bool, true, false, not, ◌||◌, List, [], ◌∷◌, Option, Some, None, length}
 use Rattle.canonical_abi.specs.Guest.{Memory}
-use Rattle.memory.specs.Blocks.{is_in, are_good}
+use Rattle.memory.specs.Blocks.{is_in_block, are_good}
 use Rattle.memory.specs.declared.block.Block.{Block}
 
 -- an address of one of these blocks
 abbrev pub is_kept : List Block → ℕ → Bool
 is_kept [] a = false
-is_kept (b ∷ bs) a = is_in b a || is_kept bs a
+is_kept (b ∷ bs) a = is_in_block b a || is_kept bs a
 
 -- the blocks as numbers
 abbrev pub numbers : List Block → List ℕ
@@ -19,7 +19,7 @@ abbrev pub lent : ℕ → List ℕ → List Block → Memory
 lent name bytes bs = record { bytes = bytes; live = λ a. not (is_kept bs a); state = name ∷ numbers bs }
 
 -- the next block is for this alignment and size
-pub record IsNext (memory : Memory) (align size name : ℕ) (b : Block) (bs : List Block) : Type 0 where
+pub record IsNextBlock (memory : Memory) (align size name : ℕ) (b : Block) (bs : List Block) : Type 0 where
   pub memory_is : memory ≡ lent name memory.bytes (b ∷ bs)
   pub same_align : b.align ≡ align
   pub same_size : b.size ≡ size
@@ -27,9 +27,9 @@ pub record IsNext (memory : Memory) (align size name : ℕ) (b : Block) (bs : Li
 -- the next block, where it is the one that is asked for
 abbrev pub LentAllocates : Memory → ℕ → ℕ → Option ℕ → Memory → Type 0
 LentAllocates old align size (Some at) new =
-    (name : ℕ) × (b : Block) × (bs : List Block) × IsNext old align size name b bs × (are_good (length old.bytes) (b ∷ bs) ≡ true)
+    (name : ℕ) × (b : Block) × (bs : List Block) × IsNextBlock old align size name b bs × (are_good (length old.bytes) (b ∷ bs) ≡ true)
     × (b.at ≡ at) × (new ≡ lent name old.bytes bs)
-LentAllocates old align size None new = ((name : ℕ) (b : Block) (bs : List Block) → IsNext old align size name b bs → ⊥) × (new ≡ old)
+LentAllocates old align size None new = ((name : ℕ) (b : Block) (bs : List Block) → IsNextBlock old align size name b bs → ⊥) × (new ≡ old)
 
 -- nothing is taken back
 abbrev pub LentReleases : Memory → ℕ → ℕ → Bool → Memory → Type 0

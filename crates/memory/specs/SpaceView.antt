@@ -2,7 +2,7 @@
 use Rattle.canonical_abi.specs.Guest.{Memory}
 use Rattle.memory.specs.Bump.{bump}
 use Rattle.memory.specs.Holes.{first_fit}
-use Rattle.memory.specs.HolesView.{listed}
+use Rattle.memory.specs.HolesView.{listed_holes}
 use Rattle.memory.specs.Space.{of_kind}
 use Rattle.memory.specs.declared.space.Space as declared
 use Rattle.memory.specs.declared.space.Space.TheVariants.{Bump, FirstFit}
@@ -10,4 +10,4 @@ use Rattle.memory.specs.declared.space.Space.TheVariants.{Bump, FirstFit}
 -- its state begins with its kind's number
 abbrev pub space_memory : declared.Space → Memory
 space_memory (Bump b) = of_kind 0 (bump b.pages.bytes.items b.pages.max b.top)
-space_memory (FirstFit f) = of_kind 1 (first_fit f.pages.bytes.items f.pages.max f.holes.limit (listed f.holes))
+space_memory (FirstFit f) = of_kind 1 (first_fit f.pages.bytes.items f.pages.max f.holes.limit (listed_holes f.holes))

@@ -1,7 +1,7 @@
 //! The blocks that a host's own allocator has granted before a call, and the test whether they can be handed out.
 ghost use Rattle.std.specs.Prelude.{◌≡◌, ◌+◌, false, IfOk, IfErr};
 ghost use Rattle.std.specs.List.{list_all};
-ghost use Rattle.memory.specs.Blocks.{is_apart, is_placed, are_apart, can_lend, rise, IsRisingByAddress};
+ghost use Rattle.memory.specs.Blocks.{is_apart, is_block_placed, are_blocks_apart, can_lend, rise, IsRisingByAddress};
 
 use std::alloc::{AllocError, Global};
 
@@ -24,9 +24,9 @@ impl Block {
     }
 
     /// Whether it has an alignment, stands at a multiple of it, and lies inside a memory of this length.
-    #[tactic(auto, unfolding(crate::specs::Blocks::is_placed))]
+    #[tactic(auto, unfolding(crate::specs::Blocks::is_block_placed))]
     fn is_placed(&self, len: usize) -> bool
-        ensures { result ≡ is_placed len self.now }
+        ensures { result ≡ is_block_placed len self.now }
     {
         matches!(self.align, 1 | 2 | 4 | 8) && self.at % self.align == 0 && self.end() <= len as u64
     }
@@ -71,7 +71,7 @@ fn by_address(alloc: Global, blocks: &[Block]) -> Result<Vec<Block>, AllocError>
 /// Whether no two of the blocks have an address in common: blocks that don't rise are tested in the order of their
 /// addresses.
 fn are_apart(alloc: Global, blocks: &[Block]) -> Result<bool, AllocError>
-    ensures apart { IfOk result (λ apart. apart ≡ are_apart blocks.now) }
+    ensures apart { IfOk result (λ apart. apart ≡ are_blocks_apart blocks.now) }
     ensures memory { IfErr result (λ _. rise 0 blocks.now ≡ false) }
 {
     if rise(blocks) {
@@ -82,7 +82,7 @@ fn are_apart(alloc: Global, blocks: &[Block]) -> Result<bool, AllocError>
 }
 
 fn are_placed(len: usize, blocks: &[Block]) -> bool
-    ensures { result ≡ list_all (is_placed len) blocks.now }
+    ensures { result ≡ list_all (is_block_placed len) blocks.now }
 {
     blocks.iter().all(|block| block.is_placed(len))
 }

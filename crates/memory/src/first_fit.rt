@@ -51,9 +51,9 @@ impl FirstFit {
 impl Guest for FirstFit {
     ghost use Rattle.memory.specs.FirstFit.{FirstFitAllocates, FirstFitReleases};
     ghost use Rattle.memory.specs.Holes.{first_fit};
-    ghost use Rattle.memory.specs.HolesView.{listed};
+    ghost use Rattle.memory.specs.HolesView.{listed_holes};
 
-    ghost memory = { λ f. first_fit f.pages.bytes.items f.pages.max f.holes.limit (listed f.holes) };
+    ghost memory = { λ f. first_fit f.pages.bytes.items f.pages.max f.holes.limit (listed_holes f.holes) };
 
     ghost allocates = { FirstFitAllocates };
 

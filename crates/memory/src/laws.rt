@@ -7,7 +7,7 @@ ghost use Rattle.memory.specs.Bump.{BumpAllocates, BumpReleases};
 ghost use Rattle.memory.specs.FirstFit.{FirstFitAllocates, FirstFitReleases, IsHole};
 ghost use Rattle.memory.specs.Growth.{most_bytes};
 ghost use Rattle.memory.specs.Holes.{IsListed};
-ghost use Rattle.memory.specs.HolesView.{listed};
+ghost use Rattle.memory.specs.HolesView.{listed_holes};
 ghost use Rattle.memory.specs.Lent.{LentAllocates};
 ghost use Rattle.memory.specs.Space.{kind_and_most_bytes, SpaceAllocates, SpaceReleases};
 
@@ -49,7 +49,7 @@ pub fn spaces_release_alike()
 
 /// The holes that a `FirstFit` keeps are just the longest runs of what is usable and not live.
 pub fn holes_are_longest_runs(_memory: &FirstFit)
-    ensures { (start end : ℕ) → IsListed (listed _memory.now.holes) start end
+    ensures { (start end : ℕ) → IsListed (listed_holes _memory.now.holes) start end
         ↔ IsHole (⟦<FirstFit as Guest>⟧.memory _memory.now) start end }
 {}
 

@@ -2,7 +2,7 @@
 //! the host.
 ghost use Rattle.std.specs.Prelude.{◌≡◌, ◌+◌, ◌-◌, ◌%◌, ◌≤◌, length, replicate, vec_len, vec_capacity, IfOk, IfErr, OnOk, OnErr};
 ghost use Rattle.canonical_abi.specs.Guest.{overwrite};
-ghost use Rattle.memory.specs.Growth.{ArePages, GrowsTo, HasNoGrowth, Reaches};
+ghost use Rattle.memory.specs.Growth.{ArePages, GrowsTo, HasNoGrowth, ReachesEnd};
 ghost use Rattle.memory.specs.Refusals.{RefusesLength};
 
 use crate::error::{MAX_LEN, MemoryError, PAGE};
@@ -74,7 +74,7 @@ impl Pages {
         ensures grown { OnOk result
             (GrowsTo self.old.bytes.items self.old.max end self.new.bytes.items) }
         ensures full { OnErr result (HasNoGrowth (length self.old.bytes.items) self.old.max
-            (Reaches (length self.old.bytes.items) end)) }
+            (ReachesEnd (length self.old.bytes.items) end)) }
         ensures kept { OnErr result (self.new.bytes.items ≡ self.old.bytes.items) }
         ensures no_shorter { length self.old.bytes.items ≤ length self.new.bytes.items }
         ensures max { self.new.max ≡ self.old.max }

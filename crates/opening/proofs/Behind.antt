@@ -2,7 +2,7 @@
 use Rattle.std.proofs.Common.{◌≡◌, ◌≤◌, ◌∙◌, Bool, true, false, ℕ, List, [], ◌∷◌, length, ap, sym, subst, arith, refl, ◌+◌, length-append}
 use Rattle.std.proofs.Math.Logic.{∥∥₁_map₂}
 use Rattle.std.specs.Prelude.{MatchBool}
-use Rattle.layout.specs.Layout.{IsWithin, AreWithin, LayoutRefuses, RefusesFirst}
+use Rattle.layout.specs.Layout.{IsDefinitionWithin, AreWithin, LayoutRefuses, RefusesFirst}
 use Rattle.layout.specs.declared.error.LayoutError.{LayoutError}
 use Rattle.layout.specs.declared.error.LayoutError.TheVariants as layout_error
 use Rattle.canonical_abi.specs.Types.{ClosedType}
@@ -55,11 +55,11 @@ first-refused inputs error.NoMemory h = h
 
 -- ---- layouts
 
-too-deep : (d : Definition) (t : ClosedType) → IsWithin d t → LayoutRefuses layout_error.TooDeep d t → ⊥
+too-deep : (d : Definition) (t : ClosedType) → IsDefinitionWithin d t → LayoutRefuses layout_error.TooDeep d t → ⊥
 too-deep (row.Type d) t w h = omega (arith, w.0, h)
 too-deep (row.Function f) t w h = h
 
-too-large : (d : Definition) (t : ClosedType) → IsWithin d t → LayoutRefuses layout_error.TooLarge d t → ⊥
+too-large : (d : Definition) (t : ClosedType) → IsDefinitionWithin d t → LayoutRefuses layout_error.TooLarge d t → ⊥
 too-large (row.Type d) t w h = omega (arith, w.1, h.1)
 too-large (row.Function f) t w h = omega (arith, w, h)
 

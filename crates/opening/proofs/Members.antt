@@ -3,10 +3,10 @@ use Rattle.std.proofs.Common.{◌≡◌, ◌<◌, ◌∙◌, ◌⊎◌, inl, inr
 use Rattle.std.proofs.Math.Logic.{∥∥₁_map}
 use Rattle.std.specs.Prelude.{MatchBool}
 use Rattle.std.specs.Str.{IsUtf8}
-use Rattle.ctype_bin.specs.FileView.{file_view}
+use Rattle.ctype_bin.specs.FileView.{raw_component_view}
 use Rattle.ctype_bin.specs.declared.component.RawComponent.{RawComponent}
 use Rattle.ctype_format.specs.File.{decoded}
-use Rattle.ctype_format.specs.Raw.{File as Component}
+use Rattle.ctype_format.specs.Raw.{BinaryFile}
 use Rattle.package_adding.specs.Added as adding
 use Rattle.package_adding.specs.Added.{AddsComponent, ComponentNotAdded, AddsTree, TreeNotAdded}
 use Rattle.package_sets.specs.BehindImports.{IsBehindImports}
@@ -19,7 +19,7 @@ use Rattle.tree_meaning.specs.Resolves.{file_fits}
 use Rattle.tables.specs.declared.error.ResolveError.TheVariants as cause
 use Rattle.tables.specs.declared.tables.Resolve.{Resolve}
 use Rattle.wit_syntax.specs.Syntax.{File}
-use Rattle.wit_text.specs.Reading.{IsRead, Faulty}
+use Rattle.wit_text.specs.Reading.{IsRead, FaultyText}
 use Rattle.wit_tokens.specs.Lexing.{limit}
 use Rattle.wit_tokens.specs.declared.error.TextError.{TextError}
 use Rattle.wit_tokens.specs.declared.error.TextError.TheVariants as text_error
@@ -88,7 +88,7 @@ module _ (set : Resolve) (bytes : List ℕ) (text : is_binary bytes ≡ false) w
   no-text room (error.Read place) h = absurd h
   no-text room error.NoMemory h = absurd h
 
-  pub not-read : HasRoom set → IsUtf8 bytes → (e : TextError) → Faulty bytes e → MemberRefuses set bytes (error.Text e)
+  pub not-read : HasRoom set → IsUtf8 bytes → (e : TextError) → FaultyText bytes e → MemberRefuses set bytes (error.Text e)
   not-read room utf8 e h = no-text room (error.Text e) (utf8-behind e, h)
     where
       utf8-behind : (e : TextError) → IsUtf8Behind36 bytes e
@@ -107,10 +107,10 @@ module _ (set : Resolve) (bytes : List ℕ) (text : is_binary bytes ≡ false) w
 
 -- ---- binaries
 
-same-view : (f g : Component) (bytes : List ℕ) → decoded bytes ≡ Ok f → decoded bytes ≡ Ok g → f ≡ g
+same-view : (f g : BinaryFile) (bytes : List ℕ) → decoded bytes ≡ Ok f → decoded bytes ≡ Ok g → f ≡ g
 same-view f g bytes a b = cc
 
-module _ (set : Resolve) (bytes : List ℕ) (binary : is_binary bytes ≡ true) (raw : RawComponent) (spelt : decoded bytes ≡ Ok (file_view raw)) where
+module _ (set : Resolve) (bytes : List ℕ) (binary : is_binary bytes ≡ true) (raw : RawComponent) (spelt : decoded bytes ≡ Ok (raw_component_view raw)) where
   pub adds-binary : (closed r : Resolve) (id : ℕ) → AddsComponent raw set closed r id → ∥ IsWritable closed ∥₁ → AddsMember set bytes closed r
   adds-binary closed r id h writable = record {
     member = as-binary bytes (IsBinaryOf bytes closed) (IsOfTextBehind set bytes closed) binary (record { raw = raw; spelt = spelt; component = h.component });
@@ -121,7 +121,7 @@ module _ (set : Resolve) (bytes : List ℕ) (binary : is_binary bytes ≡ true) 
   pub component-added : (closed r : Resolve) (h : AddsMember set bytes closed r) → AddsComponent raw set closed r h.puts.id
   component-added closed r h =
       let t = of-binary bytes (IsBinaryOf bytes closed) (IsOfTextBehind set bytes closed) binary h.member in
-      let same : file_view raw ≡ file_view t.raw = same-view (file_view raw) (file_view t.raw) bytes spelt t.spelt in
+      let same : raw_component_view raw ≡ raw_component_view t.raw = same-view (raw_component_view raw) (raw_component_view t.raw) bytes spelt t.spelt in
       record {
         component = record { stands = ∥∥₁_map t.component.stands (λ s. record { component = same ∙ s.component; form = s.form; labels = s.labels; world_labels = s.world_labels }); distinct = t.component.distinct };
         behind = h.puts.behind;
@@ -144,7 +144,7 @@ module _ (set : Resolve) (bytes : List ℕ) (binary : is_binary bytes ≡ true) 
 
 -- ---- want of memory
 
-pub wants : (e : AddError) → adding.IsWantOfMemory e → IsWantOfMemory (open_error e)
+pub wants : (e : AddError) → adding.IsWantOfMemoryToAdd e → IsWantOfMemory (open_error e)
 wants (add.Resolve cause.NoMemory) h = refl
 wants (add.Resolve cause.EmptyPackage) h = absurd h
 wants (add.Resolve cause.NotThisShape) h = absurd h

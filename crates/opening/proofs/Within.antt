@@ -6,7 +6,7 @@ use Rattle.std.proofs.lemmas.Bool.{ltb-true}
 use Rattle.std.proofs.lemmas.Option.{slice_get_within, slice_get-get_or}
 use Rattle.canonical_abi.specs.Types.{ClosedType, string_type, list_type, record_type, variant_type, fields_of, cases_of}
 use Rattle.canonical_abi.proofs.Images.{slice_get-take, slice_get-drop}
-use Rattle.layout.specs.Layout.{IsWithin, AreWithin}
+use Rattle.layout.specs.Layout.{IsDefinitionWithin, AreWithin}
 use Rattle.package_sets.specs.Attached.{IsAttached}
 use Rattle.package_sets.specs.Joining.{import_rows, joined}
 use Rattle.set_rows.specs.Moved.{Renaming, put_val, put_field, put_case, put_parameter, put_kind, put_row}
@@ -148,10 +148,10 @@ module _ (c r : Resolve) (to : Renaming) (there : (k : ℕ) (d : Definition) →
     each = λ k d l is.
         let e : slice_get c.definitions k ≡ Some d = slice_get-get_or c.definitions k d l ∙ ap Some is in
         let at = get-at r.definitions (to.rows k) (put_row to d) (there k d e) in
-        subst (IsWithin d) (types-same (k + 1) k d (omega arith) e) (put-within d _ (w.each (to.rows k) (put_row to d) at.0 (at.1 (put_row to d))));
+        subst (IsDefinitionWithin d) (types-same (k + 1) k d (omega arith) e) (put-within d _ (w.each (to.rows k) (put_row to d) at.0 (at.1 (put_row to d))));
   }
     where
-      put-within : (d : Definition) (t : ClosedType) → IsWithin (put_row to d) t → IsWithin d t
+      put-within : (d : Definition) (t : ClosedType) → IsDefinitionWithin (put_row to d) t → IsDefinitionWithin d t
       put-within (row.Type d) t h = h
       put-within (row.Function f) t h = h
 

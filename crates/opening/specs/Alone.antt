@@ -1,7 +1,7 @@
 -- One input that is opened by itself, in the words for a package that names no other.
 use Rattle.std.specs.Prelude.{◌≡◌, ℕ, [], ◌∷◌, List, MatchBool, Ok}
 use Rattle.std.specs.Str.{IsUtf8}
-use Rattle.ctype_bin.specs.FileView.{file_view}
+use Rattle.ctype_bin.specs.FileView.{raw_component_view}
 use Rattle.ctype_bin.specs.declared.component.RawComponent.{RawComponent}
 use Rattle.ctype_format.specs.File.{decoded}
 use Rattle.layout.specs.Layout.{AreWithin, RefusesFirst}
@@ -26,7 +26,7 @@ pub record IsOfText (bytes : List ℕ) (r : Resolve) : Type 0 where
 -- the bytes spell a component, and this is its package
 pub record IsOfBinary (bytes : List ℕ) (r : Resolve) : Type 0 where
   pub raw : RawComponent
-  pub spelt : decoded bytes ≡ Ok (file_view raw)
+  pub spelt : decoded bytes ≡ Ok (raw_component_view raw)
   pub alone : IsComponentAlone raw r
 
 abbrev pub IsOfBytes : List ℕ → Resolve → Type 0
@@ -44,7 +44,7 @@ abbrev pub TextIsRefused : List ℕ → AddError → Type 0
 TextIsRefused bytes e = IsUtf8 bytes × (f : File) × IsRead bytes f × FileAloneRefuses f e
 
 abbrev pub BinaryIsRefused : List ℕ → AddError → Type 0
-BinaryIsRefused bytes e = (raw : RawComponent) × (decoded bytes ≡ Ok (file_view raw)) × ComponentAloneRefuses raw e
+BinaryIsRefused bytes e = (raw : RawComponent) × (decoded bytes ≡ Ok (raw_component_view raw)) × ComponentAloneRefuses raw e
 
 abbrev pub IsRefusedAlone : List ℕ → AddError → Type 0
 IsRefusedAlone bytes e = MatchBool (is_binary bytes) (BinaryIsRefused bytes e) (TextIsRefused bytes e)

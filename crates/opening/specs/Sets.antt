@@ -4,7 +4,7 @@ use Rattle.std.specs.Prelude.{◌≡◌, ◌≤◌, ◌==◌, ℕ, Bool, true, M
 use Rattle.std.specs.Borrow.{Bor}
 use Rattle.std.specs.List.{starts_with}
 use Rattle.std.specs.Str.{IsUtf8, IsValidUpTo}
-use Rattle.ctype_bin.specs.FileView.{file_view}
+use Rattle.ctype_bin.specs.FileView.{raw_component_view}
 use Rattle.ctype_bin.specs.declared.component.RawComponent.{RawComponent}
 use Rattle.ctype_format.specs.File as binary
 use Rattle.ctype_format.specs.File.{decoded}
@@ -49,7 +49,7 @@ pub record IsOfTextBehind (set : Resolve) (bytes : List ℕ) (closed : Resolve) 
 -- the bytes, of which there are at most 1,048,576, spell a component that stands for the package of this closed table, whose names differ in each scope
 pub record IsBinaryOf (bytes : List ℕ) (closed : Resolve) : Type 0 where
   pub raw : RawComponent
-  pub spelt : decoded bytes ≡ Ok (file_view raw)
+  pub spelt : decoded bytes ≡ Ok (raw_component_view raw)
   pub component : IsOfComponent raw closed
 
 abbrev pub IsMember : Resolve → List ℕ → Resolve → Type 0
@@ -76,13 +76,13 @@ IsUtf8Behind36 bytes _ = IsUtf8 bytes
 
 -- the bytes are too long for a text, no UTF-8, or not read
 abbrev pub IsNoText : List ℕ → OpenError → Type 0
-IsNoText bytes (error.Text e) = IsUtf8Behind36 bytes e × text.Faulty bytes e
+IsNoText bytes (error.Text e) = IsUtf8Behind36 bytes e × text.FaultyText bytes e
 IsNoText bytes (error.NotUtf8 place) = (length bytes ≤ limit) × ¬ (IsUtf8 bytes) × IsValidUpTo bytes place
 IsNoText bytes _ = ⊥
 
 -- the bytes are not decoded
 abbrev pub IsNoBinary : List ℕ → OpenError → Type 0
-IsNoBinary bytes (error.Binary e) = binary.Decodes file_view (Err e) bytes
+IsNoBinary bytes (error.Binary e) = binary.Decodes raw_component_view (Err e) bytes
 IsNoBinary bytes _ = ⊥
 
 abbrev pub IsNothing : List ℕ → OpenError → Type 0
@@ -93,7 +93,7 @@ abbrev pub TextNotAdded : Resolve → List ℕ → AddError → Type 0
 TextNotAdded set bytes e = IsUtf8 bytes × (f : File) × IsRead bytes f × TreeNotAdded f set e
 
 abbrev pub BinaryNotAdded : Resolve → List ℕ → AddError → Type 0
-BinaryNotAdded set bytes e = (raw : RawComponent) × (decoded bytes ≡ Ok (file_view raw)) × ComponentNotAdded raw set e
+BinaryNotAdded set bytes e = (raw : RawComponent) × (decoded bytes ≡ Ok (raw_component_view raw)) × ComponentNotAdded raw set e
 
 abbrev pub NotAdded : Resolve → List ℕ → AddError → Type 0
 NotAdded set bytes e = MatchBool (is_binary bytes) (BinaryNotAdded set bytes e) (TextNotAdded set bytes e)

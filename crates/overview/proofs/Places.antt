@@ -8,11 +8,11 @@ use Rattle.tables.specs.declared.tables.Definition.{Definition}
 use Rattle.tables.specs.declared.tables.TypeId.{TypeId}
 use Rattle.tables.specs.declared.tables.FunctionId.{FunctionId}
 use Rattle.tables.specs.declared.tables.Resolve.{Resolve}
-use Rattle.layout.specs.Layout.{Table, layouts_of}
+use Rattle.layout.specs.Layout.{LayoutTable, layouts_of}
 use Rattle.layout.proofs.Table.{length-table}
 
-rows-length : (r : Resolve) (l : Table) → l ≡ layouts_of r → length l.rows ≡ length r.definitions
-rows-length r l is = length-table r l.rows (ap (λ (t : Table). t.rows) is)
+rows-length : (r : Resolve) (l : LayoutTable) → l ≡ layouts_of r → length l.rows ≡ length r.definitions
+rows-length r l is = length-table r l.rows (ap (λ (t : LayoutTable). t.rows) is)
 
 type-within : (ds : List Definition) (id : TypeId) → IsTrue (is_type_id ds id) → id.0 < length ds
 type-within ds id there = elim (slice_get_cases ds id.0).1 [ inl found ↦ found.1 | inr past ↦ absurd (none (subst (λ (d : Option Definition). IsTrue (is_there (type_of d))) past.1 there)) ]
@@ -26,8 +26,8 @@ function-within ds id there = elim (slice_get_cases ds id.0).1 [ inl found ↦ f
     none : IsTrue (is_there (function_of None)) → ⊥
     none h = cc
 
-pub type-below : (r : Resolve) (l : Table) (id : TypeId) → l ≡ layouts_of r → IsTrue (is_type_id r.definitions id) → IsTrue (nat_lt id.0 (length l.rows))
+pub type-below : (r : Resolve) (l : LayoutTable) (id : TypeId) → l ≡ layouts_of r → IsTrue (is_type_id r.definitions id) → IsTrue (nat_lt id.0 (length l.rows))
 type-below r l id is there = lt-ltb id.0 (length l.rows) (subst (λ n. id.0 < n) (sym (rows-length r l is)) (type-within r.definitions id there))
 
-pub function-below : (r : Resolve) (l : Table) (id : FunctionId) → l ≡ layouts_of r → IsTrue (is_function_id r.definitions id) → id.0 < length l.rows
+pub function-below : (r : Resolve) (l : LayoutTable) (id : FunctionId) → l ≡ layouts_of r → IsTrue (is_function_id r.definitions id) → id.0 < length l.rows
 function-below r l id is there = subst (λ n. id.0 < n) (sym (rows-length r l is)) (function-within r.definitions id there)

@@ -37,14 +37,14 @@ world_line w =
     ++ (decimal (count_by (crosses Export) w.items) ++ codes "\n")))))
 
 -- what is written of an interface or a world of this package; nothing of another's
-abbrev pub interface_in : ℕ → Interface → List ℕ
-interface_in own i = if is_interface_of own i then interface_line i else []
+abbrev pub interface_shown : ℕ → Interface → List ℕ
+interface_shown own i = if is_interface_of own i then interface_line i else []
 
-abbrev pub world_in : ℕ → World → List ℕ
-world_in own w = if is_world_of own w then world_line w else []
+abbrev pub world_shown : ℕ → World → List ℕ
+world_shown own w = if is_world_of own w then world_line w else []
 
 -- the last package, its interfaces in order, and its worlds
 abbrev pub shown : Resolve → List ℕ
 shown r =
     let own = own_package r.packages in
-    flat_map package_line (drop own r.packages) ++ (flat_map (interface_in own) r.interfaces ++ flat_map (world_in own) r.worlds)
+    flat_map package_line (drop own r.packages) ++ (flat_map (interface_shown own) r.interfaces ++ flat_map (world_shown own) r.worlds)

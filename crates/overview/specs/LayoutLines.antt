@@ -35,9 +35,9 @@ abbrev pub label_in : Option TypeName → List ℕ
 label_in None = []
 label_in (Some n) = n.name
 
-abbrev pub label_of : Option TypeDef → List ℕ
-label_of None = []
-label_of (Some d) = label_in d.name
+abbrev pub type_label : Option TypeDef → List ℕ
+type_label None = []
+type_label (Some d) = label_in d.name
 
 abbrev pub function_label : Option Function → List ℕ
 function_label None = []
@@ -46,7 +46,7 @@ function_label (Some f) = f.name
 -- a type of the interface of this full name
 abbrev pub type_line : Resolve → List ℕ → TypeId → List ℕ
 type_line r interface id =
-    codes "type " ++ (interface ++ (codes " " ++ (label_of (type_of (slice_get r.definitions id.0))
+    codes "type " ++ (interface ++ (codes " " ++ (type_label (type_of (slice_get r.definitions id.0))
     ++ (codes " size " ++ (decimal (size (closed_type r (val.Id id))) ++ (codes " align " ++ (decimal (align (closed_type r (val.Id id))) ++ codes "\n")))))))
 
 -- a function of it, as the callee's core function and as the caller's import

@@ -1,7 +1,7 @@
 //! The name of a package, and how much each interface and each world of it has.
 ghost use Rattle.std.specs.Prelude.{◌≡◌, ◌++◌, IfOk, OnOk, string_bytes, flat_map};
 ghost use Rattle.std.specs.List.{count_by};
-ghost use Rattle.overview.specs.Contents.{package_line, interface_line, interface_in, crosses, world_line, world_in, shown};
+ghost use Rattle.overview.specs.Contents.{package_line, interface_line, interface_shown, crosses, world_line, world_shown, shown};
 
 use package_form::own_package;
 use std::alloc::{AllocError, Global};
@@ -99,7 +99,7 @@ fn push_interfaces(
     own: usize,
     interfaces: &[Interface],
 ) -> Result<(), AllocError>
-    ensures { OnOk result (string_bytes text.new ≡ string_bytes text.old ++ flat_map (interface_in own) interfaces.now) }
+    ensures { OnOk result (string_bytes text.new ≡ string_bytes text.old ++ flat_map (interface_shown own) interfaces.now) }
 {
     for interface in interfaces {
         if interface.package.0 as usize == own {
@@ -115,7 +115,7 @@ fn push_worlds(
     own: usize,
     worlds: &[World],
 ) -> Result<(), AllocError>
-    ensures { OnOk result (string_bytes text.new ≡ string_bytes text.old ++ flat_map (world_in own) worlds.now) }
+    ensures { OnOk result (string_bytes text.new ≡ string_bytes text.old ++ flat_map (world_shown own) worlds.now) }
 {
     for world in worlds {
         if world.package.0 as usize == own {

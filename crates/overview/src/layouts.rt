@@ -1,12 +1,12 @@
 //! The sizes and alignments of a package's types, and the core signatures of its functions.
 ghost use Rattle.std.specs.Prelude.{◌≡◌, ◌<◌, ◌++◌, length, IfOk, OnOk, IsTrue, string_bytes, flat_map, codes, slice_get};
 ghost use Rattle.std.specs.List.{list_all};
-ghost use Rattle.layout.specs.Layout.{layouts_of, signature_of, results_of};
+ghost use Rattle.layout.specs.Layout.{layouts_of, core_signature_of, results_of};
 ghost use Rattle.canonical_abi.specs.Layout.{size, align, lifted_signature, lowered_signature};
 ghost use Rattle.tables.specs.Closed.{IsFunction, closed_type, function_type};
 ghost use Rattle.tables.specs.Names.{full_name};
 ghost use Rattle.tables.specs.Tables.{type_of, is_type_id, is_function_id, is_placed};
-ghost use Rattle.overview.specs.LayoutLines.{kind_word, kinds_text, signature_text, label_of, type_line, function_line, lines_of, laid_out};
+ghost use Rattle.overview.specs.LayoutLines.{kind_word, kinds_text, signature_text, type_label, type_line, function_line, lines_of, laid_out};
 
 use canonical_abi::CoreKind;
 use layout::{CoreSignature, Layouts};
@@ -58,7 +58,7 @@ fn result_text(alloc: Global, kind: Option<CoreKind>) -> Result<String, AllocErr
 
 /// A core signature: its parameters' kinds and its results'.
 fn signature_text(alloc: Global, signature: &CoreSignature) -> Result<String, AllocError>
-    ensures { IfOk result (λ s. string_bytes s ≡ signature_text (signature_of signature.now)) }
+    ensures { IfOk result (λ s. string_bytes s ≡ signature_text (core_signature_of signature.now)) }
 {
     let mut text = kinds_text(alloc, signature.params.as_slice())?;
     text.push_str(" -> ")?;
@@ -68,7 +68,7 @@ fn signature_text(alloc: Global, signature: &CoreSignature) -> Result<String, Al
 
 /// The label of a type.
 fn label_of<'a>(resolve: &'a Resolve, id: TypeId) -> &'a str
-    ensures { result.now ≡ label_of (type_of (slice_get resolve.now.definitions id.0)) }
+    ensures { result.now ≡ type_label (type_of (slice_get resolve.now.definitions id.0)) }
 {
     match resolve.definitions.as_slice().get(id.0 as usize) {
         Some(Definition::Type(definition)) => match &definition.name {
@@ -101,7 +101,7 @@ fn align_of(resolve: &Resolve, layouts: &Layouts, id: TypeId) -> u32
 fn lifted(resolve: &Resolve, layouts: &Layouts, id: FunctionId) -> CoreSignature
     requires laid_out { layouts.now ≡ layouts_of resolve.now }
     requires function { IsFunction resolve.now id }
-    ensures { signature_of result ≡ lifted_signature (function_type resolve.now id) }
+    ensures { core_signature_of result ≡ lifted_signature (function_type resolve.now id) }
 {
     layouts.lifted(id)
 }
@@ -110,7 +110,7 @@ fn lifted(resolve: &Resolve, layouts: &Layouts, id: FunctionId) -> CoreSignature
 fn lowered(resolve: &Resolve, layouts: &Layouts, id: FunctionId) -> CoreSignature
     requires laid_out { layouts.now ≡ layouts_of resolve.now }
     requires function { IsFunction resolve.now id }
-    ensures { signature_of result ≡ lowered_signature (function_type resolve.now id) }
+    ensures { core_signature_of result ≡ lowered_signature (function_type resolve.now id) }
 {
     layouts.lowered(id)
 }

@@ -20,7 +20,7 @@ use Rattle.tables.specs.PackageNames.{PackageParts}
 use Rattle.tables.specs.declared.error.ResolveError.{ResolveError}
 use Rattle.tables.specs.declared.error.ResolveError.TheVariants as cause
 use Rattle.tables.specs.declared.tables.Resolve.{Resolve}
-use Rattle.wit_syntax.specs.FullNames.{has_full_names}
+use Rattle.wit_syntax.specs.FullNames.{file_has_full_names}
 use Rattle.wit_syntax.specs.Syntax.{File}
 use Rattle.package_adding.specs.Added.{AreImportsFrom, IsOfTree, IsNewName, IsRefusedTree, CauseStands, TreeNotAdded}
 use Rattle.package_adding.specs.declared.error.AddError.TheVariants.{Attach}
@@ -39,7 +39,7 @@ cause-stands f s cause.NoMemory h = tt
 
 -- ---- behind the imports
 
-module _ (f : File) (s r : Resolve) (from : AreImportsFrom f s r) (form : ∥ IsInSetForm s ∥₁) (labels : All IsLabelled r.interfaces) (names : IsTrue (has_full_names f)) (new : IsNewName f s) where
+module _ (f : File) (s r : Resolve) (from : AreImportsFrom f s r) (form : ∥ IsInSetForm s ∥₁) (labels : All IsLabelled r.interfaces) (names : IsTrue (file_has_full_names f)) (new : IsNewName f s) where
   pub in-form : All IsLabelled s.interfaces → HasRoom s → (closed : Resolve) → HasNoFaultsOf (imports_of r) f → (IsNamedBehind r f → AreReachedFrom r f → IsTrue (is_closed closed))
       → (IsNamedBehind r f → IsTrue (is_closed closed) → IsInPackageForm closed) → ∥ IsInPackageForm closed ∥₁
   in-form set-labels room closed faults g h =

@@ -28,7 +28,7 @@ use Rattle.tree_meaning.specs.Resolves.{IsPackageOf, ResolveRefuses, file_fits}
 use Rattle.tree_meaning.proofs.Alone.{no-faults, is-package, without-faults, closed-package, refuses}
 use Rattle.tree_forms.proofs.AloneForms.{has-form, has-distinct-names}
 use Rattle.wit_syntax.specs.Syntax.{File}
-use Rattle.wit_syntax.specs.FullNames.{has_full_names}
+use Rattle.wit_syntax.specs.FullNames.{file_has_full_names}
 use Rattle.package_adding.specs.Added.{IsOfComponent, AddsComponent, ComponentNotAdded, AreImportsFrom, AddsTree, IsRefusedTree, TreeNotAdded}
 use Rattle.package_adding.specs.Alone.{IsFileAlone, IsComponentAlone, FileAloneRefuses, ComponentAloneRefuses}
 use Rattle.package_adding.specs.Named.{NamesInterface}
@@ -83,7 +83,7 @@ module _ (none : Resolve) (e : IsEmpty none) where
 
   -- ---- what can be added
 
-  pub file-writable : (f : File) (r : Resolve) → IsTrue (has_full_names f) → IsFileAlone f r → ∥ IsWritable r ∥₁
+  pub file-writable : (f : File) (r : Resolve) → IsTrue (file_has_full_names f) → IsFileAlone f r → ∥ IsWritable r ∥₁
   file-writable f r named h = ∣ record { form = has-form f r h.faults named h.resolved; distinct = has-distinct-names f r h.faults named h.resolved; labels = h.labels } ∣₁
 
   pub component-writable : (raw : RawComponent) (r : Resolve) → IsComponentAlone raw r → ∥ IsWritable r ∥₁
@@ -95,7 +95,7 @@ module _ (none : Resolve) (e : IsEmpty none) where
   pub file-behind : (f : File) (r : Resolve) → IsFileAlone f r → IsBehindImports none r
   file-behind f r h = behind-alone none e r (file-is-alone f r h)
 
-  pub file-added : (f : File) (r : Resolve) → IsTrue (has_full_names f) → IsFileAlone f r → AddsTree f none r r 0
+  pub file-added : (f : File) (r : Resolve) → IsTrue (file_has_full_names f) → IsFileAlone f r → AddsTree f none r r 0
   file-added f r named h = record {
     tree = record {
       imports = none;

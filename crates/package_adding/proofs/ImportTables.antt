@@ -22,7 +22,7 @@ use Rattle.package_sets.proofs.Imported.{follows}
 use Rattle.package_sets.proofs.Beginning.{imports-front, begins-packages, begins-imports, begins-rows}
 use Rattle.package_sets.proofs.Lists.{not-is}
 use Rattle.package_text.specs.Imports.{AreImportsOf}
-use Rattle.package_text.specs.Tree.{own_interfaces, own_parts}
+use Rattle.package_text.specs.Tree.{interfaces_of_package, own_parts}
 use Rattle.package_text.specs.Writable.{package_labels}
 use Rattle.package_text.proofs.Begins.{begins}
 use Rattle.tree_meaning.specs.Imports.{nameless}
@@ -47,13 +47,13 @@ last-own ps l =
     sym (take_all (own_package ps + 1) ps all) ∙ take-more ps (own_package ps) (own_parts ps) within (get_or_default ps (own_package ps) nameless (own_parts ps) within)
 
 -- the interfaces of other packages, and behind them the own ones
-interfaces-parted : (closed : Resolve) → IsInPackageForm closed → closed.interfaces ≡ imports closed ++ own_interfaces closed
+interfaces-parted : (closed : Resolve) → IsInPackageForm closed → closed.interfaces ≡ imports closed ++ interfaces_of_package closed
 interfaces-parted closed form =
     let b = begins closed form in
     let own = own_package closed.packages in
     let other = λ (k : ℕ) (i : Interface) (e : slice_get b.front k ≡ Some i). not-is (is_interface_of own i) (all-get (λ (j : Interface). not (is_interface_of own j)) b.front k i b.others e) in
-    let mine = λ (i : Interface) (c : Contains (own_interfaces closed) i). all-contained (λ (j : Interface). is_interface_of own j ≡ true) (own_interfaces closed) i (filter_passes (is_interface_of own) closed.interfaces) c in
-    b.interfaces ∙ ap (λ (is : List Interface). is ++ own_interfaces closed) (sym (imports-front closed b.front (own_interfaces closed) b.interfaces other mine))
+    let mine = λ (i : Interface) (c : Contains (interfaces_of_package closed) i). all-contained (λ (j : Interface). is_interface_of own j ≡ true) (interfaces_of_package closed) i (filter_passes (is_interface_of own) closed.interfaces) c in
+    b.interfaces ∙ ap (λ (is : List Interface). is ++ interfaces_of_package closed) (sym (imports-front closed b.front (interfaces_of_package closed) b.interfaces other mine))
 
 -- the rows of a set's imports end with those of the last interface
 import-ends : (set t : Resolve) (packages interfaces : List Bool) → IsImportsOf set packages interfaces t → IsSet set → is_parted (length t.definitions) 0 t.interfaces [] ≡ true
@@ -65,7 +65,7 @@ pub behind-imports : (t closed : Resolve) → HasImportTable closed t → (set :
     → AreImportsOf closed t
 behind-imports t closed h set packages interfaces n s form = record {
   packages = last-own closed.packages (some-package closed form.closed) ∙ ap (λ (ps : List PackageParts). ps ++ own_parts closed.packages ∷ []) h.packages;
-  interfaces = interfaces-parted closed form ∙ ap (λ (is : List Interface). is ++ own_interfaces closed) h.interfaces;
+  interfaces = interfaces-parted closed form ∙ ap (λ (is : List Interface). is ++ interfaces_of_package closed) h.interfaces;
   worlds = (follows set packages interfaces t n).worlds_are;
   rows =
       let behind = drop (length t.definitions) closed.definitions in

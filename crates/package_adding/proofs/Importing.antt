@@ -24,7 +24,7 @@ use Rattle.package_sets.specs.SetForm.{HasNamesApart, IsInSetForm}
 use Rattle.package_sets.proofs.Closing.{kept-from}
 use Rattle.package_sets.proofs.ImportPackages.{kept-fewer}
 use Rattle.package_sets.proofs.Lists.{map-unget, get-contains}
-use Rattle.tree_meaning.specs.Declarations.{interfaces, worlds, package_named}
+use Rattle.tree_meaning.specs.Declarations.{interfaces, file_worlds, package_named}
 use Rattle.tree_meaning.specs.ImportForms.{NamesImport, IsNamedBehind, AreReachedFrom}
 use Rattle.tree_meaning.specs.Imports.{Import, Imports, AreApart, HasImport, nameless, no_import, import_at, import_of, interfaces_of, imports_of}
 use Rattle.tree_meaning.specs.Resolves.{is_of_interfaces, AreImports, HasNoFaultsOf, HasKnownNamesOf, IsKnownUseOf, IsKnownIn, IsKnownItemOf, IsKnownWorldOf}
@@ -42,7 +42,7 @@ use Rattle.tables.specs.declared.tables.Definition.TheVariants as row
 use Rattle.tables.specs.declared.tables.Interface.{Interface}
 use Rattle.tables.specs.declared.tables.World.{World}
 use Rattle.tables.specs.declared.tables.Resolve.{Resolve}
-use Rattle.wit_syntax.specs.FullNames.{has_full_names}
+use Rattle.wit_syntax.specs.FullNames.{file_has_full_names}
 use Rattle.wit_syntax.specs.Syntax.{File}
 use Rattle.package_adding.specs.Named.{NamesInterface, AreNamed}
 use Rattle.package_adding.proofs.Naming.{one-any}
@@ -82,7 +82,7 @@ module _ (m : Imports) (f : File) (faults : HasNoFaultsOf m f) where
       subst (λ (o : Option PackageParts). IsKnownIn m (interfaces f) o u.interface u.name) e (all-contained (IsKnownUseOf m (interfaces f)) j.uses u known.uses d) in
       (h.0, h.1, h.2, h.3 ∙ g)
   named-there q i (inr (w, c, (way, d))) =
-      all-contained (IsKnownItemOf m _) w.items _ (all-contained (IsKnownWorldOf m _) (worlds f) w faults.known.in_worlds c) d
+      all-contained (IsKnownItemOf m _) w.items _ (all-contained (IsKnownWorldOf m _) (file_worlds f) w faults.known.in_worlds c) d
 
 module _ (s : Resolve) (packages interfaces : List Bool) (r : Resolve) (n : IsImportsOf s packages interfaces r) where
   its : OfImports s packages interfaces r n
@@ -135,7 +135,7 @@ module _ (s : Resolve) (packages interfaces : List Bool) (r : Resolve) (n : IsIm
         let k = kept-from n.to.packages s.packages (package_named f) (subst (λ (ps : List PackageParts). Contains ps (package_named f)) n.table.packages c) in
         true≢false (sym (one-any (is_same_package (package_named f)) s.packages (package_named f) (get-contains s.packages k.0 (package_named f) k.2) (same-itself (package_named f))) ∙ new)
 
-    pub named-behind : All IsLabelled r.interfaces → IsTrue (has_full_names f) → has_package s (package_named f) ≡ false → IsNamedBehind r f
+    pub named-behind : All IsLabelled r.interfaces → IsTrue (file_has_full_names f) → has_package s (package_named f) ≡ false → IsNamedBehind r f
     named-behind labels names new = record {
       form = record {
         names = its.names form.names;

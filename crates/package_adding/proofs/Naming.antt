@@ -17,7 +17,7 @@ use Rattle.tables.specs.PackageNames.{PackageParts}
 use Rattle.wit_syntax.specs.Syntax.{PathTo, Local, Foreign, UsedAs, Entry, Uses, Defines, Declares, WorldEntry, Whole, Single, FileEntry, AnInterface, AWorld, File}
 use Rattle.wit_syntax.specs.declared.ast.Direction.{Direction}
 use Rattle.wit_tokens.specs.declared.token.Span.{Span}
-use Rattle.package_adding.specs.Named.{NamesInterface, path_names, entry_names, world_entry_names, file_entry_names, any_names}
+use Rattle.package_adding.specs.Named.{NamesInterface, path_names, entry_names_interface, world_entry_names, file_entry_names, any_names}
 
 -- ---- lists
 
@@ -87,7 +87,7 @@ used-some (v ∷ us) u c = grind (arith, nat_tests)
 -- ---- files
 
 module _ (f : File) (q : PackageParts) (i : List ℕ) where
-  use-tells : (name : List ℕ) (es : List Entry) → Contains f.entries (AnInterface name es) → (e : Entry) → Contains es e → entry_names e q i ≡ true → NamesInterface f q i
+  use-tells : (name : List ℕ) (es : List Entry) → Contains f.entries (AnInterface name es) → (e : Entry) → Contains es e → entry_names_interface e q i ≡ true → NamesInterface f q i
   use-tells name es c (Defines at m d) k h = absurd (cc)
   use-tells name es c (Declares at m g) k h = absurd (cc)
   use-tells name es c (Uses at p us) k h =
@@ -119,10 +119,10 @@ module _ (f : File) (q : PackageParts) (i : List ℕ) where
   file-tells h = let e = any-one (λ x. file_entry_names x q i) f.entries h in by e.0 e.1 e.2
     where
       by : (e : FileEntry) → Contains f.entries e → file_entry_names e q i ≡ true → NamesInterface f q i
-      by (AnInterface name es) c g = let u = any-one (λ x. entry_names x q i) es g in use-tells name es c u.0 u.1 u.2
+      by (AnInterface name es) c g = let u = any-one (λ x. entry_names_interface x q i) es g in use-tells name es c u.0 u.1 u.2
       by (AWorld at name es) c g = let u = any-one (λ x. world_entry_names x q i) es g in item-tells at name es c u.0 u.1 u.2
 
-  tells-use : (e : Entry) (u : UsedItem) → Contains (entry_uses e) u → u.«package» ≡ Some q → u.interface ≡ i → entry_names e q i ≡ true
+  tells-use : (e : Entry) (u : UsedItem) → Contains (entry_uses e) u → u.«package» ≡ Some q → u.interface ≡ i → entry_names_interface e q i ≡ true
   tells-use (Defines at m d) u c e g = absurd (omega (arith, c.1))
   tells-use (Declares at m d) u c e g = absurd (omega (arith, c.1))
   tells-use (Uses at p us) u c e g =
@@ -144,7 +144,7 @@ module _ (f : File) (q : PackageParts) (i : List ℕ) where
       let o = of-interface f.entries j c in
       let uses = subst (λ (x : InterfaceTree). Contains x.uses u) (sym o.3) d in
       let x = contains-unflat entry_uses o.1 u uses in
-      one-any (λ y. file_entry_names y q i) f.entries (AnInterface o.0 o.1) o.2 (one-any (λ y. entry_names y q i) o.1 x.0 x.1 (tells-use x.0 u x.2 e g))
+      one-any (λ y. file_entry_names y q i) f.entries (AnInterface o.0 o.1) o.2 (one-any (λ y. entry_names_interface y q i) o.1 x.0 x.1 (tells-use x.0 u x.2 e g))
   tells-file (inr (w, c, (way, d))) =
       let o = of-world f.entries w c in
       let items = subst (λ (x : WorldTree). Contains x.items (ForeignNamed way q i)) (sym o.4) d in

@@ -21,7 +21,7 @@ use Rattle.tables.specs.declared.tables.Interface.{Interface}
 use Rattle.tables.specs.declared.tables.Resolve.{Resolve}
 use Rattle.package_adding.specs.Named.{any_names}
 use Rattle.package_sets.specs.NamedIn.{AreMarksOf}
-use Rattle.package_adding.specs.Noted.{nothing, also, AreNoted, marked_at, mark_at, place_in, first_mark}
+use Rattle.package_adding.specs.Noted.{nothing, also, AreNoted, marked_at, mark_at, noted_place, first_mark}
 use Rattle.package_adding.specs.declared.marking.Named.{Named}
 
 -- ---- tests
@@ -193,7 +193,7 @@ module _ (set_ : Resolve) (names : PackageParts → List ℕ → Bool) (m : Name
   interface-told k i q at of = by (interface_place set_ q i.name) refl
     where
       here : first_mark set_ m.interfaces.items i ≡ mark_at m.interfaces.items (interface_place set_ q i.name)
-      here = ap (λ (o : Option PackageParts). mark_at m.interfaces.items (place_in set_ i.name o)) of
+      here = ap (λ (o : Option PackageParts). mark_at m.interfaces.items (noted_place set_ i.name o)) of
 
       mine : is_interface_named set_.packages q i.name i ≡ true
       mine = ap (λ (o : Option PackageParts). is_package_named q o && bytes_eq i.name i.name) of ∙ both (is_same_package q q) (bytes_eq i.name i.name) (same-itself q) ((bytes_eq-Decides i.name i.name).1 refl)

@@ -23,7 +23,7 @@ use Rattle.tables.specs.declared.tables.Resolve.{Resolve}
 use Rattle.wit_syntax.specs.Syntax.{File}
 use Rattle.wit_component.specs.ToComponent.{ComponentStands}
 use Rattle.package_sets.specs.BehindImports.{IsBehindImports}
-use Rattle.package_adding.specs.Added.{IsOfComponent, IsRefusedBehind, AreImportsFrom, IsOfTree, AddsTree, HasName, IsWantOfMemory}
+use Rattle.package_adding.specs.Added.{IsOfComponent, IsRefusedBehind, AreImportsFrom, IsOfTree, AddsTree, HasName, IsWantOfMemoryToAdd}
 use Rattle.package_adding.specs.Named.{NamesInterface}
 use Rattle.package_adding.proofs.Marks.{one-marks}
 use Rattle.package_adding.specs.declared.error.AddError.{AddError}
@@ -31,7 +31,7 @@ use Rattle.package_adding.specs.declared.error.AddError.TheVariants as error
 
 -- ---- want of memory
 
-pub want-is-prop : (e : AddError) → IsProp (IsWantOfMemory e)
+pub want-is-prop : (e : AddError) → IsProp (IsWantOfMemoryToAdd e)
 want-is-prop (error.Resolve cause.NoMemory) = hlevel
 want-is-prop (error.Resolve cause.EmptyPackage) = hlevel
 want-is-prop (error.Resolve cause.NotThisShape) = hlevel
@@ -46,8 +46,8 @@ want-is-prop (error.Attach attach.SetLimit) = hlevel
 want-is-prop (error.Attach (attach.NoPackage p)) = hlevel
 want-is-prop (error.Attach (attach.SamePackage p)) = hlevel
 
-pub want : (e : ResolveError) → e ≡ cause.NoMemory → IsWantOfMemory (error.Resolve e)
-want e is = subst (λ (x : ResolveError). IsWantOfMemory (error.Resolve x)) (sym is) tt
+pub want : (e : ResolveError) → e ≡ cause.NoMemory → IsWantOfMemoryToAdd (error.Resolve e)
+want e is = subst (λ (x : ResolveError). IsWantOfMemoryToAdd (error.Resolve x)) (sym is) tt
 
 -- ---- a closed table that is attached
 
@@ -55,7 +55,7 @@ module _ (s closed r : Resolve) (id : ℕ) (h : IsAttached s closed r id) where
   pub is-known : id < length r.packages
   is-known = omega (arith, h.id_is, ap length h.packages_are, length-append s.packages (h.fits.own ∷ []))
 
-  not-refused : (e : AttachError) → IsRefused s closed e → IsWantOfMemory (error.Attach e)
+  not-refused : (e : AttachError) → IsRefused s closed e → IsWantOfMemoryToAdd (error.Attach e)
   not-refused attach.NoMemory g = tt
   not-refused attach.SetLimit g = absurd (g h.room)
   not-refused (attach.SamePackage p) g = absurd (true≢false (sym g.1.stands ∙ h.new p g.1.own))
@@ -63,14 +63,14 @@ module _ (s closed r : Resolve) (id : ℕ) (h : IsAttached s closed r id) where
   not-refused attach.NotThisShape g = absurd (g.3 h.fits)
 
   -- the same one is not refused but for memory
-  pub refused-for-memory : (answer : Resolve) → IsSamePackage answer closed → (e : AttachError) → IsRefused s answer e → IsWantOfMemory (error.Attach e)
+  pub refused-for-memory : (answer : Resolve) → IsSamePackage answer closed → (e : AttachError) → IsRefused s answer e → IsWantOfMemoryToAdd (error.Attach e)
   refused-for-memory answer same e g = not-refused e (subst (λ (x : Resolve). IsRefused s x e) (same-tables answer closed same) g)
 
   -- .. nor where it is a component's whose imports are just those of the set
-  pub component-refused : IsBehindImports s closed → (answer : Resolve) → IsSamePackage answer closed → (e : AttachError) → IsRefusedBehind s answer e → IsWantOfMemory (error.Attach e)
+  pub component-refused : IsBehindImports s closed → (answer : Resolve) → IsSamePackage answer closed → (e : AttachError) → IsRefusedBehind s answer e → IsWantOfMemoryToAdd (error.Attach e)
   component-refused behind answer same e g = by e (subst (λ (x : Resolve). IsRefusedBehind s x e) (same-tables answer closed same) g)
     where
-      by : (e : AttachError) → IsRefusedBehind s closed e → IsWantOfMemory (error.Attach e)
+      by : (e : AttachError) → IsRefusedBehind s closed e → IsWantOfMemoryToAdd (error.Attach e)
       by attach.NotThisShape x = absurd (x.3 h.fits behind)
       by attach.NoMemory h = not-refused attach.NoMemory h
       by attach.SetLimit h = not-refused attach.SetLimit h
@@ -89,7 +89,7 @@ pub one-component : (raw : RawComponent) (closed : Resolve) → IsOfComponent ra
 one-component raw closed of answer only = ∥∥₁_elim of.stands (same-is-prop answer closed) (λ stands. only closed stands of.distinct)
 
 pub component-for-memory : (raw : RawComponent) (closed : Resolve) → IsOfComponent raw closed → (e : ResolveError)
-    → ((p : Resolve) → ComponentStands raw p → All AreDistinct (package_scopes p) → e ≡ cause.NoMemory) → IsWantOfMemory (error.Resolve e)
+    → ((p : Resolve) → ComponentStands raw p → All AreDistinct (package_scopes p) → e ≡ cause.NoMemory) → IsWantOfMemoryToAdd (error.Resolve e)
 component-for-memory raw closed of e only = ∥∥₁_elim of.stands (want-is-prop (error.Resolve e)) (λ stands. want e (only closed stands of.distinct))
 
 -- ---- trees

@@ -4,7 +4,7 @@ use Rattle.std.specs.Prelude.{cond, is_some, slice_index_or}
 use Rattle.std.specs.List.{list_all}
 use Rattle.std.proofs.lemmas.Bool.{ltb-true}
 use Rattle.package_form.specs.Postfix.{is_inner}
-use Rattle.package_form.specs.Reached.{used_by, name_of, name_at, interface_of, reached_by_row}
+use Rattle.package_form.specs.Reached.{used_by, name_of, name_at, named_interface, reached_by_row}
 use Rattle.package_form.proofs.Lists.{contains-here, contains-left, contains-right, contains-either, get-front}
 use Rattle.package_form.proofs.Meeting.{split-at}
 use Rattle.tree_meaning.proofs.AllDefinitions.{all_of, all_from, any_function, owner_name}
@@ -76,9 +76,9 @@ module _ (ns : List (List ℕ)) (rows : List Definition) (table : IsTable rows) 
       let less = ltb-true u.0.0 (length pre) (subst (λ (z : TypeDefKind). definition_below (length pre) (row.Type (record { name = Some n; kind = z })) ≡ true) u.1 b) in
       let is = subst (λ (z : TypeDefKind). definition_all (is_type rows) (row.Type (record { name = Some n; kind = z })) ≡ true) u.1 t in
       let named = name-there ns rows pre (d ∷ post) parts table.inner u.0 target k less is u.2 place in
-      let there : Contains (interface_of (name_at rows (Some u.0))) k =
-      subst (λ (o : Option TypeName). Contains (interface_of o) k) (sym named.1) (subst (λ (j : ℕ). Contains (j ∷ []) k) (sym named.2) (contains-here k [])) in
-      subst (λ (z : TypeDefKind). Contains (interface_of (name_at rows (used_by z))) k) (sym u.1) there
+      let there : Contains (named_interface (name_at rows (Some u.0))) k =
+      subst (λ (o : Option TypeName). Contains (named_interface o) k) (sym named.1) (subst (λ (j : ℕ). Contains (j ∷ []) k) (sym named.2) (contains-here k [])) in
+      subst (λ (z : TypeDefKind). Contains (named_interface (name_at rows (used_by z))) k) (sym u.1) there
 
   pub row-reaches : (x : NamedDefinition) (target : Key) (k : ℕ) → Contains (all_of ns trees d) x → x.meaning ≡ IsUse (Reference target)
       → IsPlace ns k target.interface → Contains (reached_by_row rows d) k
@@ -98,7 +98,7 @@ module _ (ns : List (List ℕ)) (rows : List Definition) (table : IsTable rows) 
     pub of : target.interface ≡ get_or ns k []
 
   used-row : (n : TypeName) (t : TypeId) (k : ℕ) → t.0 < length pre → (y : TypeDef) → slice_get rows t.0 ≡ Some (row.Type y) → (o : Option TypeName) → y.name ≡ o
-      → Contains (interface_of o) k → IsUseAt (row.Type (record { name = Some n; kind = kind.Use t })) k
+      → Contains (named_interface o) k → IsUseAt (row.Type (record { name = Some n; kind = kind.Use t })) k
   used-row n t k less y at None e q = absurd (omega (arith, q.1))
   used-row n t k less y at (Some m) e q =
       let here : slice_get pre t.0 ≡ Some (row.Type y) = sym (get-front pre (d ∷ post) t.0 less) ∙ (ap (λ (xs : List Definition). slice_get xs t.0) (sym parts) ∙ at) in
@@ -114,14 +114,14 @@ module _ (ns : List (List ℕ)) (rows : List Definition) (table : IsTable rows) 
         of = ap (λ (j : ℕ). get_or ns j []) (only m.interface.0 k q);
       }
 
-  used-name : (n : TypeName) (t : TypeId) (k : ℕ) → t.0 < length pre → (o : Option Definition) → slice_get rows t.0 ≡ o → Contains (interface_of (name_of (type_of o))) k
+  used-name : (n : TypeName) (t : TypeId) (k : ℕ) → t.0 < length pre → (o : Option Definition) → slice_get rows t.0 ≡ o → Contains (named_interface (name_of (type_of o))) k
       → IsUseAt (row.Type (record { name = Some n; kind = kind.Use t })) k
   used-name n t k less None e q = absurd (omega (arith, q.1))
   used-name n t k less (Some (row.Function f)) e q = absurd (omega (arith, q.1))
   used-name n t k less (Some (row.Type y)) e q = used-row n t k less y e y.name refl q
 
   type-uses : (o : Option TypeName) (c : TypeDefKind) (k : ℕ) → definition_below (length pre) (row.Type (record { name = o; kind = c })) ≡ true → cond (is_some o) true (is_inner c) ≡ true
-      → Contains (interface_of (name_at rows (used_by c))) k → IsUseAt (row.Type (record { name = o; kind = c })) k
+      → Contains (named_interface (name_at rows (used_by c))) k → IsUseAt (row.Type (record { name = o; kind = c })) k
   type-uses None (kind.Use t) k b i q = absurd (cc)
   type-uses (Some n) (kind.Use t) k b i q = used-name n t k (ltb-true t.0 (length pre) b) (slice_get rows t.0) refl q
   type-uses o _ k b i q = absurd (omega (arith, q.1))

@@ -25,10 +25,10 @@ use Rattle.package_sets.proofs.Beginning.{own-is, begins-count, begins-imports}
 use Rattle.package_sets.proofs.Behind.{own-behind}
 use Rattle.package_sets.proofs.Lists.{map-get, front-get, contains-unflat}
 use Rattle.package_sets.proofs.Renaming.{definitions-append}
-use Rattle.tree_meaning.specs.Declarations.{UsedItem, InterfaceTree, ItemTree, InterfaceNamed, ForeignNamed, FunctionOf, WorldTree, interfaces, worlds, full_label, full_use, full_item, full_interface, full_interfaces, full_world, full_worlds, interface_at, no_interface, interface_name, interface_names, package_named, use_interface}
+use Rattle.tree_meaning.specs.Declarations.{UsedItem, InterfaceTree, ItemTree, InterfaceNamed, ForeignNamed, FunctionOf, WorldTree, interfaces, file_worlds, full_label, full_use, full_item, full_interface, full_interfaces, full_world, full_worlds, interface_at, no_interface, interface_tree_name, names_of_trees, package_named, use_interface}
 use Rattle.tree_meaning.specs.ImportForms.{UsesImport, HasImportItem}
 use Rattle.tree_meaning.specs.Imports.{Import, HasImport, nameless, no_import, import_at, import_of, interfaces_of, imports_of}
-use Rattle.tree_meaning.specs.Resolved.{use_meaning, type_meaning, function_meaning, in_order, interface_meaning, no_type, direction_meaning, item_meaning, world_meaning}
+use Rattle.tree_meaning.specs.Resolved.{use_meaning, type_meaning, meaning_of_function, in_order, interface_meaning, no_type, direction_meaning, tree_item_meaning, meaning_of_world}
 use Rattle.tree_meaning.specs.Resolves.{uses_of_interface, interface_uses, names_in_order, is_of_interfaces, AreImports, interfaces_behind, IsKnownIn, IsKnownUseOf, HasKnownNamesOf, IsKnownItemOf, IsKnownWorldOf, HasNoFaultsOf, IsClosedPackageOf}
 use Rattle.tree_meaning.proofs.AllDefinitions.{all_of}
 use Rattle.tree_meaning.proofs.Apart.{only}
@@ -76,20 +76,20 @@ pub record StandsBehind (t : Resolve) (f : File) (p : Resolve) : Type 0 where
 
 use-behind : (i : InterfaceTree) (order : List ℕ) (x : NamedDefinition) (target : Key) → Contains (interface_meaning i order) x → x.meaning ≡ IsUse (Reference target)
     → (u : UsedItem) × Contains i.uses u × (use_interface u ≡ target.interface)
-use-behind i order x target c means = elim (contains-either (map (use_meaning i.name) i.uses) (in_order i.name i.types order ++ map (function_meaning i.name) i.functions) x c) [
+use-behind i order x target c means = elim (contains-either (map (use_meaning i.name) i.uses) (in_order i.name i.types order ++ map (meaning_of_function i.name) i.functions) x c) [
   | inl h ↦
       let u = contains-unmap (use_meaning i.name) i.uses x h in
       let k : Key = record { interface = use_interface u.0; name = u.0.name } in
       let m : IsUse (Reference k) ≡ IsUse (Reference target) = ap (λ (y : NamedDefinition). y.meaning) u.2 ∙ means in
       let same : k ≡ target = cc in
       (u.0, u.1, ap (λ (y : Key). y.interface) same)
-  | inr h ↦ elim (contains-either (in_order i.name i.types order) (map (function_meaning i.name) i.functions) x h) [
+  | inr h ↦ elim (contains-either (in_order i.name i.types order) (map (meaning_of_function i.name) i.functions) x h) [
     | inl g ↦
         let k = contains-unmap (λ (k : ℕ). type_meaning i.name (get_or i.types k no_type)) order x g in
         let m = ap (λ (y : NamedDefinition). y.meaning) k.2 ∙ means in
         absurd (cc)
     | inr g ↦
-        let k = contains-unmap (function_meaning i.name) i.functions x g in
+        let k = contains-unmap (meaning_of_function i.name) i.functions x g in
         let m = ap (λ (y : NamedDefinition). y.meaning) k.2 ∙ means in
         absurd (cc)
   ]
@@ -171,10 +171,10 @@ module _ (t : Resolve) (f : File) (p : Resolve) (s : StandsBehind t f p) where
   -- ---- the own interfaces stand behind the imports
 
   -- no import has the full name of an own interface
-  own-apart : (n : List ℕ) → Contains (interface_names (interfaces f)) n → (o : PackageParts) (i : List ℕ) (k : ℕ) → IsImportAt p o i k → own_name q n ≡ own_name o i → ⊥
+  own-apart : (n : List ℕ) → Contains (names_of_trees (interfaces f)) n → (o : PackageParts) (i : List ℕ) (k : ℕ) → IsImportAt p o i k → own_name q n ≡ own_name o i → ⊥
   own-apart n d o i k a e =
-      let j = contains-unmap interface_name (interfaces f) n d in
-      let full : Contains (interface_names is) (own_name q j.0.name) = contains-map interface_name is (full_interface q j.0) (contains-map (full_interface q) (interfaces f) j.0 j.1) in
+      let j = contains-unmap interface_tree_name (interfaces f) n d in
+      let full : Contains (names_of_trees is) (own_name q j.0.name) = contains-map interface_tree_name is (full_interface q j.0) (contains-map (full_interface q) (interfaces f) j.0 j.1) in
       let there = ordered-has is c.resolves.order c.resolves.placed (own_name q j.0.name) full in
       let m = there.0 in
       let named : get_or ns (before + m) [] ≡ own_name o i =
@@ -190,7 +190,7 @@ module _ (t : Resolve) (f : File) (p : Resolve) (s : StandsBehind t f p) where
   -- ---- an interface that the file knows goes by the full name of an import just where it is that
 
   abbrev IsThere : Option PackageParts → List ℕ → Type 0
-  IsThere None n = Contains (interface_names (interfaces f)) n
+  IsThere None n = Contains (names_of_trees (interfaces f)) n
   IsThere (Some o) n = HasImport (imports_of t) o n
 
   same-import : (x : Option PackageParts) (n : List ℕ) → IsThere x n → (o : PackageParts) (i : List ℕ) (k : ℕ) → IsImportAt p o i k
@@ -271,7 +271,7 @@ module _ (t : Resolve) (f : File) (p : Resolve) (s : StandsBehind t f p) where
   tree-there : (j : InterfaceTree) (d : Contains (interfaces f) j) → Contains c.resolves.order d.0 × (interface_at is d.0 ≡ full_interface q j)
   tree-there j d =
       let z = d.1 in
-      let l : d.0 < length (interface_uses is) = omega (arith, z, length-map is (uses_of_interface (interface_names is)), length-map (interfaces f) (full_interface q)) in (
+      let l : d.0 < length (interface_uses is) = omega (arith, z, length-map is (uses_of_interface (names_of_trees is)), length-map (interfaces f) (full_interface q)) in (
         among-at c.resolves.order d.0 (c.resolves.placed.complete d.0 l),
         interface-full q (interfaces f) d.0 d.1 ∙ ap (full_interface q) (get_or_default (interfaces f) d.0 no_interface j d.1 ∙ d.2),
       )
@@ -280,7 +280,7 @@ module _ (t : Resolve) (f : File) (p : Resolve) (s : StandsBehind t f p) where
   there-tree k d =
       let at : get_or c.resolves.order d.0 0 ≡ k = get_or_default c.resolves.order d.0 0 k d.1 ∙ d.2 in
       let inside = (c.resolves.placed.next d.0 d.1).in_range in
-      let l : k < length (interfaces f) = omega (arith, at, inside, length-map is (uses_of_interface (interface_names is)), length-map (interfaces f) (full_interface q)) in
+      let l : k < length (interfaces f) = omega (arith, at, inside, length-map is (uses_of_interface (names_of_trees is)), length-map (interfaces f) (full_interface q)) in
       let j = interface_at (interfaces f) k in
       (j, (k, l, get_or_default (interfaces f) k j no_interface l), interface-full q (interfaces f) k l)
 
@@ -291,7 +291,7 @@ module _ (t : Resolve) (f : File) (p : Resolve) (s : StandsBehind t f p) where
       by u.«package» (all-contained (IsKnownUseOf m (interfaces f)) j.uses u known.uses e)
     where
       by : (o : Option PackageParts) → IsKnownIn (imports_of t) (interfaces f) o u.interface u.name → IsThere o u.interface
-      by None h = subst (Contains (interface_names (interfaces f))) h.2 (contains-map interface_name (interfaces f) h.0 h.1)
+      by None h = subst (Contains (names_of_trees (interfaces f))) h.2 (contains-map interface_tree_name (interfaces f) h.0 h.1)
       by (Some o) h = (h.0, h.1, h.2, h.3)
 
   -- ---- a use
@@ -331,26 +331,26 @@ module _ (t : Resolve) (f : File) (p : Resolve) (s : StandsBehind t f p) where
   item-reached : (o : PackageParts) (i : List ℕ) (k : ℕ) → IsImportAt p o i k → HasImportItem f o i → Contains (own_reached p) k
   item-reached o i k a (w, d, (way, e)) =
       let tree = ForeignNamed way o i in
-      let meant = world_meaning (full_world q w) in
+      let meant = meaning_of_world (full_world q w) in
       let there : Contains (worlds_in p) meant =
-      subst (λ (ms : List WorldMeaning). Contains ms meant) (sym c.resolves.worlds) (contains-map world_meaning (full_worlds f) (full_world q w) (contains-map (full_world q) (worlds f) w d)) in
+      subst (λ (ms : List WorldMeaning). Contains ms meant) (sym c.resolves.worlds) (contains-map meaning_of_world (full_worlds f) (full_world q w) (contains-map (full_world q) (file_worlds f) w d)) in
       let items : Contains meant.items (WithInterface (direction_meaning way) (own_name o i)) =
-      contains-map item_meaning (map (full_item q) w.items) (full_item q tree) (contains-map (full_item q) w.items tree e) in
+      contains-map tree_item_meaning (map (full_item q) w.items) (full_item q tree) (contains-map (full_item q) w.items tree e) in
       contains-right (flat_map (reached_by_row p.definitions) (own_rows p)) (flat_map reached_by_world p.worlds) k
       (item-reaches ns p.definitions table (trees_in p) p.worlds (world_name p) meant (direction_meaning way) (own_name o i) k (own-some o i) there items (import-place o i k a))
 
-  item-behind : (o : PackageParts) (i : List ℕ) (k : ℕ) → IsImportAt p o i k → (w : WorldTree) → Contains (worlds f) w → (x : ItemTree) → Contains w.items x → (way : Direction)
-      → item_meaning (full_item q x) ≡ WithInterface way (own_name o i) → HasImportItem f o i
+  item-behind : (o : PackageParts) (i : List ℕ) (k : ℕ) → IsImportAt p o i k → (w : WorldTree) → Contains (file_worlds f) w → (x : ItemTree) → Contains w.items x → (way : Direction)
+      → tree_item_meaning (full_item q x) ≡ WithInterface way (own_name o i) → HasImportItem f o i
   item-behind o i k a w d (InterfaceNamed to n) e way m =
-      let known : Contains (interface_names (interfaces f)) n =
-      all-contained (IsKnownItemOf (imports_of t) (interface_names (interfaces f))) w.items (InterfaceNamed to n)
-      (all-contained (IsKnownWorldOf (imports_of t) (interface_names (interfaces f))) (worlds f) w s.faults.known.in_worlds d) e in
+      let known : Contains (names_of_trees (interfaces f)) n =
+      all-contained (IsKnownItemOf (imports_of t) (names_of_trees (interfaces f))) w.items (InterfaceNamed to n)
+      (all-contained (IsKnownWorldOf (imports_of t) (names_of_trees (interfaces f))) (file_worlds f) w s.faults.known.in_worlds d) e in
       let named : own_name q n ≡ own_name o i = cc in
       absurd (own-apart n known o i k a named)
   item-behind o i k a w d (ForeignNamed to r n) e way m =
       let known : HasImport (imports_of t) r n =
-      all-contained (IsKnownItemOf (imports_of t) (interface_names (interfaces f))) w.items (ForeignNamed to r n)
-      (all-contained (IsKnownWorldOf (imports_of t) (interface_names (interfaces f))) (worlds f) w s.faults.known.in_worlds d) e in
+      all-contained (IsKnownItemOf (imports_of t) (names_of_trees (interfaces f))) w.items (ForeignNamed to r n)
+      (all-contained (IsKnownWorldOf (imports_of t) (names_of_trees (interfaces f))) (file_worlds f) w s.faults.known.in_worlds d) e in
       let named : own_name r n ≡ own_name o i = cc in
       let same = same-import (Some r) n known o i k a named in
       let of = same.0 in
@@ -359,12 +359,12 @@ module _ (t : Resolve) (f : File) (p : Resolve) (s : StandsBehind t f p) where
   item-behind o i k a w d (FunctionOf to g) e way m = absurd (cc)
 
   -- the item of a world behind one of its meaning
-  items-behind : (o : PackageParts) (i : List ℕ) (k : ℕ) → IsImportAt p o i k → (w : WorldTree) → Contains (worlds f) w → (way : Direction)
-      → Contains (world_meaning (full_world q w)).items (WithInterface way (own_name o i)) → HasImportItem f o i
+  items-behind : (o : PackageParts) (i : List ℕ) (k : ℕ) → IsImportAt p o i k → (w : WorldTree) → Contains (file_worlds f) w → (way : Direction)
+      → Contains (meaning_of_world (full_world q w)).items (WithInterface way (own_name o i)) → HasImportItem f o i
   items-behind o i k a w d way e =
-      let g = contains-unmap item_meaning (map (full_item q) w.items) (WithInterface way (own_name o i)) e in
+      let g = contains-unmap tree_item_meaning (map (full_item q) w.items) (WithInterface way (own_name o i)) e in
       let h = contains-unmap (full_item q) w.items g.0 g.1 in
-      item-behind o i k a w d h.0 h.1 way (subst (λ (x : ItemTree). item_meaning x ≡ WithInterface way (own_name o i)) (sym h.2) g.2)
+      item-behind o i k a w d h.0 h.1 way (subst (λ (x : ItemTree). tree_item_meaning x ≡ WithInterface way (own_name o i)) (sym h.2) g.2)
 
   reached-kind : (way : Direction) (k : ℕ) (x : WorldItemKind) → Contains (reached_by_kind x) k → meaning_of_item ns (trees_in p) p.definitions way x ≡ WithInterface way (get_or ns k [])
   reached-kind way k (item.Interface j) d = ap (λ (n : ℕ). WithInterface way (get_or ns n [])) (only j.0 k d)
@@ -380,12 +380,12 @@ module _ (t : Resolve) (f : File) (p : Resolve) (s : StandsBehind t f p) where
       let meant = meaning_in ns (trees_in p) p.definitions (world_name p v.0) v.0 in
       let items : Contains meant.items (WithInterface way (own_name o i)) =
       subst (Contains meant.items) at (contains-map (λ (y : WorldItem). meaning_of_item ns (trees_in p) p.definitions y.direction y.kind) v.0.items x.0 x.1) in
-      let there : Contains (map world_meaning (full_worlds f)) meant =
+      let there : Contains (map meaning_of_world (full_worlds f)) meant =
       subst (λ (ms : List WorldMeaning). Contains ms meant) c.resolves.worlds
       (contains-map (λ (w : World). meaning_in ns (trees_in p) p.definitions (world_name p w) w) p.worlds v.0 v.1) in
-      let y = contains-unmap world_meaning (full_worlds f) meant there in
-      let w = contains-unmap (full_world q) (worlds f) y.0 y.1 in
-      let whole : world_meaning (full_world q w.0) ≡ meant = ap world_meaning w.2 ∙ y.2 in
+      let y = contains-unmap meaning_of_world (full_worlds f) meant there in
+      let w = contains-unmap (full_world q) (file_worlds f) y.0 y.1 in
+      let whole : meaning_of_world (full_world q w.0) ≡ meant = ap meaning_of_world w.2 ∙ y.2 in
       items-behind o i k a w.0 w.1 way (subst (λ (m : WorldMeaning). Contains m.items (WithInterface way (own_name o i))) (sym whole) items)
 
   -- ---- both

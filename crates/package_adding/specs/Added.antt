@@ -128,8 +128,8 @@ TreeNotAdded f set (error.Resolve e) = HasRoom set × HasEntries f × IsNewName 
 
 -- ---- want of memory
 
-abbrev pub IsWantOfMemory : AddError → Type 0
-IsWantOfMemory (error.Resolve cause.NoMemory) = Unit {0}
-IsWantOfMemory (error.Resolve e) = ⊥
-IsWantOfMemory (error.Attach attach.NoMemory) = Unit {0}
-IsWantOfMemory (error.Attach e) = ⊥
+abbrev pub IsWantOfMemoryToAdd : AddError → Type 0
+IsWantOfMemoryToAdd (error.Resolve cause.NoMemory) = Unit {0}
+IsWantOfMemoryToAdd (error.Resolve e) = ⊥
+IsWantOfMemoryToAdd (error.Attach attach.NoMemory) = Unit {0}
+IsWantOfMemoryToAdd (error.Attach e) = ⊥

@@ -23,17 +23,17 @@ abbrev pub path_names : PathTo → PackageParts → List ℕ → Bool
 path_names (Local n) q i = false
 path_names (Foreign namespace name v n) q i = is_same_package q (record { namespace = namespace; name = name; version = v }) && bytes_eq i n
 
-abbrev pub entry_names : Entry → PackageParts → List ℕ → Bool
-entry_names (Uses at p us) q i = not (length us == 0) && path_names p q i
-entry_names (Defines at name d) q i = false
-entry_names (Declares at name f) q i = false
+abbrev pub entry_names_interface : Entry → PackageParts → List ℕ → Bool
+entry_names_interface (Uses at p us) q i = not (length us == 0) && path_names p q i
+entry_names_interface (Defines at name d) q i = false
+entry_names_interface (Declares at name f) q i = false
 
 abbrev pub world_entry_names : WorldEntry → PackageParts → List ℕ → Bool
 world_entry_names (Whole way p) q i = path_names p q i
 world_entry_names (Single way at name f) q i = false
 
 abbrev pub file_entry_names : FileEntry → PackageParts → List ℕ → Bool
-file_entry_names (AnInterface name es) q i = list_any (λ e. entry_names e q i) es
+file_entry_names (AnInterface name es) q i = list_any (λ e. entry_names_interface e q i) es
 file_entry_names (AWorld at name es) q i = list_any (λ e. world_entry_names e q i) es
 
 -- one of these things names the interface

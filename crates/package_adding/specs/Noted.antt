@@ -32,9 +32,9 @@ abbrev pub mark_at : List Bool → Option ℕ → Bool
 mark_at marks None = false
 mark_at marks (Some k) = slice_index_or marks k false
 
-abbrev pub place_in : Resolve → List ℕ → Option PackageParts → Option ℕ
-place_in set i None = None
-place_in set i (Some q) = interface_place set q i
+abbrev pub noted_place : Resolve → List ℕ → Option PackageParts → Option ℕ
+noted_place set i None = None
+noted_place set i (Some q) = interface_place set q i
 
 abbrev pub first_mark : Resolve → List Bool → Interface → Bool
-first_mark set marks i = mark_at marks (place_in set i.name (slice_get set.packages i.«package».0))
+first_mark set marks i = mark_at marks (noted_place set i.name (slice_get set.packages i.«package».0))

@@ -3,7 +3,7 @@ ghost use Rattle.std.specs.Prelude.{ℕ, Bool, List, map, IfOk};
 ghost use Rattle.tables.specs.PackageNames.{PackageParts};
 ghost use Rattle.wit_syntax.specs.Syntax.{Uses};
 ghost use Rattle.wit_syntax.specs.View.{path_view, used_view, entry_view, world_entry_view, item_view, file_view};
-ghost use Rattle.package_adding.specs.Named.{AreNamed, path_names, entry_names, world_entry_names, file_entry_names, any_names};
+ghost use Rattle.package_adding.specs.Named.{AreNamed, path_names, entry_names_interface, world_entry_names, file_entry_names, any_names};
 ghost use Rattle.package_adding.specs.Noted.{also, AreNoted};
 
 use crate::marking::{Named, mark_named};
@@ -28,7 +28,7 @@ fn mark_path(set: &IndexedTable<'_>, marks: &mut Named, path: &Path)
 /// .. of which a type is used.
 fn mark_use(set: &IndexedTable<'_>, marks: &mut Named, used: &Use)
     ensures { (names : PackageParts → List ℕ → Bool) → AreNoted set.now names marks.old
-        → AreNoted set.now (also names (entry_names (Uses used.now.span (path_view used.now.interface) (map used_view used.now.names.items)))) marks.new }
+        → AreNoted set.now (also names (entry_names_interface (Uses used.now.span (path_view used.now.interface) (map used_view used.now.names.items)))) marks.new }
 {
     if !used.names.is_empty() {
         mark_path(set, marks, &used.interface);
@@ -36,7 +36,7 @@ fn mark_use(set: &IndexedTable<'_>, marks: &mut Named, used: &Use)
 }
 
 fn mark_item(set: &IndexedTable<'_>, marks: &mut Named, item: &InterfaceItem)
-    ensures { (names : PackageParts → List ℕ → Bool) → AreNoted set.now names marks.old → AreNoted set.now (also names (entry_names (entry_view item.now))) marks.new }
+    ensures { (names : PackageParts → List ℕ → Bool) → AreNoted set.now names marks.old → AreNoted set.now (also names (entry_names_interface (entry_view item.now))) marks.new }
 {
     match item {
         InterfaceItem::Use(used) => mark_use(set, marks, used),
@@ -54,7 +54,7 @@ fn mark_world_item(set: &IndexedTable<'_>, marks: &mut Named, item: &WorldItem)
 }
 
 fn mark_items(set: &IndexedTable<'_>, marks: &mut Named, items: &[InterfaceItem])
-    ensures { (names : PackageParts → List ℕ → Bool) → AreNoted set.now names marks.old → AreNoted set.now (also names (any_names entry_names (map entry_view items.now))) marks.new }
+    ensures { (names : PackageParts → List ℕ → Bool) → AreNoted set.now names marks.old → AreNoted set.now (also names (any_names entry_names_interface (map entry_view items.now))) marks.new }
 {
     for item in items {
         mark_item(set, marks, item);

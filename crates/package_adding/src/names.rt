@@ -1,7 +1,7 @@
 //! Whether a tree's names make full names.
 ghost use Rattle.std.specs.Prelude.{◌≡◌, IfOk};
 ghost use Rattle.std.specs.List.{list_all};
-ghost use Rattle.wit_syntax.specs.FullNames.{has_full_names, has_label};
+ghost use Rattle.wit_syntax.specs.FullNames.{file_has_full_names, has_label};
 ghost use Rattle.wit_syntax.specs.View.{file_view, item_view, version_view};
 ghost use Rattle.atoms.specs.FullName.{is_version_or_none};
 
@@ -12,7 +12,7 @@ use wit_syntax::{Ast, Item};
 /// Whether the names of the tree's package and interfaces make full names, as those of every text do: what `add_tree` asks for.
 /// (WIT.md, "Package Names")
 pub fn has_full_names(alloc: Global, ast: &Ast) -> Result<bool, AllocError>
-    ensures { IfOk result (λ full. full ≡ has_full_names (file_view ast.now)) }
+    ensures { IfOk result (λ full. full ≡ file_has_full_names (file_view ast.now)) }
 {
     let package = &ast.package;
     if !is_package_label(package.namespace.as_bytes())

@@ -1,24 +1,24 @@
 //! Sets of packages.
 ghost use Rattle.std.specs.Prelude.{◌≡◌, ◌<◌, ◌⊎◌, ℕ, true, All, IsTrue, IfOk, IfErr, OnOk, OnErr, MatchResult, length};
-ghost use Rattle.ctype_bin.specs.FileView.{file_view as component_view};
-ghost use Rattle.ctype_format.specs.File.{file};
+ghost use Rattle.ctype_bin.specs.FileView.{raw_component_view};
+ghost use Rattle.ctype_format.specs.File.{component_file};
 ghost use Rattle.package_form.specs.Closed.{IsAlone};
 ghost use Rattle.package_form.specs.Form.{IsInPackageForm};
 ghost use Rattle.package_form.specs.Naming.{package_scopes};
 ghost use Rattle.package_form.specs.Scope.{AreDistinct};
 ghost use Rattle.package_sets.specs.Attached.{HasRoom, IsAttached, IsRefused};
-ghost use Rattle.package_sets.specs.Joined.{FitsBehind, listed};
+ghost use Rattle.package_sets.specs.Joined.{FitsBehind, joined_places};
 ghost use Rattle.package_sets.specs.SetForm.{IsEmpty};
 ghost use Rattle.package_sets.specs.Tower.{IsInTower};
 ghost use Rattle.package_sets.specs.declared.error.AttachError.TheVariants.{SetLimit, NoMemory, SamePackage};
-ghost use Rattle.package_adding.specs.Added.{AddsComponent, ComponentIsAdded, ComponentNotAdded, IsRefusedBehind, AddsTree, IsNewName, HasName, TreeIsAdded, TreeNotAdded, HasTable, KeepsTables, IsWantOfMemory};
+ghost use Rattle.package_adding.specs.Added.{AddsComponent, ComponentIsAdded, ComponentNotAdded, IsRefusedBehind, AddsTree, IsNewName, HasName, TreeIsAdded, TreeNotAdded, HasTable, KeepsTables, IsWantOfMemoryToAdd};
 ghost use Rattle.package_sets.specs.BehindImports.{IsBehindImports};
 ghost use Rattle.package_text.specs.Writable.{IsWritable};
 ghost use Rattle.tree_meaning.specs.Resolves.{file_fits};
 ghost use Rattle.tables.specs.Same.{IsSamePackage};
 ghost use Rattle.tables.specs.declared.tables.Resolve.{Resolve};
 ghost use Rattle.tree_meaning.specs.Declarations.{package_named};
-ghost use Rattle.wit_syntax.specs.FullNames.{has_full_names};
+ghost use Rattle.wit_syntax.specs.FullNames.{file_has_full_names};
 ghost use Rattle.wit_syntax.specs.View.{file_view};
 
 use crate::error::AddError;
@@ -119,7 +119,7 @@ impl PackageSet {
 
     /// Puts the own part of a closed table behind the set, where it fits. The set is as it was where there is no memory.
     fn put(&mut self, alloc: Global, closed: &Resolve, to: &Joined) -> Result<PackageId, AllocError>
-        requires fits { FitsBehind self.old.resolve closed.now (listed to.now) }
+        requires fits { FitsBehind self.old.resolve closed.now (joined_places to.now) }
         requires form { ∥ IsInPackageForm closed.now ∥₁ }
         requires distinct { ∥ All AreDistinct (package_scopes closed.now) ∥₁ }
         ensures ok { IfOk result (λ id. IsAttached self.old.resolve closed.now self.new.resolve id.0) }
@@ -189,12 +189,12 @@ impl PackageSet {
         raw: &RawComponent,
         bytes: &[u8],
     ) -> Result<PackageId, AddError>
-        requires spelled { ∥ file.spells bytes.now (component_view raw.now) ∥₁ }
+        requires spelled { ∥ component_file.spells bytes.now (raw_component_view raw.now) ∥₁ }
         ensures ok { IfOk result (λ id. ComponentIsAdded raw.now self.old.resolve self.new.resolve id.0) }
         ensures known { IfOk result (λ id. id.0 < length self.new.resolve.packages) }
         ensures earlier { OnOk result (KeepsTables self.old.resolve self.new.resolve) }
         ensures only { (closed r : Resolve) (id : ℕ) → AddsComponent raw.now self.old.resolve closed r id
-            → MatchResult result (λ _. IsSamePackage self.new.resolve r) IsWantOfMemory }
+            → MatchResult result (λ _. IsSamePackage self.new.resolve r) IsWantOfMemoryToAdd }
         ensures err { IfErr result (ComponentNotAdded raw.now self.old.resolve) }
         ensures same { OnErr result (self.new ≡ self.old) }
     {
@@ -224,12 +224,12 @@ impl PackageSet {
     /// that the paths name, with what these reach; 46 where memory is wanting. 47 also where a use of a package names no type, as in no text,
     /// and nothing else is used of it. The set is as it was then. (WIT.md)
     pub fn add_tree(&mut self, alloc: Global, ast: &Ast) -> Result<PackageId, AddError>
-        requires names { IsTrue (has_full_names (file_view ast.now)) }
+        requires names { IsTrue (file_has_full_names (file_view ast.now)) }
         ensures ok { IfOk result (λ id. TreeIsAdded (file_view ast.now) self.old.resolve self.new.resolve id.0) }
         ensures known { IfOk result (λ id. id.0 < length self.new.resolve.packages) }
         ensures earlier { OnOk result (KeepsTables self.old.resolve self.new.resolve) }
         ensures only { (closed r : Resolve) (id : ℕ) → AddsTree (file_view ast.now) self.old.resolve closed r id → ∥ IsWritable closed ∥₁ → file_fits (file_view ast.now) ≡ true
-            → MatchResult result (λ _. IsSamePackage self.new.resolve r) IsWantOfMemory }
+            → MatchResult result (λ _. IsSamePackage self.new.resolve r) IsWantOfMemoryToAdd }
         ensures err { IfErr result (TreeNotAdded (file_view ast.now) self.old.resolve) }
         ensures same { OnErr result (self.new ≡ self.old) }
     {

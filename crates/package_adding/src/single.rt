@@ -1,11 +1,11 @@
 //! A package that names no other: the case of a set that has none.
 ghost use Rattle.std.specs.Prelude.{IsTrue, IfOk, IfErr, MatchResult};
-ghost use Rattle.package_adding.specs.Added.{IsWantOfMemory};
+ghost use Rattle.package_adding.specs.Added.{IsWantOfMemoryToAdd};
 ghost use Rattle.package_adding.specs.Alone.{IsFileAlone, IsComponentAlone, FileAloneRefuses, ComponentAloneRefuses};
 ghost use Rattle.package_text.specs.Writable.{IsWritable};
 ghost use Rattle.tables.specs.Same.{IsSamePackage};
 ghost use Rattle.tables.specs.declared.tables.Resolve.{Resolve};
-ghost use Rattle.wit_syntax.specs.FullNames.{has_full_names};
+ghost use Rattle.wit_syntax.specs.FullNames.{file_has_full_names};
 ghost use Rattle.wit_syntax.specs.View.{file_view};
 
 use crate::error::AddError;
@@ -19,10 +19,10 @@ use wit_syntax::Ast;
 
 /// The package of a syntax tree that names no other package: it is added to a set that has none. A path that names one is 47. (WIT.md)
 pub fn from_ast(alloc: Global, ast: &Ast) -> Result<Resolve, AddError>
-    requires names { IsTrue (has_full_names (file_view ast.now)) }
+    requires names { IsTrue (file_has_full_names (file_view ast.now)) }
     ensures ok { IfOk result (IsFileAlone (file_view ast.now)) }
     ensures writable { IfOk result (λ r. ∥ IsWritable r ∥₁) }
-    ensures only { (r : Resolve) → IsFileAlone (file_view ast.now) r → MatchResult result (λ p. IsSamePackage p r) IsWantOfMemory }
+    ensures only { (r : Resolve) → IsFileAlone (file_view ast.now) r → MatchResult result (λ p. IsSamePackage p r) IsWantOfMemoryToAdd }
     ensures err { IfErr result (FileAloneRefuses (file_view ast.now)) }
 {
     let mut set = PackageSet::new(alloc);
@@ -37,7 +37,7 @@ pub fn from_ast(alloc: Global, ast: &Ast) -> Result<Resolve, AddError>
 pub fn from_raw(alloc: Global, raw: &RawComponent) -> Result<Resolve, AddError>
     ensures ok { IfOk result (IsComponentAlone raw.now) }
     ensures writable { IfOk result (λ r. ∥ IsWritable r ∥₁) }
-    ensures only { (r : Resolve) → IsComponentAlone raw.now r → MatchResult result (λ p. IsSamePackage p r) IsWantOfMemory }
+    ensures only { (r : Resolve) → IsComponentAlone raw.now r → MatchResult result (λ p. IsSamePackage p r) IsWantOfMemoryToAdd }
     ensures err { IfErr result (ComponentAloneRefuses raw.now) }
 {
     let Ok(bytes) = spelling(alloc, raw) else {

@@ -2,7 +2,7 @@
 ghost use Rattle.std.specs.Prelude.{◌≡◌, true, [], All, IsTrue, IfOk, OnOk, IfErr, MatchResult};
 ghost use Rattle.atoms.specs.Label.{IsLabel};
 ghost use Rattle.wit_syntax.specs.View.{file_view};
-ghost use Rattle.wit_syntax.specs.FullNames.{has_full_names};
+ghost use Rattle.wit_syntax.specs.FullNames.{file_has_full_names};
 ghost use Rattle.package_form.specs.Form.{IsInPackageForm};
 ghost use Rattle.package_form.specs.Laws.{IsLabelled};
 ghost use Rattle.package_form.specs.Naming.{package_scopes};
@@ -63,7 +63,7 @@ fn imports_from(alloc: Global, set: &Resolve, ast: &Ast) -> Result<Resolve, Allo
 pub fn closed_over(alloc: Global, set: &Resolve, ast: &Ast) -> Result<Resolve, ResolveError>
     requires form { ∥ IsInSetForm set.now ∥₁ }
     requires room { HasRoom set.now }
-    requires names { IsTrue (has_full_names (file_view ast.now)) }
+    requires names { IsTrue (file_has_full_names (file_view ast.now)) }
     requires new { IsNewName (file_view ast.now) set.now }
     ensures ok { IfOk result (IsOfTree (file_view ast.now) set.now) }
     ensures form { IfOk result (λ r. ∥ IsInPackageForm r ∥₁) }

@@ -12,7 +12,7 @@ use Rattle.tables.specs.declared.tables.TypeDefKind.TheVariants as kind
 use Rattle.tables.specs.declared.tables.Definition.{Definition}
 use Rattle.tables.specs.declared.tables.Definition.TheVariants as row
 use Rattle.package_form.specs.Postfix.{is_unnamed_row, one_if}
-use Rattle.package_form.specs.References.{references, references_if, field_references, case_references, parameter_references, kind_references, row_references}
+use Rattle.package_form.specs.References.{type_references, references_if, field_references, case_references, parameter_references, kind_references, row_references}
 use Rattle.package_form.specs.Unused.{unnamed_at, inner_rows}
 use Rattle.tables.proofs.Rows.{split, both}
 use Rattle.package_form.proofs.Lists.{get-front}
@@ -22,7 +22,7 @@ stands_before n t = nat_lt t.0 n
 
 -- what holds of each type that a row names holds of each row that it is made of
 module _ (p : ValType → Bool) (q : TypeId → Bool) (e : (t : TypeId) → p (val.Id t) ≡ true → q t ≡ true) where
-  val-all : (v : ValType) → p v ≡ true → list_all q (references v) ≡ true
+  val-all : (v : ValType) → p v ≡ true → list_all q (type_references v) ≡ true
   val-all (val.Primitive x) h = refl
   val-all val.String h = refl
   val-all (val.Id t) h = both (q t) true (e t h) refl
@@ -47,7 +47,7 @@ module _ (p : ValType → Bool) (q : TypeId → Bool) (e : (t : TypeId) → p (v
   kind-all (kind.Result v w) h =
       let s = split (option_all p v) (option_all p w) h in
       join-all (references_if v) (references_if w) (if-all v s.0) (if-all w s.1)
-  kind-all (kind.Tuple vs) h = each-all references p val-all vs h
+  kind-all (kind.Tuple vs) h = each-all type_references p val-all vs h
   kind-all (kind.Record fs) h = each-all field_references (λ f. p f.ty) (λ f r. val-all f.ty r) fs h
   kind-all (kind.Variant cs) h = each-all case_references (λ c. option_all p c.ty) (λ c r. if-all c.ty r) cs h
   kind-all (kind.Enum ns) h = refl

@@ -11,7 +11,7 @@ use Rattle.tables.specs.declared.tables.TypeDefKind.TheVariants as kind
 use Rattle.tables.specs.declared.tables.Definition.{Definition}
 use Rattle.tables.specs.declared.tables.Definition.TheVariants as row
 use Rattle.package_form.specs.Postfix.{unnamed, unnamed_if, unnamed_field, unnamed_case, unnamed_parameter, parts, parts_of, aliased, aliased_by}
-use Rattle.package_form.specs.References.{references, references_if, field_references, case_references, parameter_references, kind_references}
+use Rattle.package_form.specs.References.{type_references, references_if, field_references, case_references, parameter_references, kind_references}
 use Rattle.package_form.specs.Unused.{unnamed_at, inner_rows, is_alias, can_use}
 
 abbrev pub is_function : Definition → Bool
@@ -21,7 +21,7 @@ is_function (row.Function f) = true
 -- ---- what a row is made of
 
 module _ (rows : List Definition) where
-  val-inner : (v : ValType) → flat_map (unnamed_at rows) (references v) ≡ unnamed rows v
+  val-inner : (v : ValType) → flat_map (unnamed_at rows) (type_references v) ≡ unnamed rows v
   val-inner (val.Primitive p) = refl
   val-inner val.String = refl
   val-inner (val.Id t) = append-nil (unnamed_at rows t)
@@ -47,7 +47,7 @@ module _ (rows : List Definition) where
       flat_map-append (unnamed_at rows) (references_if v) (references_if w)
       ∙ ap (λ ns. ns ++ flat_map (unnamed_at rows) (references_if w)) (if-inner v)
       ∙ ap (λ ns. unnamed_if rows v ++ ns) (if-inner w)
-  kind-inner (kind.Tuple vs) h = all-inner references (unnamed rows) val-inner vs
+  kind-inner (kind.Tuple vs) h = all-inner type_references (unnamed rows) val-inner vs
   kind-inner (kind.Record fs) h = all-inner field_references (unnamed_field rows) (λ f. val-inner f.ty) fs
   kind-inner (kind.Variant cs) h = all-inner case_references (unnamed_case rows) (λ c. if-inner c.ty) cs
   kind-inner (kind.Enum ns) h = refl

@@ -115,11 +115,11 @@ abbrev pub item_function : WorldItemKind → List ℕ
 item_function (item.Interface i) = []
 item_function (item.Function f) = f.0 ∷ []
 
-abbrev pub function_at : WorldItem → List ℕ
-function_at i = item_function i.kind
+abbrev pub functions_in_item : WorldItem → List ℕ
+functions_in_item i = item_function i.kind
 
 abbrev pub functions_of : World → List ℕ
-functions_of w = flat_map function_at w.items
+functions_of w = flat_map functions_in_item w.items
 
 -- its named rows are the functions among its items
 abbrev pub has_items : List Definition → ℕ → World → Bool

@@ -33,12 +33,12 @@ name_at rows None = None
 name_at rows (Some t) = name_of (type_of (slice_get rows t.0))
 
 -- the places of the interfaces that a use, or an item of a world, reaches
-abbrev pub interface_of : Option TypeName → List ℕ
-interface_of None = []
-interface_of (Some n) = n.interface.0 ∷ []
+abbrev pub named_interface : Option TypeName → List ℕ
+named_interface None = []
+named_interface (Some n) = n.interface.0 ∷ []
 
 abbrev pub reached_by_row : List Definition → Definition → List ℕ
-reached_by_row rows d = interface_of (name_at rows (used_in d))
+reached_by_row rows d = named_interface (name_at rows (used_in d))
 
 abbrev pub reached_by_kind : WorldItemKind → List ℕ
 reached_by_kind (item.Interface i) = i.0 ∷ []

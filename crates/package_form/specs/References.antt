@@ -11,32 +11,32 @@ use Rattle.tables.specs.declared.tables.Case.{Case}
 use Rattle.tables.specs.declared.tables.Definition.{Definition}
 use Rattle.tables.specs.declared.tables.Definition.TheVariants as row
 
-abbrev pub references : ValType → List TypeId
-references (val.Primitive p) = []
-references val.String = []
-references (val.Id t) = t ∷ []
+abbrev pub type_references : ValType → List TypeId
+type_references (val.Primitive p) = []
+type_references val.String = []
+type_references (val.Id t) = t ∷ []
 
 abbrev pub references_if : Option ValType → List TypeId
 references_if None = []
-references_if (Some v) = references v
+references_if (Some v) = type_references v
 
 abbrev pub field_references : Field → List TypeId
-field_references f = references f.ty
+field_references f = type_references f.ty
 
 abbrev pub case_references : Case → List TypeId
 case_references c = references_if c.ty
 
 abbrev pub parameter_references : Parameter → List TypeId
-parameter_references p = references p.ty
+parameter_references p = type_references p.ty
 
 -- the rows that a type is made of, from the left; a used name is made of none
 abbrev pub kind_references : TypeDefKind → List TypeId
 kind_references (kind.Use t) = []
-kind_references (kind.Alias v) = references v
-kind_references (kind.List v) = references v
-kind_references (kind.Option v) = references v
+kind_references (kind.Alias v) = type_references v
+kind_references (kind.List v) = type_references v
+kind_references (kind.Option v) = type_references v
 kind_references (kind.Result ok error) = references_if ok ++ references_if error
-kind_references (kind.Tuple vs) = flat_map references vs
+kind_references (kind.Tuple vs) = flat_map type_references vs
 kind_references (kind.Record fs) = flat_map field_references fs
 kind_references (kind.Variant cs) = flat_map case_references cs
 kind_references (kind.Enum names) = []

@@ -3,10 +3,10 @@ use Rattle.std.specs.Prelude.{ℕ, List}
 use Rattle.tables.specs.declared.tables.TypeId.{TypeId}
 
 -- a name, and the type that it stands for
-pub record Entry : Type 0 where
+pub record NameEntry : Type 0 where
   pub name : List ℕ
   pub id : TypeId
 
 -- .. as a map keeps them
-abbrev pub entry_of : {V : Type 0} → (V → List ℕ) → V × TypeId → Entry
-entry_of items e = record { name = items e.0; id = e.1 }
+abbrev pub mapped_entry : {V : Type 0} → (V → List ℕ) → V × TypeId → NameEntry
+mapped_entry items e = record { name = items e.0; id = e.1 }

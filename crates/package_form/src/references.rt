@@ -1,12 +1,12 @@
 //! The types that a row is made of.
 ghost use Rattle.std.specs.Prelude.{◌≡◌, ◌++◌, flat_map, IfOk, OnOk};
-ghost use Rattle.package_form.specs.References.{references, references_if, case_references, kind_references, row_references};
+ghost use Rattle.package_form.specs.References.{type_references, references_if, case_references, kind_references, row_references};
 
 use std::alloc::{AllocError, Global};
 use tables::{Case, Definition, Member, TypeDefKind, TypeId, ValType};
 
 fn push_type(ids: &mut Vec<TypeId>, ty: ValType) -> Result<(), AllocError>
-    ensures { OnOk result (ids.new.items ≡ ids.old.items ++ references ty) }
+    ensures { OnOk result (ids.new.items ≡ ids.old.items ++ type_references ty) }
 {
     if let ValType::Id(id) = ty {
         ids.push(id)?;
@@ -24,7 +24,7 @@ fn push_optional(ids: &mut Vec<TypeId>, ty: Option<ValType>) -> Result<(), Alloc
 }
 
 fn push_members<M: Member>(ids: &mut Vec<TypeId>, members: &[M]) -> Result<(), AllocError>
-    ensures { OnOk result (ids.new.items ≡ ids.old.items ++ flat_map (λ m. references (M.type_of m)) members.now) }
+    ensures { OnOk result (ids.new.items ≡ ids.old.items ++ flat_map (λ m. type_references (M.type_of m)) members.now) }
 {
     for member in members {
         push_type(ids, member.ty())?;

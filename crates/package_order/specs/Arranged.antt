@@ -31,9 +31,9 @@ IsArranged uses (Order order) = IsOrder uses order
 IsArranged uses (Cycle path) = IsRing uses path
 
 -- package i is marked; one that isn't there has no mark
-abbrev pub is_marked : List Bool → ℕ → Bool
-is_marked marks i = slice_index_or marks i false
+abbrev pub is_marked_package : List Bool → ℕ → Bool
+is_marked_package marks i = slice_index_or marks i false
 
 -- .. and is not marked
 abbrev pub is_left : List Bool → ℕ → Bool
-is_left marks i = not (is_marked marks i)
+is_left marks i = not (is_marked_package marks i)

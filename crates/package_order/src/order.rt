@@ -2,7 +2,7 @@
 ghost use Rattle.std.specs.Prelude.{◌≡◌, ◌<◌, ℕ, false, length, All, IfOk, IfSome, IfNone, slice_index_or};
 ghost use Rattle.std.specs.List.{list_all};
 ghost use Rattle.placement.specs.Order.{is_ready, IsNext};
-ghost use Rattle.package_order.specs.Arranged.{IsArranged, is_marked};
+ghost use Rattle.package_order.specs.Arranged.{IsArranged, is_marked_package};
 
 use crate::ring::ring_of;
 use std::alloc::{AllocError, Global};
@@ -19,13 +19,13 @@ pub enum Arrangement {
 
 /// Whether a package is marked. None is that isn't there.
 pub(crate) fn is_marked(marks: &[bool], place: usize) -> bool
-    ensures { result ≡ is_marked marks.now place }
+    ensures { result ≡ is_marked_package marks.now place }
 {
     marks.get(place).copied().unwrap_or(false)
 }
 
 fn all_marked(marks: &[bool], places: &[usize]) -> bool
-    ensures { result ≡ list_all (is_marked marks.now) places.now }
+    ensures { result ≡ list_all (is_marked_package marks.now) places.now }
 {
     places.iter().all(|place| is_marked(marks, *place))
 }
@@ -33,7 +33,7 @@ fn all_marked(marks: &[bool], places: &[usize]) -> bool
 /// Whether a package isn't placed yet, and all that it depends on are.
 fn is_ready(uses: &[Sequence<usize>], placed: &[bool], place: usize) -> bool
     requires { place < length uses.now }
-    ensures { result ≡ is_ready uses.now (is_marked placed.now) place }
+    ensures { result ≡ is_ready uses.now (is_marked_package placed.now) place }
 {
     let used = uses[place].as_slice();
     !is_marked(placed, place) && all_marked(placed, used)
@@ -41,8 +41,8 @@ fn is_ready(uses: &[Sequence<usize>], placed: &[bool], place: usize) -> bool
 
 /// The first package that is ready.
 fn next_ready(uses: &[Sequence<usize>], placed: &[bool]) -> Option<usize>
-    ensures some { IfSome result (IsNext uses.now (is_marked placed.now)) }
-    ensures none { IfNone result ((i : ℕ) → i < length uses.now → is_ready uses.now (is_marked placed.now) i ≡ false) }
+    ensures some { IfSome result (IsNext uses.now (is_marked_package placed.now)) }
+    ensures none { IfNone result ((i : ℕ) → i < length uses.now → is_ready uses.now (is_marked_package placed.now) i ≡ false) }
 {
     for place in 0..uses.len() {
         if is_ready(uses, placed, place) {

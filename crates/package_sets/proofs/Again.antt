@@ -14,8 +14,8 @@ use Rattle.canonical_abi.proofs.Images.{slice_get-take, slice_get-drop}
 use Rattle.package_form.specs.Closed.{own_package, has_each_package, is_world_of, has_own, are_of_a_set}
 use Rattle.package_form.specs.Ends.{interfaces_end, are_worlds_parted}
 use Rattle.package_form.specs.Form.{IsInPackageForm, ids_of}
-use Rattle.package_form.specs.Reached.{used_in, name_of, name_at, interface_of, reached_by_row, reached_by_kind, reached_by_item, reached_by_world}
-use Rattle.package_form.specs.References.{row_references, references as references-in}
+use Rattle.package_form.specs.Reached.{used_in, name_of, name_at, named_interface, reached_by_row, reached_by_kind, reached_by_item, reached_by_world}
+use Rattle.package_form.specs.References.{row_references, type_references}
 use Rattle.package_form.proofs.Lists.{contains-map, contains-flat}
 use Rattle.package_form.proofs.OwnPackage.{package-there, some-package}
 use Rattle.tables.specs.Tables.{is_below, definition_all, is_placed, is_placed_item, is_function_of, function_of, type_of}
@@ -116,17 +116,17 @@ record Uses (rows : List Definition) (d : Definition) (m : ℕ) : Type 0 where
 row-uses : (rows : List Definition) (d : Definition) (m : ℕ) → Contains (reached_by_row rows d) m → Uses rows d m
 row-uses rows d m c = by (used_in d) refl c
   where
-    third : (t : TypeId) (x : TypeDef) (n : Option TypeName) → used_in d ≡ Some t → slice_get rows t.0 ≡ Some (row.Type x) → x.name ≡ n → Contains (interface_of n) m → Uses rows d m
+    third : (t : TypeId) (x : TypeDef) (n : Option TypeName) → used_in d ≡ Some t → slice_get rows t.0 ≡ Some (row.Type x) → x.name ≡ n → Contains (named_interface n) m → Uses rows d m
     third t x None u a e (k, l, g) = absurd (omega (arith, l))
     third t x (Some n) u a e (zero, l, g) = record { id = t; uses = u; one = x; at = a; name = n; named = e; of = g }
     third t x (Some n) u a e (suc k, l, g) = absurd (omega (arith, l))
 
-    second : (t : TypeId) (o : Option Definition) → used_in d ≡ Some t → slice_get rows t.0 ≡ o → Contains (interface_of (name_of (type_of o))) m → Uses rows d m
+    second : (t : TypeId) (o : Option Definition) → used_in d ≡ Some t → slice_get rows t.0 ≡ o → Contains (named_interface (name_of (type_of o))) m → Uses rows d m
     second t None u a (k, l, g) = absurd (omega (arith, l))
     second t (Some (row.Function f)) u a (k, l, g) = absurd (omega (arith, l))
     second t (Some (row.Type x)) u a h = third t x x.name u a refl h
 
-    by : (o : Option TypeId) → used_in d ≡ o → Contains (interface_of (name_at rows o)) m → Uses rows d m
+    by : (o : Option TypeId) → used_in d ≡ o → Contains (named_interface (name_at rows o)) m → Uses rows d m
     by None u (k, l, g) = absurd (omega (arith, l))
     by (Some t) u h = second t (slice_get rows t.0) u refl h
 
@@ -642,7 +642,7 @@ module _ (s c : Resolve) (j : JoinedPlaces) (q : IsJoined s c j) (own : PackageP
         within : t < length c.definitions
         within = slice_get_within c.definitions t d e
 
-        primitive : (v : ValType) → references-in v ≡ [] → is_below t v ≡ true
+        primitive : (v : ValType) → type_references v ≡ [] → is_below t v ≡ true
         primitive (val.Primitive p) z = refl
         primitive val.String z = refl
         primitive (val.Id x) z = absurd (cc)

@@ -3,7 +3,7 @@ use Rattle.std.proofs.Common.{◌≡◌, ◌<◌, ◌⊎◌, inl, inr, ℕ, zero
 use Rattle.std.specs.Prelude.{flat_map, Contains}
 use Rattle.package_form.specs.Ids.{places_where}
 use Rattle.package_form.specs.Ends.{behind_types, behind_functions, behind_items, behind_item, end_of}
-use Rattle.package_form.specs.Form.{ids_of, item_function, function_at}
+use Rattle.package_form.specs.Form.{ids_of, item_function, functions_in_item}
 use Rattle.tables.specs.declared.tables.TypeId.{TypeId}
 use Rattle.tables.specs.declared.tables.FunctionId.{FunctionId}
 use Rattle.tables.specs.declared.tables.Definition.{Definition}
@@ -137,16 +137,16 @@ end-is-id start i = functions (behind-functions (behind_types (behind_types star
     functions (inr (f, c, e)) = inr (f.0, in-functions f c, e)
 
 -- .. of a world, one of its functions
-pub end-is-function : (start : ℕ) (is : List WorldItem) → (behind_items start is ≡ start) ⊎ ((x : ℕ) × Contains (flat_map function_at is) x × (behind_items start is ≡ x + 1))
+pub end-is-function : (start : ℕ) (is : List WorldItem) → (behind_items start is ≡ start) ⊎ ((x : ℕ) × Contains (flat_map functions_in_item is) x × (behind_items start is ≡ x + 1))
 end-is-function start [] = inl refl
 end-is-function start (i ∷ is) = by i.kind refl (end-is-function (behind_item start i.kind) is)
   where
-    behind : (x : ℕ) → Contains (flat_map function_at is) x → Contains (flat_map function_at (i ∷ is)) x
-    behind x c = Contains-append_right (function_at i) (flat_map function_at is) x c
+    behind : (x : ℕ) → Contains (flat_map functions_in_item is) x → Contains (flat_map functions_in_item (i ∷ is)) x
+    behind x c = Contains-append_right (functions_in_item i) (flat_map functions_in_item is) x c
 
-    by : (k : WorldItemKind) → i.kind ≡ k → (behind_items (behind_item start i.kind) is ≡ behind_item start i.kind) ⊎ ((x : ℕ) × Contains (flat_map function_at is) x × (behind_items (behind_item start i.kind) is ≡ x + 1))
-        → (behind_items start (i ∷ is) ≡ start) ⊎ ((x : ℕ) × Contains (flat_map function_at (i ∷ is)) x × (behind_items start (i ∷ is) ≡ x + 1))
+    by : (k : WorldItemKind) → i.kind ≡ k → (behind_items (behind_item start i.kind) is ≡ behind_item start i.kind) ⊎ ((x : ℕ) × Contains (flat_map functions_in_item is) x × (behind_items (behind_item start i.kind) is ≡ x + 1))
+        → (behind_items start (i ∷ is) ≡ start) ⊎ ((x : ℕ) × Contains (flat_map functions_in_item (i ∷ is)) x × (behind_items start (i ∷ is) ≡ x + 1))
     by k q (inr (x, c, e)) = inr (x, behind x c, e)
     by (item.Interface j) q (inl e) = inl (e ∙ ap (behind_item start) q)
     by (item.Function f) q (inl e) =
-        inr (f.0, Contains-append_left (function_at i) (flat_map function_at is) f.0 (subst (λ (k : WorldItemKind). Contains (item_function k) f.0) (sym q) (0, omega arith, refl)), e ∙ ap (behind_item start) q)
+        inr (f.0, Contains-append_left (functions_in_item i) (flat_map functions_in_item is) f.0 (subst (λ (k : WorldItemKind). Contains (item_function k) f.0) (sym q) (0, omega arith, refl)), e ∙ ap (behind_item start) q)

@@ -7,7 +7,7 @@ use Rattle.std.proofs.lemmas.List.{get_or_default}
 use Rattle.std.proofs.lemmas.Option.{slice_get_within}
 use Rattle.package_form.specs.Postfix.{is_unnamed_row, IsPostfix}
 use Rattle.package_form.specs.References.{row_references}
-use Rattle.package_form.specs.Reached.{used_by, used_in, name_of, name_at, interface_of, reached_by_row, reached_by_world, reached}
+use Rattle.package_form.specs.Reached.{used_by, used_in, name_of, name_at, named_interface, reached_by_row, reached_by_world, reached}
 use Rattle.package_form.specs.Form.{is_own_name, is_own_type, is_own, is_earlier_name, is_earlier_type, is_earlier, uses_earlier, is_owned, is_local, is_nameless, is_of_world, is_world_row}
 use Rattle.package_form.proofs.Lists.{contains-here, contains-left, contains-unmap, contains-flat}
 use Rattle.tables.specs.Tables.{type_of}
@@ -147,9 +147,9 @@ module _ (s : Resolve) (from : Start) (to : Moved) (p : IsPart s to) (a : AreRea
     where
       is : reached_by_row r.definitions (put_row (renaming to) d) ≡ place to.interfaces h.name.interface.0 ∷ []
       is =
-          ap (λ (o : Option TypeId). interface_of (name_at r.definitions o)) (put-used (renaming to) d u q)
-          ∙ (ap (λ (o : Option Definition). interface_of (name_of (type_of o))) (row-there u.0 (row.Type h.type) h.stands named)
-          ∙ ap (λ (o : Option TypeName). interface_of (option_map (put_name (renaming to)) o)) h.named)
+          ap (λ (o : Option TypeId). named_interface (name_at r.definitions o)) (put-used (renaming to) d u q)
+          ∙ (ap (λ (o : Option Definition). named_interface (name_of (type_of o))) (row-there u.0 (row.Type h.type) h.stands named)
+          ∙ ap (λ (o : Option TypeName). named_interface (option_map (put_name (renaming to)) o)) h.named)
 
   abbrev IsCited : ℕ → Type 0
   IsCited j = Contains (reached r.definitions r.worlds) (place to.interfaces j) ⊎ Given j

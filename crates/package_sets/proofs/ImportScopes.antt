@@ -23,7 +23,7 @@ use Rattle.set_rows.specs.Renamed.{renaming}
 use Rattle.set_rows.specs.Moved.{put_id, put_function_id, put_row, put_interface, has_type, has_function, put_types, put_functions, put_world}
 use Rattle.package_sets.specs.Part.{IsPart, IsTableOf}
 use Rattle.package_sets.specs.Set.{IsSet, HasRowsInForm}
-use Rattle.package_sets.specs.SetScopes.{interface_scopes, HasDistinctScopes}
+use Rattle.package_sets.specs.SetScopes.{set_interface_scopes, HasDistinctScopes}
 use Rattle.set_rows.specs.declared.moved.Moved.{Moved}
 use Rattle.package_sets.proofs.Lists.{map-get, map-unget}
 use Rattle.set_rows.proofs.Keeping.{kept-at, place-before}
@@ -73,11 +73,11 @@ module _ (s : Resolve) (to : Moved) (n : IsPart s to) (set : IsSet s) (r : Resol
       ∙ (ap (λ xs. map (place to.rows) us ++ (xs ++ map (λ (x : FunctionId). x.0) (put_functions (renaming to) i.functions))) b
       ∙ (ap (λ xs. map (place to.rows) us ++ (map (place to.rows) ts ++ xs)) d ∙ (ap (λ xs. map (place to.rows) us ++ xs) (sym (map-append (place to.rows) ts fs)) ∙ sym (map-append (place to.rows) us (ts ++ fs)))))
 
-  interface-distinct : (m : ℕ) (x : Interface) → slice_get r.interfaces m ≡ Some x → All AreDistinct (interface_scopes r.definitions x)
+  interface-distinct : (m : ℕ) (x : Interface) → slice_get r.interfaces m ≡ Some x → All AreDistinct (set_interface_scopes r.definitions x)
   interface-distinct m x e =
       let u = map-unget (put_interface (renaming to)) (kept to.interfaces s.interfaces) m x (ap (λ (is : List Interface). slice_get is m) (sym t.interfaces) ∙ e) in
       let w = was-kept to.interfaces s.interfaces m u.0 u.1 in
-      subst (λ (y : Interface). All AreDistinct (interface_scopes r.definitions y)) u.2
+      subst (λ (y : Interface). All AreDistinct (set_interface_scopes r.definitions y)) u.2
       (subst (λ (ss : List (List (List ℕ))). All AreDistinct ss)
       (sym (scopes-put s.definitions r.definitions (renaming to) u.0 (put_interface (renaming to) u.0) (ids-there w.from u.0 w.stood w.marked)
       (λ k c. let d = placed-id s.definitions u.0 k (placed-in s w.from u.0 w.stood) c in (

@@ -11,7 +11,7 @@ use Rattle.tables.specs.declared.tables.Resolve.{Resolve}
 use Rattle.set_rows.specs.Places.{kept, place}
 use Rattle.set_rows.specs.Renamed.{renaming}
 use Rattle.set_rows.specs.Moved.{put_interface}
-use Rattle.package_sets.specs.Joining.{places_from, end_in, row_places}
+use Rattle.package_sets.specs.Joining.{numbers_from, end_in, row_places}
 use Rattle.package_sets.specs.Part.{IsPart}
 use Rattle.package_sets.specs.Set.{AreRowsOf, ArePackageByPackage, behind_all, an_interface, a_world, AreWorldsApart}
 use Rattle.set_rows.specs.declared.moved.Moved.{Moved}
@@ -134,11 +134,11 @@ module _ (s : Resolve) (to : Moved) (n : IsPart s to) (apart : AreWorldsApart s)
       count = omega (arith, end-there)
 
       list-is : row_places s base (map (put_interface (renaming to)) (kept (true ∷ bs) (i ∷ is))) (marked_places k (true ∷ bs))
-          ≡ places_from (end_of 0 i - (end_of start i - start)) (end_of start i - start) ++ row_places s (end_of base (put_interface (renaming to) i)) (map (put_interface (renaming to)) (kept bs is)) (marked_places (k + 1) bs)
+          ≡ numbers_from (end_of 0 i - (end_of start i - start)) (end_of start i - start) ++ row_places s (end_of base (put_interface (renaming to) i)) (map (put_interface (renaming to)) (kept bs is)) (marked_places (k + 1) bs)
       list-is =
-          ap (λ (o : Option Interface). places_from (end_in o - (end_of base (put_interface (renaming to) i) - base)) (end_of base (put_interface (renaming to) i) - base)
+          ap (λ (o : Option Interface). numbers_from (end_in o - (end_of base (put_interface (renaming to) i) - base)) (end_of base (put_interface (renaming to) i) - base)
           ++ row_places s (end_of base (put_interface (renaming to) i)) (map (put_interface (renaming to)) (kept bs is)) (marked_places (k + 1) bs)) at
-          ∙ ap (λ x. places_from (end_of 0 i - x) x ++ row_places s (end_of base (put_interface (renaming to) i)) (map (put_interface (renaming to)) (kept bs is)) (marked_places (k + 1) bs)) count
+          ∙ ap (λ x. numbers_from (end_of 0 i - x) x ++ row_places s (end_of base (put_interface (renaming to) i)) (map (put_interface (renaming to)) (kept bs is)) (marked_places (k + 1) bs)) count
 
       by : (u < end_of start i) ⊎ (end_of start i ≤ u) → found base k (i ∷ is) (true ∷ bs) u ≡ u
       by (inl b) =
@@ -149,18 +149,18 @@ module _ (s : Resolve) (to : Moved) (n : IsPart s to) (apart : AreWorldsApart s)
           let from-base : place to.rows u - base ≡ u - start = omega (arith, placed) in
           let end-is = end-same start i (omega (arith, b, l)) in
           ap (λ (xs : List ℕ). get_or xs (place to.rows u - base) 0) list-is
-          ∙ (ap (λ x. get_or (places_from (end_of 0 i - (end_of start i - start)) (end_of start i - start)
+          ∙ (ap (λ x. get_or (numbers_from (end_of 0 i - (end_of start i - start)) (end_of start i - start)
           ++ row_places s (end_of base (put_interface (renaming to) i)) (map (put_interface (renaming to)) (kept bs is)) (marked_places (k + 1) bs)) x 0) from-base
-          ∙ (get_or_append_left (places_from (end_of 0 i - (end_of start i - start)) (end_of start i - start)) _ 0 (u - start) (omega (arith, b, l, length-places (end_of 0 i - (end_of start i - start)) (end_of start i - start)))
+          ∙ (get_or_append_left (numbers_from (end_of 0 i - (end_of start i - start)) (end_of start i - start)) _ 0 (u - start) (omega (arith, b, l, length-places (end_of 0 i - (end_of start i - start)) (end_of start i - start)))
           ∙ (place-get (end_of 0 i - (end_of start i - start)) (end_of start i - start) (u - start) (omega (arith, b, l)) ∙ omega (arith, end-is, b, l, a.begins))))
       by (inr g) =
           let later = place-order to.rows (end_of start i) u g in
-          let index : place to.rows u - base ≡ length (places_from (end_of 0 i - (end_of start i - start)) (end_of start i - start)) + (place to.rows u - end_of base (put_interface (renaming to) i)) =
+          let index : place to.rows u - base ≡ length (numbers_from (end_of 0 i - (end_of start i - start)) (end_of start i - start)) + (place to.rows u - end_of base (put_interface (renaming to) i)) =
           omega (arith, length-places (end_of 0 i - (end_of start i - start)) (end_of start i - start), grown, later, end-there) in
           ap (λ (xs : List ℕ). get_or xs (place to.rows u - base) 0) list-is
-          ∙ (ap (λ x. get_or (places_from (end_of 0 i - (end_of start i - start)) (end_of start i - start)
+          ∙ (ap (λ x. get_or (numbers_from (end_of 0 i - (end_of start i - start)) (end_of start i - start)
           ++ row_places s (end_of base (put_interface (renaming to) i)) (map (put_interface (renaming to)) (kept bs is)) (marked_places (k + 1) bs)) x 0) index
-          ∙ (get_or-append-add (places_from (end_of 0 i - (end_of start i - start)) (end_of start i - start)) _ (place to.rows u - end_of base (put_interface (renaming to) i)) 0
+          ∙ (get_or-append-add (numbers_from (end_of 0 i - (end_of start i - start)) (end_of start i - start)) _ (place to.rows u - end_of base (put_interface (renaming to) i)) 0
           ∙ rest (end_of base (put_interface (renaming to) i)) u (end-there ∙ sym grown) g m kept-u))
 
   -- .. and one that isn't

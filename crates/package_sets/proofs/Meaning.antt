@@ -28,7 +28,7 @@ use Rattle.package_sets.specs.Joining.{import_count, imports, own_interfaces}
 use Rattle.package_sets.specs.Joined.{renaming_of, IsJoined}
 use Rattle.package_sets.proofs.Putting.{IsPut}
 use Rattle.package_sets.specs.Attached.{IsOwn}
-use Rattle.package_sets.specs.Follows.{is_own, own_definitions, own_interface_names}
+use Rattle.package_sets.specs.Follows.{is_own_owner, own_definitions, own_interface_names}
 use Rattle.package_sets.specs.Joined.{JoinedPlaces}
 use Rattle.package_sets.proofs.Lists.{none-within}
 use Rattle.package_sets.proofs.Kept.{list-at}
@@ -122,22 +122,22 @@ module _ (c : Resolve) (form : HasRowsInForm c) (closed : is_closed c ≡ true) 
       by (inl l) = within-of 0 (import_count c) (length c.interfaces) (before-le (own_package c.packages) c.interfaces) (owner_of d) (import-owned t d l e)
       by (inr g) = either (own-owned t d g e)
 
-  import-not : (o : Option Owner) → IsOwnedFrom 0 (import_count c) o → is_own c o ≡ false
+  import-not : (o : Option Owner) → IsOwnedFrom 0 (import_count c) o → is_own_owner c o ≡ false
   import-not None h = refl
   import-not (Some (owner.World w)) h = absurd h
   import-not (Some (owner.Interface i)) h = by (slice_get c.interfaces i.0) refl
     where
-      by : (o : Option Interface) → slice_get c.interfaces i.0 ≡ o → is_own c (Some (owner.Interface i)) ≡ false
+      by : (o : Option Interface) → slice_get c.interfaces i.0 ≡ o → is_own_owner c (Some (owner.Interface i)) ≡ false
       by None e = absurd (none-within c.interfaces i.0 (omega (arith, h.1, before-le (own_package c.packages) c.interfaces)) e)
       by (Some x) e =
           ap (λ (o : Option Interface). number_or (option_map (λ (y : Interface). y.«package».0) o) == own_package c.packages) e ∙ import-other (own_package c.packages) c.interfaces i.0 x h.1 e
 
-  own-is : (o : Option Owner) → IsOwnedFrom (import_count c) (length c.interfaces) o ⊎ IsOfWorlds (length c.worlds) o → (is_own c o ≡ true) ⊎ (o ≡ None)
+  own-is : (o : Option Owner) → IsOwnedFrom (import_count c) (length c.interfaces) o ⊎ IsOfWorlds (length c.worlds) o → (is_own_owner c o ≡ true) ⊎ (o ≡ None)
   own-is None h = inr refl
   own-is (Some (owner.Interface i)) (inr h) = absurd h
   own-is (Some (owner.Interface i)) (inl h) = by (slice_get c.interfaces i.0) refl
     where
-      by : (o : Option Interface) → slice_get c.interfaces i.0 ≡ o → (is_own c (Some (owner.Interface i)) ≡ true) ⊎ (Some (owner.Interface i) ≡ None)
+      by : (o : Option Interface) → slice_get c.interfaces i.0 ≡ o → (is_own_owner c (Some (owner.Interface i)) ≡ true) ⊎ (Some (owner.Interface i) ≡ None)
       by None e = absurd (none-within c.interfaces i.0 h.1 e)
       by (Some x) e =
           let at : import_count c + (i.0 - import_count c) ≡ i.0 = omega (arith, h.0) in
@@ -146,7 +146,7 @@ module _ (c : Resolve) (form : HasRowsInForm c) (closed : is_closed c ≡ true) 
   own-is (Some (owner.World w)) (inl h) = absurd h
   own-is (Some (owner.World w)) (inr h) = by (slice_get c.worlds w.0) refl
     where
-      by : (o : Option World) → slice_get c.worlds w.0 ≡ o → (is_own c (Some (owner.World w)) ≡ true) ⊎ (Some (owner.World w) ≡ None)
+      by : (o : Option World) → slice_get c.worlds w.0 ≡ o → (is_own_owner c (Some (owner.World w)) ≡ true) ⊎ (Some (owner.World w) ≡ None)
       by None e = absurd (none-within c.worlds w.0 h e)
       by (Some x) e =
           inl (ap (λ (o : Option World). number_or (option_map (λ (y : World). y.«package».0) o) == own_package c.packages) e ∙ list-at (is_world_of (own_package c.packages)) c.worlds w.0 x all-worlds e)
@@ -157,16 +157,16 @@ module _ (c : Resolve) (form : HasRowsInForm c) (closed : is_closed c ≡ true) 
   own-told m e =
       let ns = interface_names c in
       let ts = references ns [] (take m c.definitions) in
-      ap (λ (ds : List Definition). definitions_where (is_own c) ns [] ds) (sym (take-append-drop m c.definitions))
-      ∙ (where-append (is_own c) ns [] (take m c.definitions) (drop m c.definitions)
-      ∙ (ap (λ zs. zs ++ definitions_where (is_own c) ns ts (drop m c.definitions)) (where-none (is_own c) ns [] (take m c.definitions) front) ∙ where-all (is_own c) ns ts (drop m c.definitions) others))
+      ap (λ (ds : List Definition). definitions_where (is_own_owner c) ns [] ds) (sym (take-append-drop m c.definitions))
+      ∙ (where-append (is_own_owner c) ns [] (take m c.definitions) (drop m c.definitions)
+      ∙ (ap (λ zs. zs ++ definitions_where (is_own_owner c) ns ts (drop m c.definitions)) (where-none (is_own_owner c) ns [] (take m c.definitions) front) ∙ where-all (is_own_owner c) ns ts (drop m c.definitions) others))
     where
-      front : (k : ℕ) (d : Definition) → slice_get (take m c.definitions) k ≡ Some d → is_own c (owner_of d) ≡ false
+      front : (k : ℕ) (d : Definition) → slice_get (take m c.definitions) k ≡ Some d → is_own_owner c (owner_of d) ≡ false
       front k d h =
           let l : k < m = omega (arith, slice_get_within (take m c.definitions) k d h, length-take m c.definitions) in
           import-not (owner_of d) (import-owned k d (omega (arith, l, e)) (sym (slice_get-take m c.definitions k l) ∙ h))
 
-      others : (k : ℕ) (d : Definition) → slice_get (drop m c.definitions) k ≡ Some d → (is_own c (owner_of d) ≡ true) ⊎ (owner_of d ≡ None)
+      others : (k : ℕ) (d : Definition) → slice_get (drop m c.definitions) k ≡ Some d → (is_own_owner c (owner_of d) ≡ true) ⊎ (owner_of d ≡ None)
       others k d h = own-is (owner_of d) (own-owned (m + k) d (omega (arith, e)) (sym (slice_get-drop m c.definitions k) ∙ h))
 
 earlier-take : (n m : ℕ) (ds : List Definition) → are_earlier n ds ≡ true → are_earlier n (take m ds) ≡ true

@@ -4,7 +4,7 @@ use Rattle.std.specs.Prelude.{flat_map, Contains, is_some}
 use Rattle.std.specs.Option.{option_map}
 use Rattle.std.specs.List.{list_all}
 use Rattle.std.proofs.lemmas.List.Elements.{Contains-append_cases, Contains-append_left, Contains-append_right}
-use Rattle.package_form.specs.References.{references, references_if, field_references, case_references, parameter_references, kind_references, row_references}
+use Rattle.package_form.specs.References.{type_references, references_if, field_references, case_references, parameter_references, kind_references, row_references}
 use Rattle.package_form.specs.Form.{is_named}
 use Rattle.package_form.specs.Postfix.{is_unnamed}
 use Rattle.set_rows.specs.Owners.{names}
@@ -26,7 +26,7 @@ use Rattle.tables.specs.declared.tables.Definition.TheVariants as row
 
 -- ---- what is true of each id that a row names is true of all that it names
 
-module _ (has : ValType → Bool) (primitive : (v : ValType) → references v ≡ [] → has v ≡ true) where
+module _ (has : ValType → Bool) (primitive : (v : ValType) → type_references v ≡ [] → has v ≡ true) where
   abbrev pub AllNamed : List TypeId → Type 0
   AllNamed ts = (t : TypeId) → Contains ts t → has (val.Id t) ≡ true
 
@@ -39,7 +39,7 @@ module _ (has : ValType → Bool) (primitive : (v : ValType) → references v �
   right : (ts us : List TypeId) → AllNamed (ts ++ us) → AllNamed us
   right ts us a t h = a t (Contains-append_right ts us t h)
 
-  val-all : (v : ValType) → AllNamed (references v) → has v ≡ true
+  val-all : (v : ValType) → AllNamed (type_references v) → has v ≡ true
   val-all (val.Primitive p) a = primitive (val.Primitive p) refl
   val-all val.String a = primitive val.String refl
   val-all (val.Id t) a = first t [] a
@@ -69,7 +69,7 @@ module _ (has : ValType → Bool) (primitive : (v : ValType) → references v �
       by (kind.Result ok error) e =
           let both-named = named (kind.Result ok error) e in
           rw e (both _ _ (if-all ok (left (references_if ok) (references_if error) both-named)) (if-all error (right (references_if ok) (references_if error) both-named)))
-      by (kind.Tuple vs) e = rw e (list-all references has val-all vs (named (kind.Tuple vs) e))
+      by (kind.Tuple vs) e = rw e (list-all type_references has val-all vs (named (kind.Tuple vs) e))
       by (kind.Record fs) e = rw e (list-all field_references (λ f. has f.ty) (λ f. val-all f.ty) fs (named (kind.Record fs) e))
       by (kind.Variant cs) e = rw e (list-all case_references (λ c. option_all has c.ty) (λ c. if-all c.ty) cs (named (kind.Variant cs) e))
       by (kind.Enum ns) e = rw e refl
@@ -120,7 +120,7 @@ contains-one t u (zero, h, e) = sym e
 contains-one t u (suc k, h, e) = absurd (omega arith)
 
 module _ (has : ValType → Bool) where
-  val-named : (v : ValType) → has v ≡ true → (t : TypeId) → Contains (references v) t → has (val.Id t) ≡ true
+  val-named : (v : ValType) → has v ≡ true → (t : TypeId) → Contains (type_references v) t → has (val.Id t) ≡ true
   val-named (val.Primitive p) h t c = absurd (contains-none t c)
   val-named val.String h t c = absurd (contains-none t c)
   val-named (val.Id u) h t c = ap (λ (x : TypeId). has (val.Id x)) (contains-one t u c) ∙ h
@@ -153,7 +153,7 @@ module _ (has : ValType → Bool) where
       by (kind.Result ok error) e =
           let p = split (option_all has ok) (option_all has error) (all (kind.Result ok error) e) in
           elim (Contains-append_cases (references_if ok) (references_if error) t (here (kind.Result ok error) e)) [ inl q ↦ if-named ok p.0 t q | inr q ↦ if-named error p.1 t q ]
-      by (kind.Tuple vs) e = list-named references has val-named vs (all (kind.Tuple vs) e) t (here (kind.Tuple vs) e)
+      by (kind.Tuple vs) e = list-named type_references has val-named vs (all (kind.Tuple vs) e) t (here (kind.Tuple vs) e)
       by (kind.Record fs) e = list-named field_references (λ f. has f.ty) (λ f. val-named f.ty) fs (all (kind.Record fs) e) t (here (kind.Record fs) e)
       by (kind.Variant cs) e = list-named case_references (λ c. option_all has c.ty) (λ c. if-named c.ty) cs (all (kind.Variant cs) e) t (here (kind.Variant cs) e)
       by (kind.Enum ns) e = absurd (contains-none t (here (kind.Enum ns) e))
@@ -232,7 +232,7 @@ named-same to d = ap not (unnamed-same to d)
 -- ---- what a row refers to, put elsewhere
 
 module _ (to : Renaming) where
-  val-references : (v : ValType) → references (put_val to v) ≡ map (put_id to) (references v)
+  val-references : (v : ValType) → type_references (put_val to v) ≡ map (put_id to) (type_references v)
   val-references (val.Primitive p) = refl
   val-references val.String = refl
   val-references (val.Id t) = refl
@@ -259,7 +259,7 @@ module _ (to : Renaming) where
       let y = if-references error in
       let m = map-append (put_id to) (references_if ok) (references_if error) in
       cc
-  kind-references-put (kind.Tuple vs) = list-references (put_val to) references val-references vs
+  kind-references-put (kind.Tuple vs) = list-references (put_val to) type_references val-references vs
   kind-references-put (kind.Record fs) = list-references (put_field to) field_references (λ f. val-references f.ty) fs
   kind-references-put (kind.Variant cs) = list-references (put_case to) case_references (λ c. if-references c.ty) cs
   kind-references-put (kind.Enum ns) = refl

@@ -23,7 +23,7 @@ use Rattle.tables.specs.declared.tables.World.{World}
 use Rattle.tables.specs.declared.tables.Resolve.{Resolve}
 use Rattle.set_rows.specs.Owners.{owner_of}
 use Rattle.package_sets.specs.Set.{ArePackageByPackage, behind_all, an_interface, a_world, IsPackageByPackage}
-use Rattle.package_sets.specs.Joining.{row_places, places_from, end_in}
+use Rattle.package_sets.specs.Joining.{row_places, numbers_from, end_in}
 use Rattle.package_sets.proofs.Lists.{length-places}
 use Rattle.package_sets.proofs.Kept.{list-at}
 use Rattle.package_sets.proofs.Renaming.{IsOwnedWithin, AreOwnedWithin}
@@ -168,7 +168,7 @@ length-rows set count start (suc n) (i ∷ is) ws (j ∷ js) h l =
     end_in-of set j count = end_in (slice_get set.interfaces j) - count
 
     places-of : Resolve → ℕ → ℕ → List ℕ
-    places-of set j count = places_from (end_in-of set j count) count
+    places-of set j count = numbers_from (end_in-of set j count) count
 
 -- ---- sets
 

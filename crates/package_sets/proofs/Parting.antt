@@ -12,7 +12,7 @@ use Rattle.std.proofs.lemmas.List.Elements.{Contains-append_left, Contains-appen
 use Rattle.package_form.specs.Ids.{places_where, is_use, is_owned_by}
 use Rattle.package_form.specs.Ends.{behind_types, behind_functions, behind_items, behind_item, end_of, rows_of, interfaces_end, world_end, world_rows, are_worlds_parted, is_parted}
 use Rattle.package_form.specs.References.{row_references}
-use Rattle.package_form.specs.Form.{is_named, ids_of, is_own_name, is_own_type, is_own, is_earlier_name, is_earlier_type, is_earlier, uses_earlier, is_owned, is_local, is_use_type, is_use_at, has_ids, is_nameless_type, is_nameless, is_of_world, is_world_row, item_function, function_at, functions_of, has_items, have_items, are_interfaces}
+use Rattle.package_form.specs.Form.{is_named, ids_of, is_own_name, is_own_type, is_own, is_earlier_name, is_earlier_type, is_earlier, uses_earlier, is_owned, is_local, is_use_type, is_use_at, has_ids, is_nameless_type, is_nameless, is_of_world, is_world_row, item_function, functions_in_item, functions_of, has_items, have_items, are_interfaces}
 use Rattle.tables.specs.Tables.{type_of, is_there as is_some_row, is_type_id, is_function_id, is_placed, are_placed, is_owner_world}
 use Rattle.tables.proofs.Rows.{split, both}
 use Rattle.tables.specs.declared.tables.TypeId.{TypeId}
@@ -452,20 +452,20 @@ module _ (s c : Resolve) (j : JoinedPlaces) (q : IsJoined s c j) where
       ∙ functions-end (behind_types (behind_types start i.uses) i.types) i.functions (λ x d. h x (Contains-append_right us (ts ++ fs) x (Contains-append_right ts fs x d))) in
       ap (λ n. behind_functions (behind_types n (put_types to i.types)) (put_functions to i.functions)) first ∙ (ap (λ n. behind_functions n (put_functions to i.functions)) second ∙ third)
 
-  items-end : (start : ℕ) (is : List WorldItem) → AreIn j.imported (flat_map function_at is) → behind_items (moved start) (map (put_item to) is) ≡ moved (behind_items start is)
+  items-end : (start : ℕ) (is : List WorldItem) → AreIn j.imported (flat_map functions_in_item is) → behind_items (moved start) (map (put_item to) is) ≡ moved (behind_items start is)
   items-end start [] h = refl
-  items-end start (i ∷ is) h = ap (λ n. behind_items n (map (put_item to) is)) (one i.kind (λ x d. h x (Contains-append_left (function_at i) (flat_map function_at is) x d))) ∙ items-end (behind_item start i.kind) is (λ x d. h x (Contains-append_right (function_at i) (flat_map function_at is) x d))
+  items-end start (i ∷ is) h = ap (λ n. behind_items n (map (put_item to) is)) (one i.kind (λ x d. h x (Contains-append_left (functions_in_item i) (flat_map functions_in_item is) x d))) ∙ items-end (behind_item start i.kind) is (λ x d. h x (Contains-append_right (functions_in_item i) (flat_map functions_in_item is) x d))
     where
       one : (k : WorldItemKind) → AreIn j.imported (item_function k) → behind_item (moved start) (put_item_kind to k) ≡ moved (behind_item start k)
       one (item.Interface i) g = refl
       one (item.Function f) g = let p = g f.0 (0, omega arith, refl) in omega (arith, p.0, row-at f.0 p.0 p.1)
 
-  functions-put : (is : List WorldItem) → flat_map function_at (map (put_item to) is) ≡ map to.rows (flat_map function_at is)
+  functions-put : (is : List WorldItem) → flat_map functions_in_item (map (put_item to) is) ≡ map to.rows (flat_map functions_in_item is)
   functions-put [] = refl
   functions-put (i ∷ is) = by i.kind (functions-put is)
     where
-      by : (k : WorldItemKind) → flat_map function_at (map (put_item to) is) ≡ map to.rows (flat_map function_at is)
-          → item_function (put_item_kind to k) ++ flat_map function_at (map (put_item to) is) ≡ map to.rows (item_function k ++ flat_map function_at is)
+      by : (k : WorldItemKind) → flat_map functions_in_item (map (put_item to) is) ≡ map to.rows (flat_map functions_in_item is)
+          → item_function (put_item_kind to k) ++ flat_map functions_in_item (map (put_item to) is) ≡ map to.rows (item_function k ++ flat_map functions_in_item is)
       by (item.Interface i) r = r
       by (item.Function f) r = ap (λ xs. to.rows f.0 ∷ xs) r
 

@@ -6,7 +6,7 @@ use Rattle.std.proofs.lemmas.Bool.{ltb-true, lt-ltb}
 use Rattle.std.proofs.lemmas.List.{get_or-map, get_or_default, length-map}
 use Rattle.std.proofs.lemmas.Option.{slice_get_within, get_or_from_slice_get}
 use Rattle.std.proofs.lemmas.List.Elements.{Contains-append_right}
-use Rattle.package_form.specs.References.{references as references-in}
+use Rattle.package_form.specs.References.{type_references}
 use Rattle.package_form.proofs.Lists.{contains-map, contains-flat}
 use Rattle.tables.specs.Tables.{is_below, definition_all, are_earlier, is_type, name_types, is_standard, are_standard, function_of, type_of, is_there as is_some, is_type_id, is_function_id, is_placed, are_placed, are_grouped, are_worlds_grouped, is_owner_world, is_function_of, is_placed_item, is_placed_world, are_placed_worlds}
 use Rattle.tables.proofs.Rows.{split, both}
@@ -71,7 +71,7 @@ module _ (s : Resolve) (to : Moved) (n : IsPart s to) where
   there-all : (k : ℕ) (d : Definition) → slice_get s.definitions k ≡ Some d → get_or to.rows k false ≡ true → definition_all (is_there to.rows) d ≡ true
   there-all k d e h = definition-all (is_there to.rows) primitive d (closed k d e h)
     where
-      primitive : (v : ValType) → references-in v ≡ [] → is_there to.rows v ≡ true
+      primitive : (v : ValType) → type_references v ≡ [] → is_there to.rows v ≡ true
       primitive (val.Primitive p) q = refl
       primitive val.String q = refl
       primitive (val.Id t) q = absurd (cc)
@@ -81,7 +81,7 @@ module _ (s : Resolve) (to : Moved) (n : IsPart s to) where
       definition-both (is_below m) (is_there to.rows) d
       ∙ both (definition_all (is_below m) d) (definition_all (is_there to.rows) d) (definition-all (is_below m) primitive d (λ t c. lt-ltb t.0 m (omega (arith, l, named-before s.definitions k d t s.earlier e c)))) (there-all k d e h)
     where
-      primitive : (v : ValType) → references-in v ≡ [] → is_below m v ≡ true
+      primitive : (v : ValType) → type_references v ≡ [] → is_below m v ≡ true
       primitive (val.Primitive p) q = refl
       primitive val.String q = refl
       primitive (val.Id t) q = absurd (cc)

@@ -22,7 +22,7 @@ use Rattle.tables.specs.declared.tables.Definition.TheVariants as row
 use Rattle.tables.specs.declared.tables.Interface.{Interface}
 use Rattle.tables.specs.declared.tables.World.{World}
 use Rattle.package_sets.specs.Set.{AreRowsOf}
-use Rattle.package_sets.specs.SetScopes.{names_if, members_if, names_at, members_at, interface_scopes}
+use Rattle.package_sets.specs.SetScopes.{names_if, members_if, names_at, members_at, set_interface_scopes}
 use Rattle.package_sets.proofs.Apart.{push-get}
 use Rattle.package_sets.proofs.Belonging.{block-row, one-later, plus-none}
 use Rattle.package_sets.proofs.Blocks.{places-in}
@@ -109,7 +109,7 @@ module _ (rows : List Definition) (start k : ℕ) (i : Interface) (a : AreRowsOf
   names-same : flat_map (names_at rows) (ids_of i) ≡ flat_map row_names block
   names-same = ap (flat_map (names_at rows)) ids ∙ names-block rows start block block-at
 
-  scopes-by-ids : All AreDistinct (rows_scopes block) → All AreDistinct (interface_scopes rows i)
+  scopes-by-ids : All AreDistinct (rows_scopes block) → All AreDistinct (set_interface_scopes rows i)
   scopes-by-ids h =
       all-cons AreDistinct (flat_map (names_at rows) (ids_of i)) (map (members_at rows) (ids_of i))
       (subst AreDistinct (sym names-same) (all-head AreDistinct (flat_map row_names block) (map row_members block) h))
@@ -123,7 +123,7 @@ module _ (rows : List Definition) (start k : ℕ) (i : Interface) (a : AreRowsOf
           subst AreDistinct (sym at ∙ x.2)
           (all-contained AreDistinct (map row_members block) (row_members p.1) (all-tail AreDistinct (flat_map row_names block) (map row_members block) h) (contains-map row_members block p.1 (get-contains block p.0 p.1 p.3)))
 
-  scopes-by-rows : IsPostfix rows → AreDistinct [] → All AreDistinct (interface_scopes rows i) → All AreDistinct (rows_scopes block)
+  scopes-by-rows : IsPostfix rows → AreDistinct [] → All AreDistinct (set_interface_scopes rows i) → All AreDistinct (rows_scopes block)
   scopes-by-rows postfix nothing h =
       all-cons AreDistinct (flat_map row_names block) (map row_members block)
       (subst AreDistinct names-same (all-head AreDistinct (flat_map (names_at rows) (ids_of i)) (map (members_at rows) (ids_of i)) h))
@@ -160,18 +160,18 @@ module _ (rows : List Definition) (ws : List World) where
       (record { begins = leb-true start (end_of start i) c.0; ends = leb-true (end_of start i) (length rows) d.0; ids = b.0; local = b.1 }, a.1, d.1)
 
   pub each-by-ids : (k start : ℕ) (is : List Interface) → are_interfaces rows k start is ≡ true → is_parted (length rows) start is ws ≡ true → All AreDistinct (interfaces_scopes rows start is)
-      → (m : ℕ) (i : Interface) → slice_get is m ≡ Some i → All AreDistinct (interface_scopes rows i)
+      → (m : ℕ) (i : Interface) → slice_get is m ≡ Some i → All AreDistinct (set_interface_scopes rows i)
   each-by-ids k start [] h p d m i e = absurd (cc)
   each-by-ids k start (x ∷ is) h p d zero i e =
       let f = first-rows k start x is h p in
       let same : x ≡ i = cc in
-      subst (λ (y : Interface). All AreDistinct (interface_scopes rows y)) same (scopes-by-ids rows start k x f.0 (all-left AreDistinct (rows_scopes (rows_of rows start x)) (interfaces_scopes rows (end_of start x) is) d))
+      subst (λ (y : Interface). All AreDistinct (set_interface_scopes rows y)) same (scopes-by-ids rows start k x f.0 (all-left AreDistinct (rows_scopes (rows_of rows start x)) (interfaces_scopes rows (end_of start x) is) d))
   each-by-ids k start (x ∷ is) h p d (suc m) i e =
       let f = first-rows k start x is h p in
       each-by-ids (k + 1) (end_of start x) is f.1 f.2 (all-right AreDistinct (rows_scopes (rows_of rows start x)) (interfaces_scopes rows (end_of start x) is) d) m i e
 
   pub all-by-rows : IsPostfix rows → AreDistinct [] → (k start : ℕ) (is : List Interface) → are_interfaces rows k start is ≡ true → is_parted (length rows) start is ws ≡ true
-      → ((m : ℕ) (i : Interface) → slice_get is m ≡ Some i → All AreDistinct (interface_scopes rows i)) → All AreDistinct (interfaces_scopes rows start is)
+      → ((m : ℕ) (i : Interface) → slice_get is m ≡ Some i → All AreDistinct (set_interface_scopes rows i)) → All AreDistinct (interfaces_scopes rows start is)
   all-by-rows postfix nothing k start [] h p d = all-none AreDistinct
   all-by-rows postfix nothing k start (x ∷ is) h p d =
       let f = first-rows k start x is h p in

@@ -31,7 +31,7 @@ use Rattle.tables.specs.declared.tables.Resolve.{Resolve}
 use Rattle.set_rows.specs.Moved.{Renaming, put_kind, put_name, put_field, put_case, put_parameter, put_row, put_interface, put_world}
 use Rattle.package_sets.specs.Set.{HasRowsInForm}
 use Rattle.package_sets.specs.SetForm.{IsEmpty}
-use Rattle.package_sets.specs.SetScopes.{names_if, members_if, names_at, members_at, interface_scopes, HasDistinctScopes}
+use Rattle.package_sets.specs.SetScopes.{names_if, members_if, names_at, members_at, set_interface_scopes, HasDistinctScopes}
 use Rattle.package_sets.specs.Joining.{import_count, imports, own_interfaces}
 use Rattle.package_sets.specs.Joined.{renaming_of, IsJoined}
 use Rattle.package_sets.proofs.Putting.{IsPut}
@@ -84,7 +84,7 @@ members-put to (row.Type d) = by d.kind
 
 -- an interface whose rows stand elsewhere has the scopes that it had
 pub scopes-put : (old new : List Definition) (to : Renaming) (i x : Interface) → ids_of x ≡ map to.rows (ids_of i) → ((k : ℕ) → Contains (ids_of i) k → (d : Definition) × (slice_get old k ≡ Some d) × (slice_get new (to.rows k) ≡ Some (put_row to d)))
-    → interface_scopes new x ≡ interface_scopes old i
+    → set_interface_scopes new x ≡ set_interface_scopes old i
 scopes-put old new to i x e h =
     let names : flat_map (names_at new) (ids_of x) ≡ flat_map (names_at old) (ids_of i) =
     ap (flat_map (names_at new)) e ∙ flat-as to.rows (names_at new) (names_at old) (ids_of i) (λ k c. let d = h k c in ap names_if d.2 ∙ (name-put to d.0 ∙ sym (ap names_if d.1))) in
@@ -256,7 +256,7 @@ module _ (s c : Resolve) (j : JoinedPlaces) (q : IsJoined s c j) (own : PackageP
 
   -- ---- interfaces
 
-  set-scopes : (i : Interface) → Contains s.interfaces i → All AreDistinct (interface_scopes (rows-there s c j q) i)
+  set-scopes : (i : Interface) → Contains s.interfaces i → All AreDistinct (set_interface_scopes (rows-there s c j q) i)
   set-scopes i h =
       let at = contains-get s.interfaces i h in
       subst (λ (ss : List (List (List ℕ))). All AreDistinct ss)
@@ -264,7 +264,7 @@ module _ (s c : Resolve) (j : JoinedPlaces) (q : IsJoined s c j) (own : PackageP
       (λ k m. let d = placed-id s.definitions i k (placed-in s at.0 i at.1) m in (d.0, d.1, front-get s.definitions (own-rows s c j q) k d.0 d.1 ∙ ap Some (sym (row-stays d.0))))))
       (old.interfaces i h)
 
-  own-scopes : (i : Interface) → Contains (own_interfaces c) i → All AreDistinct (interface_scopes (rows-there s c j q) (put_interface to i))
+  own-scopes : (i : Interface) → Contains (own_interfaces c) i → All AreDistinct (set_interface_scopes (rows-there s c j q) (put_interface to i))
   own-scopes i h =
       let at = contains-get (own_interfaces c) i h in
       let there : slice_get c.interfaces (import_count c + at.0) ≡ Some i = sym (slice_get-drop (import_count c) c.interfaces at.0) ∙ at.1 in
@@ -273,17 +273,17 @@ module _ (s c : Resolve) (j : JoinedPlaces) (q : IsJoined s c j) (own : PackageP
       (λ k m. let d = placed-id c.definitions i k (placed-in c (import_count c + at.0) i there) m in (d.0, d.1, row-there s c j q k d.0 d.1))))
       (new.interfaces i (import_count c + at.0, slice_get_within c.interfaces (import_count c + at.0) i there, get_or_from_slice_get c.interfaces (import_count c + at.0) i i there))
 
-  scopes-there : (i : Interface) → Contains (s.interfaces ++ map (put_interface to) (own_interfaces c)) i → All AreDistinct (interface_scopes (rows-there s c j q) i)
+  scopes-there : (i : Interface) → Contains (s.interfaces ++ map (put_interface to) (own_interfaces c)) i → All AreDistinct (set_interface_scopes (rows-there s c j q) i)
   scopes-there i h = elim (contains-either s.interfaces (map (put_interface to) (own_interfaces c)) i h) [
     | inl a ↦ set-scopes i a
-    | inr a ↦ let u = contains-unmap (put_interface to) (own_interfaces c) i a in subst (λ (x : Interface). All AreDistinct (interface_scopes (rows-there s c j q) x)) u.2 (own-scopes u.0 u.1)
+    | inr a ↦ let u = contains-unmap (put_interface to) (own_interfaces c) i a in subst (λ (x : Interface). All AreDistinct (set_interface_scopes (rows-there s c j q) x)) u.2 (own-scopes u.0 u.1)
   ]
 
   pub put-scopes : worlds r ≡ worlds s ++ worlds c → HasDistinctScopes r
   put-scopes e = record {
     labels = labels-are;
     interfaces = λ i h.
-        subst (λ (ds : List Definition). All AreDistinct (interface_scopes ds i)) (sym put.definitions) (scopes-there i (subst (λ (is : List Interface). Contains is i) put.interfaces h));
+        subst (λ (ds : List Definition). All AreDistinct (set_interface_scopes ds i)) (sym put.definitions) (scopes-there i (subst (λ (is : List Interface). Contains is i) put.interfaces h));
     worlds = subst (λ (ws : List WorldMeaning). All AreDistinct (flat_map world_scopes ws)) (sym e)
         (subst (λ (ss : List (List (List ℕ))). All AreDistinct ss) (sym (flat_map-append world_scopes (worlds s) (worlds c)))
         (all-append AreDistinct (flat_map world_scopes (worlds s)) (flat_map world_scopes (worlds c)) old.worlds new.worlds));

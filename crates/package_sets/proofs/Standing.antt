@@ -12,7 +12,7 @@ use Rattle.std.proofs.lemmas.List.Elements.{Contains-append_left, Contains-appen
 use Rattle.package_form.specs.Ids.{places_where, is_use, is_owned_by}
 use Rattle.package_form.specs.Ends.{behind_types, behind_functions, behind_items, behind_item, end_of, rows_of, world_end, world_rows}
 use Rattle.package_form.specs.References.{row_references}
-use Rattle.package_form.specs.Form.{is_named, ids_of, is_own_name, is_own_type, is_own, is_earlier_name, is_earlier_type, is_earlier, uses_earlier, is_owned, is_local, is_use_type, is_use_at, is_nameless_type, is_nameless, is_of_world, is_world_row, item_function, function_at, functions_of}
+use Rattle.package_form.specs.Form.{is_named, ids_of, is_own_name, is_own_type, is_own, is_earlier_name, is_earlier_type, is_earlier, uses_earlier, is_owned, is_local, is_use_type, is_use_at, is_nameless_type, is_nameless, is_of_world, is_world_row, item_function, functions_in_item, functions_of}
 use Rattle.tables.specs.Tables.{type_of, is_owner_world}
 use Rattle.tables.proofs.Rows.{split, both}
 use Rattle.tables.specs.declared.tables.TypeId.{TypeId}
@@ -95,10 +95,10 @@ module _ (to : Moved) where
   item-end start (item.Interface j) rest h = (refl, h)
   item-end start (item.Function f) rest h = let p = split (get_or to.rows f.0 false) (list_all (λ x. get_or to.rows x false) rest) h in (place-next f.0 p.0, p.1)
 
-  items-end : (start : ℕ) (is : List WorldItem) → list_all (λ x. get_or to.rows x false) (flat_map function_at is) ≡ true → behind_items (place to.rows start) (map (put_item (renaming to)) is) ≡ place to.rows (behind_items start is)
+  items-end : (start : ℕ) (is : List WorldItem) → list_all (λ x. get_or to.rows x false) (flat_map functions_in_item is) ≡ true → behind_items (place to.rows start) (map (put_item (renaming to)) is) ≡ place to.rows (behind_items start is)
   items-end start [] h = refl
   items-end start (i ∷ is) h =
-      let p = item-end start i.kind (flat_map function_at is) h in
+      let p = item-end start i.kind (flat_map functions_in_item is) h in
       ap (λ m. behind_items m (map (put_item (renaming to)) is)) p.0 ∙ items-end (behind_item start i.kind) is p.1
 
   pub list-ids : (ts : List TypeId) → map (λ t. t.0) (map (put_id (renaming to)) ts) ≡ map (place to.rows) (map (λ t. t.0) ts)
@@ -109,12 +109,12 @@ module _ (to : Moved) where
   list-function-ids [] = refl
   list-function-ids (t ∷ ts) = ap (λ xs. place to.rows t.0 ∷ xs) (list-function-ids ts)
 
-  item-ids : (is : List WorldItem) → flat_map function_at (map (put_item (renaming to)) is) ≡ map (place to.rows) (flat_map function_at is)
+  item-ids : (is : List WorldItem) → flat_map functions_in_item (map (put_item (renaming to)) is) ≡ map (place to.rows) (flat_map functions_in_item is)
   item-ids [] = refl
   item-ids (i ∷ is) = by i.kind (item-ids is)
     where
-      by : (k : WorldItemKind) → flat_map function_at (map (put_item (renaming to)) is) ≡ map (place to.rows) (flat_map function_at is)
-          → item_function (put_item_kind (renaming to) k) ++ flat_map function_at (map (put_item (renaming to)) is) ≡ map (place to.rows) (item_function k ++ flat_map function_at is)
+      by : (k : WorldItemKind) → flat_map functions_in_item (map (put_item (renaming to)) is) ≡ map (place to.rows) (flat_map functions_in_item is)
+          → item_function (put_item_kind (renaming to) k) ++ flat_map functions_in_item (map (put_item (renaming to)) is) ≡ map (place to.rows) (item_function k ++ flat_map functions_in_item is)
       by (item.Interface j) r = r
       by (item.Function f) r = ap (λ xs. place to.rows f.0 ∷ xs) r
 

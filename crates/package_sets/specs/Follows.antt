@@ -96,16 +96,16 @@ pub record OfRestricted (set : Resolve) (own : ℕ) (r : Resolve) (n : IsRestric
 
 -- ---- a set with a package more
 
-abbrev pub is_own : Resolve → Option Owner → Bool
-is_own closed None = false
-is_own closed (Some o) = package_of_owner closed (Some o) == own_package closed.packages
+abbrev pub is_own_owner : Resolve → Option Owner → Bool
+is_own_owner closed None = false
+is_own_owner closed (Some o) = package_of_owner closed (Some o) == own_package closed.packages
 
 -- what the closed table has of its own, as its names tell it
 abbrev pub own_interface_names : Resolve → List (List ℕ)
 own_interface_names closed = map (full_name closed) (own_interfaces closed)
 
 abbrev pub own_definitions : Resolve → List NamedDefinition
-own_definitions closed = definitions_where (is_own closed) (interface_names closed) [] closed.definitions
+own_definitions closed = definitions_where (is_own_owner closed) (interface_names closed) [] closed.definitions
 
 -- what is put behind the set's rows
 pub record IsBehind (set r : Resolve) : Type 0 where

@@ -14,8 +14,8 @@ pub record JoinedPlaces : Type 0 where
   pub rows : List ℕ
   pub imported : ℕ
 
-abbrev pub listed : Joined → JoinedPlaces
-listed j = record { «package» = j.«package»; interfaces = j.interfaces.items; worlds = j.worlds.items; rows = j.rows.items; imported = j.imported }
+abbrev pub joined_places : Joined → JoinedPlaces
+joined_places j = record { «package» = j.«package»; interfaces = j.interfaces.items; worlds = j.worlds.items; rows = j.rows.items; imported = j.imported }
 
 abbrev pub renaming_of : JoinedPlaces → Renaming
 renaming_of j = record {

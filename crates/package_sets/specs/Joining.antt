@@ -49,9 +49,9 @@ pub record AreFound (set closed : Resolve) (is : List Interface) (places : List 
   pub each : (k : ℕ) (i : Interface) → slice_get is k ≡ Some i → IsFirst (has_name_of set closed i) set.interfaces (slice_index_or places k 0)
 
 -- so many places, one behind the other
-abbrev pub places_from : ℕ → ℕ → List ℕ
-places_from first zero = []
-places_from first (suc count) = first ∷ places_from (first + 1) count
+abbrev pub numbers_from : ℕ → ℕ → List ℕ
+numbers_from first zero = []
+numbers_from first (suc count) = first ∷ numbers_from (first + 1) count
 
 abbrev pub end_in : Option Interface → ℕ
 end_in None = 0
@@ -62,14 +62,14 @@ abbrev pub row_places : Resolve → ℕ → List Interface → List ℕ → List
 row_places set start [] js = []
 row_places set start (i ∷ is) [] = []
 row_places set start (i ∷ is) (j ∷ js) =
-    places_from (end_in (slice_get set.interfaces j) - (end_of start i - start)) (end_of start i - start) ++ row_places set (end_of start i) is js
+    numbers_from (end_in (slice_get set.interfaces j) - (end_of start i - start)) (end_of start i - start) ++ row_places set (end_of start i) is js
 
 abbrev pub import_rows : Resolve → Resolve → List ℕ → List ℕ
 import_rows set closed js = row_places set 0 (imports closed) js
 
 -- the places of a whole list, whose first elements have these places, and the others stand behind so many
 abbrev pub all_places : List ℕ → ℕ → ℕ → List ℕ
-all_places front behind count = front ++ places_from behind (count - length front)
+all_places front behind count = front ++ numbers_from behind (count - length front)
 
 abbrev pub place_in : List ℕ → ℕ → ℕ
 place_in places k = slice_index_or places k 0

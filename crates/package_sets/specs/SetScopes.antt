@@ -24,10 +24,10 @@ abbrev pub members_at : List Definition → ℕ → List (List ℕ)
 members_at rows x = members_if (slice_get rows x)
 
 -- uses, types and functions of an interface share a scope, and each has one of its own
-abbrev pub interface_scopes : List Definition → Interface → List (List (List ℕ))
-interface_scopes rows i = flat_map (names_at rows) (ids_of i) ∷ map (members_at rows) (ids_of i)
+abbrev pub set_interface_scopes : List Definition → Interface → List (List (List ℕ))
+set_interface_scopes rows i = flat_map (names_at rows) (ids_of i) ∷ map (members_at rows) (ids_of i)
 
 pub record HasDistinctScopes (r : Resolve) : Type 0 where
   pub labels : (k : ℕ) → k < length r.packages → AreDistinct (interface_labels_of r.interfaces k ++ world_labels_of r.worlds k)
-  pub interfaces : (i : Interface) → Contains r.interfaces i → All AreDistinct (interface_scopes r.definitions i)
+  pub interfaces : (i : Interface) → Contains r.interfaces i → All AreDistinct (set_interface_scopes r.definitions i)
   pub worlds : All AreDistinct (flat_map world_scopes (worlds r))

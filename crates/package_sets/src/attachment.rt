@@ -4,7 +4,7 @@ ghost use Rattle.set_rows.specs.Moved.{put_interface, put_row, put_world};
 ghost use Rattle.package_sets.specs.Attached.{HasAll, LacksFirst, IsAttached, IsOwn, IsRefused};
 ghost use Rattle.tables.specs.PackageNames.{PackageParts};
 ghost use Rattle.package_sets.specs.Joining.{own_interfaces, AreRowsThere, AreIdsThere, HasIds, HasIdsAt, HasImports};
-ghost use Rattle.package_sets.specs.Joined.{listed, FitsBehind, IsJoined, renaming_of};
+ghost use Rattle.package_sets.specs.Joined.{joined_places, FitsBehind, IsJoined, renaming_of};
 ghost use Rattle.package_sets.specs.declared.error.AttachError.TheVariants.{NotThisShape, NoMemory, NoPackage};
 
 use crate::error::AttachError;
@@ -26,7 +26,7 @@ fn is_row_at(
     row: &Definition,
     to: &Joined,
 ) -> Result<bool, AllocError>
-    ensures { IfOk result (λ b. Decides b (slice_get set.now.definitions place ≡ Some (put_row (renaming_of (listed to.now)) row.now))) }
+    ensures { IfOk result (λ b. Decides b (slice_get set.now.definitions place ≡ Some (put_row (renaming_of (joined_places to.now)) row.now))) }
 {
     match set.definitions.as_slice().get(place as usize) {
         Some(other) => Ok(other.is_same(&row.moved(alloc, to)?)),
@@ -42,7 +42,7 @@ fn are_rows_there(
     to: &Joined,
 ) -> Result<bool, AllocError>
     requires { length rows.now ≤ length to.now.rows.items }
-    ensures { IfOk result (λ b. Decides b (AreRowsThere set.now (renaming_of (listed to.now)) rows.now)) }
+    ensures { IfOk result (λ b. Decides b (AreRowsThere set.now (renaming_of (joined_places to.now)) rows.now)) }
 {
     for (place, row) in rows.iter().enumerate() {
         if !is_row_at(alloc, set, to.rows[place], row, to)? {
@@ -59,7 +59,7 @@ fn has_ids(
     other: &Interface,
     to: &Joined,
 ) -> Result<bool, AllocError>
-    ensures { IfOk result (λ b. Decides b (HasIds (renaming_of (listed to.now)) import.now other.now)) }
+    ensures { IfOk result (λ b. Decides b (HasIds (renaming_of (joined_places to.now)) import.now other.now)) }
 {
     let uses = moved_types(alloc, &import.uses, to)?;
     let types = moved_types(alloc, &import.types, to)?;
@@ -79,7 +79,7 @@ fn has_ids_at(
     import: &Interface,
     to: &Joined,
 ) -> Result<bool, AllocError>
-    ensures { IfOk result (λ b. Decides b (HasIdsAt set.now (renaming_of (listed to.now)) import.now place)) }
+    ensures { IfOk result (λ b. Decides b (HasIdsAt set.now (renaming_of (joined_places to.now)) import.now place)) }
 {
     match set.interfaces.as_slice().get(place as usize) {
         Some(other) => has_ids(alloc, import, other, to),
@@ -95,7 +95,7 @@ fn are_ids_there(
     to: &Joined,
 ) -> Result<bool, AllocError>
     requires { length imports.now ≤ length to.now.interfaces.items }
-    ensures { IfOk result (λ b. Decides b (AreIdsThere set.now (renaming_of (listed to.now)) imports.now)) }
+    ensures { IfOk result (λ b. Decides b (AreIdsThere set.now (renaming_of (joined_places to.now)) imports.now)) }
 {
     for (place, import) in imports.iter().enumerate() {
         if !has_ids_at(alloc, set, to.interfaces[place], import, to)? {
@@ -107,7 +107,7 @@ fn are_ids_there(
 
 /// The places of what a closed table has, if its imports are as the set has them: 44 where they aren't.
 fn placed(alloc: Global, set: &Resolve, closed: &Resolve) -> Result<Joined, AttachError>
-    ensures ok { IfOk result (λ j. IsJoined set.now closed.now (listed j)) }
+    ensures ok { IfOk result (λ j. IsJoined set.now closed.now (joined_places j)) }
     ensures err { IfErr result (λ e. (e ≡ NoMemory) ⊎ ((e ≡ NotThisShape) × (¬ HasImports set.now closed.now))) }
 {
     let to = places_of(alloc, set, closed)?;
@@ -147,9 +147,9 @@ struct OwnPart {
 fn own_part(alloc: Global, closed: &Resolve, to: &Joined) -> Result<OwnPart, AllocError>
     requires { (p : PackageParts) × IsOwn closed.now p }
     ensures packages { IfOk result (λ x. (p : PackageParts) × IsOwn closed.now p × (x.packages ≡ p ∷ [])) }
-    ensures interfaces { IfOk result (λ x. x.interfaces ≡ map (put_interface (renaming_of (listed to.now))) (own_interfaces closed.now)) }
-    ensures worlds { IfOk result (λ x. x.worlds ≡ map (put_world (renaming_of (listed to.now))) closed.now.worlds) }
-    ensures definitions { IfOk result (λ x. x.definitions ≡ map (put_row (renaming_of (listed to.now))) (drop to.now.imported closed.now.definitions)) }
+    ensures interfaces { IfOk result (λ x. x.interfaces ≡ map (put_interface (renaming_of (joined_places to.now))) (own_interfaces closed.now)) }
+    ensures worlds { IfOk result (λ x. x.worlds ≡ map (put_world (renaming_of (joined_places to.now))) closed.now.worlds) }
+    ensures definitions { IfOk result (λ x. x.definitions ≡ map (put_row (renaming_of (joined_places to.now))) (drop to.now.imported closed.now.definitions)) }
 {
     let names = closed.packages.as_slice();
     let mut packages = Sequence::new(Vec::new(alloc));
@@ -224,7 +224,7 @@ impl Lists {
 /// is imported from; else 44 where an interface that is imported isn't there, or isn't row for row as the set has it. 46
 /// where there is no memory, or no id for a row; not before 49.
 pub fn fitting(alloc: Global, set: &Resolve, closed: &Resolve) -> Result<Joined, AttachError>
-    ensures ok { IfOk result (λ j. FitsBehind set.now closed.now (listed j)) }
+    ensures ok { IfOk result (λ j. FitsBehind set.now closed.now (joined_places j)) }
     ensures err { IfErr result (IsRefused set.now closed.now) }
 {
     if MOST_PACKAGES <= set.packages.len() {
@@ -250,7 +250,7 @@ pub fn put_behind(
     closed: &Resolve,
     to: &Joined,
 ) -> Result<(Resolve, PackageId), Resolve>
-    requires { FitsBehind set closed.now (listed to.now) }
+    requires { FitsBehind set closed.now (joined_places to.now) }
     ensures ok { IfOk result (λ r. IsAttached set closed.now r.0 r.1.0) }
     ensures err { IfErr result (λ r. r ≡ set) }
 {

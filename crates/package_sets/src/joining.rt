@@ -3,9 +3,9 @@ ghost use Rattle.std.specs.Prelude.{◌≡◌, ◌++◌, ℕ, ◌≤◌, List, l
 ghost use Rattle.std.specs.List.{list_any};
 ghost use Rattle.package_form.specs.Ends.{end_of};
 ghost use Rattle.package_form.specs.Closed.{is_same_package};
-ghost use Rattle.package_sets.specs.Joining.{before_own, import_count, imports, own_interfaces, has_name_of, place_in, IsFirst, AreFound, places_from, end_in, row_places, import_rows, all_places};
+ghost use Rattle.package_sets.specs.Joining.{before_own, import_count, imports, own_interfaces, has_name_of, place_in, IsFirst, AreFound, numbers_from, end_in, row_places, import_rows, all_places};
 ghost use Rattle.package_sets.specs.Attached.{has_package};
-ghost use Rattle.package_sets.specs.Joined.{listed, AreJoined};
+ghost use Rattle.package_sets.specs.Joined.{joined_places, AreJoined};
 ghost use Rattle.package_sets.specs.declared.error.AttachError.TheVariants.{NotThisShape, NoMemory};
 
 use crate::error::AttachError;
@@ -56,9 +56,9 @@ fn place_in(places: &[u32], old: u32) -> u32
 }
 
 impl Placed for Joined {
-    ghost use Rattle.package_sets.specs.Joined.{listed, renaming_of};
+    ghost use Rattle.package_sets.specs.Joined.{joined_places, renaming_of};
 
-    ghost renaming = { λ j. renaming_of (listed j) };
+    ghost renaming = { λ j. renaming_of (joined_places j) };
 
     fn package(&self, _old: u32) -> u32 {
         self.package
@@ -172,7 +172,7 @@ fn found(
 
 /// So many places more, one behind the other. 46 where there is no id for one.
 fn push_places(places: &mut Vec<u32>, first: usize, count: usize) -> Result<(), AttachError>
-    ensures ok { OnOk result (places.new.items ≡ places.old.items ++ places_from first count) }
+    ensures ok { OnOk result (places.new.items ≡ places.old.items ++ numbers_from first count) }
     ensures err { IfErr result (λ e. e ≡ NoMemory) }
 {
     let Some(end) = first.checked_add(count) else {
@@ -228,7 +228,7 @@ fn push_others(places: &mut Vec<u32>, behind: usize, count: usize) -> Result<(),
 
 /// What a closed table has is placed in the set with its package.
 pub fn places_of(alloc: Global, set: &Resolve, closed: &Resolve) -> Result<Joined, AttachError>
-    ensures ok { IfOk result (λ j. AreJoined set.now closed.now (listed j)) }
+    ensures ok { IfOk result (λ j. AreJoined set.now closed.now (joined_places j)) }
     ensures err { IfErr result (λ e. (e ≡ NoMemory) ⊎ ((e ≡ NotThisShape) × ((places : List ℕ) → ¬ AreFound set.now closed.now (imports closed.now) places))) }
 {
     let indexed = IndexedTable::of(alloc, set)?;

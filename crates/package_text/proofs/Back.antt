@@ -7,7 +7,7 @@ use Rattle.tables.specs.declared.tables.Primitive.{Primitive}
 use Rattle.tables.specs.declared.tables.Primitive.TheVariants as primitive
 use Rattle.tables.specs.Package.{Tree, PrimTree, TextTree, Reference, ListTree, RecordTree, VariantTree, FlagsTree, Choices, Plain, AsEnum, read_enum}
 use Rattle.package_form.proofs.Lists.{all-head, all-tail}
-use Rattle.tree_meaning.specs.Resolved.{primitive_tree, Labelled, Choice, fields_of, unlabelled, choice, choices_of, option_tree, result_tree, tuple_tree, resolved, resolved_all, resolved_if, member_meaning, case_meaning, definition_meaning}
+use Rattle.tree_meaning.specs.Resolved.{primitive_tree, Labelled, Choice, fields_of_labelled, unlabelled, choice, choices_of, option_tree, result_tree, tuple_tree, resolved, resolved_all, resolved_if, member_meaning, case_meaning, definition_meaning}
 use Rattle.package_text.specs.Written.{ty_of, tys_in, members_in, cases_in, labels_in, body_of, keyword_for}
 
 -- ---- types
@@ -83,7 +83,7 @@ CasesExpressed i K cs = All (CaseExpressed i K) cs
 -- the tree of a definition of the interface of this name, which names types of it that are known
 pub data Defined (i : List ℕ) (K : List ℕ → Type 0) : Tree → Type 0 where
   an_alias : (t : Tree) → Expressed i K t → Defined i K t
-  a_record : (fs : List Labelled) → FieldsExpressed i K fs → Defined i K (RecordTree Plain (fields_of fs))
+  a_record : (fs : List Labelled) → FieldsExpressed i K fs → Defined i K (RecordTree Plain (fields_of_labelled fs))
   a_variant : (cs : List Choice) → CasesExpressed i K cs → Defined i K (VariantTree Plain (choices_of cs))
   an_enum : (ns : List (List ℕ)) → Defined i K (VariantTree AsEnum (read_enum ns))
   a_flags : (ns : List (List ℕ)) → Defined i K (FlagsTree ns)
@@ -97,10 +97,10 @@ alias-body i K _ (an_option t e) = refl
 alias-body i K _ (a_tuple ts e) = refl
 alias-body i K _ (a_result ok error e f) = refl
 
-pub members-back : (i : List ℕ) (K : List ℕ → Type 0) (fs : List Labelled) → FieldsExpressed i K fs → map (member_meaning i) (members_in (fields_of fs)) ≡ fs
+pub members-back : (i : List ℕ) (K : List ℕ → Type 0) (fs : List Labelled) → FieldsExpressed i K fs → map (member_meaning i) (members_in (fields_of_labelled fs)) ≡ fs
 members-back i K [] h = refl
 members-back i K (f ∷ fs) h =
-    ap (λ t. record { name = f.name; tree = t } ∷ map (member_meaning i) (members_in (fields_of fs))) (ty-back i K f.tree (all-head (FieldExpressed i K) f fs h))
+    ap (λ t. record { name = f.name; tree = t } ∷ map (member_meaning i) (members_in (fields_of_labelled fs))) (ty-back i K f.tree (all-head (FieldExpressed i K) f fs h))
     ∙ ap (λ xs. f ∷ xs) (members-back i K fs (all-tail (FieldExpressed i K) f fs h))
 
 pub maybe-back : (i : List ℕ) (K : List ℕ → Type 0) (t : Option Tree) → MaybeExpressed i K t → resolved_if i (option_map ty_of t) ≡ t
@@ -124,7 +124,7 @@ labels-back (n ∷ ns) = ap (λ ms. n ∷ ms) (labels-back ns)
 -- the definition of a defined tree means it
 pub body-back : (i : List ℕ) (K : List ℕ → Type 0) (t : Tree) → Defined i K t → definition_meaning i (body_of t) ≡ t
 body-back i K t (an_alias _ e) = ap (definition_meaning i) (alias-body i K t e) ∙ ty-back i K t e
-body-back i K _ (a_record fs h) = ap (λ xs. RecordTree Plain (fields_of xs)) (members-back i K fs h)
+body-back i K _ (a_record fs h) = ap (λ xs. RecordTree Plain (fields_of_labelled xs)) (members-back i K fs h)
 body-back i K _ (a_variant cs h) = ap (λ xs. VariantTree Plain (choices_of xs)) (cases-back i K cs h)
 body-back i K _ (an_enum ns) = ap (λ xs. VariantTree AsEnum (read_enum xs)) (labels-back ns)
 body-back i K _ (a_flags ns) = refl

@@ -29,7 +29,7 @@ use Rattle.package_form.proofs.Lists.{all-right, list-grows}
 use Rattle.tree_meaning.specs.Resolves.{is_name_of, is_owned_among, is_of_interfaces}
 use Rattle.tree_meaning.specs.Imports.{nameless}
 use Rattle.tree_meaning.proofs.Imported.{get_or-append-right}
-use Rattle.package_text.specs.Tree.{other_package, name_here, own_names, own_interfaces, own_parts}
+use Rattle.package_text.specs.Tree.{other_package, name_here, own_names, interfaces_of_package, own_parts}
 use Rattle.package_text.proofs.Regions.{AreRegions, no_region, and_region, home, regions-from}
 
 pub form-regions : (r : Resolve) → IsInPackageForm r → AreRegions r.definitions (home 0 0 r.interfaces) 0 [] r.interfaces r.definitions
@@ -143,19 +143,19 @@ split-regions rows at (f ∷ fs) own _ _ _ _ (and_region k pre mine post i is en
 pub record Begins (r : Resolve) : Type 0 where
   pub front : List Interface
   pub others : list_all (λ i. not (is_interface_of (own_package r.packages) i)) front ≡ true
-  pub interfaces : r.interfaces ≡ front ++ own_interfaces r
+  pub interfaces : r.interfaces ≡ front ++ interfaces_of_package r
   pub before : List Definition
   pub behind : List Definition
   pub rows : r.definitions ≡ before ++ behind
   pub ends : length before ≡ interfaces_end 0 front
-  pub regions : AreRegions r.definitions (home 0 0 r.interfaces) (length front) before (own_interfaces r) behind
+  pub regions : AreRegions r.definitions (home 0 0 r.interfaces) (length front) before (interfaces_of_package r) behind
   pub past : (n : ℕ) → n < length before → home 0 0 r.interfaces n < length front
   pub owned : list_all (is_of_interfaces (length front)) before ≡ true
 
 pub begins : (r : Resolve) → IsInPackageForm r → Begins r
 begins r f =
     let p = parted-at (length r.packages) 0 r.interfaces r.grouped in
-    let s = split-regions r.definitions (home 0 0 r.interfaces) p.0 (own_interfaces r) 0 [] r.interfaces r.definitions (form-regions r f) p.1 in
+    let s = split-regions r.definitions (home 0 0 r.interfaces) p.0 (interfaces_of_package r) 0 [] r.interfaces r.definitions (form-regions r f) p.1 in
     record {
       front = p.0;
       others = p.2;
@@ -164,7 +164,7 @@ begins r f =
       behind = s.behind;
       rows = s.whole;
       ends = s.ends;
-      regions = subst (λ (n : ℕ). AreRegions r.definitions (home 0 0 r.interfaces) n s.before (own_interfaces r) s.behind) (omega arith) s.regions;
+      regions = subst (λ (n : ℕ). AreRegions r.definitions (home 0 0 r.interfaces) n s.before (interfaces_of_package r) s.behind) (omega arith) s.regions;
       past = λ n l. let q = s.past n (omega arith) l in omega (arith, q);
       owned = subst (λ (ds : List Definition). list_all (is_of_interfaces (length p.0)) ds ≡ true) (sym s.added.1) (subst (λ (n : ℕ). list_all (is_of_interfaces n) s.added.0 ≡ true) (omega arith) s.added.2);
     }
@@ -202,21 +202,21 @@ module _ (r : Resolve) where
       by false e on = on
 
   module _ (b : Begins r) where
-    pub names-parted : own_names r ≡ map (name_here r) b.front ++ labels_of (own_interfaces r)
+    pub names-parted : own_names r ≡ map (name_here r) b.front ++ labels_of (interfaces_of_package r)
     names-parted =
         ap (map (name_here r)) b.interfaces
-        ∙ (map-append (name_here r) b.front (own_interfaces r) ∙ ap (λ (ns : List (List ℕ)). map (name_here r) b.front ++ ns) (own-labels r.interfaces))
+        ∙ (map-append (name_here r) b.front (interfaces_of_package r) ∙ ap (λ (ns : List (List ℕ)). map (name_here r) b.front ++ ns) (own-labels r.interfaces))
 
     -- the own interfaces stand behind the others
-    pub own-at : (j : ℕ) → get_or (own_names r) (length b.front + j) [] ≡ get_or (labels_of (own_interfaces r)) j []
+    pub own-at : (j : ℕ) → get_or (own_names r) (length b.front + j) [] ≡ get_or (labels_of (interfaces_of_package r)) j []
     own-at j =
         ap (λ (ns : List (List ℕ)). get_or ns (length b.front + j) []) names-parted
-        ∙ get_or-append-right (map (name_here r) b.front) (labels_of (own_interfaces r)) [] (length b.front) j (sym (length-map b.front (name_here r)))
+        ∙ get_or-append-right (map (name_here r) b.front) (labels_of (interfaces_of_package r)) [] (length b.front) j (sym (length-map b.front (name_here r)))
 
     -- labels are those of the own interfaces too
-    pub own-are-labels : All IsLabel (labels_of r.interfaces) → All IsLabel (labels_of (own_interfaces r))
+    pub own-are-labels : All IsLabel (labels_of r.interfaces) → All IsLabel (labels_of (interfaces_of_package r))
     own-are-labels h =
-        all-right IsLabel (labels_of b.front) (labels_of (own_interfaces r)) (subst (All IsLabel) (ap labels_of b.interfaces ∙ map-append (λ (i : Interface). i.name) b.front (own_interfaces r)) h)
+        all-right IsLabel (labels_of b.front) (labels_of (interfaces_of_package r)) (subst (All IsLabel) (ap labels_of b.interfaces ∙ map-append (λ (i : Interface). i.name) b.front (interfaces_of_package r)) h)
 
 -- the own package is there
 pub own-there : (ps : List PackageParts) → 0 < length ps → slice_get ps (own_package ps) ≡ Some (own_parts ps)

@@ -11,7 +11,7 @@ use Rattle.std.proofs.lemmas.Slice.Eq.{bytes_eq-Decides}
 use Rattle.package_form.specs.Scope.{lowered}
 use Rattle.package_form.proofs.Lists.{all-head, all-tail, all-mono, all-contained, contains-left, contains-either, contains-map}
 use Rattle.tables.specs.PackageNames.{PackageParts}
-use Rattle.tree_meaning.specs.Declarations.{UsedItem, InterfaceTree, interface_at, interface_name, interface_names, no_interface, used_names, own_types, named_definition}
+use Rattle.tree_meaning.specs.Declarations.{UsedItem, InterfaceTree, interface_at, interface_tree_name, names_of_trees, no_interface, used_names, own_types, named_definition}
 use Rattle.tree_meaning.specs.Resolved.{no_type}
 use Rattle.tree_meaning.specs.Imports.{Imports}
 use Rattle.tree_meaning.specs.Resolves.{place_of, places, own_uses, uses_of_interface, interface_uses, uses_of_type, type_uses, IsKnownIn, IsKnownUseOf}
@@ -74,17 +74,17 @@ apart-across (x ∷ xs) ys n h c d = elim (contains-either (x ∷ []) xs n c) [
 
 pub interfaces-earlier : (m : Imports) (is : List InterfaceTree) → AreKnownTrees m [] is → UsesEarlier (interface_uses is)
 interfaces-earlier m is h k l =
-    let below : k < length is = omega (arith, l, length-map is (uses_of_interface (interface_names is))) in
+    let below : k < length is = omega (arith, l, length-map is (uses_of_interface (names_of_trees is))) in
     let i = interface_at is k in
     let uses : All (IsKnownUseOf m (take k is)) i.uses = (known-at m [] is h k below).uses in
-    let names = interface_names is in
+    let names = names_of_trees is in
     let wanted : All (IsEarlier k names) (own_uses i) = own-uses-all (IsEarlier k names) i.uses (λ u c e. taken-earlier k names u.interface (before u e (all-contained (IsKnownUseOf m (take k is)) i.uses u uses c))) in
     ap (list_all (λ u. nat_lt u k)) (get_or-map (uses_of_interface names) is k no_interface [] below) ∙ places-before k names (own_uses i) wanted
   where
-    before : (u : UsedItem) → u.«package» ≡ None → IsKnownUseOf m (take k is) u → Contains (take k (interface_names is)) u.interface
+    before : (u : UsedItem) → u.«package» ≡ None → IsKnownUseOf m (take k is) u → Contains (take k (names_of_trees is)) u.interface
     before u e x =
         let o = subst (λ (q : Option PackageParts). IsKnownIn m (take k is) q u.interface u.name) e x in
-        subst (λ (ns : List (List ℕ)). Contains ns u.interface) (sym (take-map interface_name k is)) (subst (Contains (map interface_name (take k is))) o.2 (contains-map interface_name (take k is) o.0 o.1))
+        subst (λ (ns : List (List ℕ)). Contains ns u.interface) (sym (take-map interface_tree_name k is)) (subst (Contains (map interface_tree_name (take k is))) o.2 (contains-map interface_tree_name (take k is) o.0 o.1))
 
 -- ---- types
 

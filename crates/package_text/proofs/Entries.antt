@@ -34,7 +34,7 @@ use Rattle.package_form.specs.Form.{ids_of}
 use Rattle.package_form.proofs.Lists.{flat_map-append, list-grows}
 use Rattle.package_form.proofs.Meeting.{split-at}
 use Rattle.tree_meaning.proofs.TableRows.{at-true}
-use Rattle.package_text.specs.Tree.{path_at, name_path, row_path, own_names, own_trees, local_of, use_entry, entry_by, entry_of, row_entries, entries_at}
+use Rattle.package_text.specs.Tree.{path_at, name_path, row_path, own_names, own_trees, local_of, use_entry, entry_by, entry_of, row_entries, written_at}
 use Rattle.package_text.specs.Pieces.{is_item}
 use Rattle.package_text.proofs.Standing.{name-at}
 
@@ -45,28 +45,28 @@ use-written r t n l h = ap (λ (x : Tree). use_entry (name_path r (name_at r.def
     ∙ ap (λ (m : Option TypeName). use_entry (name_path r m) (Reference (key_of (own_names r) n)) l) h
 
 module _ (r : Resolve) (k : ℕ) where
-  by-row : (o : Option Definition) → slice_get r.definitions k ≡ o → entries_at r k ≡ row_entries r o
+  by-row : (o : Option Definition) → slice_get r.definitions k ≡ o → written_at r k ≡ row_entries r o
   by-row o e = ap (row_entries r) e
 
-  pub no-entries : slice_get r.definitions k ≡ None → entries_at r k ≡ []
+  pub no-entries : slice_get r.definitions k ≡ None → written_at r k ≡ []
   no-entries e = by-row None e
 
-  pub unnamed-entries : (d : TypeDef) → slice_get r.definitions k ≡ Some (row.Type d) → d.name ≡ None → entries_at r k ≡ []
+  pub unnamed-entries : (d : TypeDef) → slice_get r.definitions k ≡ Some (row.Type d) → d.name ≡ None → written_at r k ≡ []
   unnamed-entries d e q = by-row (Some (row.Type d)) e ∙ ap (λ o. map (entry_of (row_path r (Some (row.Type d)))) (named_by (own_names r) (own_trees r) o d.kind)) q
 
   pub type-entries : (d : TypeDef) (n : TypeName) → slice_get r.definitions k ≡ Some (row.Type d) → d.name ≡ Some n
-      → entries_at r k ≡ entry_by (name_path r (name_at r.definitions (used_by d.kind))) n.name (meaning_of (own_trees r) d.kind) ∷ []
+      → written_at r k ≡ entry_by (name_path r (name_at r.definitions (used_by d.kind))) n.name (meaning_of (own_trees r) d.kind) ∷ []
   type-entries d n e q = by-row (Some (row.Type d)) e ∙ ap (λ o. map (entry_of (row_path r (Some (row.Type d)))) (named_by (own_names r) (own_trees r) o d.kind)) q
 
   by-owner : (f : Function) (o : Owner) → slice_get r.definitions k ≡ Some (row.Function f) → f.owner ≡ o
-      → entries_at r k ≡ map (entry_of (name_path r None)) (named_function (own_names r) o f.name (function_meaning (own_trees r) f))
+      → written_at r k ≡ map (entry_of (name_path r None)) (named_function (own_names r) o f.name (function_meaning (own_trees r) f))
   by-owner f o e q = by-row (Some (row.Function f)) e ∙ ap (λ x. map (entry_of (name_path r None)) (named_function (own_names r) x f.name (function_meaning (own_trees r) f))) q
 
   pub function-entries : (f : Function) (i : InterfaceId) → slice_get r.definitions k ≡ Some (row.Function f) → f.owner ≡ owner.Interface i
-      → entries_at r k ≡ entry_by (name_path r None) f.name (function_meaning (own_trees r) f) ∷ []
+      → written_at r k ≡ entry_by (name_path r None) f.name (function_meaning (own_trees r) f) ∷ []
   function-entries f i e q = by-owner f (owner.Interface i) e q
 
-  pub world-entries : (f : Function) (w : WorldId) → slice_get r.definitions k ≡ Some (row.Function f) → f.owner ≡ owner.World w → entries_at r k ≡ []
+  pub world-entries : (f : Function) (w : WorldId) → slice_get r.definitions k ≡ Some (row.Function f) → f.owner ≡ owner.World w → written_at r k ≡ []
   world-entries f w e q = by-owner f (owner.World w) e q
 
 -- ---- items that are appended, or not
@@ -81,15 +81,15 @@ unchanged old es h = sym (ap (λ (ys : List Entry). map entry_view old ++ ys) h 
 -- ---- interfaces
 
 pub interface-entries : (r : Resolve) (i : Interface)
-    → flat_map (entries_at r) (ids_of i)
-    ≡ flat_map (λ t. entries_at r t.0) i.uses ++ (flat_map (λ t. entries_at r t.0) i.types ++ flat_map (λ f. entries_at r f.0) i.functions)
+    → flat_map (written_at r) (ids_of i)
+    ≡ flat_map (λ t. written_at r t.0) i.uses ++ (flat_map (λ t. written_at r t.0) i.types ++ flat_map (λ f. written_at r f.0) i.functions)
 interface-entries r i =
-    flat_map-append (entries_at r) uses (types ++ functions)
-    ∙ (ap (λ (xs : List Entry). xs ++ flat_map (entries_at r) (types ++ functions)) (flat_map-map (entries_at r) (λ t. t.0) i.uses)
-    ∙ ap (λ (xs : List Entry). flat_map (λ t. entries_at r t.0) i.uses ++ xs)
-    (flat_map-append (entries_at r) types functions
-    ∙ (ap (λ (xs : List Entry). xs ++ flat_map (entries_at r) functions) (flat_map-map (entries_at r) (λ t. t.0) i.types)
-    ∙ ap (λ (xs : List Entry). flat_map (λ t. entries_at r t.0) i.types ++ xs) (flat_map-map (entries_at r) (λ f. f.0) i.functions))))
+    flat_map-append (written_at r) uses (types ++ functions)
+    ∙ (ap (λ (xs : List Entry). xs ++ flat_map (written_at r) (types ++ functions)) (flat_map-map (written_at r) (λ t. t.0) i.uses)
+    ∙ ap (λ (xs : List Entry). flat_map (λ t. written_at r t.0) i.uses ++ xs)
+    (flat_map-append (written_at r) types functions
+    ∙ (ap (λ (xs : List Entry). xs ++ flat_map (written_at r) functions) (flat_map-map (written_at r) (λ t. t.0) i.types)
+    ∙ ap (λ (xs : List Entry). flat_map (λ t. written_at r t.0) i.types ++ xs) (flat_map-map (written_at r) (λ f. f.0) i.functions))))
   where
     uses : List ℕ
     uses = map (λ t. t.0) i.uses
@@ -102,18 +102,18 @@ interface-entries r i =
 
 -- what is appended for the three parts, one behind the other
 pub interface-pushed : (r : Resolve) (i : Interface) (us ts : List TypeId) (fs : List FunctionId) (none first second all : List Entry) → us ≡ i.uses → ts ≡ i.types → fs ≡ i.functions → none ≡ []
-    → first ≡ none ++ flat_map (λ t. entries_at r t.0) us → second ≡ first ++ flat_map (λ t. entries_at r t.0) ts → all ≡ second ++ flat_map (λ f. entries_at r f.0) fs
-    → all ≡ flat_map (entries_at r) (ids_of i)
+    → first ≡ none ++ flat_map (λ t. written_at r t.0) us → second ≡ first ++ flat_map (λ t. written_at r t.0) ts → all ≡ second ++ flat_map (λ f. written_at r f.0) fs
+    → all ≡ flat_map (written_at r) (ids_of i)
 interface-pushed r i us ts fs none first second all u t f n a b c =
     let begun : first ≡ used us = a ∙ ap (λ (xs : List Entry). xs ++ used us) n in
     let same : used us ++ (used ts ++ declared fs) ≡ used i.uses ++ (used i.types ++ declared i.functions) = cc in
     c ∙ ap (λ (xs : List Entry). xs ++ declared fs) (b ∙ ap (λ (xs : List Entry). xs ++ used ts) begun) ∙ append_assoc (used us) (used ts) (declared fs) ∙ same ∙ sym (interface-entries r i)
   where
     used : List TypeId → List Entry
-    used ids = flat_map (λ t. entries_at r t.0) ids
+    used ids = flat_map (λ t. written_at r t.0) ids
 
     declared : List FunctionId → List Entry
-    declared ids = flat_map (λ f. entries_at r f.0) ids
+    declared ids = flat_map (λ f. written_at r f.0) ids
 
 -- ---- worlds
 

@@ -35,7 +35,7 @@ use Rattle.tree_meaning.specs.Imports.{Import, nameless, no_import, import_at, i
 use Rattle.tree_meaning.specs.Resolves.{IsKnownIn, IsKnownItemOf, is_of_interfaces, AreImports}
 use Rattle.tree_meaning.proofs.FileEntries.{found}
 use Rattle.tree_meaning.proofs.Imported.{nowhere, imports-length, imports-at, at-itself, import-named}
-use Rattle.package_text.specs.Tree.{other_package, path_in, path_if, name_here, own_names, own_interfaces, own_parts}
+use Rattle.package_text.specs.Tree.{other_package, path_in, path_if, name_here, own_names, interfaces_of_package, own_parts}
 use Rattle.package_text.specs.Writable.{IsWritable}
 use Rattle.package_text.specs.Imports.{AreImportsOf}
 use Rattle.package_text.proofs.Regions.{AreRegions, no_region, and_region, home}
@@ -140,7 +140,7 @@ some-same e = cc
 
 module _ (r imports : Resolve) (w : IsWritable r) (a : AreImportsOf r imports) (labels : All IsLabel (labels_of r.interfaces)) where
   pub front-same : (begins r w.form).front ≡ imports.interfaces
-  front-same = append_cancel_right (begins r w.form).front imports.interfaces (own_interfaces r) (sym (begins r w.form).interfaces ∙ a.interfaces)
+  front-same = append_cancel_right (begins r w.form).front imports.interfaces (interfaces_of_package r) (sym (begins r w.form).interfaces ∙ a.interfaces)
 
   rows-parted : ((begins r w.form).before ≡ imports.definitions) × ((begins r w.form).behind ≡ a.rows.0)
   rows-parted =
@@ -170,10 +170,10 @@ module _ (r imports : Resolve) (w : IsWritable r) (a : AreImportsOf r imports) (
       ap (λ (o : Option PackageParts). full_name_in o i.name ∷ map (name_here r) is) (other-is i l) ∙ ap (λ (ns : List (List ℕ)). full_name imports i ∷ ns) (names-from i.«package».0 is s.1)
 
   -- imports go by their full names, and own interfaces by their labels
-  pub names-are : own_names r ≡ interface_names imports ++ labels_of (own_interfaces r)
+  pub names-are : own_names r ≡ interface_names imports ++ labels_of (interfaces_of_package r)
   names-are =
       names-parted r (begins r w.form)
-      ∙ ap (λ (ns : List (List ℕ)). ns ++ labels_of (own_interfaces r)) (ap (map (name_here r)) front-same ∙ names-from 0 imports.interfaces imports.grouped)
+      ∙ ap (λ (ns : List (List ℕ)). ns ++ labels_of (interfaces_of_package r)) (ap (map (name_here r)) front-same ∙ names-from 0 imports.interfaces imports.grouped)
 
   fulls-from : (first : ℕ) (is : List Interface) → are_grouped (length imports.packages) first is ≡ true → map (full_name r) is ≡ map (full_name imports) is
   fulls-from first [] h = refl
@@ -200,17 +200,17 @@ module _ (r imports : Resolve) (w : IsWritable r) (a : AreImportsOf r imports) (
       by false e on = on
 
   -- the full names of all
-  pub fulls-are : interface_names r ≡ interface_names imports ++ map (own_name (own_parts r.packages)) (labels_of (own_interfaces r))
+  pub fulls-are : interface_names r ≡ interface_names imports ++ map (own_name (own_parts r.packages)) (labels_of (interfaces_of_package r))
   fulls-are =
       ap (map (full_name r)) a.interfaces
-      ∙ (map-append (full_name r) imports.interfaces (own_interfaces r)
-      ∙ (ap (λ (ns : List (List ℕ)). ns ++ map (full_name r) (own_interfaces r)) (fulls-from 0 imports.interfaces imports.grouped)
+      ∙ (map-append (full_name r) imports.interfaces (interfaces_of_package r)
+      ∙ (ap (λ (ns : List (List ℕ)). ns ++ map (full_name r) (interfaces_of_package r)) (fulls-from 0 imports.interfaces imports.grouped)
       ∙ ap (λ (ns : List (List ℕ)). interface_names imports ++ ns) (fulls-own r.interfaces)))
 
   -- ---- as a table of imports
 
-  long : length r.interfaces ≡ length imports.interfaces + length (own_interfaces r)
-  long = ap length a.interfaces ∙ length-append imports.interfaces (own_interfaces r)
+  long : length r.interfaces ≡ length imports.interfaces + length (interfaces_of_package r)
+  long = ap length a.interfaces ∙ length-append imports.interfaces (interfaces_of_package r)
 
   apart : AreApart (interfaces_of imports)
   apart = record {
@@ -231,7 +231,7 @@ module _ (r imports : Resolve) (w : IsWritable r) (a : AreImportsOf r imports) (
       full-at : (j : ℕ) → j < length imports.interfaces → get_or (interface_names r) j [] ≡ get_or (interface_names imports) j []
       full-at j l =
           ap (λ (ns : List (List ℕ)). get_or ns j []) fulls-are
-          ∙ get_or_append_left (interface_names imports) (map (own_name (own_parts r.packages)) (labels_of (own_interfaces r))) [] j (omega (arith, l, length-map imports.interfaces (full_name imports)))
+          ∙ get_or_append_left (interface_names imports) (map (own_name (own_parts r.packages)) (labels_of (interfaces_of_package r))) [] j (omega (arith, l, length-map imports.interfaces (full_name imports)))
 
   regions : AreRegions r.definitions (home 0 0 r.interfaces) 0 [] r.interfaces r.definitions
   regions = form-regions r w.form
@@ -252,7 +252,7 @@ module _ (r imports : Resolve) (w : IsWritable r) (a : AreImportsOf r imports) (
           let same = owned.onward front d b.behind flat u in
           let long = ap length e ∙ length-append front (d ∷ []) in
           let low = b.past (length front) (omega (arith, long)) in
-          let high = at-least r.definitions (home 0 0 r.interfaces) (length b.front) b.before (own_interfaces r) b.behind b.regions in
+          let high = at-least r.definitions (home 0 0 r.interfaces) (length b.front) b.before (interfaces_of_package r) b.behind b.regions in
           let here : home 0 0 r.interfaces (length b.before) ≡ home 0 0 r.interfaces (suc (length front)) = ap (home 0 0 r.interfaces) (omega (arith, long)) in
           absurd (omega (arith, same, low, high, here))
       by front d e false u =
@@ -292,7 +292,7 @@ module _ (r imports : Resolve) (w : IsWritable r) (a : AreImportsOf r imports) (
       let q = package-there imports.packages i.«package».0 inside in
       let other : other_package r i ≡ Some q.0 = other-is i inside ∙ q.1 in
       let place : j < length r.interfaces = let s = long in omega (arith, l, s) in
-      let at : slice_get r.interfaces j ≡ Some i = ap (λ (is : List Interface). slice_get is j) a.interfaces ∙ (get-front imports.interfaces (own_interfaces r) j l ∙ got) in
+      let at : slice_get r.interfaces j ≡ Some i = ap (λ (is : List Interface). slice_get is j) a.interfaces ∙ (get-front imports.interfaces (interfaces_of_package r) j l ∙ got) in
       let path : path_named (get_or (own_names r) j []) ≡ Foreign q.0.namespace q.0.name q.0.version i.name =
       sym (paths-spelt r w.form.names labels j place) ∙ (ap (path_if r) at ∙ ap (λ (o : Option PackageParts). path_in o i.name) other) in
       record {
@@ -307,32 +307,32 @@ module _ (r imports : Resolve) (w : IsWritable r) (a : AreImportsOf r imports) (
 
   -- an own interface goes by its label
   own-path : (j : ℕ) → length imports.interfaces ≤ j → j < length r.interfaces
-      → (path_named (get_or (own_names r) j []) ≡ Local (get_or (own_names r) j [])) × Contains (labels_of (own_interfaces r)) (get_or (own_names r) j [])
+      → (path_named (get_or (own_names r) j []) ≡ Local (get_or (own_names r) j [])) × Contains (labels_of (interfaces_of_package r)) (get_or (own_names r) j [])
   own-path j l u =
       let m = length imports.interfaces in
       let k = j - length imports.interfaces in
       let s = long in
       let front = ap length front-same in
-      let label : get_or (own_names r) j [] ≡ get_or (labels_of (own_interfaces r)) k [] =
+      let label : get_or (own_names r) j [] ≡ get_or (labels_of (interfaces_of_package r)) k [] =
       ap (λ (n : ℕ). get_or (own_names r) n []) (omega (arith, l, front)) ∙ own-at r (begins r w.form) k in
-      let counted = length-map (own_interfaces r) (λ (i : Interface). i.name) in
-      let inside : k < length (labels_of (own_interfaces r)) = omega (arith, l, u, s, counted) in
-      let there : Contains (labels_of (own_interfaces r)) (get_or (labels_of (own_interfaces r)) k []) =
-      (k, inside, get_or_default (labels_of (own_interfaces r)) k (get_or (labels_of (own_interfaces r)) k []) [] inside) in
+      let counted = length-map (interfaces_of_package r) (λ (i : Interface). i.name) in
+      let inside : k < length (labels_of (interfaces_of_package r)) = omega (arith, l, u, s, counted) in
+      let there : Contains (labels_of (interfaces_of_package r)) (get_or (labels_of (interfaces_of_package r)) k []) =
+      (k, inside, get_or_default (labels_of (interfaces_of_package r)) k (get_or (labels_of (interfaces_of_package r)) k []) [] inside) in
       let is : IsLabel (get_or (own_names r) j []) =
-      subst IsLabel (sym label) (all-contained IsLabel (labels_of (own_interfaces r)) (get_or (labels_of (own_interfaces r)) k []) (own-are-labels r (begins r w.form) labels) there) in
-      (label-path (get_or (own_names r) j []) is, subst (Contains (labels_of (own_interfaces r))) (sym label) there)
+      subst IsLabel (sym label) (all-contained IsLabel (labels_of (interfaces_of_package r)) (get_or (labels_of (interfaces_of_package r)) k []) (own-are-labels r (begins r w.form) labels) there) in
+      (label-path (get_or (own_names r) j []) is, subst (Contains (labels_of (interfaces_of_package r))) (sym label) there)
 
   -- the interfaces that items of worlds name are known
-  pub items-there : (d : Way) (j : ℕ) → j < length r.interfaces → IsKnownItemOf (imports_of imports) (labels_of (own_interfaces r)) (item_tree (Whole d (path_named (get_or (own_names r) j []))))
+  pub items-there : (d : Way) (j : ℕ) → j < length r.interfaces → IsKnownItemOf (imports_of imports) (labels_of (interfaces_of_package r)) (item_tree (Whole d (path_named (get_or (own_names r) j []))))
   items-there d j u = elim (cases_lt j (length imports.interfaces)) [
     | inl l ↦
         let x = import-here j l in
-        subst (λ (p : PathTo). IsKnownItemOf (imports_of imports) (labels_of (own_interfaces r)) (item_tree (Whole d p))) (sym x.path)
+        subst (λ (p : PathTo). IsKnownItemOf (imports_of imports) (labels_of (interfaces_of_package r)) (item_tree (Whole d p))) (sym x.path)
         (import_at (interfaces_of imports) j, at-itself (interfaces_of imports) j x.below, ap (λ (k : Import). k.«package») x.is ∙ x.named, ap (λ (k : Import). k.name) x.is)
     | inr l ↦
         let x = own-path j l u in
-        subst (λ (p : PathTo). IsKnownItemOf (imports_of imports) (labels_of (own_interfaces r)) (item_tree (Whole d p))) (sym x.0) x.1
+        subst (λ (p : PathTo). IsKnownItemOf (imports_of imports) (labels_of (interfaces_of_package r)) (item_tree (Whole d p))) (sym x.0) x.1
   ]
 
   -- a type of an import is known by the import's path
@@ -363,7 +363,7 @@ module _ (r imports : Resolve) (w : IsWritable r) (a : AreImportsOf r imports) (
       let x = import-here m.interface.0 inside in
       let one : listed-so.one ≡ x.one =
       some-same (sym listed-so.stands ∙ (ap (slice_get r.interfaces) at-j
-      ∙ (ap (λ (is : List Interface). slice_get is m.interface.0) a.interfaces ∙ (get-front imports.interfaces (own_interfaces r) m.interface.0 inside ∙ x.there)))) in
+      ∙ (ap (λ (is : List Interface). slice_get is m.interface.0) a.interfaces ∙ (get-front imports.interfaces (interfaces_of_package r) m.interface.0 inside ∙ x.there)))) in
       let id = listed-so.has.0 in
       let among : Contains (x.one.uses ++ x.one.types) id = subst (λ (y : Interface). Contains (y.uses ++ y.types) id) one listed-so.has.1 in
       let rows-at : slice_get imports.definitions id.0 ≡ Some (row.Type d) =

@@ -9,8 +9,8 @@ use Rattle.wit_syntax.specs.Syntax.{Entry, FileEntry, AnInterface}
 use Rattle.tables.specs.Package.{Tree, Reference, Key, IsUse, IsType, IsFunction, NamedDefinition}
 use Rattle.placement.specs.Order.{IsPlacement}
 use Rattle.tables.specs.Names.{full_name_in}
-use Rattle.tree_meaning.specs.Declarations.{path_package, path_interface, TypeItem, InterfaceTree, entry_uses, entry_types, entry_functions, name_or, interface_tree, interface_of, interface_names, own_types}
-use Rattle.tree_meaning.specs.Resolved.{Labelled, fields_of, use_meaning, type_meaning, function_meaning, interface_meaning, in_order, no_type, resolved_if}
+use Rattle.tree_meaning.specs.Declarations.{path_package, path_interface, TypeItem, InterfaceTree, entry_uses, entry_types, entry_functions, name_or, interface_tree, interface_of, names_of_trees, own_types}
+use Rattle.tree_meaning.specs.Resolved.{Labelled, fields_of_labelled, use_meaning, type_meaning, meaning_of_function, interface_meaning, in_order, no_type, resolved_if}
 use Rattle.tree_meaning.specs.Resolves.{interface_uses, uses_of_interface, type_uses, uses_of_type}
 use Rattle.tree_meaning.proofs.Finding.{same-bytes}
 use Rattle.package_text.proofs.Back.{Anything, MaybeExpressed, FieldsExpressed, Defined, members-back, maybe-back, body-back}
@@ -34,7 +34,7 @@ pub data TypeOf (i : List ℕ) : NamedDefinition → Type 0 where
 
 pub data FunctionOf (i : List ℕ) : NamedDefinition → Type 0 where
   a_function : (n : List ℕ) (fs : List Labelled) (result : Option Tree) → FieldsExpressed i Anything fs → MaybeExpressed i Anything result
-      → FunctionOf i (record { key = record { interface = i; name = n }; meaning = IsFunction (fields_of fs) result })
+      → FunctionOf i (record { key = record { interface = i; name = n }; meaning = IsFunction (fields_of_labelled fs) result })
 
 -- what is written interface by interface, and the definitions that it is written for: in each interface uses, types and functions, which name
 -- types of their own interface
@@ -90,12 +90,12 @@ types-no-functions : (i : List ℕ) (ts : List NamedDefinition) → Each (TypeOf
 types-no-functions i _ none_left = refl
 types-no-functions i _ (and_next _ ts (a_type n t d) e) = types-no-functions i ts e
 
-functions-back : (i : List ℕ) (fs : List NamedDefinition) → Each (FunctionOf i) fs → map (function_meaning i) (flat_map entry_functions (map entry_of fs)) ≡ fs
+functions-back : (i : List ℕ) (fs : List NamedDefinition) → Each (FunctionOf i) fs → map (meaning_of_function i) (flat_map entry_functions (map entry_of fs)) ≡ fs
 functions-back i _ none_left = refl
 functions-back i _ (and_next _ ds (a_function n fs result h g) e) =
-    ap (λ xs. record { key = record { interface = i; name = n }; meaning = IsFunction (fields_of xs) (resolved_if i (option_map ty_of result)) } ∷ map (function_meaning i) (flat_map entry_functions (map entry_of ds))) (members-back i Anything fs h)
-    ∙ (ap (λ x. record { key = record { interface = i; name = n }; meaning = IsFunction (fields_of fs) x } ∷ map (function_meaning i) (flat_map entry_functions (map entry_of ds))) (maybe-back i Anything result g)
-    ∙ ap (λ xs. record { key = record { interface = i; name = n }; meaning = IsFunction (fields_of fs) result } ∷ xs) (functions-back i ds e))
+    ap (λ xs. record { key = record { interface = i; name = n }; meaning = IsFunction (fields_of_labelled xs) (resolved_if i (option_map ty_of result)) } ∷ map (meaning_of_function i) (flat_map entry_functions (map entry_of ds))) (members-back i Anything fs h)
+    ∙ (ap (λ x. record { key = record { interface = i; name = n }; meaning = IsFunction (fields_of_labelled fs) x } ∷ map (meaning_of_function i) (flat_map entry_functions (map entry_of ds))) (maybe-back i Anything result g)
+    ∙ ap (λ xs. record { key = record { interface = i; name = n }; meaning = IsFunction (fields_of_labelled fs) result } ∷ xs) (functions-back i ds e))
 
 functions-no-uses : (i : List ℕ) (fs : List NamedDefinition) → Each (FunctionOf i) fs → flat_map entry_uses (map entry_of fs) ≡ []
 functions-no-uses i _ none_left = refl
@@ -137,9 +137,9 @@ interface-back n us ts fs a b c =
     let types : List TypeItem = flat_map entry_types (map entry_of (us ++ (ts ++ fs))) in
     let first : map (use_meaning n) (flat_map entry_uses (map entry_of (us ++ (ts ++ fs)))) ≡ us = ap (map (use_meaning n)) (parts-uses n us ts fs a b c) ∙ uses-back n us a in
     let second : in_order n types (places_of (length types)) ≡ ts = map-places (type_meaning n) no_type types ∙ (ap (map (type_meaning n)) (parts-types n us ts fs a b c) ∙ types-back n ts b) in
-    let third : map (function_meaning n) (flat_map entry_functions (map entry_of (us ++ (ts ++ fs)))) ≡ fs = ap (map (function_meaning n)) (parts-functions n us ts fs a b c) ∙ functions-back n fs c in
-    ap (λ xs. xs ++ (in_order n types (places_of (length types)) ++ map (function_meaning n) (flat_map entry_functions (map entry_of (us ++ (ts ++ fs)))))) first
-    ∙ (ap (λ xs. us ++ (xs ++ map (function_meaning n) (flat_map entry_functions (map entry_of (us ++ (ts ++ fs)))))) second ∙ ap (λ xs. us ++ (ts ++ xs)) third)
+    let third : map (meaning_of_function n) (flat_map entry_functions (map entry_of (us ++ (ts ++ fs)))) ≡ fs = ap (map (meaning_of_function n)) (parts-functions n us ts fs a b c) ∙ functions-back n fs c in
+    ap (λ xs. xs ++ (in_order n types (places_of (length types)) ++ map (meaning_of_function n) (flat_map entry_functions (map entry_of (us ++ (ts ++ fs)))))) first
+    ∙ (ap (λ xs. us ++ (xs ++ map (meaning_of_function n) (flat_map entry_functions (map entry_of (us ++ (ts ++ fs)))))) second ∙ ap (λ xs. us ++ (ts ++ xs)) third)
 
 -- ---- all of them
 
@@ -158,7 +158,7 @@ parts-back _ _ (and_part n us ts fs a b c es ds p) =
 
 -- Interfaces that name earlier ones alone are placed as they stand.
 pub placed-here : (is : List InterfaceTree) → NamesEarlier is → IsPlacement (interface_uses is) (places_of (length is))
-placed-here is e = subst (λ n. IsPlacement (interface_uses is) (places_of n)) (length-map is (uses_of_interface (interface_names is))) (own-placement (interface_uses is) e.interfaces)
+placed-here is e = subst (λ n. IsPlacement (interface_uses is) (places_of n)) (length-map is (uses_of_interface (names_of_trees is))) (own-placement (interface_uses is) e.interfaces)
 
 pub types-placed : (i : InterfaceTree) → UsesEarlier (type_uses i) → IsPlacement (type_uses i) (places_of (length i.types))
 types-placed i e = subst (λ n. IsPlacement (type_uses i) (places_of n)) (length-map i.types (uses_of_type (own_types i))) (own-placement (type_uses i) e)

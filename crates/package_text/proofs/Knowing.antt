@@ -5,7 +5,7 @@ use Rattle.std.proofs.lemmas.List.{get_or_default}
 use Rattle.tables.specs.PackageNames.{PackageParts}
 use Rattle.tables.specs.Package.{Reference, Key, Meaning, IsUse, IsType, IsFunction, NamedDefinition}
 use Rattle.package_form.proofs.Lists.{all-none, all-cons, all-mono, contains-left, contains-right, contains-either, flat_map-append}
-use Rattle.tree_meaning.specs.Declarations.{path_package, path_interface, TypeItem, FunctionItem, InterfaceTree, entry_uses, entry_types, entry_functions, interface_tree, no_interface, use_local, type_name, used_names, own_types, type_names, named_definition, named_function}
+use Rattle.tree_meaning.specs.Declarations.{path_package, path_interface, TypeItem, FunctionItem, InterfaceTree, entry_uses, entry_types, entry_functions, interface_tree, no_interface, use_local, type_name, used_names, own_types, type_names, named_definition, names_in_function}
 use Rattle.tree_meaning.specs.Resolved.{no_type}
 use Rattle.tree_meaning.specs.Imports.{Imports}
 use Rattle.tree_meaning.specs.Resolves.{IsKnownIn, IsKnownUseOf, HasKnownNamesOf}
@@ -43,7 +43,7 @@ type-more m before is more k h = known-more-in m before is more (path_package (p
 abbrev pub IsKnownBy : Imports → List InterfaceTree → List (List ℕ) → Meaning → Type 0
 IsKnownBy m before known (IsUse t) = (k : Key) × (t ≡ Reference k) × HasType m before k
 IsKnownBy m before known (IsType t) = All (Contains known) (named_definition (body_of t))
-IsKnownBy m before known (IsFunction fs result) = All (Contains known) (named_function (function_by fs result))
+IsKnownBy m before known (IsFunction fs result) = All (Contains known) (names_in_function (function_by fs result))
 
 -- each of these definitions, where those before it give these names
 abbrev pub AreKnownBy : Imports → List InterfaceTree → List (List ℕ) → List NamedDefinition → Type 0
@@ -54,7 +54,7 @@ module _ (m : Imports) (before : List InterfaceTree) where
   known-more : (known more : List (List ℕ)) (x : Meaning) → IsKnownBy m before known x → IsKnownBy m before (known ++ more) x
   known-more known more (IsUse t) h = h
   known-more known more (IsType t) h = all-mono (Contains known) (Contains (known ++ more)) (λ n c. contains-left known more n c) (named_definition (body_of t)) h
-  known-more known more (IsFunction fs result) h = all-mono (Contains known) (Contains (known ++ more)) (λ n c. contains-left known more n c) (named_function (function_by fs result)) h
+  known-more known more (IsFunction fs result) h = all-mono (Contains known) (Contains (known ++ more)) (λ n c. contains-left known more n c) (names_in_function (function_by fs result)) h
 
   pub known-append : (known : List (List ℕ)) (ds es : List NamedDefinition) → Every (λ x. IsKnownBy m before known x.meaning) ds → AreKnownBy m before (known ++ flat_map gives ds) es → AreKnownBy m before known (ds ++ es)
   known-append known [] es h on = subst (λ ns. AreKnownBy m before ns es) (append-nil known) on
@@ -78,7 +78,7 @@ module _ (m : Imports) (before : List InterfaceTree) where
 pub record IsKnownTree (m : Imports) (before : List InterfaceTree) (i : InterfaceTree) : Type 0 where
   pub uses : All (IsKnownUseOf m before) i.uses
   pub types : (k : ℕ) → k < length i.types → All (Contains (used_names i ++ take k (own_types i))) (named_definition (get_or i.types k no_type).definition)
-  pub functions : All (λ f. All (Contains (type_names i)) (named_function f.function)) i.functions
+  pub functions : All (λ f. All (Contains (type_names i)) (names_in_function f.function)) i.functions
 
 pub uses-given : (i : List ℕ) (us : List NamedDefinition) → Each (UseOf i) us → map use_local (flat_map entry_uses (map entry_of us)) ≡ flat_map gives us
 uses-given i _ none_left = refl
@@ -110,10 +110,10 @@ module _ (m : Imports) (before : List InterfaceTree) (i : List ℕ) where
       (append_assoc known (n ∷ []) (take k (map type_name (flat_map entry_types (map entry_of ts))))) (types-known (known ++ n ∷ []) ts e h.1 k (omega (arith, l)))
 
   functions-known : (known : List (List ℕ)) (fs : List NamedDefinition) → Each (FunctionOf i) fs → AreKnownBy m before known fs
-      → All (λ f. All (Contains known) (named_function f.function)) (flat_map entry_functions (map entry_of fs))
-  functions-known known _ none_left h = all-none (λ (f : FunctionItem). All (Contains known) (named_function f.function))
+      → All (λ f. All (Contains known) (names_in_function f.function)) (flat_map entry_functions (map entry_of fs))
+  functions-known known _ none_left h = all-none (λ (f : FunctionItem). All (Contains known) (names_in_function f.function))
   functions-known known _ (and_next _ ds (a_function n fs result g u) e) h =
-      all-cons (λ (f : FunctionItem). All (Contains known) (named_function f.function)) _ (flat_map entry_functions (map entry_of ds)) h.0
+      all-cons (λ (f : FunctionItem). All (Contains known) (names_in_function f.function)) _ (flat_map entry_functions (map entry_of ds)) h.0
       (functions-known known ds e (subst (λ ns. AreKnownBy m before ns ds) (append-nil known) h.1))
 
 module _ (m : Imports) (before : List InterfaceTree) (i : List ℕ) (us ts fs : List NamedDefinition) (a : Each (UseOf i) us) (b : Each (TypeOf i) ts) (c : Each (FunctionOf i) fs) where
@@ -146,7 +146,7 @@ module _ (m : Imports) (before : List InterfaceTree) (i : List ℕ) (us ts fs : 
             subst (λ ns. All (Contains (ns ++ take k (own_types part_tree))) (named_definition (get_or part_tree.types k no_type).definition)) (sym part-used)
             (subst (λ (xs : List TypeItem). All (Contains (flat_map gives us ++ take k (map type_name xs))) (named_definition (get_or xs k no_type).definition)) (sym (parts-types i us ts fs a b c))
             (types-known m before i (flat_map gives us) ts b (known-front m before (flat_map gives us) ts fs rest) k (subst (λ (xs : List TypeItem). k < length xs) (parts-types i us ts fs a b c) l)));
-        functions = subst (All (λ f. All (Contains (type_names part_tree)) (named_function f.function))) (sym (parts-functions i us ts fs a b c))
+        functions = subst (All (λ f. All (Contains (type_names part_tree)) (names_in_function f.function))) (sym (parts-functions i us ts fs a b c))
             (functions-known m before i (type_names part_tree) fs c last);
       }
 

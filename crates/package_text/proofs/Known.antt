@@ -21,8 +21,8 @@ use Rattle.package_form.specs.Ids.{is_use, is_owned_by, is_of_worlds}
 use Rattle.package_form.specs.Form.{is_own_name, is_earlier_name}
 use Rattle.package_form.proofs.Lists.{all-append}
 use Rattle.tree_meaning.specs.Building.{read_parameter}
-use Rattle.tree_meaning.specs.Declarations.{named_if, named_member, named_definition, named_function as function_names}
-use Rattle.tree_meaning.specs.Resolved.{fields_of}
+use Rattle.tree_meaning.specs.Declarations.{named_if, named_member, named_definition, names_in_function}
+use Rattle.tree_meaning.specs.Resolved.{fields_of_labelled}
 use Rattle.tree_meaning.proofs.Staying.{parameters-read}
 use Rattle.tree_meaning.proofs.Referring.{Every}
 use Rattle.tree_meaning.proofs.TableRows.{name-tree}
@@ -37,7 +37,7 @@ module _ (ns : List (List ℕ)) (front : List Definition) (k : ℕ) where
   abbrev pub IsTold : Meaning → Type 0
   IsTold (IsUse t) = (m : TypeName) × (t ≡ Reference (key_of ns m)) × (m.interface.0 < k) × IsNamed front m.interface.0 m.name
   IsTold (IsType t) = All (IsNamed front k) (named_definition (body_of t))
-  IsTold (IsFunction fs result) = All (IsNamed front k) (function_names (function_by fs result))
+  IsTold (IsFunction fs result) = All (IsNamed front k) (names_in_function (function_by fs result))
 
   use-told : (t : TypeId) → is_earlier_row k (slice_get front t.0) ≡ true → IsTold (meaning_of (references ns [] front) (kind.Use t))
   use-told t h = by (slice_get front t.0) refl h
@@ -78,7 +78,7 @@ module _ (ns : List (List ℕ)) (front : List Definition) (k : ℕ) where
       let result = option_map (read_val trees) f.result in
       let params = map (read_parameter trees) f.params in
       subst (λ xs. All (IsNamed front k) (flat_map named_member (members_in xs) ++ named_if (option_map ty_of result))) (sym (parameters-read trees f.params))
-      (all-append (IsNamed front k) (flat_map named_member (members_in (fields_of params))) (named_if (option_map ty_of result))
+      (all-append (IsNamed front k) (flat_map named_member (members_in (fields_of_labelled params))) (named_if (option_map ty_of result))
       (members-names (get_or ns k []) (IsNamed front k) params
       (params-expressed ns front k f.params u.0 (each-front (PlaceExpressed ns front k) (flat_map (unnamed_parameter front) f.params) (unnamed_if front f.result) e)))
       (maybe-names (get_or ns k []) (IsNamed front k) result

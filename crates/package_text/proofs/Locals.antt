@@ -17,7 +17,7 @@ use Rattle.tables.specs.declared.tables.Case.{Case}
 use Rattle.tables.specs.declared.tables.Definition.{Definition}
 use Rattle.tables.specs.declared.tables.Definition.TheVariants as row
 use Rattle.package_form.specs.Ids.{is_owned_by, is_of_worlds, is_use}
-use Rattle.package_form.specs.References.{references, references_if, field_references, case_references, parameter_references, kind_references, row_references}
+use Rattle.package_form.specs.References.{type_references, references_if, field_references, case_references, parameter_references, kind_references, row_references}
 use Rattle.package_form.specs.Form.{is_own_name, is_own_type, is_own, is_earlier_type, uses_earlier, is_owned, is_local, is_nameless_type, is_nameless}
 use Rattle.tables.specs.declared.tables.TypeDef.{TypeDef}
 use Rattle.tree_meaning.proofs.Owning.{is_inner_row}
@@ -47,7 +47,7 @@ module _ (ns : List (List ℕ)) (front rest : List Definition) (k : ℕ) where
       → (list_all (is_own (front ++ rest) k) xs ≡ true) × (list_all (is_own (front ++ rest) k) ys ≡ true)
   owns-both xs ys h = and_parts (list_all (is_own (front ++ rest) k) xs) (list_all (is_own (front ++ rest) k) ys) (sym (list_all-append (is_own (front ++ rest) k) xs ys) ∙ h)
 
-  val-own : (v : ValType) → below v ≡ true → Owns (references v) → by_front.is_own front k v ≡ true
+  val-own : (v : ValType) → below v ≡ true → Owns (type_references v) → by_front.is_own front k v ≡ true
   val-own (val.Primitive p) b h = refl
   val-own val.String b h = refl
   val-own (val.Id t) b h =
@@ -58,11 +58,11 @@ module _ (ns : List (List ℕ)) (front rest : List Definition) (k : ℕ) where
   if-own None b h = refl
   if-own (Some v) b h = val-own v b h
 
-  all-own : (vs : List ValType) → list_all below vs ≡ true → Owns (flat_map references vs) → list_all (by_front.is_own front k) vs ≡ true
+  all-own : (vs : List ValType) → list_all below vs ≡ true → Owns (flat_map type_references vs) → list_all (by_front.is_own front k) vs ≡ true
   all-own [] b h = refl
   all-own (v ∷ vs) b h =
       let s = and_parts (below v) (list_all below vs) b in
-      let t = owns-both (references v) (flat_map references vs) h in
+      let t = owns-both (type_references v) (flat_map type_references vs) h in
       ap (λ x. x && list_all (by_front.is_own front k) vs) (val-own v s.0 t.0) ∙ all-own vs s.1 t.1
 
   fields-own : (fs : List Field) → list_all (λ f. below f.ty) fs ≡ true → Owns (flat_map field_references fs) → list_all (λ f. by_front.is_own front k f.ty) fs ≡ true

@@ -8,7 +8,7 @@ use Rattle.tables.specs.declared.tables.World.{World}
 use Rattle.tables.specs.declared.tables.Resolve.{Resolve}
 use Rattle.package_form.specs.Form.{ids_of}
 use Rattle.package_text.specs.Written.{ty_of, body_of, direction_for}
-use Rattle.package_text.specs.Tree.{own_names, own_trees, definitions_in, local_of, function_by, own_interfaces, own_item, own_parts}
+use Rattle.package_text.specs.Tree.{own_names, own_trees, definitions_in, local_of, function_by, interfaces_of_package, own_item, own_parts}
 use Rattle.package_text.proofs.Paths.{path_named}
 
 abbrev pub use_entry : Tree → List ℕ → Entry
@@ -42,5 +42,5 @@ file_of r =
       namespace = p.namespace;
       name = p.name;
       version = p.version;
-      entries = map (interface_entry r) (own_interfaces r) ++ map (world_entry r) r.worlds;
+      entries = map (interface_entry r) (interfaces_of_package r) ++ map (world_entry r) r.worlds;
     }

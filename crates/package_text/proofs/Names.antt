@@ -5,7 +5,7 @@ use Rattle.std.specs.Option.{option_map}
 use Rattle.tables.specs.Package.{Tree, Choices}
 use Rattle.package_form.proofs.Lists.{all-none, all-cons, all-head, all-tail, all-append, all-mono}
 use Rattle.tree_meaning.specs.Declarations.{named, named_all, named_if, named_member, named_case, named_definition}
-use Rattle.tree_meaning.specs.Resolved.{Labelled, Choice, fields_of, unlabelled, choice, choices_of}
+use Rattle.tree_meaning.specs.Resolved.{Labelled, Choice, fields_of_labelled, unlabelled, choice, choices_of}
 use Rattle.package_text.specs.Written.{ty_of, tys_in, members_in, cases_in, body_of}
 use Rattle.package_text.proofs.Back.{Expressed, a_primitive, a_string, a_name, a_list, an_option, a_tuple, a_result, AllExpressed, no_more, one_more, MaybeExpressed, not_there, is_there, FieldExpressed, CaseExpressed, FieldsExpressed, CasesExpressed, Defined, an_alias, a_record, a_variant, an_enum, a_flags, alias-body}
 
@@ -64,10 +64,10 @@ module _ (i : List ℕ) (K : List ℕ → Type 0) where
   maybe-names _ not_there = all-none K
   maybe-names _ (is_there t e) = ty-names t e
 
-  pub members-names : (fs : List Labelled) → FieldsExpressed i K fs → All K (flat_map named_member (members_in (fields_of fs)))
+  pub members-names : (fs : List Labelled) → FieldsExpressed i K fs → All K (flat_map named_member (members_in (fields_of_labelled fs)))
   members-names [] h = all-none K
   members-names (f ∷ fs) h =
-      all-append K (named (ty_of f.tree)) (flat_map named_member (members_in (fields_of fs))) (ty-names f.tree (all-head (FieldExpressed i K) f fs h))
+      all-append K (named (ty_of f.tree)) (flat_map named_member (members_in (fields_of_labelled fs))) (ty-names f.tree (all-head (FieldExpressed i K) f fs h))
       (members-names fs (all-tail (FieldExpressed i K) f fs h))
 
   choice-names : (n : List ℕ) (p : Option Tree) (cs : Choices) → MaybeExpressed i K p → All K (flat_map named_case (cases_in cs)) → All K (flat_map named_case (cases_in (choice n p cs)))

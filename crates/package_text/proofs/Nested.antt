@@ -41,7 +41,7 @@ use Rattle.tree_meaning.specs.Resolves.{fits, fits_if, member_fits, case_fits, b
 use Rattle.tree_meaning.proofs.Owning.{is_inner_row, used-inner}
 use Rattle.tree_meaning.proofs.TableRows.{name-tree}
 use Rattle.package_text.specs.Written.{ty_of, tys_in, members_in, cases_in, body_of}
-use Rattle.package_text.specs.Tree.{row_path, item_path, use_entry, function_by, entry_by, entry_of, own_names, own_trees, row_entries, entries_at, interface_entry, own_interfaces, item_entry, item_written, world_entry, file_of}
+use Rattle.package_text.specs.Tree.{row_path, item_path, use_entry, function_by, entry_by, entry_of, own_names, own_trees, row_entries, written_at, interface_entry, interfaces_of_package, item_entry, item_written, world_written, file_of}
 use Rattle.package_text.specs.Laws.{IsShallow}
 use Rattle.package_text.proofs.Loose.{inner-at}
 
@@ -284,7 +284,7 @@ module _ (r : Resolve) (postfix : IsPostfix r.definitions) (shallow : IsShallow 
       val-front : (j : ℕ) → j ≤ length r.definitions → (v : ValType) → is_below j v ≡ true → depth (ty_of (read_val (own_trees r) v)) ≤ closed.depth (closed_val (closed_rows [] (take j r.definitions)) v)
       val-front j l v h = subst (λ (c : ClosedType). depth (ty_of (read_val (own_trees r) v)) ≤ closed.depth c) (sym (closed_val-stays r.definitions j v l h)) (val-bounded (own_trees r) (closed_types r) bounded v)
 
-  place-fits : (k : ℕ) → list_all entry_fits (entries_at r k) ≡ true
+  place-fits : (k : ℕ) → list_all entry_fits (written_at r k) ≡ true
   place-fits k = by (slice_get r.definitions k) refl
     where
       named : (d : TypeDef) (m : Option TypeName) → slice_get r.definitions k ≡ Some (row.Type d)
@@ -302,9 +302,9 @@ module _ (r : Resolve) (postfix : IsPostfix r.definitions) (shallow : IsShallow 
       by (Some (row.Type d)) e = named d d.name e
       by (Some (row.Function f)) e = owned f f.owner e
 
-  places-fit : (ks : List ℕ) → list_all entry_fits (flat_map (entries_at r) ks) ≡ true
+  places-fit : (ks : List ℕ) → list_all entry_fits (flat_map (written_at r) ks) ≡ true
   places-fit [] = refl
-  places-fit (k ∷ ks) = list_all-append entry_fits (entries_at r k) (flat_map (entries_at r) ks) ∙ both _ _ (place-fits k) (places-fit ks)
+  places-fit (k ∷ ks) = list_all-append entry_fits (written_at r k) (flat_map (written_at r) ks) ∙ both _ _ (place-fits k) (places-fit ks)
 
   interfaces-fit : (is : List Interface) → list_all interface_fits (map (interface_entry r) is) ≡ true
   interfaces-fit [] = refl
@@ -323,9 +323,9 @@ module _ (r : Resolve) (postfix : IsPostfix r.definitions) (shallow : IsShallow 
   items-fit [] = refl
   items-fit (i ∷ is) = both _ _ (item-fits i.direction i.kind) (items-fit is)
 
-  worlds-fit : (ws : List World) → list_all interface_fits (map (world_entry r) ws) ≡ true
+  worlds-fit : (ws : List World) → list_all interface_fits (map (world_written r) ws) ≡ true
   worlds-fit [] = refl
   worlds-fit (w ∷ ws) = both _ _ (items-fit w.items) (worlds-fit ws)
 
   pub tree-fits : file_fits (file_of r) ≡ true
-  tree-fits = list_all-append interface_fits (map (interface_entry r) (own_interfaces r)) (map (world_entry r) r.worlds) ∙ both _ _ (interfaces-fit (own_interfaces r)) (worlds-fit r.worlds)
+  tree-fits = list_all-append interface_fits (map (interface_entry r) (interfaces_of_package r)) (map (world_written r) r.worlds) ∙ both _ _ (interfaces-fit (interfaces_of_package r)) (worlds-fit r.worlds)

@@ -6,7 +6,7 @@ use Rattle.std.proofs.lemmas.Bool.{and_parts, ltb-true, ltb-false, eq-eqb, ne_eq
 use Rattle.std.proofs.lemmas.List.Folds.{list_any-append}
 use Rattle.std.proofs.Math.Seq.{take-suc}
 use Rattle.std.proofs.lemmas.List.{take_all}
-use Rattle.placement.specs.Order.{is_among, IsNext, IsPlacement}
+use Rattle.placement.specs.Order.{has_placed, IsNext, IsPlacement}
 use Rattle.tree_meaning.specs.Declarations.{InterfaceTree, interface_at}
 use Rattle.tree_meaning.specs.Resolves.{interface_uses, type_uses}
 
@@ -65,44 +65,44 @@ earlier-or-here b k i m h = by (nat_lt i k) refl
     by false e = last-true b (k == i) (let g = ltb-false i k e in eq-eqb k i (omega (arith, m, g)))
 
 module _ (n : ℕ) where
-  one-more : (k i : ℕ) → k < n → is_among (take (suc k) (places_of n)) i ≡ (is_among (take k (places_of n)) i || (k == i || false))
+  one-more : (k i : ℕ) → k < n → has_placed (take (suc k) (places_of n)) i ≡ (has_placed (take k (places_of n)) i || (k == i || false))
   one-more k i l =
       let long : length (places_of n) ≡ n = numbers-length 0 n in
       let at : get_or (places_of n) k 0 ≡ k = numbers-at 0 n k l ∙ omega arith in
       ap (λ xs. list_any (λ o. o == i) xs) (take-suc (places_of n) k 0 (omega (arith, l, long)))
-      ∙ (list_any-append (λ o. o == i) (take k (places_of n)) (get_or (places_of n) k 0 ∷ []) ∙ ap (λ y. is_among (take k (places_of n)) i || (y == i || false)) at)
+      ∙ (list_any-append (λ o. o == i) (take k (places_of n)) (get_or (places_of n) k 0 ∷ []) ∙ ap (λ y. has_placed (take k (places_of n)) i || (y == i || false)) at)
 
-  pub is-before : (k i : ℕ) → k ≤ n → i < k → is_among (take k (places_of n)) i ≡ true
+  pub is-before : (k i : ℕ) → k ≤ n → i < k → has_placed (take k (places_of n)) i ≡ true
   is-before zero i l m = absurd (omega (arith, m))
-  is-before (suc k) i l m = one-more k i (omega (arith, l)) ∙ earlier-or-here (is_among (take k (places_of n)) i) k i m (λ h. is-before k i (omega (arith, l)) h)
+  is-before (suc k) i l m = one-more k i (omega (arith, l)) ∙ earlier-or-here (has_placed (take k (places_of n)) i) k i m (λ h. is-before k i (omega (arith, l)) h)
 
-  pub not-before : (k i : ℕ) → k ≤ n → k ≤ i → is_among (take k (places_of n)) i ≡ false
+  pub not-before : (k i : ℕ) → k ≤ n → k ≤ i → has_placed (take k (places_of n)) i ≡ false
   not-before zero i l m = refl
   not-before (suc k) i l m =
       one-more k i (omega (arith, l)) ∙ (ap (λ b. b || (k == i || false)) (not-before k i (omega (arith, l)) (omega (arith, m))) ∙ ap (λ b. b || false) (ne_eqb k i (λ e. absurd (omega (arith, m, e)))))
 
-  each-before : (k : ℕ) (us : List ℕ) → k ≤ n → list_all (λ u. nat_lt u k) us ≡ true → list_all (is_among (take k (places_of n))) us ≡ true
+  each-before : (k : ℕ) (us : List ℕ) → k ≤ n → list_all (λ u. nat_lt u k) us ≡ true → list_all (has_placed (take k (places_of n))) us ≡ true
   each-before k [] l h = refl
   each-before k (u ∷ us) l h =
       let t = and_parts (nat_lt u k) (list_all (λ u. nat_lt u k) us) h in
-      ap (λ b. b && list_all (is_among (take k (places_of n))) us) (is-before k u l (ltb-true u k t.0)) ∙ each-before k us l t.1
+      ap (λ b. b && list_all (has_placed (take k (places_of n))) us) (is-before k u l (ltb-true u k t.0)) ∙ each-before k us l t.1
 
 pub own-placement : (uses : List (List ℕ)) → UsesEarlier uses → IsPlacement uses (places_of (length uses))
 own-placement uses earlier = record {
   next = λ k l. next k (omega (arith, l, numbers-length 0 (length uses)));
-  complete = λ i l. ap (λ xs. is_among xs i) (sym (take_all (length uses) (places_of (length uses)) (omega (arith, numbers-length 0 (length uses))))) ∙ is-before (length uses) (length uses) i (omega arith) l;
+  complete = λ i l. ap (λ xs. has_placed xs i) (sym (take_all (length uses) (places_of (length uses)) (omega (arith, numbers-length 0 (length uses))))) ∙ is-before (length uses) (length uses) i (omega arith) l;
 }
   where
     n : ℕ
     n = length uses
 
-    at-place : (k : ℕ) → k < length uses → IsNext uses (is_among (take k (places_of (length uses)))) k
+    at-place : (k : ℕ) → k < length uses → IsNext uses (has_placed (take k (places_of (length uses)))) k
     at-place k l = record {
       in_range = l;
-      ready = ap (λ b. not b && list_all (is_among (take k (places_of (length uses)))) (get_or uses k [])) (not-before (length uses) k k (omega (arith, l)) (omega arith))
+      ready = ap (λ b. not b && list_all (has_placed (take k (places_of (length uses)))) (get_or uses k [])) (not-before (length uses) k k (omega (arith, l)) (omega arith))
           ∙ each-before (length uses) k (get_or uses k []) (omega (arith, l)) (earlier k l);
-      first = λ j m. ap (λ b. not b && list_all (is_among (take k (places_of (length uses)))) (get_or uses j [])) (is-before (length uses) k j (omega (arith, l)) m);
+      first = λ j m. ap (λ b. not b && list_all (has_placed (take k (places_of (length uses)))) (get_or uses j [])) (is-before (length uses) k j (omega (arith, l)) m);
     }
 
-    next : (k : ℕ) → k < length uses → IsNext uses (is_among (take k (places_of (length uses)))) (get_or (places_of (length uses)) k 0)
-    next k l = subst (IsNext uses (is_among (take k (places_of (length uses))))) (sym (numbers-at 0 (length uses) k l ∙ omega arith)) (at-place k l)
+    next : (k : ℕ) → k < length uses → IsNext uses (has_placed (take k (places_of (length uses)))) (get_or (places_of (length uses)) k 0)
+    next k l = subst (IsNext uses (has_placed (take k (places_of (length uses))))) (sym (numbers-at 0 (length uses) k l ∙ omega arith)) (at-place k l)

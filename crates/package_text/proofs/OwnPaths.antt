@@ -18,7 +18,7 @@ use Rattle.package_form.specs.Reached.{is_interface_of, used_in, name_at}
 use Rattle.package_form.specs.Form.{ids_of}
 use Rattle.package_form.proofs.Lists.{all-none, all-cons, all-append, flat_map-append, get-front}
 use Rattle.tree_meaning.specs.Declarations.{path_packages, entry_packages, world_entry_packages, file_entry_packages, other_packages}
-use Rattle.package_text.specs.Tree.{path_in, path_to, path_if, name_path, row_path, definitions_in, own_names, own_trees, use_entry, entry_by, entry_of, entries_at, interface_entry, own_interfaces, item_path, item_entry, own_item, item_written, world_entry, own_parts, file_of}
+use Rattle.package_text.specs.Tree.{path_in, path_to, path_if, name_path, row_path, definitions_in, own_names, own_trees, use_entry, entry_by, entry_of, written_at, interface_entry, interfaces_of_package, item_path, item_entry, own_item, item_written, world_written, own_parts, file_of}
 use Rattle.package_text.proofs.Walk.{contains-got}
 
 use-names : (Q : PackageParts → Type 0) (p : PathTo) (t : Tree) (n : List ℕ) → All Q (path_packages p) → All Q (entry_packages (use_entry p t n))
@@ -57,18 +57,18 @@ module _ (r : Resolve) (Q : PackageParts → Type 0) (paths : (i : Interface) �
   row-names None = all-none Q
   row-names (Some d) = name-names (name_at r.definitions (used_in d))
 
-  rows-name : (ks : List ℕ) → All Q (flat_map entry_packages (flat_map (entries_at r) ks))
+  rows-name : (ks : List ℕ) → All Q (flat_map entry_packages (flat_map (written_at r) ks))
   rows-name [] = all-none Q
   rows-name (k ∷ ks) =
       let o = slice_get r.definitions k in
-      subst (All Q) (sym (flat_map-append entry_packages (entries_at r k) (flat_map (entries_at r) ks)))
-      (all-append Q (flat_map entry_packages (entries_at r k)) (flat_map entry_packages (flat_map (entries_at r) ks))
+      subst (All Q) (sym (flat_map-append entry_packages (written_at r k) (flat_map (written_at r) ks)))
+      (all-append Q (flat_map entry_packages (written_at r k)) (flat_map entry_packages (flat_map (written_at r) ks))
       (entries-name Q (row_path r o) (definitions_in (own_names r) (own_trees r) o) (row-names o)) (rows-name ks))
 
   interfaces-name : (is : List Interface) → All Q (flat_map file_entry_packages (map (interface_entry r) is))
   interfaces-name [] = all-none Q
   interfaces-name (i ∷ is) =
-      all-append Q (flat_map entry_packages (flat_map (entries_at r) (ids_of i))) (flat_map file_entry_packages (map (interface_entry r) is)) (rows-name (ids_of i)) (interfaces-name is)
+      all-append Q (flat_map entry_packages (flat_map (written_at r) (ids_of i))) (flat_map file_entry_packages (map (interface_entry r) is)) (rows-name (ids_of i)) (interfaces-name is)
 
   kind-names : (k : WorldItemKind) → All Q (path_packages (item_path r k))
   kind-names (item.Interface i) = if-names (slice_get r.interfaces i.0)
@@ -79,16 +79,16 @@ module _ (r : Resolve) (Q : PackageParts → Type 0) (paths : (i : Interface) �
   items-name (i ∷ is) =
       all-append Q (world_entry_packages (item_written r i)) (flat_map world_entry_packages (map (item_written r) is)) (item-names Q (item_path r i.kind) (own_item r i) (kind-names i.kind)) (items-name is)
 
-  worlds-name : (ws : List World) → All Q (flat_map file_entry_packages (map (world_entry r) ws))
+  worlds-name : (ws : List World) → All Q (flat_map file_entry_packages (map (world_written r) ws))
   worlds-name [] = all-none Q
   worlds-name (w ∷ ws) =
-      all-append Q (flat_map world_entry_packages (map (item_written r) w.items)) (flat_map file_entry_packages (map (world_entry r) ws)) (items-name w.items) (worlds-name ws)
+      all-append Q (flat_map world_entry_packages (map (item_written r) w.items)) (flat_map file_entry_packages (map (world_written r) ws)) (items-name w.items) (worlds-name ws)
 
   tree-names : All Q (other_packages (file_of r))
   tree-names =
-      subst (All Q) (sym (flat_map-append file_entry_packages (map (interface_entry r) (own_interfaces r)) (map (world_entry r) r.worlds)))
-      (all-append Q (flat_map file_entry_packages (map (interface_entry r) (own_interfaces r))) (flat_map file_entry_packages (map (world_entry r) r.worlds))
-      (interfaces-name (own_interfaces r)) (worlds-name r.worlds))
+      subst (All Q) (sym (flat_map-append file_entry_packages (map (interface_entry r) (interfaces_of_package r)) (map (world_written r) r.worlds)))
+      (all-append Q (flat_map file_entry_packages (map (interface_entry r) (interfaces_of_package r))) (flat_map file_entry_packages (map (world_written r) r.worlds))
+      (interfaces-name (interfaces_of_package r)) (worlds-name r.worlds))
 
 -- the own package stands behind those of the imports
 pub paths-known : (r : Resolve) (ps : List PackageParts) → r.packages ≡ ps ++ own_parts r.packages ∷ [] → All (Contains ps) (other_packages (file_of r))

@@ -7,7 +7,7 @@ use Rattle.wit_syntax.specs.View.{ty_view}
 use Rattle.wit_syntax.specs.declared.ast.TypeExpression.{Named as Name}
 use Rattle.wit_syntax.proofs.Views.{view-Named}
 use Rattle.tables.proofs.Rows.{split}
-use Rattle.tables.specs.Tables.{is_below, is_earlier, is_type, type_of, is_there}
+use Rattle.tables.specs.Tables.{is_below, is_type_before, is_type, type_of, is_there}
 use Rattle.tables.specs.Package.{Tree, TextTree, Reference, key_of, read_val, read_kind}
 use Rattle.tables.specs.declared.tables.TypeName.{TypeName}
 use Rattle.tables.specs.declared.tables.TypeDef.{TypeDef}
@@ -64,5 +64,5 @@ alias-body r form (val.Id t) h = by (slice_get r.definitions t.0) refl h
     by (Some (row.Function f)) e q = absurd (false≢true q)
     by (Some (row.Type d)) e q = named d d.name refl e
 
-pub alias-written : (r : Resolve) → IsInPackageForm r → (n : ℕ) (v : ValType) → is_earlier r.definitions n v ≡ true → (t : Ty) → t ≡ type_by (own_trees r) v → Alias t ≡ body_of (read_val (own_trees r) v)
+pub alias-written : (r : Resolve) → IsInPackageForm r → (n : ℕ) (v : ValType) → is_type_before r.definitions n v ≡ true → (t : Ty) → t ≡ type_by (own_trees r) v → Alias t ≡ body_of (read_val (own_trees r) v)
 alias-written r form n v h t e = ap Alias e ∙ sym (alias-body r form v (split (is_below n v) (is_type r.definitions v) h).1)

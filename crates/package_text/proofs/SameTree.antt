@@ -29,7 +29,7 @@ use Rattle.tables.specs.declared.tables.Resolve.{Resolve}
 use Rattle.package_form.specs.Reached.{used_by, name_of, name_at}
 use Rattle.package_form.specs.Form.{is_earlier, is_earlier_type, is_earlier_name, uses_earlier, ids_of, IsInPackageForm}
 use Rattle.package_text.specs.Written.{direction_for}
-use Rattle.package_text.specs.Tree.{path_at, name_path, row_path, item_path, own_names, own_trees, definitions_in, row_entries, entries_at, own_interfaces, own_item, item_written, own_parts}
+use Rattle.package_text.specs.Tree.{path_at, name_path, row_path, item_path, own_names, own_trees, definitions_in, row_entries, written_at, interfaces_of_package, own_item, item_written, own_parts}
 use Rattle.package_text.specs.Tree as tree
 use Rattle.package_text.proofs.Formed.{used-at}
 use Rattle.package_text.proofs.Standing.{name-at}
@@ -91,12 +91,12 @@ module _ (r : Resolve) (f : IsInPackageForm r) (paths : (j : ℕ) → j < length
       by (owner.Interface i) = refl
       by (owner.World w) = refl
 
-  rows-same : (ks : List ℕ) → flat_map (entries_at r) ks ≡ map entry_of (flat_map (λ k. definitions_in (own_names r) (own_trees r) (slice_get r.definitions k)) ks)
+  rows-same : (ks : List ℕ) → flat_map (written_at r) ks ≡ map entry_of (flat_map (λ k. definitions_in (own_names r) (own_trees r) (slice_get r.definitions k)) ks)
   rows-same [] = refl
   rows-same (k ∷ ks) =
       let here : List NamedDefinition = definitions_in (own_names r) (own_trees r) (slice_get r.definitions k) in
       let rest : List NamedDefinition = flat_map (λ k. definitions_in (own_names r) (own_trees r) (slice_get r.definitions k)) ks in
-      ap (λ (es : List Entry). es ++ flat_map (entries_at r) ks) (row-same k (slice_get r.definitions k) refl)
+      ap (λ (es : List Entry). es ++ flat_map (written_at r) ks) (row-same k (slice_get r.definitions k) refl)
       ∙ (ap (λ (es : List Entry). map entry_of here ++ es) (rows-same ks) ∙ sym (map-append entry_of here rest))
 
   interfaces-same : (is : List Interface) → map (tree.interface_entry r) is ≡ map (named.interface_entry r) is
@@ -121,17 +121,17 @@ module _ (r : Resolve) (f : IsInPackageForm r) (paths : (j : ℕ) → j < length
       let t = and_parts (is_placed_item r.definitions (length r.interfaces) w i.kind) (list_all (λ i. is_placed_item r.definitions (length r.interfaces) w i.kind) is) h in
       ap (λ (e : WorldEntry). e ∷ map (item_written r) is) (item-same w i.direction i.kind t.0) ∙ ap (λ (es : List WorldEntry). item_entry (own_item r i) ∷ es) (items-same w is t.1)
 
-  worlds-same : (k : ℕ) (ws : List World) → are_placed_worlds r.definitions (length r.interfaces) k ws ≡ true → map (tree.world_entry r) ws ≡ map (named.world_entry r) ws
+  worlds-same : (k : ℕ) (ws : List World) → are_placed_worlds r.definitions (length r.interfaces) k ws ≡ true → map (tree.world_written r) ws ≡ map (named.world_entry r) ws
   worlds-same k [] h = refl
   worlds-same k (w ∷ ws) h =
       let t = and_parts (is_placed_world r.definitions (length r.interfaces) k w) (are_placed_worlds r.definitions (length r.interfaces) (k + 1) ws) h in
-      ap (λ (es : List WorldEntry). AWorld nowhere w.name es ∷ map (tree.world_entry r) ws) (items-same k w.items t.0)
+      ap (λ (es : List WorldEntry). AWorld nowhere w.name es ∷ map (tree.world_written r) ws) (items-same k w.items t.0)
       ∙ ap (λ (xs : List FileEntry). named.world_entry r w ∷ xs) (worlds-same (k + 1) ws t.1)
 
   -- the tree is what its names tell
   pub same-file : tree.file_of r ≡ named.file_of r
   same-file =
-      let interfaces = interfaces-same (own_interfaces r) in
+      let interfaces = interfaces-same (interfaces_of_package r) in
       let worlds = worlds-same 0 r.worlds r.worlds_placed in
       let p = own_parts r.packages in
       λ j. record { namespace = p.namespace; name = p.name; version = p.version; entries = interfaces j ++ worlds j }

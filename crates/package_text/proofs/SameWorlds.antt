@@ -16,7 +16,7 @@ use Rattle.tables.specs.declared.tables.WorldItemKind.TheVariants as item
 use Rattle.tables.specs.declared.tables.WorldItem.{WorldItem}
 use Rattle.tables.specs.declared.tables.World.{World}
 use Rattle.package_form.specs.Ids.{is_of_worlds, is_world_function, places_where}
-use Rattle.package_form.specs.Form.{item_function, function_at, functions_of}
+use Rattle.package_form.specs.Form.{item_function, functions_in_item, functions_of}
 use Rattle.package_form.specs.Naming.{item_direction}
 use Rattle.package_form.proofs.Lists.{flat_map-append}
 use Rattle.package_form.proofs.OnePackage.{one-full-name}
@@ -69,15 +69,15 @@ owners_by k (m ∷ ms) = item_owners k m.items ++ owners_by (k + 1) ms
 
 module _ (ns : List (List ℕ)) (trees : List Tree) (rows : List Definition) (count : ℕ) where
   items-owned : (k : ℕ) (is : List WorldItem) → list_all (λ i. is_placed_item rows count k i.kind) is ≡ true
-      → worlds_at rows (flat_map function_at is) ≡ item_owners k (map (λ i. item_meaning ns trees rows i.direction i.kind) is)
+      → worlds_at rows (flat_map functions_in_item is) ≡ item_owners k (map (λ i. item_meaning ns trees rows i.direction i.kind) is)
   items-owned k [] h = refl
   items-owned k (i ∷ is) h =
       let t = and_parts (is_placed_item rows count k i.kind) (list_all (λ i. is_placed_item rows count k i.kind) is) h in
       by i.kind t.0 (items-owned k is t.1)
     where
       by : (c : WorldItemKind) → is_placed_item rows count k c ≡ true
-          → flat_map (λ n. world_at (slice_get rows n)) (flat_map function_at is) ≡ item_owners k (map (λ i. item_meaning ns trees rows i.direction i.kind) is)
-          → flat_map (λ n. world_at (slice_get rows n)) (item_function c ++ flat_map function_at is)
+          → flat_map (λ n. world_at (slice_get rows n)) (flat_map functions_in_item is) ≡ item_owners k (map (λ i. item_meaning ns trees rows i.direction i.kind) is)
+          → flat_map (λ n. world_at (slice_get rows n)) (item_function c ++ flat_map functions_in_item is)
           ≡ item_owners k (item_meaning ns trees rows i.direction c ∷ map (λ i. item_meaning ns trees rows i.direction i.kind) is)
       by (item.Interface j) q on = on
       by (item.Function f) q on = at (slice_get rows f.0) q
@@ -87,12 +87,12 @@ module _ (ns : List (List ℕ)) (trees : List Tree) (rows : List Definition) (co
           own (owner.World w) u = ap (λ (n : ℕ). n ∷ []) (eqb-true w.0 k u)
 
           at : (d : Option Definition) → is_function_of k (function_of d) ≡ true
-              → world_at d ++ flat_map (λ n. world_at (slice_get rows n)) (flat_map function_at is)
+              → world_at d ++ flat_map (λ n. world_at (slice_get rows n)) (flat_map functions_in_item is)
               ≡ item_owners k (function_item trees i.direction (function_of d) ∷ map (λ i. item_meaning ns trees rows i.direction i.kind) is)
           at None u = absurd (false≢true u)
           at (Some (row.Type d)) u = absurd (false≢true u)
           at (Some (row.Function g)) u =
-              ap (λ (xs : List ℕ). xs ++ flat_map (λ n. world_at (slice_get rows n)) (flat_map function_at is)) (own g.owner u) ∙ ap (λ (xs : List ℕ). k ∷ xs) on
+              ap (λ (xs : List ℕ). xs ++ flat_map (λ n. world_at (slice_get rows n)) (flat_map functions_in_item is)) (own g.owner u) ∙ ap (λ (xs : List ℕ). k ∷ xs) on
 
   worlds-owned : (name : World → List ℕ) (k : ℕ) (ws : List World) → are_placed_worlds rows count k ws ≡ true
       → worlds_at rows (flat_map functions_of ws) ≡ owners_by k (map (λ w. world_meaning ns trees rows (name w) w) ws)
@@ -144,7 +144,7 @@ module _ (ns : List (List ℕ)) (apart : (i j : ℕ) → i < length ns → j < l
       let a = function-told k v (slice_get rows f.0) h in absurd (false≢true (sym (ap is_function e) ∙ a.0))
 
   items-same : (k l : ℕ) (is js : List WorldItem) → list_all (λ i. is_placed_item rows count k i.kind) is ≡ true → list_all (λ i. is_placed_item rows count l i.kind) js ≡ true
-      → map meant is ≡ map meant js → (ps qs : List ℕ) → flat_map function_at is ++ ps ≡ flat_map function_at js ++ qs → (is ≡ js) × (ps ≡ qs)
+      → map meant is ≡ map meant js → (ps qs : List ℕ) → flat_map functions_in_item is ++ ps ≡ flat_map functions_in_item js ++ qs → (is ≡ js) × (ps ≡ qs)
   items-same k l [] [] h m e ps qs p = (refl, p)
   items-same k l [] (j ∷ js) h m e ps qs p = absurd cc
   items-same k l (i ∷ is) [] h m e ps qs p = absurd cc
@@ -153,8 +153,8 @@ module _ (ns : List (List ℕ)) (apart : (i j : ℕ) → i < length ns → j < l
       let u = and_parts (is_placed_item rows count l j.kind) (list_all (λ i. is_placed_item rows count l i.kind) js) m in
       let front : meant i ≡ meant j = cc in
       let back : map meant is ≡ map meant js = cc in
-      let one = item-same k l i.direction j.direction i.kind j.kind t.0 u.0 front (flat_map function_at is ++ ps) (flat_map function_at js ++ qs)
-      (sym (append_assoc (item_function i.kind) (flat_map function_at is) ps) ∙ (p ∙ append_assoc (item_function j.kind) (flat_map function_at js) qs)) in
+      let one = item-same k l i.direction j.direction i.kind j.kind t.0 u.0 front (flat_map functions_in_item is ++ ps) (flat_map functions_in_item js ++ qs)
+      (sym (append_assoc (item_function i.kind) (flat_map functions_in_item is) ps) ∙ (p ∙ append_assoc (item_function j.kind) (flat_map functions_in_item js) qs)) in
       let more = items-same k l is js t.1 u.1 back ps qs one.2 in
       let way = one.0 in
       let sort = one.1 in

@@ -33,7 +33,7 @@ use Rattle.package_form.specs.Naming.{field_name, case_name, parameter_name, int
 use Rattle.package_form.specs.Ids.{is_world_function}
 use Rattle.package_form.proofs.Lists.{list-grows, all-none, all-cons, all-head, all-tail, all-append, all-left, all-right, flat_map-append}
 use Rattle.tree_meaning.specs.Resolved as tree
-use Rattle.tree_meaning.specs.Declarations.{WorldTree, world_of, full_world, full_worlds, entry_names, entry_scopes, definition_scopes, member_name, case_name as member_case, package_named}
+use Rattle.tree_meaning.specs.Declarations.{WorldTree, world_of, full_world, full_worlds, entry_names, entry_scopes, definition_scopes, member_name, tree_case_name, package_named}
 use Rattle.tree_meaning.specs.Scopes.{file_name, interface_scopes}
 use Rattle.tree_meaning.proofs.RowNames.{key_name, names-defined}
 use Rattle.tree_meaning.proofs.TableRows.{references-append}
@@ -43,7 +43,7 @@ use Rattle.package_text.proofs.Named.{entry_of, entry_by, use_entry}
 use Rattle.package_form.specs.Postfix.{unnamed, aliased, IsPostfix}
 use Rattle.package_form.specs.Form.{is_own_name, ids_of, is_local, IsInPackageForm}
 use Rattle.tree_meaning.specs.Resolves.{HasDistinctNames}
-use Rattle.package_text.specs.Tree.{own_names, own_interfaces}
+use Rattle.package_text.specs.Tree.{own_names, interfaces_of_package}
 use Rattle.package_text.proofs.Named.{interface_entry, world_entry, file_of}
 use Rattle.package_text.proofs.Back.{alias-body}
 use Rattle.package_text.proofs.InPlace.{local-back, Each, none_left}
@@ -92,11 +92,11 @@ parameter-names : (ts : List Tree) (ps : List Parameter) → map member_name (me
 parameter-names ts [] = refl
 parameter-names ts (p ∷ ps) = ap (λ (ns : List (List ℕ)). p.name ∷ ns) (parameter-names ts ps)
 
-case-names : (ts : List Tree) (cs : List Case) → map member_case (cases_in (read_cases ts cs)) ≡ map case_name cs
+case-names : (ts : List Tree) (cs : List Case) → map tree_case_name (cases_in (read_cases ts cs)) ≡ map case_name cs
 case-names ts [] = refl
 case-names ts (c ∷ cs) = by c.ty (case-names ts cs)
   where
-    by : (v : Option ValType) → map member_case (cases_in (read_cases ts cs)) ≡ map case_name cs → map member_case (cases_in (read_choice ts c.name v (read_cases ts cs))) ≡ c.name ∷ map case_name cs
+    by : (v : Option ValType) → map tree_case_name (cases_in (read_cases ts cs)) ≡ map case_name cs → map tree_case_name (cases_in (read_choice ts c.name v (read_cases ts cs))) ≡ c.name ∷ map case_name cs
     by None h = ap (λ (ns : List (List ℕ)). c.name ∷ ns) h
     by (Some v) h = ap (λ (ns : List (List ℕ)). c.name ∷ ns) h
 
@@ -217,34 +217,34 @@ worlds-named k (w ∷ ws) h =
     ap (λ (b : Bool). cond b (w.name ∷ []) [] ++ world_labels_of ws k) s.0 ∙ ap (λ (ns : List (List ℕ)). w.name ∷ ns) (worlds-named k ws s.1)
 
 -- in the scopes of the tree's interfaces names differ
-pub tree-interfaces-distinct : (r : Resolve) → IsInPackageForm r → All AreDistinct (package_scopes r) → All AreDistinct (flat_map (interface_scopes (package_named (file_of r))) (map (interface_entry r) (own_interfaces r)))
+pub tree-interfaces-distinct : (r : Resolve) → IsInPackageForm r → All AreDistinct (package_scopes r) → All AreDistinct (flat_map (interface_scopes (package_named (file_of r))) (map (interface_entry r) (interfaces_of_package r)))
 tree-interfaces-distinct r f h =
     let b = begins r f in
     let regions = form-regions r f in
     let owned = rows-owned (own_names r) r.definitions (home 0 0 r.interfaces) r.interfaces r.earlier f.postfix regions in
-    scopes-from (own_names r) r.definitions (home 0 0 r.interfaces) r.earlier owned f.postfix (package_named (file_of r)) (length b.front) b.before (own_interfaces r) b.behind b.regions b.rows
-    (subst (λ (n : ℕ). All AreDistinct (interfaces_scopes r.definitions n (own_interfaces r))) (sym b.ends)
-    (all-right AreDistinct (interfaces_scopes r.definitions 0 b.front) (interfaces_scopes r.definitions (interfaces_end 0 b.front) (own_interfaces r))
-    (subst (All AreDistinct) (ap (interfaces_scopes r.definitions 0) b.interfaces ∙ scopes-parted r.definitions 0 b.front (own_interfaces r)) (interfaces-distinct r h))))
+    scopes-from (own_names r) r.definitions (home 0 0 r.interfaces) r.earlier owned f.postfix (package_named (file_of r)) (length b.front) b.before (interfaces_of_package r) b.behind b.regions b.rows
+    (subst (λ (n : ℕ). All AreDistinct (interfaces_scopes r.definitions n (interfaces_of_package r))) (sym b.ends)
+    (all-right AreDistinct (interfaces_scopes r.definitions 0 b.front) (interfaces_scopes r.definitions (interfaces_end 0 b.front) (interfaces_of_package r))
+    (subst (All AreDistinct) (ap (interfaces_scopes r.definitions 0) b.interfaces ∙ scopes-parted r.definitions 0 b.front (interfaces_of_package r)) (interfaces-distinct r h))))
 
 -- in the scopes of the tree names differ where they do in those of the table, whose worlds are those of the tree
-pub tree-distinct : (r : Resolve) → IsInPackageForm r → worlds r ≡ map tree.world_meaning (full_worlds (file_of r)) → All AreDistinct (package_scopes r) → HasDistinctNames (file_of r)
+pub tree-distinct : (r : Resolve) → IsInPackageForm r → worlds r ≡ map tree.meaning_of_world (full_worlds (file_of r)) → All AreDistinct (package_scopes r) → HasDistinctNames (file_of r)
 tree-distinct r f same h =
     let p = package_named (file_of r) in
-    let A : List FileEntry = map (interface_entry r) (own_interfaces r) in
+    let A : List FileEntry = map (interface_entry r) (interfaces_of_package r) in
     let B : List FileEntry = map (world_entry r) r.worlds in
-    let names : map interface_name (own_interfaces r) ++ map label_of r.worlds ≡ map file_name (map (interface_entry r) (own_interfaces r) ++ map (world_entry r) r.worlds) =
-    sym (map-append file_name A B ∙ (ap (λ (ns : List (List ℕ)). ns ++ map file_name B) (file-names (own_interfaces r)) ∙ ap (λ (ns : List (List ℕ)). map interface_name (own_interfaces r) ++ ns) (world-names r.worlds))) in
+    let names : map interface_name (interfaces_of_package r) ++ map label_of r.worlds ≡ map file_name (map (interface_entry r) (interfaces_of_package r) ++ map (world_entry r) r.worlds) =
+    sym (map-append file_name A B ∙ (ap (λ (ns : List (List ℕ)). ns ++ map file_name B) (file-names (interfaces_of_package r)) ∙ ap (λ (ns : List (List ℕ)). map interface_name (interfaces_of_package r) ++ ns) (world-names r.worlds))) in
     let told : flat_map world_scopes (worlds r) ≡ flat_map (interface_scopes (package_named (file_of r))) (map (world_entry r) r.worlds) =
-    ap (flat_map world_scopes) (same ∙ ap (λ (ts : List WorldTree). map tree.world_meaning (map (full_world p) ts)) (tree-worlds r)) ∙ sym (worlds-scopes r.worlds) in
+    ap (flat_map world_scopes) (same ∙ ap (λ (ts : List WorldTree). map tree.meaning_of_world (map (full_world p) ts)) (tree-worlds r)) ∙ sym (worlds-scopes r.worlds) in
     let outer : All AreDistinct (flat_map (interface_scopes (package_named (file_of r))) (map (world_entry r) r.worlds)) =
     subst (All AreDistinct) told
     (worlds-distinct r h) in
     let own = own_package r.packages in
     let scope : AreDistinct (interface_labels_of r.interfaces own ++ world_labels_of r.worlds own) = labels-distinct r h own (omega (arith, some-package r f.closed)) in
-    let told_names : interface_labels_of r.interfaces own ++ world_labels_of r.worlds own ≡ map interface_name (own_interfaces r) ++ map label_of r.worlds =
+    let told_names : interface_labels_of r.interfaces own ++ world_labels_of r.worlds own ≡ map interface_name (interfaces_of_package r) ++ map label_of r.worlds =
     ap (λ (ns : List (List ℕ)). ns ++ world_labels_of r.worlds own) (own-named own r.interfaces)
-    ∙ ap (λ (ns : List (List ℕ)). map interface_name (own_interfaces r) ++ ns) (worlds-named own r.worlds (own-worlds r f.closed)) in
+    ∙ ap (λ (ns : List (List ℕ)). map interface_name (interfaces_of_package r) ++ ns) (worlds-named own r.worlds (own-worlds r f.closed)) in
     all-cons AreDistinct (map file_name (A ++ B)) (flat_map (interface_scopes p) (A ++ B)) (subst AreDistinct (told_names ∙ names) scope)
     (subst (All AreDistinct) (sym (flat_map-append (interface_scopes p) A B))
     (all-append AreDistinct (flat_map (interface_scopes p) A) (flat_map (interface_scopes p) B) (tree-interfaces-distinct r f h) outer))
@@ -258,6 +258,6 @@ tree-distinct r f same h =
     world-names (w ∷ ws) = ap (λ (ns : List (List ℕ)). w.name ∷ ns) (world-names ws)
 
     worlds-scopes : (ws : List World) → flat_map (interface_scopes (package_named (file_of r))) (map (world_entry r) ws)
-        ≡ flat_map world_scopes (map tree.world_meaning (map (full_world (package_named (file_of r))) (filter_map world_of (map (world_entry r) ws))))
+        ≡ flat_map world_scopes (map tree.meaning_of_world (map (full_world (package_named (file_of r))) (filter_map world_of (map (world_entry r) ws))))
     worlds-scopes [] = refl
     worlds-scopes (w ∷ ws) = ap (λ (ss : List (List (List ℕ))). interface_scopes (package_named (file_of r)) (world_entry r w) ++ ss) (worlds-scopes ws)

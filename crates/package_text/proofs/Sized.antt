@@ -6,7 +6,7 @@ use Rattle.atoms.specs.Label.{is_label}
 use Rattle.wit_tokens.specs.Lexing.{limit}
 use Rattle.wit_tokens.specs.declared.token.Punctuation.TheVariants as mark
 use Rattle.wit_syntax.specs.Syntax.{Ty, Prim, Named, ListOf, OptionOf, TupleOf, ResultOf, Tys, none, more, MaybeTy, Absent, Present}
-use Rattle.wit_print.specs.Words.{Word, text_of, mark_word}
+use Rattle.wit_print.specs.Words.{Word, words_text, mark_word}
 use Rattle.wit_print.specs.Canonical.{blank, ty_words, tys_words, listed_words, lined_words, braced_words}
 use Rattle.wit_print.specs.Printable.{types_count, is_spelt, are_spelt}
 use Rattle.tree_meaning.proofs.Referring.{Every}
@@ -20,12 +20,12 @@ pub weight-append : (xs ys : List Word) → weight (xs ++ ys) ≡ weight xs + we
 weight-append [] ys = omega arith
 weight-append (x ∷ xs) ys = let h = weight-append xs ys in omega (arith, h)
 
-pub weight-text : (ws : List Word) (rest : List ℕ) → weight ws ≤ length (text_of ws rest)
+pub weight-text : (ws : List Word) (rest : List ℕ) → weight ws ≤ length (words_text ws rest)
 weight-text [] rest = omega arith
 weight-text (w ∷ ws) rest =
     let h = weight-text ws rest in
-    let a = length-append w.space (w.bytes ++ text_of ws rest) in
-    let b = length-append w.bytes (text_of ws rest) in
+    let a = length-append w.space (w.bytes ++ words_text ws rest) in
+    let b = length-append w.bytes (words_text ws rest) in
     omega (arith, h, a, b)
 
 -- ---- lists

@@ -5,8 +5,8 @@ use Rattle.std.specs.List.{list_all}
 use Rattle.wit_syntax.specs.Syntax.{Entry, Uses, Defines, Declares, WorldEntry, Whole, Single, FileEntry, AnInterface, AWorld, File}
 use Rattle.package_form.specs.Scope.{AreDistinct}
 use Rattle.package_form.specs.Naming.{world_scopes}
-use Rattle.tree_meaning.specs.Declarations.{InterfaceTree, WorldTree, ItemTree, entry_packages, world_entry_packages, file_entry_packages, other_packages, entry_uses, entry_types, entry_functions, entry_names, entry_scopes, interface_tree, interface_of, interfaces, item_tree, world_of, worlds, package_named, full_interface, full_interfaces, full_world, full_worlds, interface_names}
-use Rattle.tree_meaning.specs.Resolved.{world_meaning}
+use Rattle.tree_meaning.specs.Declarations.{InterfaceTree, WorldTree, ItemTree, entry_packages, world_entry_packages, file_entry_packages, other_packages, entry_uses, entry_types, entry_functions, entry_names, entry_scopes, interface_tree, interface_of, interfaces, item_tree, world_of, file_worlds, package_named, full_interface, full_interfaces, full_world, full_worlds, names_of_trees}
+use Rattle.tree_meaning.specs.Resolved.{meaning_of_world}
 use Rattle.tree_meaning.specs.Scopes.{file_name, interface_scopes, scopes}
 use Rattle.tree_meaning.specs.Imports.{Imports, imports_of}
 use Rattle.tree_meaning.specs.Resolves.{ResolvesBehind, KnowsPackagesOf, HasKnownNamesOf, IsKnownWorldOf, HasNoFaultsOf, IsClosedPackageOf, body_fits, signature_fits, entry_fits, world_entry_fits, interface_fits, file_fits}
@@ -95,7 +95,7 @@ all-scopes-kept p [] = refl
 all-scopes-kept p (AnInterface n is ∷ es) =
     let a = names-kept is in let b = scopes-kept is in let c = all-scopes-kept p es in rw (a, b, c) refl
 all-scopes-kept p (AWorld at n ws ∷ es) =
-    ap (λ (is : List ItemTree). world_scopes (world_meaning (full_world p (record { name = n; items = is }))) ++ flat_map (interface_scopes p) (map unplaced_file_entry es)) (items-kept ws)
+    ap (λ (is : List ItemTree). world_scopes (meaning_of_world (full_world p (record { name = n; items = is }))) ++ flat_map (interface_scopes p) (map unplaced_file_entry es)) (items-kept ws)
     ∙ ap (λ (xs : List (List (List ℕ))). interface_scopes p (AWorld at n ws) ++ xs) (all-scopes-kept p es)
 
 entries-fit : (es : List Entry) → list_all entry_fits (map unplaced_entry es) ≡ list_all entry_fits es
@@ -129,7 +129,7 @@ module _ (f g : File) (same : unplaced g ≡ unplaced f) where
   packages-known : (m : Imports) → KnowsPackagesOf m f → KnowsPackagesOf m g
   packages-known m h = subst (All (Contains m.packages)) (sym packages-same) h
 
-  worlds-same : worlds g ≡ worlds f
+  worlds-same : file_worlds g ≡ file_worlds f
   worlds-same = sym (worlds-kept g.entries) ∙ (ap (filter_map world_of) entries-same ∙ worlds-kept f.entries)
 
   named-same : package_named g ≡ package_named f
@@ -139,7 +139,7 @@ module _ (f g : File) (same : unplaced g ≡ unplaced f) where
   full-same = ap (λ (p : PackageParts). map (full_interface p) (interfaces g)) named-same ∙ ap (map (full_interface (package_named f))) interfaces-same
 
   full-worlds-same : full_worlds g ≡ full_worlds f
-  full-worlds-same = ap (λ (p : PackageParts). map (full_world p) (worlds g)) named-same ∙ ap (map (full_world (package_named f))) worlds-same
+  full-worlds-same = ap (λ (p : PackageParts). map (full_world p) (file_worlds g)) named-same ∙ ap (map (full_world (package_named f))) worlds-same
 
   scopes-same : scopes g ≡ scopes f
   scopes-same =
@@ -182,7 +182,7 @@ module _ (f g : File) (same : unplaced g ≡ unplaced f) where
     packages = packages-known m h.packages;
     known = record {
       in_interfaces = subst (λ (is : List InterfaceTree). All (HasKnownNamesOf m is) is) (sym interfaces-same) h.known.in_interfaces;
-      in_worlds = subst (λ (ws : List WorldTree). All (IsKnownWorldOf m (interface_names (interfaces g))) ws) (sym worlds-same)
-          (subst (λ (is : List InterfaceTree). All (IsKnownWorldOf m (interface_names is)) (worlds f)) (sym interfaces-same) h.known.in_worlds);
+      in_worlds = subst (λ (ws : List WorldTree). All (IsKnownWorldOf m (names_of_trees (interfaces g))) ws) (sym worlds-same)
+          (subst (λ (is : List InterfaceTree). All (IsKnownWorldOf m (names_of_trees is)) (file_worlds f)) (sym interfaces-same) h.known.in_worlds);
     };
   }

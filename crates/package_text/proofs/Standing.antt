@@ -3,7 +3,7 @@ use Rattle.std.proofs.Common.{◌≡◌, ℕ, List, [], ◌∷◌, ◌++◌, len
 use Rattle.std.specs.Prelude.{true}
 use Rattle.std.specs.List.{list_all}
 use Rattle.std.proofs.lemmas.Bool.{and_parts}
-use Rattle.tables.specs.Tables.{function_all, definition_all, definition_below, is_below, are_earlier, is_earlier, is_type, type_of, function_of, option_all}
+use Rattle.tables.specs.Tables.{function_all, definition_all, definition_below, is_below, are_earlier, is_type_before, is_type, type_of, function_of, option_all}
 use Rattle.tables.specs.Package.{TextTree, Reference, RecordTree, Plain, key_of, read_kind, reference_by, reference, references}
 use Rattle.tables.specs.declared.tables.TypeName.{TypeName}
 use Rattle.tables.specs.declared.tables.TypeDef.{TypeDef}
@@ -58,17 +58,17 @@ name-at r k n h = by (slice_get r.definitions k) refl h
     by (Some (row.Type d)) e q = type-tree r k d (Some n) e q
 
 -- a row names types that stand before it
-pub earlier-at : (r : Resolve) (k : ℕ) (d : Definition) → slice_get r.definitions k ≡ Some d → definition_all (is_earlier r.definitions k) d ≡ true
+pub earlier-at : (r : Resolve) (k : ℕ) (d : Definition) → slice_get r.definitions k ≡ Some d → definition_all (is_type_before r.definitions k) d ≡ true
 earlier-at r k d e =
     let at = get-at r.definitions k d e in
     let below : definition_below k d ≡ true = below-at k r.definitions k d r.earlier at.0 refl (sym (at.1 d)) in
     let typed : definition_all (is_type r.definitions) d ≡ true = all-get (definition_all (is_type r.definitions)) r.definitions k d r.typed e in
     definition-both (is_below k) (is_type r.definitions) d ∙ both _ _ below typed
 
-pub function-earlier : (r : Resolve) (k : ℕ) (f : Function) → function_of (slice_get r.definitions k) ≡ Some f → function_all (is_earlier r.definitions k) f ≡ true
+pub function-earlier : (r : Resolve) (k : ℕ) (f : Function) → function_of (slice_get r.definitions k) ≡ Some f → function_all (is_type_before r.definitions k) f ≡ true
 function-earlier r k f h = by (slice_get r.definitions k) refl h
   where
-    by : (o : Option Definition) → slice_get r.definitions k ≡ o → function_of o ≡ Some f → function_all (is_earlier r.definitions k) f ≡ true
+    by : (o : Option Definition) → slice_get r.definitions k ≡ o → function_of o ≡ Some f → function_all (is_type_before r.definitions k) f ≡ true
     by None e q = absurd cc
     by (Some (row.Type d)) e q = absurd cc
-    by (Some (row.Function g)) e q = let same : g ≡ f = cc in subst (λ (x : Function). function_all (is_earlier r.definitions k) x ≡ true) same (earlier-at r k (row.Function g) e)
+    by (Some (row.Function g)) e q = let same : g ≡ f = cc in subst (λ (x : Function). function_all (is_type_before r.definitions k) x ≡ true) same (earlier-at r k (row.Function g) e)

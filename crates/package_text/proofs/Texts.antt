@@ -26,7 +26,7 @@ use Rattle.package_form.proofs.Lists.{all-get, all-head, all-tail, all-left, all
 use Rattle.package_form.proofs.Forms.{rows-few}
 use Rattle.package_form.proofs.OwnPackage.{some-package}
 use Rattle.tree_meaning.specs.Resolves.{interface_fits, file_fits, is_behind, signature_fits, world_entry_fits}
-use Rattle.package_text.specs.Tree.{own_names, own_interfaces, own_parts}
+use Rattle.package_text.specs.Tree.{own_names, interfaces_of_package, own_parts}
 use Rattle.package_text.proofs.Named.{interface_entry, world_entry, file_of}
 use Rattle.package_text.specs.Writable.{row_labels, IsWritable}
 use Rattle.package_text.proofs.Parts.{stands-at}
@@ -169,12 +169,12 @@ tree-printable r w nested few =
     let homes : (front : List Definition) (d : Definition) (rest : List Definition) → r.definitions ≡ front ++ d ∷ rest → is_behind d ≡ false → IsPrintablePath (path_named (get_or (own_names r) (home 0 0 r.interfaces (length front)) [])) =
     λ front d rest e h.
     paths (home 0 0 r.interfaces (length front)) (let q = regions-homes r.definitions (home 0 0 r.interfaces) 0 [] r.interfaces r.definitions regions refl front d rest e (omega arith) h in omega (arith, q)) in
-    let A : List FileEntry = map (interface_entry r) (own_interfaces r) in
+    let A : List FileEntry = map (interface_entry r) (interfaces_of_package r) in
     let B : List FileEntry = map (world_entry r) r.worlds in
-    let split = items-split (map (interface_entry r) (own_interfaces r)) (map (world_entry r) r.worlds) in
+    let split = items-split (map (interface_entry r) (interfaces_of_package r)) (map (world_entry r) r.worlds) in
     let room = items-room (file_of r) few in
     let fit = and_parts (list_all interface_fits A) (list_all interface_fits B) (sym (list_all-append interface_fits A B) ∙ nested) in
-    let interfaces = files-printable (own_names r) r.definitions (home 0 0 r.interfaces) r.earlier owned w.form.postfix written homes (length b.front) b.before (own_interfaces r) b.behind b.regions b.rows
+    let interfaces = files-printable (own_names r) r.definitions (home 0 0 r.interfaces) r.earlier owned w.form.postfix written homes (length b.front) b.before (interfaces_of_package r) b.behind b.regions b.rows
     (within-limit (length r.definitions) (rows-few r w.form)) (own-are-labels r b named) fit.0 (omega (arith, room, split)) in
     let worlds = worlds-print r paths (function-printed (own_names r) r.definitions (home 0 0 r.interfaces) r.earlier owned w.form.postfix written homes)
     0 r.worlds r.worlds_placed (all-left IsLabel (map label_of r.worlds) (flat_map row_labels r.definitions) others) fit.1 (omega (arith, room, split)) in
@@ -183,7 +183,7 @@ tree-printable r w nested few =
     let p = own_parts r.packages in
     let t = and_parts (is_package_label p.namespace) (is_package_label p.name && is_version_or_none p.version) named_so in
     let u = and_parts (is_package_label p.name) (is_version_or_none p.version) t.1 in
-    let fewer = files-long (map (interface_entry r) (own_interfaces r) ++ map (world_entry r) r.worlds) in
+    let fewer = files-long (map (interface_entry r) (interfaces_of_package r) ++ map (world_entry r) r.worlds) in
     record {
       namespace = t.0;
       name = u.0;

@@ -22,11 +22,11 @@ use Rattle.package_form.proofs.Lists.{all-left}
 use Rattle.package_form.proofs.OnePackage.{all-first}
 use Rattle.package_form.proofs.OwnPackage.{own-part}
 use Rattle.tree_meaning.specs.Imports.{imports_of}
-use Rattle.tree_meaning.specs.Declarations.{interfaces, interface_names, worlds, package_named}
+use Rattle.tree_meaning.specs.Declarations.{interfaces, names_of_trees, file_worlds, package_named}
 use Rattle.tree_meaning.proofs.ItemNames.{HasDistinctParts, interfaces-distinct}
 use Rattle.tree_meaning.specs.Resolves.{KnowsPackagesOf, IsKnownWorldOf, HasEntries, HasNoFaultsOf, IsClosedPackageOf, file_fits}
 use Rattle.tree_meaning.proofs.Alone.{no-faults, is-package}
-use Rattle.package_text.specs.Tree.{own_interfaces, own_parts}
+use Rattle.package_text.specs.Tree.{interfaces_of_package, own_parts}
 use Rattle.package_text.specs.Tree as tree
 use Rattle.package_text.specs.Writable.{IsWritable}
 use Rattle.package_text.specs.Imports.{AreImportsOf}
@@ -89,10 +89,10 @@ told-package r imports w a =
     let labels = interface-labels r w in
     let trees = known-trees r imports w a labels in
     let know = trees-know m (interfaces f) trees in
-    let apart = subst (All HasDistinctParts) (sym (tree-interfaces r)) (interfaces-distinct (package_named f) (map (interface_entry r) (own_interfaces r)) (tree-interfaces-distinct r w.form w.distinct)) in
-    let placed = tree-worlds-known r w.form m (labels_of (own_interfaces r)) (items-there r imports w a labels) in
-    let here : All (IsKnownWorldOf m (interface_names (interfaces f))) (worlds f) = subst (λ (ns : List (List ℕ)). All (IsKnownWorldOf m ns) (worlds f)) (sym (tree-names r)) placed in
-    let own : All IsLabel (interface_names (interfaces f)) = subst (All IsLabel) (sym (tree-names r)) (own-are-labels r (begins r w.form) labels) in
+    let apart = subst (All HasDistinctParts) (sym (tree-interfaces r)) (interfaces-distinct (package_named f) (map (interface_entry r) (interfaces_of_package r)) (tree-interfaces-distinct r w.form w.distinct)) in
+    let placed = tree-worlds-known r w.form m (labels_of (interfaces_of_package r)) (items-there r imports w a labels) in
+    let here : All (IsKnownWorldOf m (names_of_trees (interfaces f))) (file_worlds f) = subst (λ (ns : List (List ℕ)). All (IsKnownWorldOf m ns) (file_worlds f)) (sym (tree-names r)) placed in
+    let own : All IsLabel (names_of_trees (interfaces f)) = subst (All IsLabel) (sym (tree-names r)) (own-are-labels r (begins r w.form) labels) in
     let paths : KnowsPackagesOf m f = subst (KnowsPackagesOf m) (told-file r w) (paths-known r imports.packages a.packages) in
     let whole = tree-package r imports w a labels (names-earlier m (interfaces f) trees apart) own paths know placed (tree-worlds-read r w.form) in (
       record { some = tree-some r w.form; distinct = tree-distinct r w.form whole.resolves.worlds w.distinct; packages = paths; known = record { in_interfaces = know; in_worlds = here } },

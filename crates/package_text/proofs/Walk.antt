@@ -25,7 +25,7 @@ use Rattle.atoms.specs.Label.{IsLabel}
 use Rattle.wit_syntax.specs.Syntax.{PathTo, Local}
 use Rattle.tree_meaning.specs.Imports.{Imports}
 use Rattle.tree_meaning.specs.Resolves.{IsKnownIn}
-use Rattle.tree_meaning.specs.Declarations.{path_package, path_interface, InterfaceTree, interface_of, interface_tree, type_names, named_definition, named_function as function_names}
+use Rattle.tree_meaning.specs.Declarations.{path_package, path_interface, InterfaceTree, interface_of, interface_tree, type_names, named_definition, names_in_function}
 use Rattle.tree_meaning.proofs.TableRows.{references-append}
 use Rattle.tree_meaning.proofs.Referring.{every-mono}
 use Rattle.package_text.specs.Written.{body_of}
@@ -143,8 +143,8 @@ module _ (ns : List (List ℕ)) (rows : List Definition) (at : ℕ → ℕ) (o :
           all-mono (IsNamed (pre ++ own) k) (Contains (flat_map row_gives own)) (own-named own more e) (named_definition (body_of t))
           (subst (λ j. All (IsNamed (pre ++ own) j) (named_definition (body_of t))) end h)
       told-known own more e here end (IsFunction fs result) h =
-          all-mono (IsNamed (pre ++ own) k) (Contains (flat_map row_gives own)) (own-named own more e) (function_names (function_by fs result))
-          (subst (λ j. All (IsNamed (pre ++ own) j) (function_names (function_by fs result))) end h)
+          all-mono (IsNamed (pre ++ own) k) (Contains (flat_map row_gives own)) (own-named own more e) (names_in_function (function_by fs result))
+          (subst (λ j. All (IsNamed (pre ++ own) j) (names_in_function (function_by fs result))) end h)
 
       rows-known : (own xs rest : List Definition) → rows ≡ (pre ++ own) ++ (xs ++ rest) → IsHere k pre (own ++ xs) → AreKnownBy known before (flat_map row_gives own) (definitions_from ns (references ns [] (pre ++ own)) xs)
       rows-known own [] rest e here = tt

@@ -21,7 +21,7 @@ use Rattle.package_form.specs.Form.{IsInPackageForm}
 use Rattle.package_form.proofs.OwnPackage.{some-package, own-worlds}
 use Rattle.placement.specs.Order.{IsPlacement}
 use Rattle.tree_meaning.specs.Imports.{imports_of}
-use Rattle.tree_meaning.specs.Declarations.{InterfaceTree, full_world, full_worlds, interface_of, interfaces, world_of, worlds, full_interface, full_interfaces, no_interface, interface_at, interface_name, interface_names}
+use Rattle.tree_meaning.specs.Declarations.{InterfaceTree, full_world, full_worlds, interface_of, interfaces, world_of, file_worlds, full_interface, full_interfaces, no_interface, interface_at, interface_tree_name, names_of_trees}
 use Rattle.tree_meaning.specs.Resolved.{interface_meaning}
 use Rattle.tree_meaning.specs.Resolved as tree
 use Rattle.tree_meaning.specs.Resolves.{ResolvesBehind, KnowsPackagesOf, HasKnownNamesOf, IsKnownWorldOf, type_uses, names_in_order, package_behind, interfaces_behind, IsClosedPackageOf}
@@ -29,7 +29,7 @@ use Rattle.tree_meaning.specs.Building.{package_meaning, start_table, table_defi
 use Rattle.tree_meaning.specs.WorldRows.{world_reads}
 use Rattle.tree_meaning.proofs.Placed.{same-flat}
 use Rattle.tree_meaning.proofs.Trees.{own_table, table-resolves}
-use Rattle.package_text.specs.Tree.{own_names, own_interfaces, own_parts}
+use Rattle.package_text.specs.Tree.{own_names, interfaces_of_package, own_parts}
 use Rattle.package_text.specs.Writable.{IsWritable}
 use Rattle.package_text.specs.Imports.{AreImportsOf}
 use Rattle.package_text.proofs.Named.{interface_entry, world_entry, file_of}
@@ -46,22 +46,22 @@ use Rattle.package_text.proofs.OwnIds.{own-ids}
 use Rattle.package_text.proofs.Begins.{form-regions, begins, own-at, own-are-labels, own-there}
 use Rattle.package_text.proofs.ImportParts.{before-same, own-place, names-are, fulls-are, are-imports, rooms-there}
 
-own-placed : (r : Resolve) (f : IsInPackageForm r) → list_all (is_placed r.definitions) (own_interfaces r) ≡ true
+own-placed : (r : Resolve) (f : IsInPackageForm r) → list_all (is_placed r.definitions) (interfaces_of_package r) ≡ true
 own-placed r f =
     let b = begins r f in
-    (and_parts (list_all (is_placed r.definitions) b.front) (list_all (is_placed r.definitions) (own_interfaces r))
-    (sym (list_all-append (is_placed r.definitions) b.front (own_interfaces r)) ∙ (ap (list_all (is_placed r.definitions)) (sym b.interfaces) ∙ r.placed))).1
+    (and_parts (list_all (is_placed r.definitions) b.front) (list_all (is_placed r.definitions) (interfaces_of_package r))
+    (sym (list_all-append (is_placed r.definitions) b.front (interfaces_of_package r)) ∙ (ap (list_all (is_placed r.definitions)) (sym b.interfaces) ∙ r.placed))).1
 
 -- the own definitions of a table
 abbrev pub behind_definitions : (r : Resolve) → IsInPackageForm r → List NamedDefinition
 behind_definitions r f = definitions_from (own_names r) (references (own_names r) [] (begins r f).before) (begins r f).behind
 
 -- what is written for the own interfaces of a table in form
-pub form-parts : (r : Resolve) (f : IsInPackageForm r) → AreParts (map (interface_entry r) (own_interfaces r)) (behind_definitions r f)
+pub form-parts : (r : Resolve) (f : IsInPackageForm r) → AreParts (map (interface_entry r) (interfaces_of_package r)) (behind_definitions r f)
 form-parts r f =
     let b = begins r f in
     parts-from (own_names r) r.definitions (home 0 0 r.interfaces) r.earlier (rows-owned (own_names r) r.definitions (home 0 0 r.interfaces) r.interfaces r.earlier f.postfix (form-regions r f)) f.postfix
-    (length b.front) b.before (own_interfaces r) b.behind b.regions b.rows (own-placed r f) (own-at r b)
+    (length b.front) b.before (interfaces_of_package r) b.behind b.regions b.rows (own-placed r f) (own-at r b)
 
 no-interfaces : (r : Resolve) (ws : List World) → filter_map interface_of (map (world_entry r) ws) ≡ []
 no-interfaces r [] = refl
@@ -72,24 +72,24 @@ interfaces-first r [] = no-interfaces r r.worlds
 interfaces-first r (i ∷ is) = let h = interfaces-first r is in cc
 
 -- the interfaces of the tree are written for the own ones of the table
-pub tree-interfaces : (r : Resolve) → interfaces (file_of r) ≡ filter_map interface_of (map (interface_entry r) (own_interfaces r))
-tree-interfaces r = interfaces-first r (own_interfaces r)
+pub tree-interfaces : (r : Resolve) → interfaces (file_of r) ≡ filter_map interface_of (map (interface_entry r) (interfaces_of_package r))
+tree-interfaces r = interfaces-first r (interfaces_of_package r)
 
 -- the worlds of the tree are written for those of the table
-pub tree-worlds : (r : Resolve) → worlds (file_of r) ≡ filter_map world_of (map (world_entry r) r.worlds)
-tree-worlds r = by (own_interfaces r)
+pub tree-worlds : (r : Resolve) → file_worlds (file_of r) ≡ filter_map world_of (map (world_entry r) r.worlds)
+tree-worlds r = by (interfaces_of_package r)
   where
     by : (is : List Interface) → filter_map world_of (map (interface_entry r) is ++ map (world_entry r) r.worlds) ≡ filter_map world_of (map (world_entry r) r.worlds)
     by [] = refl
     by (i ∷ is) = by is
 
-written-names : (r : Resolve) (is : List Interface) → interface_names (filter_map interface_of (map (interface_entry r) is)) ≡ labels_of is
+written-names : (r : Resolve) (is : List Interface) → names_of_trees (filter_map interface_of (map (interface_entry r) is)) ≡ labels_of is
 written-names r [] = refl
 written-names r (i ∷ is) = ap (λ (ns : List (List ℕ)). i.name ∷ ns) (written-names r is)
 
 -- the interfaces of the tree have the names of the own ones of the table
-pub tree-names : (r : Resolve) → interface_names (interfaces (file_of r)) ≡ labels_of (own_interfaces r)
-tree-names r = ap interface_names (tree-interfaces r) ∙ written-names r (own_interfaces r)
+pub tree-names : (r : Resolve) → names_of_trees (interfaces (file_of r)) ≡ labels_of (interfaces_of_package r)
+tree-names r = ap names_of_trees (tree-interfaces r) ∙ written-names r (interfaces_of_package r)
 
 -- what the trees of the interfaces name stands before it
 pub known-trees : (r imports : Resolve) (w : IsWritable r) (a : AreImportsOf r imports) → All IsLabel (labels_of r.interfaces) → AreKnownTrees (imports_of imports) [] (interfaces (file_of r))
@@ -99,7 +99,7 @@ known-trees r imports w a labels =
     subst (AreKnownTrees (imports_of imports) []) (sym (tree-interfaces r))
     (trees-from (imports_of imports) (own_names r) r.definitions (home 0 0 r.interfaces) r.earlier
     (rows-owned (own_names r) r.definitions (home 0 0 r.interfaces) r.interfaces r.earlier f.postfix (form-regions r f)) f.postfix
-    (length b.front) b.before (own_interfaces r) b.behind b.regions b.rows (own-placed r w.form) (own-at r b) (own-are-labels r b labels) b.past [] (rooms-there r imports w a labels))
+    (length b.front) b.before (interfaces_of_package r) b.behind b.regions b.rows (own-placed r w.form) (own-at r b) (own-are-labels r b labels) b.past [] (rooms-there r imports w a labels))
 
 passes : {A : Type 0} (p : A → Bool) (xs : List A) → list_all p (filter p xs) ≡ true
 passes p [] = refl
@@ -114,9 +114,9 @@ abbrev pub table_here : Resolve → Table
 table_here r = record { interfaces = own_names r; worlds = r.worlds; rows = r.definitions }
 
 module _ (r imports : Resolve) (w : IsWritable r) (a : AreImportsOf r imports) (labels : All IsLabel (labels_of r.interfaces)) (earlier : NamesEarlier (interfaces (file_of r)))
-    (tree_labels : All IsLabel (interface_names (interfaces (file_of r)))) (paths : KnowsPackagesOf (imports_of imports) (file_of r))
-    (known : All (HasKnownNamesOf (imports_of imports) (interfaces (file_of r))) (interfaces (file_of r))) (placed : All (IsKnownWorldOf (imports_of imports) (labels_of (own_interfaces r))) (worlds (file_of r)))
-    (read : map (world_reads (table_here r)) r.worlds ≡ map tree.world_meaning (worlds (file_of r))) where
+    (tree_labels : All IsLabel (names_of_trees (interfaces (file_of r)))) (paths : KnowsPackagesOf (imports_of imports) (file_of r))
+    (known : All (HasKnownNamesOf (imports_of imports) (interfaces (file_of r))) (interfaces (file_of r))) (placed : All (IsKnownWorldOf (imports_of imports) (labels_of (interfaces_of_package r))) (file_worlds (file_of r)))
+    (read : map (world_reads (table_here r)) r.worlds ≡ map tree.meaning_of_world (file_worlds (file_of r))) where
   abbrev is : List InterfaceTree
   is = interfaces (file_of r)
 
@@ -130,7 +130,7 @@ module _ (r imports : Resolve) (w : IsWritable r) (a : AreImportsOf r imports) (
   orders = map types_in_place (interfaces (file_of r))
 
   abbrev names : List (List ℕ)
-  names = labels_of (own_interfaces r)
+  names = labels_of (interfaces_of_package r)
 
   abbrev p : PackageParts
   p = own_parts r.packages
@@ -145,11 +145,11 @@ module _ (r imports : Resolve) (w : IsWritable r) (a : AreImportsOf r imports) (
       ap (interface_meaning (interface_at is (get_or order k 0))) (sym (order-at (get_or order k 0) (omega (arith, here, m))))
 
   names-placed : names ≡ names_in_order is order
-  names-placed = sym (map-places interface_name no_interface is ∙ tree-names r)
+  names-placed = sym (map-places interface_tree_name no_interface is ∙ tree-names r)
 
   own-defined : behind_definitions r w.form ≡ package_meaning is orders order
   own-defined =
-      sym (ap (flat_map meaning_in_place) (tree-interfaces r) ∙ parts-back (map (interface_entry r) (own_interfaces r)) (behind_definitions r w.form) (form-parts r w.form))
+      sym (ap (flat_map meaning_in_place) (tree-interfaces r) ∙ parts-back (map (interface_entry r) (interfaces_of_package r)) (behind_definitions r w.form) (form-parts r w.form))
       ∙ (sym (flat-places meaning_in_place no_interface is) ∙ same-flat (λ k. meaning_in_place (interface_at is k)) (λ k. interface_meaning (interface_at is k) (get_or orders k [])) order meaning-at)
 
   defines : table_definitions (table_here r) ≡ table_definitions (start_table imports names) ++ package_meaning is orders order
@@ -163,11 +163,11 @@ module _ (r imports : Resolve) (w : IsWritable r) (a : AreImportsOf r imports) (
       (ap (definitions_from ns []) (before-same r imports w a labels) ∙ ap (λ (ms : List (List ℕ)). definitions_from ms [] imports.definitions) (names-are r imports w a labels))
       ∙ ap (λ (ds : List NamedDefinition). definitions_from (names_in imports ++ names) [] imports.definitions ++ ds) own-defined))
 
-  own-resolves : ResolvesBehind (package_of imports) (map (full_interface p) is) (map (full_world p) (worlds (file_of r))) (package_behind (names_in imports) p (own_table names (table_here r) r.worlds))
+  own-resolves : ResolvesBehind (package_of imports) (map (full_interface p) is) (map (full_world p) (file_worlds (file_of r))) (package_behind (names_in imports) p (own_table names (table_here r) r.worlds))
   own-resolves =
       table-resolves imports (are-imports r imports w a labels) p is order orders names (table_here r) (placed-here is earlier)
       (λ k l. subst (IsPlacement (type_uses (interface_at is k))) (sym (order-at k l)) (types-placed (interface_at is k) (earlier.types k l))) names-placed (names-are r imports w a labels) defines tree_labels known
-      r.worlds (worlds (file_of r)) read placed
+      r.worlds (file_worlds (file_of r)) read placed
 
   there : slice_get r.packages (own_package r.packages) ≡ Some p
   there = own-there r.packages (some-package r w.form.closed)
@@ -200,12 +200,12 @@ module _ (r imports : Resolve) (w : IsWritable r) (a : AreImportsOf r imports) (
   cut : IsCut r.interfaces [] r.definitions
   cut = regions-cut r.definitions (home 0 0 r.interfaces) 0 [] r.interfaces r.definitions (form-regions r w.form)
 
-  own-made : own_interfaces r ≡ interfaces_behind (length imports.packages) (length imports.interfaces) r.definitions names
+  own-made : interfaces_of_package r ≡ interfaces_behind (length imports.packages) (length imports.interfaces) r.definitions names
   own-made =
-      own-ids (length imports.packages) r.definitions (home 0 0 r.interfaces) imports.interfaces (own_interfaces r)
+      own-ids (length imports.packages) r.definitions (home 0 0 r.interfaces) imports.interfaces (interfaces_of_package r)
       (subst (λ (js : List Interface). AreRegions r.definitions (home 0 0 r.interfaces) 0 [] js r.definitions) a.interfaces (form-regions r w.form))
       (ap (list_all (is_placed r.definitions)) (sym a.interfaces) ∙ r.placed)
-      (subst (λ (n : ℕ). list_all (is_interface_of n) (own_interfaces r) ≡ true) (own-place r imports w a labels) (passes (is_interface_of (own_package r.packages)) r.interfaces))
+      (subst (λ (n : ℕ). list_all (is_interface_of n) (interfaces_of_package r) ≡ true) (own-place r imports w a labels) (passes (is_interface_of (own_package r.packages)) r.interfaces))
 
   pub tree-package : IsClosedPackageOf imports (file_of r) r
   tree-package = record {

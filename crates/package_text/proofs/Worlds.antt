@@ -21,7 +21,7 @@ use Rattle.tables.specs.declared.tables.Resolve.{Resolve}
 use Rattle.package_form.specs.Ids.{is_of_worlds, is_world_function}
 use Rattle.package_form.specs.Form.{is_local, IsInPackageForm}
 use Rattle.package_form.proofs.Lists.{all-none, all-cons, all-head, all-get}
-use Rattle.tree_meaning.specs.Declarations.{world_of, worlds, item_tree, named_function}
+use Rattle.tree_meaning.specs.Declarations.{world_of, file_worlds, item_tree, names_in_function}
 use Rattle.wit_syntax.specs.Syntax.{Whole}
 use Rattle.wit_syntax.specs.declared.ast.Direction.{Direction as Way}
 use Rattle.tree_meaning.specs.Imports.{Imports}
@@ -68,7 +68,7 @@ nothing-known K (n ∷ ns) none h = absurd (none n (all-head K n ns h))
 abbrev names_of : Meaning → List (List ℕ)
 names_of (IsUse t) = []
 names_of (IsType t) = []
-names_of (IsFunction fs result) = named_function (function_by fs result)
+names_of (IsFunction fs result) = names_in_function (function_by fs result)
 
 module _ (r : Resolve) (f : IsInPackageForm r) where
   abbrev ns : List (List ℕ)
@@ -129,5 +129,5 @@ module _ (r : Resolve) (f : IsInPackageForm r) where
         all-cons (IsKnownWorldOf m names) _ _ (items-known w x.items t.0) (worlds-known (w + 1) xs t.1)
 
     -- the worlds of the tree name interfaces that are known, and no types
-    pub tree-worlds-known : All (IsKnownWorldOf m names) (worlds (file_of r))
+    pub tree-worlds-known : All (IsKnownWorldOf m names) (file_worlds (file_of r))
     tree-worlds-known = subst (All (IsKnownWorldOf m names)) (sym (tree-worlds r)) (worlds-known 0 r.worlds r.worlds_placed)

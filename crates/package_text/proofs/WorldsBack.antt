@@ -23,8 +23,8 @@ use Rattle.package_form.specs.Form.{IsInPackageForm}
 use Rattle.tables.specs.Names.{full_name_in}
 use Rattle.wit_syntax.specs.declared.ast.Direction.{Direction as Way}
 use Rattle.wit_syntax.specs.Syntax.{PathTo, Local, Foreign, Whole}
-use Rattle.tree_meaning.specs.Declarations.{path_package, path_interface, world_of, worlds, item_tree}
-use Rattle.tree_meaning.specs.Resolved.{direction_meaning, fields_of, resolved_if, member_meaning}
+use Rattle.tree_meaning.specs.Declarations.{path_package, path_interface, world_of, file_worlds, item_tree}
+use Rattle.tree_meaning.specs.Resolved.{direction_meaning, fields_of_labelled, resolved_if, member_meaning}
 use Rattle.tree_meaning.specs.Resolved as tree
 use Rattle.tree_meaning.specs.Building.{table_trees, read_parameter}
 use Rattle.tree_meaning.specs.WorldRows.{world_reads}
@@ -49,7 +49,7 @@ way-back direction.Import = refl
 way-back direction.Export = refl
 
 -- an interface that is named by a path goes by the path's name
-path-means : (d : Way) (p : PathTo) → tree.item_meaning (item_tree (Whole d p)) ≡ WithInterface (direction_meaning d) (full_name_in (path_package p) (path_interface p))
+path-means : (d : Way) (p : PathTo) → tree.tree_item_meaning (item_tree (Whole d p)) ≡ WithInterface (direction_meaning d) (full_name_in (path_package p) (path_interface p))
 path-means d (Local i) = refl
 path-means d (Foreign namespace name v i) = refl
 
@@ -57,14 +57,14 @@ path-means d (Foreign namespace name v i) = refl
 abbrev IsBack : Meaning → Type 0
 IsBack (IsUse t) = Unit {0}
 IsBack (IsType t) = Unit {0}
-IsBack (IsFunction fs result) = (fields_of (map (member_meaning []) (members_in fs)) ≡ fs) × (resolved_if [] (option_map ty_of result) ≡ result)
+IsBack (IsFunction fs result) = (fields_of_labelled (map (member_meaning []) (members_in fs)) ≡ fs) × (resolved_if [] (option_map ty_of result) ≡ result)
 
 -- what holds in the interface without a name holds of a function that is read so
-read-back : (ts : List Tree) (g : Function) (i : List ℕ) → i ≡ [] → map (member_meaning i) (members_in (fields_of (map (read_parameter ts) g.params))) ≡ map (read_parameter ts) g.params
+read-back : (ts : List Tree) (g : Function) (i : List ℕ) → i ≡ [] → map (member_meaning i) (members_in (fields_of_labelled (map (read_parameter ts) g.params))) ≡ map (read_parameter ts) g.params
     → resolved_if i (option_map ty_of (option_map (read_val ts) g.result)) ≡ option_map (read_val ts) g.result → IsBack (function_meaning ts g)
 read-back ts g i none params result = (
-  subst (λ (fs : Fields). fields_of (map (member_meaning []) (members_in fs)) ≡ fs) (sym (parameters-read ts g.params))
-      (ap fields_of (subst (λ (n : List ℕ). map (member_meaning n) (members_in (fields_of (map (read_parameter ts) g.params))) ≡ map (read_parameter ts) g.params) none params)),
+  subst (λ (fs : Fields). fields_of_labelled (map (member_meaning []) (members_in fs)) ≡ fs) (sym (parameters-read ts g.params))
+      (ap fields_of_labelled (subst (λ (n : List ℕ). map (member_meaning n) (members_in (fields_of_labelled (map (read_parameter ts) g.params))) ≡ map (read_parameter ts) g.params) none params)),
   subst (λ (n : List ℕ). resolved_if n (option_map ty_of (option_map (read_val ts) g.result)) ≡ option_map (read_val ts) g.result) none result,
 )
 
@@ -95,14 +95,14 @@ module _ (r : Resolve) (f : IsInPackageForm r) where
 
   -- an item of a world
   item-back : (w : ℕ) (way : Direction) (i : WorldItemKind) → is_placed_item r.definitions (length r.interfaces) w i ≡ true
-      → tree.item_meaning (item_tree (item_entry (item_meaning (own_names r) (own_trees r) r.definitions way i))) ≡ item_meaning (own_names r) (own_trees r) r.definitions way i
+      → tree.tree_item_meaning (item_tree (item_entry (item_meaning (own_names r) (own_trees r) r.definitions way i))) ≡ item_meaning (own_names r) (own_trees r) r.definitions way i
   item-back w way (item.Interface j) h =
       path-means (direction_for way) (path_named (get_or (own_names r) j.0 []))
       ∙ (ap (WithInterface (direction_meaning (direction_for way))) (named-back (get_or (own_names r) j.0 [])) ∙ ap (λ (d : Direction). WithInterface d (get_or (own_names r) j.0 [])) (way-back way))
   item-back w way (item.Function c) h = by (slice_get r.definitions c.0) refl h
     where
       by : (d : Option Definition) → slice_get r.definitions c.0 ≡ d → is_function_of w (function_of d) ≡ true
-          → tree.item_meaning (item_tree (item_entry (function_item (own_trees r) way (function_of d)))) ≡ function_item (own_trees r) way (function_of d)
+          → tree.tree_item_meaning (item_tree (item_entry (function_item (own_trees r) way (function_of d)))) ≡ function_item (own_trees r) way (function_of d)
       by None e q = absurd (false≢true q)
       by (Some (row.Type d)) e q = absurd (false≢true q)
       by (Some (row.Function g)) e q =
@@ -110,28 +110,28 @@ module _ (r : Resolve) (f : IsInPackageForm r) where
           let b = function-back x.0 g x.1 x.2 (owner-of-world w g.owner q) in
           let fs = read_params (own_trees r) g.params in
           let result = option_map (read_val (own_trees r)) g.result in
-          ap (λ (d : Direction). WithFunction d g.name (fields_of (map (member_meaning []) (members_in fs))) (resolved_if [] (option_map ty_of result))) (way-back way)
+          ap (λ (d : Direction). WithFunction d g.name (fields_of_labelled (map (member_meaning []) (members_in fs))) (resolved_if [] (option_map ty_of result))) (way-back way)
           ∙ (ap (λ (ms : Fields). WithFunction way g.name ms (resolved_if [] (option_map ty_of result))) b.0 ∙ ap (λ (t : Option Tree). WithFunction way g.name fs t) b.1)
 
   items-back : (w : ℕ) (is : List WorldItem) → list_all (λ i. is_placed_item r.definitions (length r.interfaces) w i.kind) is ≡ true
-      → map (own_item r) is ≡ map tree.item_meaning (map item_tree (map (λ i. item_entry (own_item r i)) is))
+      → map (own_item r) is ≡ map tree.tree_item_meaning (map item_tree (map (λ i. item_entry (own_item r i)) is))
   items-back w [] h = refl
   items-back w (i ∷ is) h =
       let t = and_parts (is_placed_item r.definitions (length r.interfaces) w i.kind) (list_all (λ i. is_placed_item r.definitions (length r.interfaces) w i.kind) is) h in
       ap (λ (m : ItemMeaning). m ∷ map (own_item r) is) (sym (item-back w i.direction i.kind t.0))
-      ∙ ap (λ (ms : List ItemMeaning). tree.item_meaning (item_tree (item_entry (own_item r i))) ∷ ms) (items-back w is t.1)
+      ∙ ap (λ (ms : List ItemMeaning). tree.tree_item_meaning (item_tree (item_entry (own_item r i))) ∷ ms) (items-back w is t.1)
 
   abbrev own_world : World → WorldMeaning
   own_world w = record { name = w.name; items = map (own_item r) w.items }
 
-  worlds-back : (w : ℕ) (ws : List World) → are_placed_worlds r.definitions (length r.interfaces) w ws ≡ true → map own_world ws ≡ map tree.world_meaning (filter_map world_of (map (world_entry r) ws))
+  worlds-back : (w : ℕ) (ws : List World) → are_placed_worlds r.definitions (length r.interfaces) w ws ≡ true → map own_world ws ≡ map tree.meaning_of_world (filter_map world_of (map (world_entry r) ws))
   worlds-back w [] h = refl
   worlds-back w (x ∷ xs) h =
       let t = and_parts (is_placed_world r.definitions (length r.interfaces) w x) (are_placed_worlds r.definitions (length r.interfaces) (w + 1) xs) h in
       ap (λ (ms : List ItemMeaning). record { name = x.name; items = ms } ∷ map own_world xs) (items-back w x.items t.0)
-      ∙ ap (λ (ms : List WorldMeaning). record { name = x.name; items = map tree.item_meaning (map item_tree (map (λ i. item_entry (own_item r i)) x.items)) } ∷ ms) (worlds-back (w + 1) xs t.1)
+      ∙ ap (λ (ms : List WorldMeaning). record { name = x.name; items = map tree.tree_item_meaning (map item_tree (map (λ i. item_entry (own_item r i)) x.items)) } ∷ ms) (worlds-back (w + 1) xs t.1)
 
   -- the worlds of the table are read as those of the tree
-  pub tree-worlds-read : map (world_reads (record { interfaces = own_names r; worlds = r.worlds; rows = r.definitions })) r.worlds ≡ map tree.world_meaning (worlds (file_of r))
+  pub tree-worlds-read : map (world_reads (record { interfaces = own_names r; worlds = r.worlds; rows = r.definitions })) r.worlds ≡ map tree.meaning_of_world (file_worlds (file_of r))
   unfolding table_trees
-  tree-worlds-read = worlds-back 0 r.worlds r.worlds_placed ∙ ap (map tree.world_meaning) (sym (tree-worlds r))
+  tree-worlds-read = worlds-back 0 r.worlds r.worlds_placed ∙ ap (map tree.meaning_of_world) (sym (tree-worlds r))

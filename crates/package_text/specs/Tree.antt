@@ -102,16 +102,16 @@ entry_of p d = entry_by p d.key.name d.meaning
 abbrev pub row_entries : Resolve → Option Definition → List Entry
 row_entries r d = map (entry_of (row_path r d)) (definitions_in (own_names r) (own_trees r) d)
 
-abbrev pub entries_at : Resolve → ℕ → List Entry
-entries_at r k = row_entries r (slice_get r.definitions k)
+abbrev pub written_at : Resolve → ℕ → List Entry
+written_at r k = row_entries r (slice_get r.definitions k)
 
 -- its used names, its types and its functions
 abbrev pub interface_entry : Resolve → Interface → FileEntry
-interface_entry r i = AnInterface i.name (flat_map (entries_at r) (ids_of i))
+interface_entry r i = AnInterface i.name (flat_map (written_at r) (ids_of i))
 
 -- the interfaces of the own package
-abbrev pub own_interfaces : Resolve → List Interface
-own_interfaces r = filter (is_interface_of (own_package r.packages)) r.interfaces
+abbrev pub interfaces_of_package : Resolve → List Interface
+interfaces_of_package r = filter (is_interface_of (own_package r.packages)) r.interfaces
 
 -- ---- worlds
 
@@ -131,8 +131,8 @@ own_item r i = item_meaning (own_names r) (own_trees r) r.definitions i.directio
 abbrev pub item_written : Resolve → WorldItem → WorldEntry
 item_written r i = item_entry (item_path r i.kind) (own_item r i)
 
-abbrev pub world_entry : Resolve → World → FileEntry
-world_entry r w = AWorld nowhere w.name (map (item_written r) w.items)
+abbrev pub world_written : Resolve → World → FileEntry
+world_written r w = AWorld nowhere w.name (map (item_written r) w.items)
 
 -- ---- the package
 
@@ -146,5 +146,5 @@ file_of r =
       namespace = p.namespace;
       name = p.name;
       version = p.version;
-      entries = map (interface_entry r) (own_interfaces r) ++ map (world_entry r) r.worlds;
+      entries = map (interface_entry r) (interfaces_of_package r) ++ map (world_written r) r.worlds;
     }

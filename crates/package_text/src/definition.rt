@@ -2,7 +2,7 @@
 ghost use Rattle.std.specs.Prelude.{◌≡◌, List, map, IfOk, IsTrue, option_map};
 ghost use Rattle.std.specs.List.{list_all};
 ghost use Rattle.wit_syntax.specs.View.{field_view, case_view, optional_view, definition_view, function_view};
-ghost use Rattle.tables.specs.Tables.{option_all, kind_all, function_all, is_earlier};
+ghost use Rattle.tables.specs.Tables.{option_all, kind_all, function_all, is_type_before};
 ghost use Rattle.tables.specs.Package.{read_val, read_kind, read_params};
 ghost use Rattle.package_form.specs.Form.{IsInPackageForm};
 ghost use Rattle.package_text.specs.Written.{body_of};
@@ -23,7 +23,7 @@ fn optional(
     ty: Option<ValType>,
 ) -> Result<Option<TypeExpression>, AllocError>
     requires form { IsInPackageForm resolve.now }
-    requires earlier { IsTrue (option_all (is_earlier resolve.now.definitions place) ty) }
+    requires earlier { IsTrue (option_all (is_type_before resolve.now.definitions place) ty) }
     ensures { IfOk result (λ t. optional_view t ≡ option_map (type_by (own_trees resolve.now)) ty) }
 {
     match ty {
@@ -41,7 +41,7 @@ fn member(
     ty: ValType,
 ) -> Result<wit_syntax::Field, AllocError>
     requires form { IsInPackageForm resolve.now }
-    requires earlier { IsTrue (is_earlier resolve.now.definitions place ty) }
+    requires earlier { IsTrue (is_type_before resolve.now.definitions place ty) }
     ensures { IfOk result (λ m. field_view m ≡ member_by (own_trees resolve.now) name.now ty) }
 {
     Ok(wit_syntax::Field {
@@ -57,7 +57,7 @@ fn fields(
     fields: &[Field],
 ) -> Result<Vec<wit_syntax::Field>, AllocError>
     requires form { IsInPackageForm resolve.now }
-    requires earlier { IsTrue (list_all (λ f. is_earlier resolve.now.definitions place f.ty) fields.now) }
+    requires earlier { IsTrue (list_all (λ f. is_type_before resolve.now.definitions place f.ty) fields.now) }
     ensures { IfOk result (λ ms. map field_view ms.items ≡ map (field_by (own_trees resolve.now)) fields.now) }
 {
     let mut members = Vec::new(alloc);
@@ -74,7 +74,7 @@ fn parameters(
     parameters: &[Parameter],
 ) -> Result<Vec<wit_syntax::Field>, AllocError>
     requires form { IsInPackageForm resolve.now }
-    requires earlier { IsTrue (list_all (λ p. is_earlier resolve.now.definitions place p.ty) parameters.now) }
+    requires earlier { IsTrue (list_all (λ p. is_type_before resolve.now.definitions place p.ty) parameters.now) }
     ensures { IfOk result (λ ms. map field_view ms.items ≡ map (parameter_by (own_trees resolve.now)) parameters.now) }
 {
     let mut members = Vec::new(alloc);
@@ -91,7 +91,7 @@ fn case(
     case: &Case,
 ) -> Result<wit_syntax::Case, AllocError>
     requires form { IsInPackageForm resolve.now }
-    requires earlier { IsTrue (option_all (is_earlier resolve.now.definitions place) case.now.ty) }
+    requires earlier { IsTrue (option_all (is_type_before resolve.now.definitions place) case.now.ty) }
     ensures { IfOk result (λ c. case_view c ≡ case_by (own_trees resolve.now) case.now) }
 {
     Ok(wit_syntax::Case {
@@ -107,7 +107,7 @@ fn cases(
     choices: &[Case],
 ) -> Result<Vec<wit_syntax::Case>, AllocError>
     requires form { IsInPackageForm resolve.now }
-    requires earlier { IsTrue (list_all (λ c. option_all (is_earlier resolve.now.definitions place) c.ty) choices.now) }
+    requires earlier { IsTrue (list_all (λ c. option_all (is_type_before resolve.now.definitions place) c.ty) choices.now) }
     ensures { IfOk result (λ cs. map case_view cs.items ≡ map (case_by (own_trees resolve.now)) choices.now) }
 {
     let mut cases = Vec::new(alloc);
@@ -135,7 +135,7 @@ fn alias(
     target: ValType,
 ) -> Result<wit_syntax::TypeDefKind, AllocError>
     requires form { IsInPackageForm resolve.now }
-    requires earlier { IsTrue (is_earlier resolve.now.definitions place target) }
+    requires earlier { IsTrue (is_type_before resolve.now.definitions place target) }
     ensures { IfOk result (λ d. definition_view d ≡ body_of (read_val (own_trees resolve.now) target)) }
 {
     let ty = expression(alloc, resolve, place, target)?;
@@ -150,7 +150,7 @@ pub(crate) fn definition(
     kind: &TypeDefKind,
 ) -> Result<wit_syntax::TypeDefKind, AllocError>
     requires form { IsInPackageForm resolve.now }
-    requires earlier { IsTrue (kind_all (is_earlier resolve.now.definitions place) kind.now) }
+    requires earlier { IsTrue (kind_all (is_type_before resolve.now.definitions place) kind.now) }
     ensures { IfOk result (λ d. definition_view d ≡ body_of (read_kind (own_trees resolve.now) kind.now)) }
 {
     match kind {
@@ -190,7 +190,7 @@ pub(crate) fn function_type(
     function: &Function,
 ) -> Result<FuncType, AllocError>
     requires form { IsInPackageForm resolve.now }
-    requires earlier { IsTrue (function_all (is_earlier resolve.now.definitions place) function.now) }
+    requires earlier { IsTrue (function_all (is_type_before resolve.now.definitions place) function.now) }
     ensures { IfOk result (λ t. function_view t ≡ function_by (read_params (own_trees resolve.now) function.now.params) (option_map (read_val (own_trees resolve.now)) function.now.result)) }
 {
     Ok(FuncType {

@@ -3,12 +3,12 @@ ghost use Rattle.std.specs.Prelude.{◌≡◌, ◌<◌, ◌∷◌, [], ◌++◌,
 ghost use Rattle.wit_tokens.specs.declared.token.Span.{Span};
 ghost use Rattle.wit_syntax.specs.View.{version_view, path_view, used_view, entry_view, item_view, function_view};
 ghost use Rattle.wit_print.specs.Unplaced.{nowhere};
-ghost use Rattle.tables.specs.Tables.{kind_all, function_all, is_earlier};
+ghost use Rattle.tables.specs.Tables.{kind_all, function_all, is_type_before};
 ghost use Rattle.tables.specs.declared.tables.ValType.TheVariants as val;
 ghost use Rattle.tables.specs.Package.{read_val, meaning_of, function_meaning};
 ghost use Rattle.package_form.specs.Reached.{used_by, name_at};
 ghost use Rattle.package_form.specs.Form.{IsInPackageForm, is_earlier as is_used, uses_earlier};
-ghost use Rattle.package_text.specs.Tree.{other_package, path_at, name_path, own_trees, local_of, use_entry, entry_by, entries_at, interface_entry};
+ghost use Rattle.package_text.specs.Tree.{other_package, path_at, name_path, own_trees, local_of, use_entry, entry_by, written_at, interface_entry};
 
 use crate::definition::{definition, function_type};
 use atoms::Label;
@@ -133,7 +133,7 @@ fn type_entry(
     kind: &TypeDefKind,
 ) -> Result<InterfaceItem, AllocError>
     requires form { IsInPackageForm resolve.now }
-    requires earlier { IsTrue (kind_all (is_earlier resolve.now.definitions place) kind.now) }
+    requires earlier { IsTrue (kind_all (is_type_before resolve.now.definitions place) kind.now) }
     requires used { IsTrue (uses_earlier resolve.now.definitions (length resolve.now.interfaces) kind.now) }
     ensures { IfOk result (λ e. entry_view e ≡ entry_by (name_path resolve.now (name_at resolve.now.definitions (used_by kind.now))) name.now (meaning_of (own_trees resolve.now) kind.now)) }
 {
@@ -155,7 +155,7 @@ pub(crate) fn func(
     function: &Function,
 ) -> Result<Func, AllocError>
     requires form { IsInPackageForm resolve.now }
-    requires earlier { IsTrue (function_all (is_earlier resolve.now.definitions place) function.now) }
+    requires earlier { IsTrue (function_all (is_type_before resolve.now.definitions place) function.now) }
     ensures { IfOk result (λ f. entry_view (InterfaceItem.Func f) ≡ entry_by (name_path resolve.now None) function.now.name (function_meaning (own_trees resolve.now) function.now)) }
 {
     Ok(Func {
@@ -179,7 +179,7 @@ fn push_entry(
     items: &mut Vec<InterfaceItem>,
 ) -> Result<(), AllocError>
     requires { IsInPackageForm resolve.now }
-    ensures { OnOk result (map entry_view items.new.items ≡ map entry_view items.old.items ++ entries_at resolve.now place) }
+    ensures { OnOk result (map entry_view items.new.items ≡ map entry_view items.old.items ++ written_at resolve.now place) }
 {
     match row_at(resolve, place) {
         Some(Definition::Type(definition)) => {
@@ -206,7 +206,7 @@ fn push_types(
     items: &mut Vec<InterfaceItem>,
 ) -> Result<(), AllocError>
     requires { IsInPackageForm resolve.now }
-    ensures { OnOk result (map entry_view items.new.items ≡ map entry_view items.old.items ++ flat_map (λ t. entries_at resolve.now t.0) ids.now) }
+    ensures { OnOk result (map entry_view items.new.items ≡ map entry_view items.old.items ++ flat_map (λ t. written_at resolve.now t.0) ids.now) }
 {
     for id in ids {
         push_entry(alloc, resolve, id.0 as usize, items)?;
@@ -221,7 +221,7 @@ fn push_functions(
     items: &mut Vec<InterfaceItem>,
 ) -> Result<(), AllocError>
     requires { IsInPackageForm resolve.now }
-    ensures { OnOk result (map entry_view items.new.items ≡ map entry_view items.old.items ++ flat_map (λ f. entries_at resolve.now f.0) ids.now) }
+    ensures { OnOk result (map entry_view items.new.items ≡ map entry_view items.old.items ++ flat_map (λ f. written_at resolve.now f.0) ids.now) }
 {
     for id in ids {
         push_entry(alloc, resolve, id.0 as usize, items)?;

@@ -2,7 +2,7 @@
 ghost use Rattle.std.specs.Prelude.{◌≡◌, List, map, IfOk, IsTrue, slice_get, slice_index_or};
 ghost use Rattle.std.specs.List.{list_all};
 ghost use Rattle.wit_syntax.specs.View.{ty_view, boxed_view};
-ghost use Rattle.tables.specs.Tables.{option_all, kind_all, is_type_id, is_earlier};
+ghost use Rattle.tables.specs.Tables.{option_all, kind_all, is_type_id, is_type_before};
 ghost use Rattle.tables.specs.Package.{TextTree, read_kind};
 ghost use Rattle.package_form.specs.Postfix.{is_inner};
 ghost use Rattle.package_form.specs.Form.{IsInPackageForm};
@@ -51,7 +51,7 @@ pub(crate) fn expression(
     ty: ValType,
 ) -> Result<TypeExpression, AllocError>
     requires form { IsInPackageForm resolve.now }
-    requires earlier { IsTrue (is_earlier resolve.now.definitions _place ty) }
+    requires earlier { IsTrue (is_type_before resolve.now.definitions _place ty) }
     ensures { IfOk result (λ t. ty_view t ≡ type_by (own_trees resolve.now) ty) }
 {
     match ty {
@@ -85,7 +85,7 @@ pub(crate) fn inner(
 ) -> Result<TypeExpression, AllocError>
     requires form { IsInPackageForm resolve.now }
     requires inner { IsTrue (is_inner kind.now) }
-    requires earlier { IsTrue (kind_all (is_earlier resolve.now.definitions place) kind.now) }
+    requires earlier { IsTrue (kind_all (is_type_before resolve.now.definitions place) kind.now) }
     ensures { IfOk result (λ t. ty_view t ≡ ty_of (read_kind (own_trees resolve.now) kind.now)) }
 {
     match kind {
@@ -118,7 +118,7 @@ fn boxed(
     ty: Option<ValType>,
 ) -> Result<Option<Box<TypeExpression>>, AllocError>
     requires form { IsInPackageForm resolve.now }
-    requires earlier { IsTrue (option_all (is_earlier resolve.now.definitions place) ty) }
+    requires earlier { IsTrue (option_all (is_type_before resolve.now.definitions place) ty) }
     ensures { IfOk result (λ t. boxed_view t ≡ maybe_by (own_trees resolve.now) ty) }
 {
     match ty {
@@ -138,7 +138,7 @@ fn expressions(
     types: &[ValType],
 ) -> Result<Vec<TypeExpression>, AllocError>
     requires form { IsInPackageForm resolve.now }
-    requires earlier { IsTrue (list_all (is_earlier resolve.now.definitions place) types.now) }
+    requires earlier { IsTrue (list_all (is_type_before resolve.now.definitions place) types.now) }
     ensures { IfOk result (λ ts. map ty_view ts.items ≡ map (type_by (own_trees resolve.now)) types.now) }
 {
     let mut expressions = Vec::new(alloc);

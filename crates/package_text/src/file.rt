@@ -4,7 +4,7 @@ ghost use Rattle.std.specs.String.{string_bytes};
 ghost use Rattle.wit_syntax.specs.View.{item_view, file_view};
 ghost use Rattle.package_form.specs.Reached.{is_interface_of};
 ghost use Rattle.package_form.specs.Form.{IsInPackageForm};
-ghost use Rattle.package_text.specs.Tree.{interface_entry, world_entry, file_of};
+ghost use Rattle.package_text.specs.Tree.{interface_entry, world_written, file_of};
 ghost use Rattle.package_text.specs.Text.{text_of};
 
 use crate::entry::{interface_tree, package_id};
@@ -35,7 +35,7 @@ fn push_interfaces(
 
 fn push_worlds(alloc: Global, resolve: &Resolve, items: &mut Vec<Item>) -> Result<(), AllocError>
     requires { IsInPackageForm resolve.now }
-    ensures { OnOk result (map item_view items.new.items ≡ map item_view items.old.items ++ map (world_entry resolve.now) resolve.now.worlds) }
+    ensures { OnOk result (map item_view items.new.items ≡ map item_view items.old.items ++ map (world_written resolve.now) resolve.now.worlds) }
 {
     for world in resolve.worlds.as_slice() {
         items.push(world_tree(alloc, resolve, world)?)?;

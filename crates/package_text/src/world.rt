@@ -4,7 +4,7 @@ ghost use Rattle.std.specs.List.{list_all};
 ghost use Rattle.wit_syntax.specs.View.{world_kind_view, world_entry_view, item_view};
 ghost use Rattle.package_form.specs.Form.{IsInPackageForm};
 ghost use Rattle.package_text.specs.Written.{direction_for};
-ghost use Rattle.package_text.specs.Tree.{item_written, world_entry};
+ghost use Rattle.package_text.specs.Tree.{item_written, world_written};
 ghost use Rattle.package_text.specs.Pieces.{is_item};
 
 use crate::entry::{func, nowhere, path_to};
@@ -53,7 +53,7 @@ pub(crate) fn world_tree(
 ) -> Result<Item, AllocError>
     requires form { IsInPackageForm resolve.now }
     requires placed { IsTrue (list_all (λ i. is_item resolve.now i.kind) world.now.items) }
-    ensures { IfOk result (λ i. item_view i ≡ world_entry resolve.now world.now) }
+    ensures { IfOk result (λ i. item_view i ≡ world_written resolve.now world.now) }
 {
     let mut items = Vec::new(alloc);
     for item in world.items.as_slice() {

@@ -6,13 +6,13 @@ use Rattle.std.proofs.lemmas.List.Folds.{list_any-append, sum_by-replicate}
 use Rattle.std.proofs.lemmas.List.Sums.{sum_by-set, sum_by-cons}
 use Rattle.std.proofs.lemmas.Bool.{cases_eq, cases_lt}
 use Rattle.std.proofs.lemmas.Bool.Decides.{nat_tests}
-use Rattle.placement.specs.Order.{is_among, is_ready, IsNext, IsPlacement, IsCycle}
+use Rattle.placement.specs.Order.{has_placed, is_ready, IsNext, IsPlacement, IsCycle}
 
 pub record PlacedSoFar (uses : List (List ℕ)) (placed : List Bool) (order : List ℕ) (left : ℕ) : Type 0 where
   pub len : length placed ≡ length uses
   pub left_is : left ≡ count_by not placed
-  pub agrees : (i : ℕ) → get_or placed i false ≡ is_among order i
-  pub next : (k : ℕ) → k < length order → IsNext uses (is_among (take k order)) (get_or order k 0)
+  pub agrees : (i : ℕ) → get_or placed i false ≡ has_placed order i
+  pub next : (k : ℕ) → k < length order → IsNext uses (has_placed (take k order)) (get_or order k 0)
 
 list_all-same : (p q : ℕ → Bool) → ((i : ℕ) → p i ≡ q i) → (xs : List ℕ) → list_all p xs ≡ list_all q xs
 list_all-same p q h [] = refl
@@ -41,18 +41,18 @@ same_or b n = grind (arith, nat_tests)
 other_or : (b : Bool) (n i : ℕ) → i ≢ n → b ≡ (b || ((n == i) || false))
 other_or b n i h = grind (arith, nat_tests)
 
-agrees_more : (placed : List Bool) (order : List ℕ) (node : ℕ) → node < length placed → ((i : ℕ) → get_or placed i false ≡ is_among order i)
-    → (i : ℕ) → get_or (set placed node true) i false ≡ is_among (order ++ node ∷ []) i
+agrees_more : (placed : List Bool) (order : List ℕ) (node : ℕ) → node < length placed → ((i : ℕ) → get_or placed i false ≡ has_placed order i)
+    → (i : ℕ) → get_or (set placed node true) i false ≡ has_placed (order ++ node ∷ []) i
 agrees_more placed order node h agrees i =
-    let both : is_among (order ++ node ∷ []) i ≡ (is_among order i || ((node == i) || false)) = list_any-append (λ x. x == i) order (node ∷ []) in
+    let both : has_placed (order ++ node ∷ []) i ≡ (has_placed order i || ((node == i) || false)) = list_any-append (λ x. x == i) order (node ∷ []) in
     elim (cases_eq i node) [
-      | inl e ↦ rw (both, e, get_or-set_same placed node true false h) (same_or (is_among order node) node)
-      | inr ne ↦ rw (both, get_or-set_other placed node i true false ne, agrees i) (other_or (is_among order i) node i ne)
+      | inl e ↦ rw (both, e, get_or-set_same placed node true false h) (same_or (has_placed order node) node)
+      | inr ne ↦ rw (both, get_or-set_other placed node i true false ne, agrees i) (other_or (has_placed order i) node i ne)
     ]
 
-next_more : (uses : List (List ℕ)) (order : List ℕ) (node : ℕ) → ((k : ℕ) → k < length order → IsNext uses (is_among (take k order)) (get_or order k 0))
-    → IsNext uses (is_among order) node
-    → (k : ℕ) → k < length (order ++ node ∷ []) → IsNext uses (is_among (take k (order ++ node ∷ []))) (get_or (order ++ node ∷ []) k 0)
+next_more : (uses : List (List ℕ)) (order : List ℕ) (node : ℕ) → ((k : ℕ) → k < length order → IsNext uses (has_placed (take k order)) (get_or order k 0))
+    → IsNext uses (has_placed order) node
+    → (k : ℕ) → k < length (order ++ node ∷ []) → IsNext uses (has_placed (take k (order ++ node ∷ []))) (get_or (order ++ node ∷ []) k 0)
 next_more uses order node next here k h = elim (cases_lt k (length order)) [
   | inl l ↦ rw (take-append-le k order (node ∷ []) (omega arith), get_or_append_left order (node ∷ []) 0 k l) (next k l)
   | inr g ↦
@@ -69,7 +69,7 @@ placed_more uses placed order left node so_far n =
       len = length-set placed node true ∙ so_far.len;
       left_is = omega (arith, rw free at (sum_by-set (λ b. cond (not b) 1 0) placed node true false here), so_far.left_is);
       agrees = agrees_more placed order node here so_far.agrees;
-      next = next_more uses order node so_far.next (IsNext-same uses (λ i. get_or placed i false) (is_among order) so_far.agrees node n);
+      next = next_more uses order node so_far.next (IsNext-same uses (λ i. get_or placed i false) (has_placed order) so_far.agrees node n);
     }
 
 some_free : (placed : List Bool) → 0 < count_by not placed → (i : ℕ) × (i < length placed) × (not (get_or placed i false) ≡ true)

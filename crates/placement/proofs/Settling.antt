@@ -13,7 +13,7 @@ use Rattle.std.proofs.lemmas.List.Elements.{All-contains, All-contains_itself, C
 use Rattle.std.proofs.lemmas.Bool.{false≢true, cases_eq, cases_lt}
 use Rattle.std.proofs.lemmas.Bool.Decides.{nat_tests}
 use Rattle.placement.specs.Order.{is_ready, IsNext}
-use Rattle.placement.specs.Waiting.{Waits, is_placed, uses_of, waiting_for, IsFree, IsWaiting, IsSettled}
+use Rattle.placement.specs.Waiting.{Waits, is_settled, uses_of, waiting_for, IsFree, IsWaiting, IsSettled}
 
 -- ---- elements
 
@@ -106,7 +106,7 @@ use_in_range w pending node k s n l = s.within node [] n k 0 l
 
 -- a node whose uses are all placed is ready
 pub settled_ready : (w : Waits) (node : ℕ) (rest : List ℕ) → IsSettled w (node ∷ rest)
-    → ((j : ℕ) → get_or w.met node 0 ≤ j → j < length (uses_of w node) → is_placed w (get_or (uses_of w node) j 0) ≡ true)
+    → ((j : ℕ) → get_or w.met node 0 ≤ j → j < length (uses_of w node) → is_settled w (get_or (uses_of w node) j 0) ≡ true)
     → IsSettled (record { uses = w.uses; placed = w.placed; met = w.met; waiting = w.waiting; ready = insert_key nat_cmp w.ready node }) rest
 settled_ready w node rest s behind = record {
   placed_count = s.placed_count;
@@ -130,21 +130,21 @@ settled_ready w node rest s behind = record {
   ];
 }
   where
-    each : (j : ℕ) → j < length (uses_of w node) → is_placed w (get_or (uses_of w node) j 0) ≡ true
+    each : (j : ℕ) → j < length (uses_of w node) → is_settled w (get_or (uses_of w node) j 0) ≡ true
     each j l = elim (cases_lt j (get_or w.met node 0)) [
       | inl below ↦ s.met node j below
       | inr from ↦ behind j (omega (arith, from)) l
     ]
 
-    here : (node < length w.uses) × (is_ready w.uses (is_placed w) node ≡ true)
+    here : (node < length w.uses) × (is_ready w.uses (is_settled w) node ≡ true)
     here =
         let free = s.pending_free node (Contains-head node rest) in
-        (free.0, ready_from w.uses (is_placed w) node free.1 (all_from (is_placed w) (uses_of w node) each))
+        (free.0, ready_from w.uses (is_settled w) node free.1 (all_from (is_settled w) (uses_of w node) each))
 
 -- a node that uses one that isn't placed waits for it
 pub settled_waiting : (w : Waits) (node k : ℕ) (rest : List ℕ) → IsSettled w (node ∷ rest) → k < length (uses_of w node)
-    → is_placed w (get_or (uses_of w node) k 0) ≡ false
-    → ((j : ℕ) → get_or w.met node 0 ≤ j → j < k → is_placed w (get_or (uses_of w node) j 0) ≡ true)
+    → is_settled w (get_or (uses_of w node) k 0) ≡ false
+    → ((j : ℕ) → get_or w.met node 0 ≤ j → j < k → is_settled w (get_or (uses_of w node) j 0) ≡ true)
     → IsSettled (record {
       uses = w.uses;
       placed = w.placed;
@@ -195,7 +195,7 @@ settled_waiting w node k rest s l missing behind = record {
     used : Contains (uses_of w node) u
     used = Contains-get_or (uses_of w node) k 0 l
 
-    met_here : (j : ℕ) → j < k → is_placed w (get_or (uses_of w node) j 0) ≡ true
+    met_here : (j : ℕ) → j < k → is_settled w (get_or (uses_of w node) j 0) ≡ true
     met_here j h = elim (cases_lt j (get_or w.met node 0)) [
       | inl below ↦ s.met node j below
       | inr from ↦ behind j (omega (arith, from)) h
@@ -207,7 +207,7 @@ settled_waiting w node k rest s l missing behind = record {
       | inr e ↦ rw (sym e) (s.pending_free node (Contains-head node rest), used)
     ]
 
-    still : (i : ℕ) → IsWaiting w i → (v : ℕ) × Contains (uses_of w i) v × (is_placed w v ≡ false) × Contains (get_or (set w.waiting u longer) v []) i
+    still : (i : ℕ) → IsWaiting w i → (v : ℕ) × Contains (uses_of w i) v × (is_settled w v ≡ false) × Contains (get_or (set w.waiting u longer) v []) i
     still i waits = elim (cases_eq waits.0 u) [
       | inl e ↦ (
         u,
@@ -220,30 +220,30 @@ settled_waiting w node k rest s l missing behind = record {
 
 -- ---- placing
 
-waits_not : (w : Waits) (i : ℕ) → IsWaiting w i → ¬ (is_ready w.uses (is_placed w) i ≡ true)
+waits_not : (w : Waits) (i : ℕ) → IsWaiting w i → ¬ (is_ready w.uses (is_settled w) i ≡ true)
 waits_not w i waits h =
-    let placed : is_placed w waits.0 ≡ true = ready_used w.uses (is_placed w) i waits.0 h waits.1 in
+    let placed : is_settled w waits.0 ≡ true = ready_used w.uses (is_settled w) i waits.0 h waits.1 in
     false≢true (sym waits.2 ∙ placed)
 
 -- what is ready stands there, where nothing is to be settled
-ready_found : (w : Waits) (i : ℕ) → IsSettled w [] → i < length w.uses → is_ready w.uses (is_placed w) i ≡ true → Contains w.ready i
-ready_found w i s l h = elim (s.complete i l (ready_free w.uses (is_placed w) i h)) [
+ready_found : (w : Waits) (i : ℕ) → IsSettled w [] → i < length w.uses → is_ready w.uses (is_settled w) i ≡ true → Contains w.ready i
+ready_found w i s l h = elim (s.complete i l (ready_free w.uses (is_settled w) i h)) [
   | inl r ↦ r
   | inr (inl c) ↦ absurd (omega (arith, c.1))
   | inr (inr waits) ↦ absurd (waits_not w i waits h)
 ]
 
 pub least_is_next : (w : Waits) (node : ℕ) (others : List ℕ) → IsSettled w [] → w.ready ≡ node ∷ others → All (IsLtBy nat_cmp node) others
-    → IsNext w.uses (is_placed w) node
+    → IsNext w.uses (is_settled w) node
 least_is_next w node others s e above =
     let first = s.ready node (rw e (Contains-head node others)) in
     record {
       in_range = first.0;
       ready = first.1;
-      first = λ j l. go j l (is_ready w.uses (is_placed w) j) refl;
+      first = λ j l. go j l (is_ready w.uses (is_settled w) j) refl;
     }
   where
-    go : (j : ℕ) → j < node → (b : Bool) → is_ready w.uses (is_placed w) j ≡ b → b ≡ false
+    go : (j : ℕ) → j < node → (b : Bool) → is_ready w.uses (is_settled w) j ≡ b → b ≡ false
     go j l false h = refl
     go j l true h =
         let first = s.ready node (rw e (Contains-head node others)) in
@@ -278,11 +278,11 @@ placed_first w node others s e above = record {
   ready = λ i c.
       let before = s.ready i (rw e (Contains-tail node i others c)) in
       let ne : i ≢ node = λ same. absurd (omega (arith, same, less_from node i (All-contains (IsLtBy nat_cmp node) others i above c))) in
-      let used : list_all (is_placed w) (uses_of w i) ≡ true = all_from (is_placed w) (uses_of w i) (λ k l. ready_used w.uses (is_placed w) i (get_or (uses_of w i) k 0) before.1 (Contains-get_or (uses_of w i) k 0 l)) in (
+      let used : list_all (is_settled w) (uses_of w i) ≡ true = all_from (is_settled w) (uses_of w i) (λ k l. ready_used w.uses (is_settled w) i (get_or (uses_of w i) k 0) before.1 (Contains-get_or (uses_of w i) k 0 l)) in (
         before.0,
         ready_from w.uses (λ j. get_or (set w.placed node true) j false) i
-            (get_or-set_other w.placed node i true false ne ∙ ready_free w.uses (is_placed w) i before.1)
-            (all_from (λ j. get_or (set w.placed node true) j false) (uses_of w i) (λ k l. more (get_or (uses_of w i) k 0) (all_at (is_placed w) (uses_of w i) (get_or (uses_of w i) k 0) used (Contains-get_or (uses_of w i) k 0 l)))),
+            (get_or-set_other w.placed node i true false ne ∙ ready_free w.uses (is_settled w) i before.1)
+            (all_from (λ j. get_or (set w.placed node true) j false) (uses_of w i) (λ k l. more (get_or (uses_of w i) k 0) (all_at (is_settled w) (uses_of w i) (get_or (uses_of w i) k 0) used (Contains-get_or (uses_of w i) k 0 l)))),
       );
   complete = λ i l h. elim (cases_eq i node) [
     | inl same ↦ absurd (false≢true (sym (rw same at h) ∙ get_or-set_same w.placed node true false placed_at))
@@ -297,11 +297,11 @@ placed_first w node others s e above = record {
   ];
 }
   where
-    first : (node < length w.uses) × (is_ready w.uses (is_placed w) node ≡ true)
+    first : (node < length w.uses) × (is_ready w.uses (is_settled w) node ≡ true)
     first = s.ready node (rw e (Contains-head node others))
 
-    free : is_placed w node ≡ false
-    free = ready_free w.uses (is_placed w) node first.1
+    free : is_settled w node ≡ false
+    free = ready_free w.uses (is_settled w) node first.1
 
     placed_at : node < length w.placed
     placed_at = omega (arith, first.0, s.placed_count)
@@ -312,17 +312,17 @@ placed_first w node others s e above = record {
     nothing : {i : ℕ} → Contains [] i → ⊥
     nothing c = absurd (omega (arith, c.1))
 
-    more : (j : ℕ) → is_placed w j ≡ true → get_or (set w.placed node true) j false ≡ true
+    more : (j : ℕ) → is_settled w j ≡ true → get_or (set w.placed node true) j false ≡ true
     more j h = elim (cases_eq j node) [
       | inl same ↦ rw same (get_or-set_same w.placed node true false placed_at)
       | inr ne ↦ get_or-set_other w.placed node j true false ne ∙ h
     ]
 
     -- one that uses what isn't placed isn't node, all of whose uses are placed
-    still_free : (i u : ℕ) → is_placed w u ≡ false → IsFree w i × Contains (uses_of w i) u
+    still_free : (i u : ℕ) → is_settled w u ≡ false → IsFree w i × Contains (uses_of w i) u
         → (i < length w.uses) × (get_or (set w.placed node true) i false ≡ false)
     still_free i u missing before =
-        let ne : i ≢ node = λ same. false≢true (sym missing ∙ ready_used w.uses (is_placed w) node u first.1 (rw same at before.1)) in
+        let ne : i ≢ node = λ same. false≢true (sym missing ∙ ready_used w.uses (is_settled w) node u first.1 (rw same at before.1)) in
         (before.0.0, get_or-set_other w.placed node i true false ne ∙ before.0.1)
 
     moved : (i : ℕ) → IsWaiting w i → Contains (waiting_for w node) i

@@ -12,8 +12,8 @@ pub record Waits : Type 0 where
   pub waiting : List (List ℕ)
   pub ready : List ℕ
 
-abbrev pub is_placed : Waits → ℕ → Bool
-is_placed w i = slice_index_or w.placed i false
+abbrev pub is_settled : Waits → ℕ → Bool
+is_settled w i = slice_index_or w.placed i false
 
 abbrev pub uses_of : Waits → ℕ → List ℕ
 uses_of w i = slice_index_or w.uses i []
@@ -22,11 +22,11 @@ abbrev pub waiting_for : Waits → ℕ → List ℕ
 waiting_for w u = slice_index_or w.waiting u []
 
 abbrev pub IsFree : Waits → ℕ → Type 0
-IsFree w i = (i < length w.uses) × (is_placed w i ≡ false)
+IsFree w i = (i < length w.uses) × (is_settled w i ≡ false)
 
 -- i waits for one that it uses and that isn't placed
 abbrev pub IsWaiting : Waits → ℕ → Type 0
-IsWaiting w i = (u : ℕ) × Contains (uses_of w i) u × (is_placed w u ≡ false) × Contains (waiting_for w u) i
+IsWaiting w i = (u : ℕ) × Contains (uses_of w i) u × (is_settled w u ≡ false) × Contains (waiting_for w u) i
 
 -- all nodes stand where they belong, but for these
 pub record IsSettled (w : Waits) (pending : List ℕ) : Type 0 where
@@ -34,11 +34,11 @@ pub record IsSettled (w : Waits) (pending : List ℕ) : Type 0 where
   pub met_count : length w.met ≡ length w.uses
   pub waiting_count : length w.waiting ≡ length w.uses
   pub within : All (λ used. All (λ u. u < length w.uses) used) w.uses
-  pub met : (i k : ℕ) → k < slice_index_or w.met i 0 → is_placed w (slice_index_or (uses_of w i) k 0) ≡ true
+  pub met : (i k : ℕ) → k < slice_index_or w.met i 0 → is_settled w (slice_index_or (uses_of w i) k 0) ≡ true
   pub pending_free : (i : ℕ) → Contains pending i → IsFree w i
-  pub waiting_free : (u i : ℕ) → is_placed w u ≡ false → Contains (waiting_for w u) i → IsFree w i × Contains (uses_of w i) u
-  pub ready : (i : ℕ) → Contains w.ready i → (i < length w.uses) × (is_ready w.uses (is_placed w) i ≡ true)
-  pub complete : (i : ℕ) → i < length w.uses → is_placed w i ≡ false → Contains w.ready i ⊎ (Contains pending i ⊎ IsWaiting w i)
+  pub waiting_free : (u i : ℕ) → is_settled w u ≡ false → Contains (waiting_for w u) i → IsFree w i × Contains (uses_of w i) u
+  pub ready : (i : ℕ) → Contains w.ready i → (i < length w.uses) × (is_ready w.uses (is_settled w) i ≡ true)
+  pub complete : (i : ℕ) → i < length w.uses → is_settled w i ≡ false → Contains w.ready i ⊎ (Contains pending i ⊎ IsWaiting w i)
 
 -- what settling nodes leaves as it was
 pub record KeepsPlaced (old new : Waits) : Type 0 where
@@ -47,7 +47,7 @@ pub record KeepsPlaced (old new : Waits) : Type 0 where
 
 -- node is the first that is ready; it is placed now, and those that waited for it are to be settled
 pub record PlacesNext (old : Waits) (node : ℕ) (pending : List ℕ) (new : Waits) : Type 0 where
-  pub next : IsNext old.uses (is_placed old) node
+  pub next : IsNext old.uses (is_settled old) node
   pub settled : IsSettled new pending
   pub uses : new.uses ≡ old.uses
   pub placed : new.placed ≡ set old.placed node true
@@ -60,4 +60,4 @@ pub record IsStarted (uses : List (List ℕ)) (w : Waits) : Type 0 where
 
 -- no node is ready
 abbrev pub IsStuck : Waits → Type 0
-IsStuck w = (i : ℕ) → i < length w.uses → is_ready w.uses (is_placed w) i ≡ false
+IsStuck w = (i : ℕ) → i < length w.uses → is_ready w.uses (is_settled w) i ≡ false

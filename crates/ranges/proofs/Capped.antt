@@ -7,7 +7,7 @@ use Rattle.canonical_abi.specs.Layout.{align, size, prim_width, discriminant_siz
 use Rattle.canonical_abi.specs.Reading.{case_number}
 use Rattle.canonical_abi.proofs.Places.{le-next_multiple_of}
 use Rattle.canonical_abi.proofs.Sizes.{end-le, greatest-le}
-use Rattle.ranges.specs.Bytewise.{capped, caps, cap_at, fields_cap, case_cap, Blends, each_cap}
+use Rattle.ranges.specs.Bytewise.{capped_byte, caps, cap_at, fields_cap, case_cap, Blends, each_cap}
 
 pub caps-below : (n cap i : ℕ) → i < n → caps n cap i ≡ cap
 caps-below n cap i h = rw (lt-ltb i n h) refl
@@ -82,10 +82,10 @@ mutual
 
 -- ---- a byte under a cap
 
-pub kept : (cap old new : ℕ) → cap ≡ 0 → capped cap old new ≡ old
-kept cap old new e = ap (λ c. capped c old new) e
+pub kept : (cap old new : ℕ) → cap ≡ 0 → capped_byte cap old new ≡ old
+kept cap old new e = ap (λ c. capped_byte c old new) e
 
-pub taken : (old new : ℕ) → new < 256 → capped 255 old new ≡ new
+pub taken : (old new : ℕ) → new < 256 → capped_byte 255 old new ≡ new
 taken old new h = omega arith
 
 -- ---- blends one after another
@@ -109,10 +109,10 @@ module _ (t : ClosedType) (fs : Fields) (from : ℕ) (m : List ℕ) (a : ℕ) (o
     where
       -- where the first left the byte as it was
       untouched : (i : ℕ) → get_or mid (at + i) 0 ≡ get_or old (at + i) 0
-          → get_or new (at + i) 0 ≡ capped (fields_cap fs m a (start + size t) i) (get_or old (at + i) 0) (get_or m (a + i) 0)
-      untouched i e = rest.over i ∙ ap (λ b. capped (fields_cap fs m a (start + size t) i) b (get_or m (a + i) 0)) e
+          → get_or new (at + i) 0 ≡ capped_byte (fields_cap fs m a (start + size t) i) (get_or old (at + i) 0) (get_or m (a + i) 0)
+      untouched i e = rest.over i ∙ ap (λ b. capped_byte (fields_cap fs m a (start + size t) i) b (get_or m (a + i) 0)) e
 
-      by : (i : ℕ) → get_or new (at + i) 0 ≡ capped (fields_cap (field t fs) m a from i) (get_or old (at + i) 0) (get_or m (a + i) 0)
+      by : (i : ℕ) → get_or new (at + i) 0 ≡ capped_byte (fields_cap (field t fs) m a from i) (get_or old (at + i) 0) (get_or m (a + i) 0)
       by i = elim (cases_lt i start) [
         | inl h ↦
             rw (field-before t fs m a from i h) (untouched i (first.below (at + i) (omega (arith, h))) ∙ kept _ _ _ (fields-below fs m a (start + size t) i (omega (arith, h))))
@@ -142,9 +142,9 @@ module _ (cs : Cases) (m : List ℕ) (a : ℕ) (old : List ℕ) (at : ℕ) (mid 
     over = λ i. by i;
   }
     where
-      by : (i : ℕ) → get_or new (at + i) 0 ≡ capped (cap_at (variant_type cs) m a i) (get_or old (at + i) 0) (get_or m (a + i) 0)
+      by : (i : ℕ) → get_or new (at + i) 0 ≡ capped_byte (cap_at (variant_type cs) m a i) (get_or old (at + i) 0) (get_or m (a + i) 0)
       by i = elim (cases_lt i tag) [
-        | inl h ↦ rw (case-tag cs m a i h) (rest.below (at + i) (omega (arith, h, tag-below cs)) ∙ first.over i ∙ ap (λ c. capped c (get_or old (at + i) 0) (get_or m (a + i) 0)) (caps-below tag 255 i h))
+        | inl h ↦ rw (case-tag cs m a i h) (rest.below (at + i) (omega (arith, h, tag-below cs)) ∙ first.over i ∙ ap (λ c. capped_byte c (get_or old (at + i) 0) (get_or m (a + i) 0)) (caps-below tag 255 i h))
         | inr g ↦
             let was : get_or mid (at + i) 0 ≡ get_or old (at + i) 0 = first.over i ∙ kept _ _ _ (caps-past tag 255 i g) in
             elim (cases_lt i (payload_place cs)) [
@@ -154,7 +154,7 @@ module _ (cs : Cases) (m : List ℕ) (a : ℕ) (old : List ℕ) (at : ℕ) (mid 
                   let of : a + payload_place cs + (i - payload_place cs) ≡ a + i = omega (arith, h) in
                   let raw = rest.over (i - payload_place cs) in
                   let own = rw (to, of) at raw in
-                  rw (case-payload cs m a i g h) (own ∙ ap (λ b. capped (payload (i - payload_place cs)) b (get_or m (a + i) 0)) was)
+                  rw (case-payload cs m a i g h) (own ∙ ap (λ b. capped_byte (payload (i - payload_place cs)) b (get_or m (a + i) 0)) was)
             ]
       ]
 
@@ -167,7 +167,7 @@ module _ (t : ClosedType) (n : ℕ) (m : List ℕ) (a : ℕ) (old : List ℕ) (a
     over = λ i. by i;
   }
     where
-      by : (i : ℕ) → get_or new (at + i) 0 ≡ capped (each_cap t m a (suc n) i) (get_or old (at + i) 0) (get_or m (a + i) 0)
+      by : (i : ℕ) → get_or new (at + i) 0 ≡ capped_byte (each_cap t m a (suc n) i) (get_or old (at + i) 0) (get_or m (a + i) 0)
       by i = elim (cases_lt i (size t)) [
         | inl h ↦ rw (lt-ltb i (size t) h) (rest.below (at + i) (omega (arith, h)) ∙ first.over i)
         | inr g ↦
@@ -176,5 +176,5 @@ module _ (t : ClosedType) (n : ℕ) (m : List ℕ) (a : ℕ) (old : List ℕ) (a
             let raw = rest.over (i - size t) in
             let own = rw (to, of) at raw in
             let was = first.over i ∙ kept _ _ _ (cap-past t m a i g) in
-            rw (le-ltb i (size t) g) (own ∙ ap (λ b. capped (each_cap t m (a + size t) n (i - size t)) b (get_or m (a + i) 0)) was)
+            rw (le-ltb i (size t) g) (own ∙ ap (λ b. capped_byte (each_cap t m (a + size t) n (i - size t)) b (get_or m (a + i) 0)) was)
       ]

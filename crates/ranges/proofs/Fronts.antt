@@ -12,7 +12,7 @@ use Rattle.canonical_abi.specs.Reading.{number_at, byte_width}
 use Rattle.canonical_abi.specs.Trace.{TraceLeads}
 use Rattle.canonical_abi.proofs.Bytes.{length-overwrite, overwrite-in, overwrite-before, overwrite-after}
 use Rattle.values.specs.Bytes.{AreBytes}
-use Rattle.ranges.specs.Bytewise.{capped, each_cap, IsBytewise, IsTested, HasCaps, Blends, Crosses}
+use Rattle.ranges.specs.Bytewise.{capped_byte, each_cap, IsBytewise, IsTested, HasCaps, Blends, Crosses}
 use Rattle.ranges.proofs.Puts.{puts-lead}
 use Rattle.ranges.proofs.Capped.{kept, taken}
 use Rattle.ranges.proofs.Leaves.{part-get}
@@ -46,7 +46,7 @@ front-none cap m a old at k e = record {
 -- a part more
 pub front-more : (cap : ℕ → ℕ) (m : List ℕ) (a : ℕ) (old : Memory) (at k : ℕ) (now new : Memory) (part : List ℕ) → Front cap m a old at k now
     → at + k + length part ≤ length now.bytes → new ≡ with_bytes now (overwrite now.bytes (at + k) part)
-    → ((j : ℕ) → j < length part → get_or part j 0 ≡ capped (cap (k + j)) (get_or now.bytes (at + k + j) 0) (get_or m (a + k + j) 0))
+    → ((j : ℕ) → j < length part → get_or part j 0 ≡ capped_byte (cap (k + j)) (get_or now.bytes (at + k + j) 0) (get_or m (a + k + j) 0))
     → Front cap m a old at (k + length part) new
 front-more cap m a old at k now new part f fits e told =
     subst (λ n. Front cap m a old at (k + length part) n) (sym e) (record {
@@ -58,10 +58,10 @@ front-more cap m a old at k now new part f fits e told =
       };
     })
   where
-    by : (i : ℕ) → get_or (overwrite now.bytes (at + k) part) (at + i) 0 ≡ capped (upto cap (k + length part) i) (get_or old.bytes (at + i) 0) (get_or m (a + i) 0)
+    by : (i : ℕ) → get_or (overwrite now.bytes (at + k) part) (at + i) 0 ≡ capped_byte (upto cap (k + length part) i) (get_or old.bytes (at + i) 0) (get_or m (a + i) 0)
     by i = elim (cases_lt i k) [
       | inl h ↦ rw (upto-in cap (k + length part) i (omega (arith, h)))
-          (overwrite-before now.bytes (at + k) part fits (at + i) (omega (arith, h)) ∙ f.blends.over i ∙ ap (λ c. capped c (get_or old.bytes (at + i) 0) (get_or m (a + i) 0)) (upto-in cap k i h))
+          (overwrite-before now.bytes (at + k) part fits (at + i) (omega (arith, h)) ∙ f.blends.over i ∙ ap (λ c. capped_byte c (get_or old.bytes (at + i) 0) (get_or m (a + i) 0)) (upto-in cap k i h))
       | inr g ↦
           let was : get_or now.bytes (at + i) 0 ≡ get_or old.bytes (at + i) 0 = f.blends.over i ∙ kept _ _ _ (upto-out cap k i g) in
           elim (cases_lt i (k + length part)) [
@@ -71,7 +71,7 @@ front-more cap m a old at k now new part f fits e told =
                 let o : k + (i - k) ≡ i = omega (arith, g) in
                 let there = overwrite-in now.bytes (at + k) part fits (i - k) (omega (arith, h, g)) in
                 let here = told (i - k) (omega (arith, h, g)) in
-                rw (upto-in cap (k + length part) i h) (rw j at there ∙ rw (j, l, o) at here ∙ ap (λ b. capped (cap i) b (get_or m (a + i) 0)) was)
+                rw (upto-in cap (k + length part) i h) (rw j at there ∙ rw (j, l, o) at here ∙ ap (λ b. capped_byte (cap i) b (get_or m (a + i) 0)) was)
             | inr h ↦ rw (upto-out cap (k + length part) i h) (overwrite-after now.bytes (at + k) part fits (at + i) (omega (arith, h)) ∙ was)
           ]
     ]
@@ -88,7 +88,7 @@ blends-same cap other m a old at xs ys same p q = ext_get_or 0 xs ys (p.same_len
           let e : at + (x - at) ≡ x = omega (arith, g) in
           let one = p.over (x - at) in
           let two = q.over (x - at) in
-          rw e at one ∙ ap (λ c. capped c (get_or old x 0) (get_or m (a + (x - at)) 0)) (same (x - at)) ∙ sym (rw e at two)
+          rw e at one ∙ ap (λ c. capped_byte c (get_or old x 0) (get_or m (a + (x - at)) 0)) (same (x - at)) ∙ sym (rw e at two)
     ]
 
 -- where all elements have crossed, the values held are stored
@@ -166,7 +166,7 @@ part-sized k (inr (inr e)) m s n j h inside = rw e (part-number w32 m s n j (ome
 pub chunk-crosses : (allocates : Allocation) (t : ClosedType) (n : ℕ) (m : List ℕ) (a : ℕ) (old : Memory) (at part : ℕ) (new : Memory) (seen caps buffer : List ℕ) → AreBytes m → IsBytewise t
     → n * size t ≡ part → part ≤ 2048 → length buffer ≡ 2048 → a + part ≤ length m → at + part ≤ length old.bytes
     → ((i : ℕ) → i < part → get_or caps i 0 ≡ each_cap t m a n i) → ((i : ℕ) → i < n → IsTested t m (a + i * size t)) → seen ≡ old.bytes
-    → ((i : ℕ) → i < length (slice_range m a (a + part)) → get_or buffer i 0 ≡ capped (get_or caps i 0) (get_or (slice_range seen at (at + part)) i 0) (get_or (slice_range m a (a + part)) i 0))
+    → ((i : ℕ) → i < length (slice_range m a (a + part)) → get_or buffer i 0 ≡ capped_byte (get_or caps i 0) (get_or (slice_range seen at (at + part)) i 0) (get_or (slice_range m a (a + part)) i 0))
     → new ≡ with_bytes old (overwrite old.bytes at (take part buffer)) → Crosses t m a n allocates old at new
 chunk-crosses allocates t m_n m a old at part new seen caps buffer bytes bytewise whole few long inside fits told tested same blended wrote =
     front-crosses allocates t m a m_n old at part (each_cap t m a m_n) new bytes bytewise alike tested (omega (arith, whole, inside)) (omega (arith, whole, fits)) front
@@ -177,13 +177,13 @@ chunk-crosses allocates t m_n m a old at part new seen caps buffer bytes bytewis
       | inr g ↦ each-past t m a m_n i (omega (arith, whole, g)) ∙ sym (upto-out (each_cap t m a m_n) part i g)
     ]
 
-    byte : (j : ℕ) → j < part → get_or (take part buffer) j 0 ≡ capped (each_cap t m a m_n j) (get_or old.bytes (at + j) 0) (get_or m (a + j) 0)
+    byte : (j : ℕ) → j < part → get_or (take part buffer) j 0 ≡ capped_byte (each_cap t m a m_n j) (get_or old.bytes (at + j) 0) (get_or m (a + j) 0)
     byte j h =
         let long_m = part-length m a part inside in
         get_or-take part buffer j 0 h ∙ blended j (omega (arith, long_m, h))
-        ∙ ap (λ c. capped c (get_or (slice_range seen at (at + part)) j 0) (get_or (slice_range m a (a + part)) j 0)) (told j h)
-        ∙ ap (λ b. capped (each_cap t m a m_n j) b (get_or (slice_range m a (a + part)) j 0)) (part-get seen at part j h ∙ ap (λ l. get_or l (at + j) 0) same)
-        ∙ ap (capped (each_cap t m a m_n j) (get_or old.bytes (at + j) 0)) (part-get m a part j h)
+        ∙ ap (λ c. capped_byte c (get_or (slice_range seen at (at + part)) j 0) (get_or (slice_range m a (a + part)) j 0)) (told j h)
+        ∙ ap (λ b. capped_byte (each_cap t m a m_n j) b (get_or (slice_range m a (a + part)) j 0)) (part-get seen at part j h ∙ ap (λ l. get_or l (at + j) 0) same)
+        ∙ ap (capped_byte (each_cap t m a m_n j) (get_or old.bytes (at + j) 0)) (part-get m a part j h)
 
     front : Front (each_cap t m a m_n) m a old at part new
     front =
@@ -204,7 +204,7 @@ chunk-caps t m step bytes caps len n a i some has repeated below few =
 -- ---- a whole range
 
 pub range-front : (bytes : List ℕ) (step : ℕ) (m : List ℕ) (a : ℕ) (old : Memory) (at total : ℕ) (new : Memory)
-    → ((j : ℕ) → j < total → capped (periodic bytes step j) (get_or old.bytes (at + j) 0) (get_or m (a + j) 0) ≡ get_or m (a + j) 0) → a + total ≤ length m → at + total ≤ length old.bytes
+    → ((j : ℕ) → j < total → capped_byte (periodic bytes step j) (get_or old.bytes (at + j) 0) (get_or m (a + j) 0) ≡ get_or m (a + j) 0) → a + total ≤ length m → at + total ≤ length old.bytes
     → new ≡ with_bytes old (overwrite old.bytes at (slice_range m a (a + total))) → Front (periodic bytes step) m a old at total new
 range-front bytes step m a old at total new same inside fits wrote =
     let size : length (slice_range m a (a + total)) ≡ total = part-length m a total inside in
@@ -218,14 +218,14 @@ range-front bytes step m a old at total new same inside fits wrote =
 
 -- bytes that cross as they are
 pub as-they-are : (bytes : List ℕ) (step : ℕ) (m : List ℕ) (a : ℕ) (old : List ℕ) (at j : ℕ) → 0 < step → AreBytes m → ((i : ℕ) → i < step → get_or bytes i 0 ≡ 255)
-    → capped (periodic bytes step j) (get_or old (at + j) 0) (get_or m (a + j) 0) ≡ get_or m (a + j) 0
+    → capped_byte (periodic bytes step j) (get_or old (at + j) 0) (get_or m (a + j) 0) ≡ get_or m (a + j) 0
 as-they-are bytes step m a old at j some are_bytes whole =
     let cap : periodic bytes step j ≡ 255 = whole (j % step) (mod-lt j some) in
     rw cap (taken (get_or old (at + j) 0) (get_or m (a + j) 0) (are_bytes (a + j)))
 
 -- bytes of at most 1 that cross under the cap 1
 pub ones-and-zeros : (bytes : List ℕ) (m : List ℕ) (a : ℕ) (old : List ℕ) (at j : ℕ) → get_or bytes 0 0 ≡ 1 → get_or m (a + j) 0 ≤ 1
-    → capped (periodic bytes 1 j) (get_or old (at + j) 0) (get_or m (a + j) 0) ≡ get_or m (a + j) 0
+    → capped_byte (periodic bytes 1 j) (get_or old (at + j) 0) (get_or m (a + j) 0) ≡ get_or m (a + j) 0
 ones-and-zeros bytes m a old at j one low =
     let first : j % 1 ≡ 0 = (let h : j % 1 < 1 = mod-lt j (omega arith) in omega (arith, h)) in
     let cap : periodic bytes 1 j ≡ 1 = ap (λ i. get_or bytes i 0) first ∙ one in

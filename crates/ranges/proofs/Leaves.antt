@@ -17,12 +17,12 @@ use Rattle.canonical_abi.specs.Guest.{overwrite}
 use Rattle.canonical_abi.specs.Storing.{number_in}
 use Rattle.canonical_abi.proofs.Bytes.{length-le_bytes, length-overwrite, overwrite-in, overwrite-before, overwrite-after}
 use Rattle.values.specs.Bytes.{AreBytes}
-use Rattle.ranges.specs.Bytewise.{capped, caps, prim_cap, PrimTested, Blends}
+use Rattle.ranges.specs.Bytewise.{capped_byte, caps, prim_cap, PrimTested, Blends}
 use Rattle.ranges.proofs.Capped.{caps-below, caps-past, kept, taken}
 
 -- what is written comes under the cap, where it is what the cap makes of the new bytes
 pub write-blends : (cap : ℕ → ℕ) (m : List ℕ) (a : ℕ) (old : List ℕ) (at : ℕ) (part : List ℕ) → at + length part ≤ length old
-    → ((i : ℕ) → i < length part → get_or part i 0 ≡ capped (cap i) (get_or old (at + i) 0) (get_or m (a + i) 0))
+    → ((i : ℕ) → i < length part → get_or part i 0 ≡ capped_byte (cap i) (get_or old (at + i) 0) (get_or m (a + i) 0))
     → ((i : ℕ) → length part ≤ i → cap i ≡ 0)
     → Blends cap m a old at (overwrite old at part)
 write-blends cap m a old at part fits told past = record {
@@ -99,7 +99,7 @@ module _ (m : List ℕ) (bytes : AreBytes m) where
   bool-blends a old at fits =
       write-blends (caps 1 1) m a old at (to_le_bytes w8 (from_bool (not (number_at m a w8 == 0)))) fits told (λ i h. caps-past 1 1 i h)
     where
-      told : (i : ℕ) → i < 1 → get_or (to_le_bytes w8 (from_bool (not (number_at m a w8 == 0)))) i 0 ≡ capped (caps 1 1 i) (get_or old (at + i) 0) (get_or m (a + i) 0)
+      told : (i : ℕ) → i < 1 → get_or (to_le_bytes w8 (from_bool (not (number_at m a w8 == 0)))) i 0 ≡ capped_byte (caps 1 1 i) (get_or old (at + i) 0) (get_or m (a + i) 0)
       told zero h =
           let e : a + 0 ≡ a = omega arith in
           let here : from_bool (not (number_at m a w8 == 0)) ≡ min (get_or m a 0) 1 = truth (number_at m a w8) ∙ ap (λ n. min n 1) (byte-at m a) in

@@ -11,9 +11,9 @@ use Rattle.canonical_abi.specs.Guest.{Memory, Allocation}
 use Rattle.canonical_abi.specs.Trace.{Event, TraceLeads, nodes_of}
 
 -- a byte that comes over another under a cap: 0 keeps the byte that was there, any other cap takes the new one, up to itself
-abbrev pub capped : ℕ → ℕ → ℕ → ℕ
-capped zero old new = old
-capped (suc cap) old new = min new (suc cap)
+abbrev pub capped_byte : ℕ → ℕ → ℕ → ℕ
+capped_byte zero old new = old
+capped_byte (suc cap) old new = min new (suc cap)
 
 -- a bool is made 0 or 1; a number's bytes cross as they are
 abbrev pub prim_cap : Prim → ℕ
@@ -126,7 +126,7 @@ abbrev mutual
 pub record Blends (cap : ℕ → ℕ) (m : List ℕ) (a : ℕ) (old : List ℕ) (at : ℕ) (new : List ℕ) : Type 0 where
   pub same_length : length new ≡ length old
   pub below : (x : ℕ) → x < at → get_or new x 0 ≡ get_or old x 0
-  pub over : (i : ℕ) → get_or new (at + i) 0 ≡ capped (cap i) (get_or old (at + i) 0) (get_or m (a + i) 0)
+  pub over : (i : ℕ) → get_or new (at + i) 0 ≡ capped_byte (cap i) (get_or old (at + i) 0) (get_or m (a + i) 0)
 
 -- the cap of byte i of n elements from a on
 abbrev pub each_cap : ClosedType → List ℕ → ℕ → ℕ → ℕ → ℕ

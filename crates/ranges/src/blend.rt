@@ -2,7 +2,7 @@
 ghost use Rattle.std.specs.Prelude.{◌≡◌, ℕ, ◌+◌, ◌*◌, ◌%◌, ◌^◌, ◌<◌, ◌≤◌, length, get_or, IsTrue};
 ghost use Rattle.canonical_abi.specs.Types.{ClosedType};
 ghost use Rattle.canonical_abi.specs.Layout.{size};
-ghost use Rattle.ranges.specs.Bytewise.{capped, IsBytewise, IsTested, HasCaps, Crosses, each_cap};
+ghost use Rattle.ranges.specs.Bytewise.{capped_byte, IsBytewise, IsTested, HasCaps, Crosses, each_cap};
 
 use crate::elements::Elements;
 use canonical_abi::Guest;
@@ -38,7 +38,7 @@ pub(crate) fn repeat(caps: &mut [u8; 2048], pattern: &[u8; 256], size: usize, le
 fn blend(buffer: &mut [u8; 2048], caps: &[u8; 2048], old: &[u8], new: &[u8])
     requires same { length old.now ≡ length new.now }
     requires room { length new.now ≤ 2048 }
-    ensures { (i : ℕ) → i < length new.now → get_or buffer.new i 0 ≡ capped (get_or caps.now i 0) (get_or old.now i 0) (get_or new.now i 0) }
+    ensures { (i : ℕ) → i < length new.now → get_or buffer.new i 0 ≡ capped_byte (get_or caps.now i 0) (get_or old.now i 0) (get_or new.now i 0) }
 {
     for i in 0..new.len() {
         let cap = caps[i];

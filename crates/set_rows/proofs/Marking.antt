@@ -7,7 +7,7 @@ use Rattle.std.proofs.lemmas.Option.{slice_get_within, slice_get-get_or}
 use Rattle.std.proofs.lemmas.List.Elements.{Contains-append_cases, Contains-append_left, Contains-append_right}
 use Rattle.set_rows.specs.Owners.{owners}
 use Rattle.set_rows.specs.Reaches.{Marks, is_marked, owner_at, named_owners, own_marks, owners_in, is_own_interface, is_own_world, world_owners, padded, given_marks, Start, OfPackage, OfInterfaces, IsStart, Reaches, of_start, of_row, AreReached}
-use Rattle.set_rows.specs.Marking.{unmarked_in, unmarked, Adds, Tells, AddsRow, Passes, AreSound, IsFixedAt, AreGrown}
+use Rattle.set_rows.specs.Marking.{unmarked_in, unmarked, AddsMarks, TellsGrowth, AddsRow, Passes, AreSound, IsFixedAt, AreGrown}
 use Rattle.tables.specs.declared.tables.TypeId.{TypeId}
 use Rattle.tables.specs.declared.tables.Owner.{Owner}
 use Rattle.tables.specs.declared.tables.Owner.TheVariants as owner
@@ -74,7 +74,7 @@ from-only : (m n : Marks) (o p : Option Owner) → (is_marked m o ≡ true) ⊎ 
 from-only m n o p (inl h) = inl h
 from-only m n o p (inr h) = inr (subst (λ (x : Option Owner). Contains (p ∷ []) x) h (contains-it p))
 
-pub adds-interface : (m n : Marks) (i : Owner) (k : ℕ) → i ≡ owner.Interface (record { 0 = k }) → n ≡ with_interface m k → Adds (Some i ∷ []) m n
+pub adds-interface : (m n : Marks) (i : Owner) (k : ℕ) → i ≡ owner.Interface (record { 0 = k }) → n ≡ with_interface m k → AddsMarks (Some i ∷ []) m n
 adds-interface m n i k e g = rw (e, g) record { count = length-set m.interfaces k true; keeps = keeps; only = λ o h. from-only m n o _ (only o h); all = λ o h. rw (contains-one o _ h) (set-has m.interfaces k) }
   where
     keeps : (o : Option Owner) → is_marked m o ≡ true → is_marked (with_interface m k) o ≡ true
@@ -87,7 +87,7 @@ adds-interface m n i k e g = rw (e, g) record { count = length-set m.interfaces 
     only (Some (owner.World w)) h = inl h
     only (Some (owner.Interface j)) h = elim (set-only m.interfaces k j.0 h) [ inl q ↦ inl q | inr q ↦ inr (rw q refl) ]
 
-pub adds-world : (m n : Marks) (i : Owner) (k : ℕ) → i ≡ owner.World (record { 0 = k }) → n ≡ with_world m k → Adds (Some i ∷ []) m n
+pub adds-world : (m n : Marks) (i : Owner) (k : ℕ) → i ≡ owner.World (record { 0 = k }) → n ≡ with_world m k → AddsMarks (Some i ∷ []) m n
 adds-world m n i k e g = rw (e, g) record { count = refl; keeps = keeps; only = λ o h. from-only m n o _ (only o h); all = λ o h. rw (contains-one o _ h) (set-has m.worlds k) }
   where
     keeps : (o : Option Owner) → is_marked m o ≡ true → is_marked (with_world m k) o ≡ true
@@ -100,17 +100,17 @@ adds-world m n i k e g = rw (e, g) record { count = refl; keeps = keeps; only = 
     only (Some (owner.Interface j)) h = inl h
     only (Some (owner.World w)) h = elim (set-only m.worlds k w.0 h) [ inl q ↦ inl q | inr q ↦ inr (rw q refl) ]
 
-pub tells-interface : (m n : Marks) (k : ℕ) (b : Bool) → n ≡ with_interface m k → b ≡ not (get_or m.interfaces k true) → Tells m n b
+pub tells-interface : (m n : Marks) (k : ℕ) (b : Bool) → n ≡ with_interface m k → b ≡ not (get_or m.interfaces k true) → TellsGrowth m n b
 tells-interface m n k b e g = rw (e, g) (by (get_or m.interfaces k true) refl)
   where
-    by : (x : Bool) → get_or m.interfaces k true ≡ x → Tells m (with_interface m k) (not x)
+    by : (x : Bool) → get_or m.interfaces k true ≡ x → TellsGrowth m (with_interface m k) (not x)
     by true h = record { fewer = λ q. absurd (true≢false (sym q)); same = λ q. ap (λ (is : List Bool). record m { interfaces = is }) (set-same m.interfaces k h) }
     by false h = record { fewer = λ q. omega (arith, set-fewer m.interfaces k h); same = λ q. absurd (true≢false q) }
 
-pub tells-world : (m n : Marks) (k : ℕ) (b : Bool) → n ≡ with_world m k → b ≡ not (get_or m.worlds k true) → Tells m n b
+pub tells-world : (m n : Marks) (k : ℕ) (b : Bool) → n ≡ with_world m k → b ≡ not (get_or m.worlds k true) → TellsGrowth m n b
 tells-world m n k b e g = rw (e, g) (by (get_or m.worlds k true) refl)
   where
-    by : (x : Bool) → get_or m.worlds k true ≡ x → Tells m (with_world m k) (not x)
+    by : (x : Bool) → get_or m.worlds k true ≡ x → TellsGrowth m (with_world m k) (not x)
     by true h = record { fewer = λ q. absurd (true≢false (sym q)); same = λ q. ap (λ (is : List Bool). record m { worlds = is }) (set-same m.worlds k h) }
     by false h = record { fewer = λ q. omega (arith, set-fewer m.worlds k h); same = λ q. absurd (true≢false q) }
 
@@ -119,10 +119,10 @@ tells-world m n k b e g = rw (e, g) (by (get_or m.worlds k true) refl)
 contains-none : (o : Option Owner) → Contains [] o → ⊥
 contains-none o (k, h, e) = omega arith
 
-pub adds-none : (m : Marks) → Adds [] m m
+pub adds-none : (m : Marks) → AddsMarks [] m m
 adds-none m = record { count = refl; keeps = λ o h. h; only = λ o h. inl h; all = λ o h. absurd (contains-none o h) }
 
-pub adds-append : (xs ys : List (Option Owner)) (a b c : Marks) → Adds xs a b → Adds ys b c → Adds (xs ++ ys) a c
+pub adds-append : (xs ys : List (Option Owner)) (a b c : Marks) → AddsMarks xs a b → AddsMarks ys b c → AddsMarks (xs ++ ys) a c
 adds-append xs ys a b c f g = record {
   count = g.count ∙ f.count;
   keeps = λ o h. g.keeps o (f.keeps o h);
@@ -135,24 +135,24 @@ adds-append xs ys a b c f g = record {
     first o (inr q) = inr (Contains-append_left xs ys o q)
 
 pub adds-more : {X : Type 0} (f : X → List (Option Owner)) (xs : List X) (i : ℕ) (x d : X) (a b c : Marks) → i < length xs → x ≡ get_or xs i d
-    → Adds (flat_map f (take i xs)) a b → Adds (f x) b c → Adds (flat_map f (take (i + 1) xs)) a c
+    → AddsMarks (flat_map f (take i xs)) a b → AddsMarks (f x) b c → AddsMarks (flat_map f (take (i + 1) xs)) a c
 adds-more f xs i x d a b c h at p q =
     let whole : flat_map f (take (i + 1) xs) ≡ flat_map f (take i xs) ++ f x =
     ap (flat_map f) ((take_at_read xs i d h).1 ∙ ap (λ y. take i xs ++ y ∷ []) (sym at)) ∙ sym (flat_map_more f [] (take i xs) x) in
     rw whole (adds-append _ _ a b c p q)
 
 pub adds-named : (os : List (Option Owner)) (ts : List TypeId) (i : ℕ) (x d : TypeId) (a b c : Marks) → i < length ts → x ≡ get_or ts i d
-    → Adds (map (owner_at os) (take i ts)) a b → Adds (owner_at os x ∷ []) b c → Adds (map (owner_at os) (take (i + 1) ts)) a c
+    → AddsMarks (map (owner_at os) (take i ts)) a b → AddsMarks (owner_at os x ∷ []) b c → AddsMarks (map (owner_at os) (take (i + 1) ts)) a c
 adds-named os ts i x d a b c h at p q =
     let whole : map (owner_at os) (take (i + 1) ts) ≡ map (owner_at os) (take i ts) ++ owner_at os x ∷ [] =
     map_more (owner_at os) ts i d h ∙ ap (λ y. map (owner_at os) (take i ts) ++ owner_at os y ∷ []) (sym at) in
     rw whole (adds-append _ _ a b c p q)
 
 -- whether there is a new mark, so far and in one more step
-pub tells-more : (a b c : Marks) (t u v : Bool) → Tells a b t → Tells b c u → ((u ≡ true) × (v ≡ true)) ⊎ ((u ≡ false) × (v ≡ t)) → Tells a c v
+pub tells-more : (a b c : Marks) (t u v : Bool) → TellsGrowth a b t → TellsGrowth b c u → ((u ≡ true) × (v ≡ true)) ⊎ ((u ≡ false) × (v ≡ t)) → TellsGrowth a c v
 tells-more a b c t u v p q (inl h) = record { fewer = λ e. before t p; same = λ e. absurd (true≢false (sym h.1 ∙ e)) }
   where
-    before : (t : Bool) → Tells a b t → unmarked c < unmarked a
+    before : (t : Bool) → TellsGrowth a b t → unmarked c < unmarked a
     before true p = omega (arith, p.fewer refl, q.fewer h.0)
     before false p = omega (arith, q.fewer h.0, ap unmarked (p.same refl))
 tells-more a b c t u v p q (inr h) =
@@ -160,8 +160,8 @@ tells-more a b c t u v p q (inr h) =
 
 -- these owners are marked besides, and whether one of them is new
 pub record Marked (added : List (Option Owner)) (a b : Marks) (grew : Bool) : Type 0 where
-  pub adds : Adds added a b
-  pub tells : Tells a b grew
+  pub adds : AddsMarks added a b
+  pub tells : TellsGrowth a b grew
 
 pub marked-none : (m : Marks) → Marked [] m m false
 marked-none m = record { adds = adds-none m; tells = record { fewer = λ e. absurd (true≢false (sym e)); same = λ e. refl } }
@@ -172,11 +172,11 @@ pub record PassesFrom (set : Resolve) (n : ℕ) (old new : Marks) (grew : Bool) 
   pub count : length new.interfaces ≡ length old.interfaces
   pub keeps : (o : Option Owner) → is_marked old o ≡ true → is_marked new o ≡ true
   pub sound : (from : Start) → AreSound set from old → AreSound set from new
-  pub tells : Tells old new grew
+  pub tells : TellsGrowth old new grew
   pub fixed : grew ≡ false → (k : ℕ) → n ≤ k → IsFixedAt set new k
 
 -- a row whose owner is marked
-pub adds-row : (os : List (Option Owner)) (own : Option Owner) (d : Definition) (a b : Marks) (u : Bool) → is_marked a own ≡ true → Adds (named_owners os d) a b → Tells a b u
+pub adds-row : (os : List (Option Owner)) (own : Option Owner) (d : Definition) (a b : Marks) (u : Bool) → is_marked a own ≡ true → AddsMarks (named_owners os d) a b → TellsGrowth a b u
     → AddsRow os own d a b u
 adds-row os own d a b u h p t = record { count = p.count; keeps = p.keeps; only = λ o e. with (p.only o e); all = λ g o e. p.all o e; tells = t }
   where
@@ -249,7 +249,7 @@ pub record AreBegun (set : Resolve) (from : Start) (m : Marks) : Type 0 where
   pub begun : (o : Option Owner) → IsStart set from o → is_marked m o ≡ true
   pub sound : AreSound set from m
 
-pub package-begun : (set : Resolve) (own : ℕ) (a m : Marks) → a ≡ own_marks set own → Adds (flat_map (world_owners own) set.worlds) a m → AreBegun set (OfPackage own) m
+pub package-begun : (set : Resolve) (own : ℕ) (a m : Marks) → a ≡ own_marks set own → AddsMarks (flat_map (world_owners own) set.worlds) a m → AreBegun set (OfPackage own) m
 package-begun set own a m e h = record { count = h.count ∙ (ap (λ (x : Marks). length x.interfaces) e ∙ length-map set.interfaces (is_own_interface own)); begun = begun; sound = λ o q. by o (h.only o q) }
   where
     begun : (o : Option Owner) → (is_marked (own_marks set own) o ≡ true) ⊎ Contains (flat_map (world_owners own) set.worlds) o → is_marked m o ≡ true
@@ -287,14 +287,14 @@ are-reached set from a m h g = record { count = g.count ∙ h.count; sound = g.s
 
 -- ---- the worlds of a package
 
-pub adds-own : (own : ℕ) (w : World) (items : List WorldItem) (a b : Marks) → w.«package».0 ≡ own → items ≡ w.items → Adds (flat_map owners_in items) a b → Adds (world_owners own w) a b
+pub adds-own : (own : ℕ) (w : World) (items : List WorldItem) (a b : Marks) → w.«package».0 ≡ own → items ≡ w.items → AddsMarks (flat_map owners_in items) a b → AddsMarks (world_owners own w) a b
 adds-own own w items a b h e p =
     let same : is_own_world own w ≡ true = eq-eqb _ _ h in
-    rw same (subst (λ (is : List WorldItem). Adds (flat_map owners_in is) a b) e p)
+    rw same (subst (λ (is : List WorldItem). AddsMarks (flat_map owners_in is) a b) e p)
 
-pub adds-other : (own : ℕ) (w : World) (a : Marks) → w.«package».0 ≢ own → Adds (world_owners own w) a a
+pub adds-other : (own : ℕ) (w : World) (a : Marks) → w.«package».0 ≢ own → AddsMarks (world_owners own w) a a
 adds-other own w a h = by (is_own_world own w) refl
   where
-    by : (b : Bool) → is_own_world own w ≡ b → Adds (world_owners own w) a a
+    by : (b : Bool) → is_own_world own w ≡ b → AddsMarks (world_owners own w) a a
     by true e = absurd (h (eqb-true w.«package».0 own e))
     by false e = rw e (adds-none a)

@@ -15,14 +15,14 @@ abbrev pub unmarked : Marks → ℕ
 unmarked m = unmarked_in m.interfaces + unmarked_in m.worlds
 
 -- these owners are marked besides
-pub record Adds (added : List (Option Owner)) (old new : Marks) : Type 0 where
+pub record AddsMarks (added : List (Option Owner)) (old new : Marks) : Type 0 where
   pub count : length new.interfaces ≡ length old.interfaces
   pub keeps : (o : Option Owner) → is_marked old o ≡ true → is_marked new o ≡ true
   pub only : (o : Option Owner) → is_marked new o ≡ true → (is_marked old o ≡ true) ⊎ Contains added o
   pub all : (o : Option Owner) → Contains added o → is_marked new o ≡ true
 
 -- whether there is a new mark
-pub record Tells (old new : Marks) (grew : Bool) : Type 0 where
+pub record TellsGrowth (old new : Marks) (grew : Bool) : Type 0 where
   pub fewer : grew ≡ true → unmarked new < unmarked old
   pub same : grew ≡ false → new ≡ old
 
@@ -32,7 +32,7 @@ pub record AddsRow (os : List (Option Owner)) (own : Option Owner) (d : Definiti
   pub keeps : (o : Option Owner) → is_marked old o ≡ true → is_marked new o ≡ true
   pub only : (o : Option Owner) → is_marked new o ≡ true → (is_marked old o ≡ true) ⊎ ((is_marked old own ≡ true) × Contains (named_owners os d) o)
   pub all : is_marked old own ≡ true → (o : Option Owner) → Contains (named_owners os d) o → is_marked new o ≡ true
-  pub tells : Tells old new grew
+  pub tells : TellsGrowth old new grew
 
 abbrev pub AreSound : Resolve → Start → Marks → Type 0
 AreSound set from m = (o : Option Owner) → is_marked m o ≡ true → Reaches set from o

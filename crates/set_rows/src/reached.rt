@@ -2,7 +2,7 @@
 ghost use Rattle.std.specs.Prelude.{◌≡◌, ◌∷◌, [], not, IfOk, OnOk, map, flat_map, slice_set, slice_index_or, true, false, None, Some};
 ghost use Rattle.set_rows.specs.Owners.{owners as owners_of};
 ghost use Rattle.set_rows.specs.Reaches.{is_marked, is_own_interface, is_own_world, own_marks, item_owners, owners_in, world_owners, named_owners, padded, given_marks, OfPackage, OfInterfaces, AreReached};
-ghost use Rattle.set_rows.specs.Marking.{Adds, Tells, AddsRow, Passes, AreGrown};
+ghost use Rattle.set_rows.specs.Marking.{AddsMarks, TellsGrowth, AddsRow, Passes, AreGrown};
 
 use crate::owners::{names, owner_at};
 use std::alloc::{AllocError, Global};
@@ -136,8 +136,8 @@ impl Reached {
     }
 
     fn add_owner(&mut self, owner: Owner) -> bool
-        ensures adds { Adds (Some owner ∷ []) self.old self.new }
-        ensures tells { Tells self.old self.new result }
+        ensures adds { AddsMarks (Some owner ∷ []) self.old self.new }
+        ensures tells { TellsGrowth self.old self.new result }
     {
         match owner {
             Owner::Interface(id) => mark(&mut self.interfaces, id.0),
@@ -147,8 +147,8 @@ impl Reached {
 
     /// Marks an owner, and says whether it is new.
     fn add(&mut self, owner: Option<Owner>) -> bool
-        ensures adds { Adds (owner ∷ []) self.old self.new }
-        ensures tells { Tells self.old self.new result }
+        ensures adds { AddsMarks (owner ∷ []) self.old self.new }
+        ensures tells { TellsGrowth self.old self.new result }
     {
         match owner {
             Some(owner) => self.add_owner(owner),
@@ -157,7 +157,7 @@ impl Reached {
     }
 
     fn add_item(&mut self, kind: WorldItemKind)
-        ensures { Adds (item_owners kind) self.old self.new }
+        ensures { AddsMarks (item_owners kind) self.old self.new }
     {
         if let WorldItemKind::Interface(id) = kind {
             self.add_owner(Owner::Interface(id));
@@ -166,7 +166,7 @@ impl Reached {
 
     /// Marks the interfaces that these items of a world name.
     fn add_items(&mut self, items: &[WorldItem])
-        ensures { Adds (flat_map owners_in items.now) self.old self.new }
+        ensures { AddsMarks (flat_map owners_in items.now) self.old self.new }
     {
         for item in items {
             self.add_item(item.kind);
@@ -175,7 +175,7 @@ impl Reached {
 
     /// .. those of a package's worlds.
     fn add_worlds(&mut self, worlds: &[World], id: PackageId)
-        ensures { Adds (flat_map (world_owners id.0) worlds.now) self.old self.new }
+        ensures { AddsMarks (flat_map (world_owners id.0) worlds.now) self.old self.new }
     {
         for world in worlds {
             if world.package.0 == id.0 {
@@ -191,8 +191,8 @@ impl Reached {
         owners: &[Option<Owner>],
         row: &Definition,
     ) -> Result<bool, AllocError>
-        ensures adds { OnOk result (Adds (named_owners owners.now row.now) self.old self.new) }
-        ensures tells { IfOk result (Tells self.old self.new) }
+        ensures adds { OnOk result (AddsMarks (named_owners owners.now row.now) self.old self.new) }
+        ensures tells { IfOk result (TellsGrowth self.old self.new) }
     {
         let ids = names(alloc, row)?;
         let mut grew = false;

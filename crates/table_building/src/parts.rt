@@ -1,7 +1,7 @@
 //! A package of parts that were made elsewhere.
 ghost use Rattle.std.specs.Prelude.{◌≡◌, ◌&&◌, false, IfOk, IfErr, length, slice_get};
 ghost use Rattle.std.specs.List.{list_all};
-ghost use Rattle.tables.specs.Tables.{option_all, kind_all, function_all, definition_all, is_earlier, are_earlier, name_types, is_within, is_standard_kind, is_standard, are_standard, function_of, is_type_id, is_function_id, is_placed, are_placed, are_grouped, are_worlds_grouped, is_function_of, is_placed_item, is_placed_world, are_placed_worlds};
+ghost use Rattle.tables.specs.Tables.{option_all, kind_all, function_all, definition_all, is_type_before, are_earlier, name_types, is_within, is_standard_kind, is_standard, are_standard, function_of, is_type_id, is_function_id, is_placed, are_placed, are_grouped, are_worlds_grouped, is_function_of, is_placed_item, is_placed_world, are_placed_worlds};
 ghost use Rattle.tables.specs.Parts.{HasParts, are_worlds, is_package};
 
 use tables::{
@@ -17,7 +17,7 @@ const MAX_LABELS: usize = 32;
 
 /// Whether the type stands before this place, and is no function.
 fn is_earlier(definitions: &[Definition], place: usize, ty: ValType) -> bool
-    ensures { result ≡ is_earlier definitions.now place ty }
+    ensures { result ≡ is_type_before definitions.now place ty }
 {
     match ty {
         ValType::Primitive(_) | ValType::String => true,
@@ -26,7 +26,7 @@ fn is_earlier(definitions: &[Definition], place: usize, ty: ValType) -> bool
 }
 
 fn is_option_earlier(definitions: &[Definition], place: usize, ty: Option<ValType>) -> bool
-    ensures { result ≡ option_all (is_earlier definitions.now place) ty }
+    ensures { result ≡ option_all (is_type_before definitions.now place) ty }
 {
     match ty {
         Some(ty) => is_earlier(definitions, place, ty),
@@ -35,7 +35,7 @@ fn is_option_earlier(definitions: &[Definition], place: usize, ty: Option<ValTyp
 }
 
 fn are_members_earlier<M: Member>(definitions: &[Definition], place: usize, members: &[M]) -> bool
-    ensures { result ≡ list_all (λ m. is_earlier definitions.now place (M.type_of m)) members.now }
+    ensures { result ≡ list_all (λ m. is_type_before definitions.now place (M.type_of m)) members.now }
 {
     for member in members {
         if !is_earlier(definitions, place, member.ty()) {
@@ -46,7 +46,7 @@ fn are_members_earlier<M: Member>(definitions: &[Definition], place: usize, memb
 }
 
 fn are_cases_earlier(definitions: &[Definition], place: usize, cases: &[Case]) -> bool
-    ensures { result ≡ list_all (λ c. option_all (is_earlier definitions.now place) c.ty) cases.now }
+    ensures { result ≡ list_all (λ c. option_all (is_type_before definitions.now place) c.ty) cases.now }
 {
     for case in cases {
         if !is_option_earlier(definitions, place, case.ty) {
@@ -57,7 +57,7 @@ fn are_cases_earlier(definitions: &[Definition], place: usize, cases: &[Case]) -
 }
 
 fn is_kind_earlier(definitions: &[Definition], place: usize, kind: &TypeDefKind) -> bool
-    ensures { result ≡ kind_all (is_earlier definitions.now place) kind.now }
+    ensures { result ≡ kind_all (is_type_before definitions.now place) kind.now }
 {
     match kind {
         TypeDefKind::Use(target) => is_earlier(definitions, place, ValType::Id(*target)),
@@ -76,14 +76,14 @@ fn is_kind_earlier(definitions: &[Definition], place: usize, kind: &TypeDefKind)
 }
 
 fn is_function_earlier(definitions: &[Definition], place: usize, function: &Function) -> bool
-    ensures { result ≡ function_all (is_earlier definitions.now place) function.now }
+    ensures { result ≡ function_all (is_type_before definitions.now place) function.now }
 {
     are_members_earlier(definitions, place, function.params.as_slice())
         && is_option_earlier(definitions, place, function.result)
 }
 
 fn is_definition_earlier(definitions: &[Definition], place: usize, definition: &Definition) -> bool
-    ensures { result ≡ definition_all (is_earlier definitions.now place) definition.now }
+    ensures { result ≡ definition_all (is_type_before definitions.now place) definition.now }
 {
     match definition {
         Definition::Type(definition) => is_kind_earlier(definitions, place, &definition.kind),

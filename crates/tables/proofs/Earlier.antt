@@ -5,7 +5,7 @@ use Rattle.std.proofs.lemmas.List.{length-take}
 use Rattle.std.proofs.lemmas.Bool.{ltb-true}
 use Rattle.std.specs.List.{list_all}
 use Rattle.std.proofs.lemmas.List.Folds.{list_all_more, list_all_at}
-use Rattle.tables.specs.Tables.{option_all, kind_all, definition_all, is_below, definition_below, are_earlier, is_type, name_types, is_earlier, are_standard, are_placed, are_grouped, are_worlds_grouped, are_placed_worlds}
+use Rattle.tables.specs.Tables.{option_all, kind_all, definition_all, is_below, definition_below, are_earlier, is_type, name_types, is_type_before, are_standard, are_placed, are_grouped, are_worlds_grouped, are_placed_worlds}
 use Rattle.tables.specs.Parts.{are_worlds, is_package}
 use Rattle.tables.specs.declared.tables.Interface.{Interface}
 use Rattle.tables.specs.declared.tables.World.{World}
@@ -97,7 +97,7 @@ module _ (p q : ValType → Bool) where
 
 pub names-more : (ds : List Definition) (i : ℕ) (d : Definition) → i < length ds → d ≡ get_or ds i d
     → (are_earlier 0 (take i ds) ≡ true) × (list_all (definition_all (is_type ds)) (take i ds) ≡ true)
-    → definition_all (is_earlier ds i) d ≡ true
+    → definition_all (is_type_before ds i) d ≡ true
     → (are_earlier 0 (take (i + 1) ds) ≡ true) × (list_all (definition_all (is_type ds)) (take (i + 1) ds) ≡ true)
 names-more ds i d h is so_far here =
     let parts = split (definition_below i d) (definition_all (is_type ds) d) (sym (definition-both (is_below i) (is_type ds) d) ∙ here) in
@@ -106,7 +106,7 @@ names-more ds i d h is so_far here =
       list_all_more (definition_all (is_type ds)) ds i d h ∙ both _ _ so_far.1 at,
     )
 
-pub names-never : (ds : List Definition) (i : ℕ) (d : Definition) → i < length ds → d ≡ get_or ds i d → definition_all (is_earlier ds i) d ≡ false
+pub names-never : (ds : List Definition) (i : ℕ) (d : Definition) → i < length ds → d ≡ get_or ds i d → definition_all (is_type_before ds i) d ≡ false
     → (are_earlier 0 ds && name_types ds) ≡ false
 names-never ds i d h is here = by (definition_below i d) (definition_all (is_type ds) d) refl refl
   where

@@ -8,7 +8,7 @@ use Rattle.std.proofs.lemmas.Bool.{ltb-true, lt-ltb}
 use Rattle.std.proofs.lemmas.Bool.Decides.{nat_tests}
 use Rattle.canonical_abi.specs.Types.{ClosedType, string_type, variant_type, fields_of, cases_of, field_count, case_count, result_fields, IsStandard, AreStandardFields, AreStandardCases}
 use Rattle.canonical_abi.specs.Headline.{IsStandardFunction}
-use Rattle.tables.specs.Tables.{option_all, kind_all, definition_all, is_below, definition_below, are_earlier, is_type, name_types, is_earlier, is_within, is_standard_kind, is_standard, are_standard, type_of, is_there}
+use Rattle.tables.specs.Tables.{option_all, kind_all, definition_all, is_below, definition_below, are_earlier, is_type, name_types, is_type_before, is_within, is_standard_kind, is_standard, are_standard, type_of, is_there}
 use Rattle.tables.specs.Closed.{closed_val, closed_kind, closed_definition, closed_rows, closed_types, closed_type, closed_params, IsFunction, function_type}
 use Rattle.tables.specs.Standard.{IsTypeOf, HasStandardTypes}
 use Rattle.tables.specs.declared.tables.ValType.{ValType}
@@ -134,14 +134,14 @@ type-below ds (val.Id t) h = lt-ltb t.0 (length ds) (stands-as ds t.0 h).in_rang
 
 module _ (ds : List Definition) (earlier : IsTrue (are_earlier 0 ds)) (typed : IsTrue (name_types ds)) (standard : IsTrue (are_standard ds)) where
   known-before : (k : ℕ) → k ≤ length ds → ((j : ℕ) → j < k → IsTrue (is_there (type_of (slice_get ds j))) → IsStandard (get_or (closed_rows [] ds) j string_type))
-      → (v : ValType) → is_earlier ds k v ≡ true → IsStandard (closed_val (closed_rows [] (take k ds)) v)
+      → (v : ValType) → is_type_before ds k v ≡ true → IsStandard (closed_val (closed_rows [] (take k ds)) v)
   known-before k l before (val.Primitive p) h = tt
   known-before k l before val.String h = tt
   known-before k l before (val.Id t) h =
       let hs = split (is_below k (val.Id t)) (is_type ds (val.Id t)) h in
       subst IsStandard (sym (closed_val-stays ds k (val.Id t) l hs.0)) (before t.0 (ltb-true t.0 k hs.0) hs.1)
 
-  row-standard : (k : ℕ) → StandsAs ds k → ((v : ValType) → is_earlier ds k v ≡ true → IsStandard (closed_val (closed_rows [] (take k ds)) v))
+  row-standard : (k : ℕ) → StandsAs ds k → ((v : ValType) → is_type_before ds k v ≡ true → IsStandard (closed_val (closed_rows [] (take k ds)) v))
       → IsStandard (get_or (closed_rows [] ds) k string_type)
   row-standard k s known =
       let d = row.Type s.type in
@@ -149,10 +149,10 @@ module _ (ds : List Definition) (earlier : IsTrue (are_earlier 0 ds)) (typed : I
       let below : definition_below (0 + k) d ≡ true = subst (λ (e : Definition). definition_below (0 + k) e ≡ true) (s.is d) (earlier-at 0 ds k d earlier s.in_range) in
       let here : definition_below k d ≡ true = rw same at below in
       let names : definition_all (is_type ds) d ≡ true = subst (λ (e : Definition). definition_all (is_type ds) e ≡ true) (s.is d) (at-true (definition_all (is_type ds)) ds k d s.in_range typed) in
-      let all : definition_all (is_earlier ds k) d ≡ true = definition-both (is_below k) (is_type ds) d ∙ both _ _ here names in
+      let all : definition_all (is_type_before ds k) d ≡ true = definition-both (is_below k) (is_type ds) d ∙ both _ _ here names in
       let fits : is_standard d ≡ true = subst (λ (e : Definition). is_standard e ≡ true) (s.is d) (at-true is_standard ds k d s.in_range standard) in
       let made = closed-at ds k d s.in_range ∙ ap (closed_definition (closed_rows [] (take k ds))) (s.is d) in
-      subst IsStandard (sym made) (kind-standard (closed_rows [] (take k ds)) (is_earlier ds k) known s.type.kind all fits)
+      subst IsStandard (sym made) (kind-standard (closed_rows [] (take k ds)) (is_type_before ds k) known s.type.kind all fits)
 
   rows-standard : (n k : ℕ) → k < n → IsTrue (is_there (type_of (slice_get ds k))) → IsStandard (get_or (closed_rows [] ds) k string_type)
   rows-standard zero k l h = absurd (omega arith)

@@ -6,7 +6,7 @@ use Rattle.std.proofs.lemmas.Slice.Eq.{bytes_eq-Decides}
 use Rattle.canonical_abi.specs.Types.{ClosedType, string_type, list_type, record_type, variant_type, fields_of, cases_of}
 use Rattle.canonical_abi.specs.Types as closed
 use Rattle.tables.specs.Closed.{closed_val, closed_kind, closed_params, closed_definition, closed_rows}
-use Rattle.tables.specs.Package.{ClosesAlike, HasDistinctTypes, IsDistinctName, Key, key_of, is_same_key, is_known, lookup, entry, environment, Environment, meaning_of, named_by, named_function, function_meaning, definitions_from, reference_by, references, interface_names, Tree, TextTree, Reference, RecordTree, Plain, Choices, closed_tree, closed_fields, closed_choices, read_val, read_choice, read_tuple, read_fields, read_params, read_cases, read_enum, read_kind}
+use Rattle.tables.specs.Package.{ClosesAlike, HasDistinctTypes, IsDistinctName, Key, key_of, is_same_key, is_known, lookup, environment_entry, environment, Environment, meaning_of, named_by, named_function, function_meaning, definitions_from, reference_by, references, interface_names, Tree, TextTree, Reference, RecordTree, Plain, Choices, closed_tree, closed_fields, closed_choices, read_val, read_choice, read_tuple, read_fields, read_params, read_cases, read_enum, read_kind}
 use Rattle.tables.specs.declared.tables.ValType.{ValType}
 use Rattle.tables.specs.declared.tables.ValType.TheVariants as val
 use Rattle.tables.specs.declared.tables.TypeDefKind.{TypeDefKind}
@@ -161,7 +161,7 @@ lookup_last (e ∷ env) n c h = go (is_same_key e.0 n) h (λ g. lookup_last env 
     go false h rest = rest h
 
 -- a type's name adds its closed type
-entry-of : (env : Environment) (ts : List Tree) (n : Key) (k : TypeDefKind) → entry env n (meaning_of ts k) ≡ (n, closed_tree env (read_kind ts k)) ∷ []
+entry-of : (env : Environment) (ts : List Tree) (n : Key) (k : TypeDefKind) → environment_entry env n (meaning_of ts k) ≡ (n, closed_tree env (read_kind ts k)) ∷ []
 entry-of env ts n (kind.Use t) = refl
 entry-of env ts n (kind.Alias v) = refl
 entry-of env ts n (kind.List v) = refl

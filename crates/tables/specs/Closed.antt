@@ -88,18 +88,18 @@ abbrev pub function_type : Resolve → FunctionId → FunctionType
 function_type r f = type_of_function (closed_types r) (function_at r f)
 
 -- scalar functions: at most 16 parameters, and each type a primitive
-abbrev pub is_scalar : ValType → Bool
-is_scalar (val.Primitive p) = true
-is_scalar val.String = false
-is_scalar (val.Id t) = false
+abbrev pub is_scalar_type : ValType → Bool
+is_scalar_type (val.Primitive p) = true
+is_scalar_type val.String = false
+is_scalar_type (val.Id t) = false
 
 abbrev pub is_scalar_result : Option ValType → Bool
 is_scalar_result None = true
-is_scalar_result (Some v) = is_scalar v
+is_scalar_result (Some v) = is_scalar_type v
 
 abbrev pub is_scalar_function : Option Function → Bool
 is_scalar_function None = false
-is_scalar_function (Some f) = nat_le (length f.params) 16 && (list_all (λ p. is_scalar p.ty) f.params && is_scalar_result f.result)
+is_scalar_function (Some f) = nat_le (length f.params) 16 && (list_all (λ p. is_scalar_type p.ty) f.params && is_scalar_result f.result)
 
 abbrev pub IsScalarFunction : Resolve → FunctionId → Type 0
 IsScalarFunction r f = IsTrue (is_scalar_function (function_at r f))

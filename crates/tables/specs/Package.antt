@@ -114,15 +114,15 @@ abbrev mutual
   closed_choices env (holding label t cs) = closed.case_with (closed_tree env t) (closed_choices env cs)
 
 -- what a definition adds: a function adds no type
-abbrev pub entry : Environment → Key → Meaning → Environment
-entry env n (IsUse t) = (n, closed_tree env t) ∷ []
-entry env n (IsType t) = (n, closed_tree env t) ∷ []
-entry env n (IsFunction fs result) = []
+abbrev pub environment_entry : Environment → Key → Meaning → Environment
+environment_entry env n (IsUse t) = (n, closed_tree env t) ∷ []
+environment_entry env n (IsType t) = (n, closed_tree env t) ∷ []
+environment_entry env n (IsFunction fs result) = []
 
 -- the environment after these definitions, each closed over those before it
 abbrev pub environment : Environment → List NamedDefinition → Environment
 environment env [] = env
-environment env (d ∷ ds) = environment (env ++ entry env d.key d.meaning) ds
+environment env (d ∷ ds) = environment (env ++ environment_entry env d.key d.meaning) ds
 
 -- ---- what the rows of a table read as
 

@@ -156,5 +156,5 @@ abbrev pub name_types : List Definition → Bool
 name_types ds = list_all (definition_all (is_type ds)) ds
 
 -- the type stands in the table before place n, and is no function
-abbrev pub is_earlier : List Definition → ℕ → ValType → Bool
-is_earlier ds n v = is_below n v && is_type ds v
+abbrev pub is_type_before : List Definition → ℕ → ValType → Bool
+is_type_before ds n v = is_below n v && is_type ds v

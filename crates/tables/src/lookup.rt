@@ -1,7 +1,7 @@
 //! Functions of a package by their names, and what is known of one.
 ghost use Rattle.std.specs.Prelude.{◌≡◌, ◌↔◌, ◌≢◌, ◌<◌, ◌++◌, ◌∷◌, ℕ, List, length, IsTrue, [], slice_get, slice_index_or, IfOk, IfSome, IfNone, None, Some, MatchOption};
 ghost use Rattle.atoms.specs.FullName.{full_name_text, package_text, name_text, version_suffix};
-ghost use Rattle.tables.specs.Closed.{function_at, IsFunction, is_scalar, is_scalar_function};
+ghost use Rattle.tables.specs.Closed.{function_at, IsFunction, is_scalar_type, is_scalar_function};
 ghost use Rattle.tables.specs.Standard.{IsTypeOf};
 ghost use Rattle.tables.specs.PackageNames.{name_parts};
 ghost use Rattle.tables.specs.Names.{full_name, IsNamed, IsNamedIn};
@@ -36,7 +36,7 @@ fn behind_part<'a>(text: &'a [u8], front: &[u8], mark: u8) -> Option<&'a [u8]>
 impl ValType {
     /// Whether it is a primitive.
     pub fn is_scalar(self) -> bool
-        ensures { result ≡ is_scalar self }
+        ensures { result ≡ is_scalar_type self }
     {
         matches!(self, ValType::Primitive(_))
     }

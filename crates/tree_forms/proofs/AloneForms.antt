@@ -2,7 +2,7 @@
 use Rattle.std.proofs.Common.{◌≡◌, ℕ, IsTrue, List, [], ◌++◌, map, flat_map, length, refl, ap, sym, ◌∙◌, subst, arith, All}
 use Rattle.std.specs.List.{list_all}
 use Rattle.wit_syntax.specs.Syntax.{File}
-use Rattle.wit_syntax.specs.FullNames.{has_full_names}
+use Rattle.wit_syntax.specs.FullNames.{file_has_full_names}
 use Rattle.tables.specs.PackageNames.{PackageParts}
 use Rattle.tables.specs.Names.{world_name}
 use Rattle.tables.specs.Package.{WorldMeaning, interface_names as names_in, trees as trees_in, world_meaning as meaning_in}
@@ -25,7 +25,7 @@ use Rattle.tree_forms.proofs.PackageScopes.{has-distinct-names as has-names-behi
 use Rattle.tree_forms.proofs.ClosedTables.{closes}
 
 module _ (imports : Resolve) (packages : imports.packages ≡ []) (interfaces : imports.interfaces ≡ []) (worlds : imports.worlds ≡ []) (rows : imports.definitions ≡ []) where
-  named-behind : (f : File) → IsTrue (has_full_names f) → IsNamedBehind imports f
+  named-behind : (f : File) → IsTrue (file_has_full_names f) → IsNamedBehind imports f
   named-behind f full = record {
     form = record {
       names = ap (list_all is_package_name) packages;
@@ -55,7 +55,7 @@ module _ (imports : Resolve) (packages : imports.packages ≡ []) (interfaces : 
   distinct-none : All AreDistinct (package_scopes imports)
   distinct-none = subst (λ (ss : List (List (List ℕ))). All AreDistinct ss) (sym no-scopes) (all-none AreDistinct)
 
-module _ (f : File) (r : Resolve) (h : HasNoFaults f) (full : IsTrue (has_full_names f)) (p : IsPackageOf f r) where
+module _ (f : File) (r : Resolve) (h : HasNoFaults f) (full : IsTrue (file_has_full_names f)) (p : IsPackageOf f r) where
   pub has-form : IsInPackageForm r
   unfolding empty
   has-form =

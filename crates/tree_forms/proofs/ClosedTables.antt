@@ -18,8 +18,8 @@ use Rattle.package_form.specs.Reached.{reached_by_row, reached_by_world, reached
 use Rattle.package_form.proofs.Lists.{contains-here, contains-left, contains-right, contains-map, contains-flat}
 use Rattle.package_form.proofs.OwnPackage.{package-is}
 use Rattle.placement.specs.Order.{IsPlacement}
-use Rattle.tree_meaning.specs.Declarations.{UsedItem, InterfaceTree, ForeignNamed, interfaces, worlds, interface_of, world_of, full_use, full_item, full_interface, full_world, full_worlds, full_label, interface_at, no_interface, interface_names, use_interface, package_named}
-use Rattle.tree_meaning.specs.Resolved.{use_meaning, direction_meaning, item_meaning, world_meaning}
+use Rattle.tree_meaning.specs.Declarations.{UsedItem, InterfaceTree, ForeignNamed, interfaces, file_worlds, interface_of, world_of, full_use, full_item, full_interface, full_world, full_worlds, full_label, interface_at, no_interface, names_of_trees, use_interface, package_named}
+use Rattle.tree_meaning.specs.Resolved.{use_meaning, direction_meaning, tree_item_meaning, meaning_of_world}
 use Rattle.tree_meaning.specs.Imports.{Import, import_at, interfaces_of, imports_of}
 use Rattle.tree_meaning.specs.ImportForms.{IsNamedBehind, UsesImport, HasImportItem, NamesImport, AreReachedFrom}
 use Rattle.tree_meaning.specs.Resolves.{interface_uses, uses_of_interface, HasNoFaultsOf, AreImports, interfaces_behind, IsClosedPackageOf}
@@ -123,7 +123,7 @@ module _ (imports : Resolve) (f : File) (r : Resolve) (a : AreImports imports) (
   -- the tree of an interface, in package order
   tree-there : (j : InterfaceTree) (c : Contains (interfaces f) j) → Contains (order imports f r a h named_so p) c.0 × (interface_at is c.0 ≡ full_interface q j)
   tree-there j c =
-      let l : c.0 < length (interface_uses is) = omega (arith, c.1, length-map is (uses_of_interface (interface_names is)), length-map (interfaces f) (full_interface q)) in (
+      let l : c.0 < length (interface_uses is) = omega (arith, c.1, length-map is (uses_of_interface (names_of_trees is)), length-map (interfaces f) (full_interface q)) in (
         among-at p.resolves.order c.0 (p.resolves.placed.complete c.0 l),
         interface-full q (interfaces f) c.0 c.1 ∙ ap (full_interface q) (get_or_default (interfaces f) c.0 no_interface j c.1 ∙ c.2),
       )
@@ -160,11 +160,11 @@ module _ (imports : Resolve) (f : File) (r : Resolve) (a : AreImports imports) (
   named-item k l (w, c, (way, d)) =
       let i = own_name (import_at ks k).«package» (import_at ks k).name in
       let tree = ForeignNamed way (import_at ks k).«package» (import_at ks k).name in
-      let meant = world_meaning (full_world q w) in
+      let meant = meaning_of_world (full_world q w) in
       let there : Contains (map (λ (v : World). meaning_in (names_in r) (trees_in r) r.definitions (world_name r v) v) r.worlds) meant =
-      subst (λ (ms : List WorldMeaning). Contains ms meant) (sym p.resolves.worlds) (contains-map world_meaning (full_worlds f) (full_world q w) (contains-map (full_world q) (worlds f) w c)) in
+      subst (λ (ms : List WorldMeaning). Contains ms meant) (sym p.resolves.worlds) (contains-map meaning_of_world (full_worlds f) (full_world q w) (contains-map (full_world q) (file_worlds f) w c)) in
       let items : Contains meant.items (WithInterface (direction_meaning way) i) =
-      contains-map item_meaning (map (full_item q) w.items) (full_item q tree) (contains-map (full_item q) w.items tree d) in
+      contains-map tree_item_meaning (map (full_item q) w.items) (full_item q tree) (contains-map (full_item q) w.items tree d) in
       contains-right (flat_map (reached_by_row r.definitions) r.definitions) (flat_map reached_by_world r.worlds) k
       (item-reaches (names_in r) r.definitions (table imports f r a h named_so p) (trees_in r) r.worlds (world_name r) meant (direction_meaning way) i k
       (own-some (import_at ks k).«package» (import_at ks k).name) there items (import-here imports f r a h named_so p k l))
@@ -191,7 +191,7 @@ module _ (imports : Resolve) (f : File) (r : Resolve) (a : AreImports imports) (
     has-own : has_own n r.interfaces r.worlds ≡ true
     has-own = elim (some-entry f.entries h.some) [
       | inl l ↦
-          let many : 0 < length (interface_uses is) = omega (arith, l, length-map (interfaces f) (full_interface q), length-map is (uses_of_interface (interface_names is))) in
+          let many : 0 < length (interface_uses is) = omega (arith, l, length-map (interfaces f) (full_interface q), length-map is (uses_of_interface (names_of_trees is))) in
           let placed = some-order (interface_uses is) p.resolves.order p.resolves.placed many in
           let counted : 0 < length p.own.0 = omega (
             arith,
@@ -207,7 +207,7 @@ module _ (imports : Resolve) (f : File) (r : Resolve) (a : AreImports imports) (
       | inr l ↦
           let meant = ap length p.resolves.worlds in
           let many : 0 < length r.worlds =
-          omega (arith, l, meant, length-map r.worlds (λ w. meaning_in (names_in r) (trees_in r) r.definitions (world_name r w) w), length-map (full_worlds f) world_meaning, length-map (worlds f) (full_world q)) in
+          omega (arith, l, meant, length-map r.worlds (λ w. meaning_in (names_in r) (trees_in r) r.definitions (world_name r w) w), length-map (full_worlds f) meaning_of_world, length-map (file_worlds f) (full_world q)) in
           ap (λ (b : Bool). not b || list_any (is_interface_of n) r.interfaces) (not-zero (length r.worlds) many)
     ]
       where

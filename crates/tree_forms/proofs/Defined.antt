@@ -9,9 +9,9 @@ use Rattle.tables.specs.declared.tables.World.{World}
 use Rattle.tables.specs.declared.tables.Resolve.{Resolve}
 use Rattle.package_form.specs.Entries.{Table}
 use Rattle.placement.specs.Order.{IsPlacement}
-use Rattle.tree_meaning.specs.Declarations.{interfaces, worlds, package_named, interface_at, interface_names}
+use Rattle.tree_meaning.specs.Declarations.{interfaces, file_worlds, package_named, interface_at, names_of_trees}
 use Rattle.tree_meaning.specs.Imports.{imports_of}
-use Rattle.tree_meaning.specs.Resolved.{world_meaning}
+use Rattle.tree_meaning.specs.Resolved.{meaning_of_world}
 use Rattle.tree_meaning.specs.Resolves.{interface_uses, type_uses, names_in_order, HasNoFaultsOf, PassesLimit, AreImports, IsClosedPackageOf, ResolveRefusesOf}
 use Rattle.tree_meaning.specs.Building.{DefinesPackage, start_table}
 use Rattle.tree_meaning.specs.Finished.{IsFinished}
@@ -22,8 +22,8 @@ use Rattle.tree_forms.proofs.WorldTables.{interfaces-are, rows-are, is-table}
 module _ (imports : Resolve) (a : AreImports imports) (f : File) (order : List ℕ) (orders : List (List ℕ)) (names labels : List (List ℕ)) (old new : Table) (ws : List World) (p : PackageParts)
     (placed : IsPlacement (interface_uses (interfaces f)) order)
     (types : (k : ℕ) → k < length (interfaces f) → IsPlacement (type_uses (interface_at (interfaces f) k)) (get_or orders k [])) (ordered : names ≡ names_in_order (interfaces f) order) (same : labels ≡ names)
-    (made : DefinesPackage (start_table imports names) (interfaces f) order orders old) (labelled : All IsLabel (interface_names (interfaces f))) (faults : HasNoFaultsOf (imports_of imports) f)
-    (d : DefinesWorlds old new (length imports.packages) ws (map world_meaning (worlds f))) (named : p ≡ package_named f) where
+    (made : DefinesPackage (start_table imports names) (interfaces f) order orders old) (labelled : All IsLabel (names_of_trees (interfaces f))) (faults : HasNoFaultsOf (imports_of imports) f)
+    (d : DefinesWorlds old new (length imports.packages) ws (map meaning_of_world (file_worlds f))) (named : p ≡ package_named f) where
   pub finished : (r : Resolve) → IsFinished imports p labels (with_worlds new ws) r → IsClosedPackageOf imports f r
   finished r h =
       is-package imports p names (with_worlds new ws) r (subst (λ (ns : List (List ℕ)). IsFinished imports p ns (with_worlds new ws) r) same h) f faults.packages named

@@ -8,7 +8,7 @@ use Rattle.tables.specs.Names.{full_name, full_name_in, world_name}
 use Rattle.wit_syntax.specs.Syntax.{FileEntry, AnInterface, AWorld, File}
 use Rattle.package_form.specs.Scope.{AreDistinct}
 use Rattle.tables.specs.Package.{Package, WorldMeaning, worlds as worlds_in, trees, world_meaning, references, package_of, interface_names as names_in, definitions_from}
-use Rattle.tree_meaning.specs.Declarations.{InterfaceTree, interface_of, other_packages, interfaces, worlds, package_named, full_interfaces, full_worlds, interface_name, interface_names}
+use Rattle.tree_meaning.specs.Declarations.{InterfaceTree, interface_of, other_packages, interfaces, file_worlds, package_named, full_interfaces, full_worlds, interface_tree_name, names_of_trees}
 use Rattle.tree_meaning.specs.Scopes.{file_name, scopes}
 use Rattle.package_form.specs.Distinct.{RefusesScopes}
 use Rattle.package_form.specs.Entries.{Table, table_of, labels_of, type_entries}
@@ -36,19 +36,19 @@ use Rattle.tree_meaning.proofs.Trees.{own_table}
 -- ---- names of a file
 
 -- the names of interfaces are some of the names of the file
-names-among : (P : List ℕ → Type 0) (es : List FileEntry) → Every P (map file_name es) → Every P (map interface_name (filter_map interface_of es))
+names-among : (P : List ℕ → Type 0) (es : List FileEntry) → Every P (map file_name es) → Every P (map interface_tree_name (filter_map interface_of es))
 names-among P [] h = tt
 names-among P (AnInterface n xs ∷ es) h = (h.0, names-among P es h.1)
 names-among P (AWorld at n ws ∷ es) h = names-among P es h.1
 
-interfaces-apart : (es : List FileEntry) → AreApart (map file_name es) → AreApart (map interface_name (filter_map interface_of es))
+interfaces-apart : (es : List FileEntry) → AreApart (map file_name es) → AreApart (map interface_tree_name (filter_map interface_of es))
 interfaces-apart [] h = tt
 interfaces-apart (AnInterface n xs ∷ es) h = (names-among (AreOthers n) es h.0, interfaces-apart es h.1)
 interfaces-apart (AWorld at n ws ∷ es) h = interfaces-apart es h.1
 
-pub distinct-interfaces : {m : Imports} (f : File) → HasNoFaultsOf m f → AreDistinct (interface_names (interfaces f))
+pub distinct-interfaces : {m : Imports} (f : File) → HasNoFaultsOf m f → AreDistinct (names_of_trees (interfaces f))
 distinct-interfaces f h =
-    apart-distinct (interface_names (interfaces f)) (interfaces-apart f.entries (are-apart (map file_name f.entries) (all-head AreDistinct _ _ h.distinct)))
+    apart-distinct (names_of_trees (interfaces f)) (interfaces-apart f.entries (are-apart (map file_name f.entries) (all-head AreDistinct _ _ h.distinct)))
 
 pub has-entries : {A B : Type 0} (g : A → B) (xs : List A) → 0 < length xs → map g xs ≢ []
 has-entries g [] l e = absurd (omega (arith, l))
@@ -64,9 +64,9 @@ refuses-package m f (error.NoPackage p) some distinct h = (some, distinct, h)
 refuses-package m f error.NoMemory some distinct h = tt
 refuses-package m f _ some distinct h = absurd h
 
-pub refuses-unknown : (m : Imports) (f : File) (is : List InterfaceTree) (e : ResolveError) → is ≡ interfaces f → HasEntries f → HasDistinctNames f → KnowsPackagesOf m f → RefusesUnknown m is (worlds f) e
+pub refuses-unknown : (m : Imports) (f : File) (is : List InterfaceTree) (e : ResolveError) → is ≡ interfaces f → HasEntries f → HasDistinctNames f → KnowsPackagesOf m f → RefusesUnknown m is (file_worlds f) e
     → ResolveRefusesOf m f e
-refuses-unknown m f is (error.Unknown n) same some distinct there h = (some, distinct, there, subst (λ ts. RefusesUnknown m ts (worlds f) (error.Unknown n)) same h)
+refuses-unknown m f is (error.Unknown n) same some distinct there h = (some, distinct, there, subst (λ ts. RefusesUnknown m ts (file_worlds f) (error.Unknown n)) same h)
 refuses-unknown m f is error.NoMemory same some distinct there h = tt
 refuses-unknown m f is _ same some distinct there h = absurd h
 
@@ -149,7 +149,7 @@ module _ (imports : Resolve) (p : PackageParts) (names : List (List ℕ)) (t : T
 
   package-same : worlds_stand (length imports.packages) t 0 t.worlds ≡ true → package_of r ≡ package_behind (names_in imports) p own
   package-same stand =
-      let worlds : worlds_in r ≡ (package_behind (names_in imports) p own).worlds =
+      let file_worlds : worlds_in r ≡ (package_behind (names_in imports) p own).worlds =
       ap (λ (ws : List World). map (λ w. world_meaning (names_in r) (trees r) r.definitions (world_name r w) w) ws) f.worlds
       ∙ ap (λ (ps : List PackageParts). map (λ w. world_meaning (names_in r) (trees r) r.definitions (full_name_in (slice_get ps w.«package».0) w.name) w) t.worlds) f.packages
       ∙ ap (λ (ns : List (List ℕ)). map (λ w. world_meaning ns (references ns [] r.definitions) r.definitions (full_name_in (slice_get (imports.packages ++ p ∷ []) w.«package».0) w.name) w) t.worlds) names-same
@@ -158,7 +158,7 @@ module _ (imports : Resolve) (p : PackageParts) (names : List (List ℕ)) (t : T
       let definitions : (package_of r).definitions ≡ (package_behind (names_in imports) p own).definitions =
       ap (λ (ns : List (List ℕ)). definitions_from ns [] r.definitions) names-same ∙ ap (definitions_from fulls_in []) f.definitions in
       ap (λ (ns : List (List ℕ)). record { interfaces = ns; worlds = worlds_in r; definitions = (package_of r).definitions }) names-same
-      ∙ ap (λ (ws : List WorldMeaning). record { interfaces = fulls_in; worlds = ws; definitions = (package_of r).definitions }) worlds
+      ∙ ap (λ (ws : List WorldMeaning). record { interfaces = fulls_in; worlds = ws; definitions = (package_of r).definitions }) file_worlds
       ∙ ap (λ ds. record { interfaces = fulls_in; worlds = (package_behind (names_in imports) p own).worlds; definitions = ds }) definitions
 
   entries-same : t.interfaces ≡ names_in imports ++ names → type_entries (table_of r) ≤ 65535

@@ -16,8 +16,8 @@ use Rattle.tables.specs.declared.tables.Definition.{Definition}
 use Rattle.tables.specs.declared.tables.Definition.TheVariants as row
 use Rattle.package_form.specs.Postfix.{is_inner}
 use Rattle.package_form.specs.Scope.{AreDistinct}
-use Rattle.tree_meaning.specs.Declarations.{TypeItem, FunctionItem, member_name, case_name as name_of_case, definition_scopes}
-use Rattle.tree_meaning.specs.Resolved.{primitive_tree, fields_of, choice, choices_of, resolved, resolved_if, member_meaning, case_meaning, definition_meaning, type_meaning, function_meaning}
+use Rattle.tree_meaning.specs.Declarations.{TypeItem, FunctionItem, member_name, tree_case_name, definition_scopes}
+use Rattle.tree_meaning.specs.Resolved.{primitive_tree, fields_of_labelled, choice, choices_of, resolved, resolved_if, member_meaning, case_meaning, definition_meaning, type_meaning, meaning_of_function}
 use Rattle.package_form.proofs.Lists.{all-head, all-cons, all-none}
 use Rattle.package_form.specs.Naming.{field_name, case_name, parameter_name, kind_members, row_members}
 use Rattle.tables.proofs.Rows.{split}
@@ -89,11 +89,11 @@ module _ (i : List ℕ) where
   choice-name n None cs = refl
   choice-name n (Some t) cs = refl
 
-  fields-names : (ms : List Member) → field_names (fields_of (map (member_meaning i) ms)) ≡ map member_name ms
+  fields-names : (ms : List Member) → field_names (fields_of_labelled (map (member_meaning i) ms)) ≡ map member_name ms
   fields-names [] = refl
   fields-names (m ∷ ms) = ap (λ (ns : List (List ℕ)). m.name ∷ ns) (fields-names ms)
 
-  cases-names : (cs : List CaseOf) → choice_names (choices_of (map (case_meaning i) cs)) ≡ map name_of_case cs
+  cases-names : (cs : List CaseOf) → choice_names (choices_of (map (case_meaning i) cs)) ≡ map tree_case_name cs
   cases-names [] = refl
   cases-names (c ∷ cs) = choice-name c.name (resolved_if i c.payload) _ ∙ ap (λ (ns : List (List ℕ)). c.name ∷ ns) (cases-names cs)
 
@@ -104,14 +104,14 @@ module _ (i : List ℕ) where
   body-distinct : (d : Body) → All AreDistinct (definition_scopes d) → AreDistinct (tree_names (definition_meaning i d))
   body-distinct (Alias t) h = subst AreDistinct (sym (type-names t)) none-distinct
   body-distinct (Record ms) h = subst AreDistinct (sym (fields-names ms)) (all-head AreDistinct (map member_name ms) [] h)
-  body-distinct (Variant cs) h = subst AreDistinct (sym (cases-names cs)) (all-head AreDistinct (map name_of_case cs) [] h)
+  body-distinct (Variant cs) h = subst AreDistinct (sym (cases-names cs)) (all-head AreDistinct (map tree_case_name cs) [] h)
   body-distinct (Enumeration ns) h = subst AreDistinct (sym (labels-names ns)) (all-head AreDistinct ns [] h)
   body-distinct (FlagSet ns) h = all-head AreDistinct ns [] h
 
   pub type-distinct : (t : TypeItem) → All AreDistinct (definition_scopes t.definition) → HasDistinctMembers (type_meaning i t)
   type-distinct t h = body-distinct t.definition h
 
-  pub function-distinct : (f : FunctionItem) → AreDistinct (map member_name f.function.params) → HasDistinctMembers (function_meaning i f)
+  pub function-distinct : (f : FunctionItem) → AreDistinct (map member_name f.function.params) → HasDistinctMembers (meaning_of_function i f)
   function-distinct f h = subst AreDistinct (sym (fields-names f.function.params)) h
 
 -- ---- of what a row reads as

@@ -15,7 +15,7 @@ use Rattle.tables.specs.declared.error.ResolveError.TheVariants as error
 use Rattle.package_form.specs.Scope.{AreDistinct}
 use Rattle.placement.specs.Order.{IsPlacement}
 use Rattle.package_form.specs.Postfix.{IsPostfix}
-use Rattle.tree_meaning.specs.Declarations.{UsedItem, InterfaceTree, ItemTree, InterfaceNamed, ForeignNamed, FunctionOf, other_packages, interfaces, worlds, package_named, full_interface, full_interfaces, full_worlds, interface_at, interface_names, interface_name, type_names, named_definition, named_function}
+use Rattle.tree_meaning.specs.Declarations.{UsedItem, InterfaceTree, ItemTree, InterfaceNamed, ForeignNamed, FunctionOf, other_packages, interfaces, file_worlds, package_named, full_interface, full_interfaces, full_worlds, interface_at, names_of_trees, interface_tree_name, type_names, named_definition, names_in_function}
 use Rattle.tree_meaning.specs.Scopes.{scopes}
 use Rattle.tree_meaning.specs.Imports.{Import, Imports, no_import, import_at, AreApart, interfaces_of, imports_of}
 use Rattle.tree_meaning.specs.Resolves.{IsTooLargeBehind, ResolvesBehind, full_names, package_behind, with_names, interface_uses, type_uses, PassesLimit, HasDuplicate, HasDistinctNames, LacksPackage, KnowsPackagesOf, IsKnownIn, IsKnownUseOf, IsLackingIn, IsUnknownUse, IsUnknownIn, HasUnknown, HasKnownNamesOf, IsKnownItemOf, IsKnownWorldOf, IsUnknownItem, HasCycle, HasWorldsBehind, HasItems, file_fits, IsClosedPackageOf, HasNoFaultsOf, ResolveRefusesOf, AnswersOnlyBehind}
@@ -47,12 +47,12 @@ no-lack m f p known x = x.1 (All-contains (Contains m.packages) (other_packages 
 -- ---- a name that stands for nothing
 
 -- interfaces of one name are one
-one-interface : (is : List InterfaceTree) (i j : InterfaceTree) → AreDistinct (interface_names is) → Contains is i → Contains is j → i.name ≡ j.name → i ≡ j
+one-interface : (is : List InterfaceTree) (i j : InterfaceTree) → AreDistinct (names_of_trees is) → Contains is i → Contains is j → i.name ≡ j.name → i ≡ j
 one-interface is i j d a b e =
-    let counted : length (interface_names is) ≡ length is = length-map is interface_name in
-    let x : get_or (interface_names is) a.0 [] ≡ i.name = get_or-map interface_name is a.0 i [] a.1 ∙ ap interface_name a.2 in
-    let y : get_or (interface_names is) b.0 [] ≡ j.name = get_or-map interface_name is b.0 j [] b.1 ∙ ap interface_name b.2 in
-    let k : a.0 ≡ b.0 = same-place (interface_names is) a.0 b.0 d (omega (arith, counted, a.1)) (omega (arith, counted, b.1)) (x ∙ (e ∙ sym y)) in
+    let counted : length (names_of_trees is) ≡ length is = length-map is interface_tree_name in
+    let x : get_or (names_of_trees is) a.0 [] ≡ i.name = get_or-map interface_tree_name is a.0 i [] a.1 ∙ ap interface_tree_name a.2 in
+    let y : get_or (names_of_trees is) b.0 [] ≡ j.name = get_or-map interface_tree_name is b.0 j [] b.1 ∙ ap interface_tree_name b.2 in
+    let k : a.0 ≡ b.0 = same-place (names_of_trees is) a.0 b.0 d (omega (arith, counted, a.1)) (omega (arith, counted, b.1)) (x ∙ (e ∙ sym y)) in
     sym a.2 ∙ (get_or_default is a.0 i j a.1 ∙ (ap (λ n. get_or is n j) k ∙ b.2))
 
 -- .. and so are imports
@@ -64,11 +64,11 @@ one-import ks apart j k a b e f =
     sym x ∙ ap (import_at ks) same ∙ y
 
 module _ (m : Imports) (apart : AreApart m.interfaces) where
-  no-unknown-use : (is : List InterfaceTree) (u : UsedItem) (n : List ℕ) → AreDistinct (interface_names is) → IsKnownUseOf m is u → IsUnknownUse m is u n → ⊥
+  no-unknown-use : (is : List InterfaceTree) (u : UsedItem) (n : List ℕ) → AreDistinct (names_of_trees is) → IsKnownUseOf m is u → IsUnknownUse m is u n → ⊥
   no-unknown-use is u n d h y = by u.«package» h y
     where
       by : (o : Option PackageParts) → IsKnownIn m is o u.interface u.name → IsLackingIn m is o u.interface u.name n → ⊥
-      by None (j, c, e, has) (inl x) = x.1 (subst (Contains (interface_names is)) (e ∙ sym x.0) (contains-map interface_name is j c))
+      by None (j, c, e, has) (inl x) = x.1 (subst (Contains (names_of_trees is)) (e ∙ sym x.0) (contains-map interface_tree_name is j c))
       by None (j, c, e, has) (inr (same, x)) =
           x.3 (subst (λ i. Contains (type_names i) n) (one-interface is j x.0 d c x.1 (e ∙ sym x.2)) (subst (Contains (type_names j)) (sym same) has))
       by (Some q) k (inl x) = x.1 (k.0, k.1, k.2, k.3 ∙ sym x.0)
@@ -81,7 +81,7 @@ module _ (m : Imports) (apart : AreApart m.interfaces) where
       known : HasKnownNamesOf m (interfaces f) i
       known = All-contains (HasKnownNamesOf m (interfaces f)) (interfaces f) i h.known.in_interfaces c
 
-      distinct : AreDistinct (interface_names (interfaces f))
+      distinct : AreDistinct (names_of_trees (interfaces f))
       distinct = distinct-interfaces f h
 
       by : IsUnknownIn m (interfaces f) i n → ⊥
@@ -89,7 +89,7 @@ module _ (m : Imports) (apart : AreApart m.interfaces) where
       by (inr (inl (t, b, y))) =
           y.1 (All-contains (Contains (type_names i)) (named_definition t.definition) n (All-contains (λ t. All (Contains (type_names i)) (named_definition t.definition)) i.types t known.types b) y.0)
       by (inr (inr (g, b, y))) =
-          y.1 (All-contains (Contains (type_names i)) (named_function g.function) n (All-contains (λ g. All (Contains (type_names i)) (named_function g.function)) i.functions g known.functions b) y.0)
+          y.1 (All-contains (Contains (type_names i)) (names_in_function g.function) n (All-contains (λ g. All (Contains (type_names i)) (names_in_function g.function)) i.functions g known.functions b) y.0)
 
   no-unknown-item : (names : List (List ℕ)) (i : ItemTree) (n : List ℕ) → IsKnownItemOf m names i → IsUnknownItem m names i n → ⊥
   no-unknown-item names (InterfaceNamed way j) n known x = x.1 (subst (Contains names) (sym x.0) known)
@@ -101,8 +101,8 @@ module _ (m : Imports) (apart : AreApart m.interfaces) where
   no-unknown : (f : File) (n : List ℕ) → HasNoFaultsOf m f → HasUnknown m f n → ⊥
   no-unknown f n h (inl (i, c, x)) = no-unknown-in f n h i c x
   no-unknown f n h (inr (w, c, (i, d, x))) =
-      let names = interface_names (interfaces f) in
-      let known = All-contains (IsKnownWorldOf m names) (worlds f) w h.known.in_worlds c in
+      let names = names_of_trees (interfaces f) in
+      let known = All-contains (IsKnownWorldOf m names) (file_worlds f) w h.known.in_worlds c in
       no-unknown-item names i n (All-contains (IsKnownItemOf m names) w.items i known d) x
 
 -- ---- cycles
@@ -123,7 +123,7 @@ no-cycle-in before f p r (inr (i, b, c)) =
 same-limits : (t u : Table) (ns ms : List (List ℕ)) → length ns ≡ length t.interfaces → length ms ≡ length u.interfaces → ns ≡ ms
     → sum (map world_entries t.worlds) ≡ sum (map world_entries u.worlds) → all_from ns [] t.rows ≡ all_from ms [] u.rows
     → IsTyped t.rows → IsPostfix t.rows → IsTyped u.rows → IsPostfix u.rows → type_entries t ≤ 65535 → are_standard t.rows ≡ true → PassesLimit u → ⊥
-same-limits t u ns ms long_t long_u names worlds meant a p b q within standard passes = by passes
+same-limits t u ns ms long_t long_u names file_worlds meant a p b q within standard passes = by passes
   where
     by : PassesLimit u → ⊥
     by (inl l) =
@@ -131,7 +131,7 @@ same-limits t u ns ms long_t long_u names worlds meant a p b q within standard p
         let y = entries-by-name ms u.rows (λ f d r z. b f d r z) q in
         let sums : sum (map entries_of t.rows) ≡ sum (map entries_of u.rows) = x ∙ (ap (sizes entries) meant ∙ sym y) in
         let counts = ap length names in
-        omega (arith, within, l, sums, counts, long_t, long_u, worlds)
+        omega (arith, within, l, sums, counts, long_t, long_u, file_worlds)
     by (inr h) = false≢true (sym h ∙ standard-by-name ns ms t.rows u.rows a p b q meant standard)
 
 -- what a table tells of its tree, behind imports or without any

@@ -20,7 +20,7 @@ use Rattle.package_form.specs.Ends.{end_of, rows_of, interfaces_end, is_parted}
 use Rattle.package_form.specs.Ids.{interface_in, interfaces_from}
 use Rattle.package_form.proofs.OnePackage.{one-full-name}
 use Rattle.placement.specs.Order.{IsPlacement}
-use Rattle.tree_meaning.specs.Declarations.{InterfaceTree, WorldTree, interfaces, worlds, package_named, full_world, interface_of, world_of, full_interface, type_name, interface_at, no_interface, interface_name, interface_names}
+use Rattle.tree_meaning.specs.Declarations.{InterfaceTree, WorldTree, interfaces, file_worlds, package_named, full_world, interface_of, world_of, full_interface, type_name, interface_at, no_interface, interface_tree_name, names_of_trees}
 use Rattle.tree_meaning.specs.Scopes.{file_name, interface_scopes}
 use Rattle.tree_meaning.specs.Resolves.{uses_of_interface, interface_uses, names_in_order, AreImports, HasNoFaultsOf, IsClosedPackageOf, interfaces_behind, is_world_in}
 use Rattle.package_form.proofs.Lists.{all-head, all-tail, all-append, all-none, all-left, all-right, all-contained, contains-unmap, flat_map-append}
@@ -30,7 +30,7 @@ use Rattle.package_form.proofs.Scopes.{interfaces-distinct as import-scopes-dist
 use Rattle.tree_meaning.proofs.OrderedNames.{interface-name}
 use Rattle.tree_forms.proofs.Parting.{not-that}
 use Rattle.tree_forms.proofs.FinishedTrees.{distinct-interfaces, names-behind}
-use Rattle.tree_meaning.specs.Resolved.{world_meaning}
+use Rattle.tree_meaning.specs.Resolved.{meaning_of_world}
 use Rattle.tree_meaning.specs.Imports.{imports_of}
 use Rattle.tree_meaning.specs.ImportForms.{IsNamedBehind}
 use Rattle.tree_meaning.proofs.Owning.{is_inner_row}
@@ -160,43 +160,43 @@ names-told : (ns : List (List ℕ)) (ts : List Tree) (rows : List Definition) (n
 names-told ns ts rows name [] = refl
 names-told ns ts rows name (w ∷ ws) = ap (λ (ms : List (List ℕ)). name w ∷ ms) (names-told ns ts rows name ws)
 
-names-meant : (q : PackageParts) (ws : List WorldTree) → map meaning_name (map world_meaning (map (full_world q) ws)) ≡ map (own_name q) (map world_label ws)
+names-meant : (q : PackageParts) (ws : List WorldTree) → map meaning_name (map meaning_of_world (map (full_world q) ws)) ≡ map (own_name q) (map world_label ws)
 names-meant q [] = refl
 names-meant q (w ∷ ws) = ap (λ (ms : List (List ℕ)). own_name q w.name ∷ ms) (names-meant q ws)
 
 world-scopes-distinct : (q : PackageParts) (es : List FileEntry) → All AreDistinct (flat_map (interface_scopes q) es)
-    → All AreDistinct (flat_map world_scopes (map world_meaning (map (full_world q) (filter_map world_of es))))
+    → All AreDistinct (flat_map world_scopes (map meaning_of_world (map (full_world q) (filter_map world_of es))))
 world-scopes-distinct q [] h = all-none AreDistinct
 world-scopes-distinct q (AnInterface n xs ∷ es) h = world-scopes-distinct q es (all-right AreDistinct (interface_scopes q (AnInterface n xs)) (flat_map (interface_scopes q) es) h)
 world-scopes-distinct q (AWorld at n ws ∷ es) h =
-    all-append AreDistinct (interface_scopes q (AWorld at n ws)) (flat_map world_scopes (map world_meaning (map (full_world q) (filter_map world_of es))))
+    all-append AreDistinct (interface_scopes q (AWorld at n ws)) (flat_map world_scopes (map meaning_of_world (map (full_world q) (filter_map world_of es))))
     (all-left AreDistinct (interface_scopes q (AWorld at n ws)) (flat_map (interface_scopes q) es) h)
     (world-scopes-distinct q es (all-right AreDistinct (interface_scopes q (AWorld at n ws)) (flat_map (interface_scopes q) es) h))
 
 -- interfaces and worlds share a scope
-both-among : (P : List ℕ → Type 0) (es : List FileEntry) → Every P (map file_name es) → Every P (map interface_name (filter_map interface_of es) ++ map world_label (filter_map world_of es))
+both-among : (P : List ℕ → Type 0) (es : List FileEntry) → Every P (map file_name es) → Every P (map interface_tree_name (filter_map interface_of es) ++ map world_label (filter_map world_of es))
 both-among P [] h = tt
 both-among P (AnInterface n xs ∷ es) h = (h.0, both-among P es h.1)
 both-among P (AWorld at n ws ∷ es) h =
-    let is = map interface_name (filter_map interface_of es) in
+    let is = map interface_tree_name (filter_map interface_of es) in
     let vs = map world_label (filter_map world_of es) in
     let later = both-among P es h.1 in
     every-append P is (n ∷ vs) (every-front P is vs later) (h.0, every-back P is vs later)
 
-entries-apart : (es : List FileEntry) → AreApart (map file_name es) → AreApart (map interface_name (filter_map interface_of es) ++ map world_label (filter_map world_of es))
+entries-apart : (es : List FileEntry) → AreApart (map file_name es) → AreApart (map interface_tree_name (filter_map interface_of es) ++ map world_label (filter_map world_of es))
 entries-apart [] h = tt
 entries-apart (AnInterface n xs ∷ es) h = (both-among (AreOthers n) es h.0, entries-apart es h.1)
 entries-apart (AWorld at n ws ∷ es) h =
-    apart-insert n (map interface_name (filter_map interface_of es)) (map world_label (filter_map world_of es)) (both-among (AreOthers n) es h.0) (entries-apart es h.1)
+    apart-insert n (map interface_tree_name (filter_map interface_of es)) (map world_label (filter_map world_of es)) (both-among (AreOthers n) es h.0) (entries-apart es h.1)
 
 -- the names in package order are those of interfaces
-ordered-of : (is : List InterfaceTree) (order : List ℕ) → IsPlacement (interface_uses is) order → (n : List ℕ) → Contains (names_in_order is order) n → Contains (interface_names is) n
+ordered-of : (is : List InterfaceTree) (order : List ℕ) → IsPlacement (interface_uses is) order → (n : List ℕ) → Contains (names_in_order is order) n → Contains (names_of_trees is) n
 ordered-of is order placed n c =
     let k = contains-unmap (λ (k : ℕ). (interface_at is k).name) order n c in
     let at : get_or order k.1.0 0 ≡ k.0 = get_or_default order k.1.0 0 k.0 k.1.1 ∙ k.1.2 in
     let q = (placed.next k.1.0 k.1.1).in_range in
-    let l : k.0 < length (interface_names is) = omega (arith, q, at, length-map is (uses_of_interface (interface_names is)), length-map is interface_name) in
-    (k.0, l, get_or_default (interface_names is) k.0 n [] l ∙ sym (interface-name is k.0) ∙ k.2)
+    let l : k.0 < length (names_of_trees is) = omega (arith, q, at, length-map is (uses_of_interface (names_of_trees is)), length-map is interface_tree_name) in
+    (k.0, l, get_or_default (names_of_trees is) k.0 n [] l ∙ sym (interface-name is k.0) ∙ k.2)
 
 module _ (imports : Resolve) (f : File) (r : Resolve) (a : AreImports imports) (h : HasNoFaultsOf (imports_of imports) f) (named_so : IsNamedBehind imports f) (p : IsClosedPackageOf imports f r) where
   abbrev q : PackageParts
@@ -221,7 +221,7 @@ module _ (imports : Resolve) (f : File) (r : Resolve) (a : AreImports imports) (
   in-range k c =
       let q = (p.resolves.placed.next c.0 c.1).in_range in
       let at : get_or ks c.0 0 ≡ k = get_or_default ks c.0 0 k c.1 ∙ c.2 in
-      omega (arith, q, at, length-map is (uses_of_interface (interface_names is)))
+      omega (arith, q, at, length-map is (uses_of_interface (names_of_trees is)))
 
   parts-distinct : (k : ℕ) → k < length is → HasDistinctParts (interface_at is k)
   parts-distinct k l =
@@ -270,28 +270,28 @@ module _ (imports : Resolve) (f : File) (r : Resolve) (a : AreImports imports) (
       (append_cancel_left (names_in imports) _ _ (sym there ∙ named imports f r a h named_so p ∙ ap (λ (ns : List (List ℕ)). names_in imports ++ ns) (ordered imports f r a h named_so p)))
 
   -- the worlds' own names
-  worlds-own : map label_of r.worlds ≡ map world_label (worlds f)
+  worlds-own : map label_of r.worlds ≡ map world_label (file_worlds f)
   worlds-own =
-      names-apart q (map label_of r.worlds) (map world_label (worlds f))
+      names-apart q (map label_of r.worlds) (map world_label (file_worlds f))
       (map-map (own_name q) label_of r.worlds
       ∙ sym (labels-full imports.packages q r.worlds p.worlds)
       ∙ sym (ap (λ (ps : List PackageParts). map (λ (w : World). full_name_in (slice_get ps w.«package».0) w.name) r.worlds) p.packages)
       ∙ names-told (names_in r) (trees_in r) r.definitions (world_name r) r.worlds
-      ∙ ap (map meaning_name) p.resolves.worlds ∙ names-meant q (worlds f))
+      ∙ ap (map meaning_name) p.resolves.worlds ∙ names-meant q (file_worlds f))
 
   -- the names of the own interfaces, in package order, and of worlds
   names-apart-there : AreDistinct (p.own.0 ++ map label_of r.worlds)
   names-apart-there =
       let mine = interfaces f in
       let placed = subst (λ (us : List (List ℕ)). IsPlacement us ks) (uses-full q mine) p.resolves.placed in
-      let long : length (interface_uses mine) ≡ length (interface_names mine) = length-map mine (uses_of_interface (interface_names mine)) ∙ sym (length-map mine interface_name) in
-      let ordered = placed-distinct (interface_uses mine) ks placed (interface_names mine) (λ k. (interface_at mine k).name) (interface-name mine) long (distinct-interfaces f h) in
+      let long : length (interface_uses mine) ≡ length (names_of_trees mine) = length-map mine (uses_of_interface (names_of_trees mine)) ∙ sym (length-map mine interface_tree_name) in
+      let ordered = placed-distinct (interface_uses mine) ks placed (names_of_trees mine) (λ k. (interface_at mine k).name) (interface-name mine) long (distinct-interfaces f h) in
       let both = entries-apart f.entries (are-apart (map file_name f.entries) (all-head AreDistinct (map file_name f.entries) (flat_map (interface_scopes q) f.entries) h.distinct)) in
-      let kept : (P : List ℕ → Type 0) → Every P (interface_names mine) → Every P (names_in_order mine ks) =
-      λ P e. every-from P (names_in_order mine ks) (λ n c. every-contained P (interface_names mine) n e (ordered-of mine ks placed n c)) in
-      let there = apart-between [] (interface_names mine) (names_in_order mine ks) (map world_label (worlds f)) both kept (are-apart (names_in_order mine ks) ordered) in
+      let kept : (P : List ℕ → Type 0) → Every P (names_of_trees mine) → Every P (names_in_order mine ks) =
+      λ P e. every-from P (names_in_order mine ks) (λ n c. every-contained P (names_of_trees mine) n e (ordered-of mine ks placed n c)) in
+      let there = apart-between [] (names_of_trees mine) (names_in_order mine ks) (map world_label (file_worlds f)) both kept (are-apart (names_in_order mine ks) ordered) in
       subst AreDistinct (sym (ap (λ (ns : List (List ℕ)). ns ++ map label_of r.worlds) names-own ∙ ap (λ (ns : List (List ℕ)). names_in_order mine ks ++ ns) worlds-own))
-      (apart-distinct (names_in_order mine ks ++ map world_label (worlds f)) there)
+      (apart-distinct (names_in_order mine ks ++ map world_label (file_worlds f)) there)
 
   worlds-distinct : All AreDistinct (flat_map world_scopes (worlds_in r))
   worlds-distinct =

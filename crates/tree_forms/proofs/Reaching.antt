@@ -17,7 +17,7 @@ use Rattle.tables.specs.declared.tables.WorldItemKind.{WorldItemKind}
 use Rattle.tables.specs.declared.tables.WorldItemKind.TheVariants as item
 use Rattle.tables.specs.declared.tables.WorldItem.{WorldItem}
 use Rattle.tables.specs.declared.tables.World.{World}
-use Rattle.package_form.specs.Reached.{used_in, name_of, name_at, interface_of as place_of_name, reached_by_row, reached_by_kind, reached_by_item, reached_by_world, reached}
+use Rattle.package_form.specs.Reached.{used_in, name_of, name_at, named_interface, reached_by_row, reached_by_kind, reached_by_item, reached_by_world, reached}
 use Rattle.package_form.proofs.Lists.{contains-here, contains-left, contains-right, contains-either, contains-unmap, contains-flat}
 use Rattle.tree_meaning.proofs.Apart.{only}
 use Rattle.tree_meaning.proofs.AllDefinitions.{all_of, all_from, any_function}
@@ -84,7 +84,7 @@ module _ (ns : List (List ℕ)) (rows : List Definition) (table : IsTable rows) 
       let less = ltb-true u.id.0 (length pre) (subst (λ (y : Definition). definition_below (length pre) y ≡ true) same below) in
       let n = name-there ns rows pre (d ∷ post) e table.inner u.id target m less (subst (λ (y : Definition). definition_all (is_type rows) y ≡ true) same typed) u.reads place in
       let reaches : reached_by_row rows d ≡ m ∷ [] =
-      ap (reached_by_row rows) same ∙ ap place_of_name n.1 ∙ ap (λ (k : ℕ). k ∷ []) n.2 in
+      ap (reached_by_row rows) same ∙ ap named_interface n.1 ∙ ap (λ (k : ℕ). k ∷ []) n.2 in
       let there : Contains rows d = subst (λ (xs : List Definition). Contains xs d) (sym e) (contains-right pre (d ∷ post) d (contains-here d post)) in
       contains-flat (reached_by_row rows) rows d m there (subst (λ (ks : List ℕ). Contains ks m) (sym reaches) (contains-here m []))
 
@@ -113,11 +113,11 @@ module _ (rows more : List Definition) where
   row-kept : (d : Definition) (k : ℕ) → Contains (reached_by_row rows d) k → Contains (reached_by_row (rows ++ more) d) k
   row-kept d k c = by (used_in d) c
     where
-      at : (t : TypeId) (o : Option Definition) → slice_get rows t.0 ≡ o → Contains (place_of_name (name_of (type_of o))) k → Contains (place_of_name (name_at (rows ++ more) (Some t))) k
+      at : (t : TypeId) (o : Option Definition) → slice_get rows t.0 ≡ o → Contains (named_interface (name_of (type_of o))) k → Contains (named_interface (name_at (rows ++ more) (Some t))) k
       at t None e q = absurd (omega (arith, q.1))
-      at t (Some y) e q = subst (λ (o : Option Definition). Contains (place_of_name (name_of (type_of o))) k) (sym (get-some rows more t.0 y e)) q
+      at t (Some y) e q = subst (λ (o : Option Definition). Contains (named_interface (name_of (type_of o))) k) (sym (get-some rows more t.0 y e)) q
 
-      by : (o : Option TypeId) → Contains (place_of_name (name_at rows o)) k → Contains (place_of_name (name_at (rows ++ more) o)) k
+      by : (o : Option TypeId) → Contains (named_interface (name_at rows o)) k → Contains (named_interface (name_at (rows ++ more) o)) k
       by None q = absurd (omega (arith, q.1))
       by (Some t) q = at t (slice_get rows t.0) refl q
 

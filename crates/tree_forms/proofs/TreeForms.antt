@@ -19,10 +19,10 @@ use Rattle.tables.specs.declared.tables.Definition.{Definition}
 use Rattle.tables.specs.declared.tables.Definition.TheVariants as row
 use Rattle.tables.specs.declared.tables.Interface.{Interface}
 use Rattle.tables.specs.declared.tables.Resolve.{Resolve}
-use Rattle.placement.specs.Order.{IsPlacement, is_among}
+use Rattle.placement.specs.Order.{IsPlacement, has_placed}
 use Rattle.package_form.specs.Scope.{AreDistinct}
-use Rattle.tree_meaning.specs.Declarations.{UsedItem, FunctionItem, InterfaceTree, interfaces, worlds, package_named, full_interface, full_interfaces, interface_of, interface_at, no_interface, interface_name, interface_names, use_interface}
-use Rattle.tree_meaning.specs.Resolved.{use_meaning, type_meaning, function_meaning, in_order, interface_meaning, no_type, definition_meaning, fields_of, member_meaning, resolved_if}
+use Rattle.tree_meaning.specs.Declarations.{UsedItem, FunctionItem, InterfaceTree, interfaces, file_worlds, package_named, full_interface, full_interfaces, interface_of, interface_at, no_interface, interface_tree_name, names_of_trees, use_interface}
+use Rattle.tree_meaning.specs.Resolved.{use_meaning, type_meaning, meaning_of_function, in_order, interface_meaning, no_type, definition_meaning, fields_of_labelled, member_meaning, resolved_if}
 use Rattle.tree_meaning.specs.Resolves.{place_of, own_uses, uses_of_interface, interface_uses, names_in_order, is_behind, HasWorldsBehind, AreImports, HasKnownNamesOf, HasNoFaultsOf, IsClosedPackageOf, IsKnownIn, IsKnownUseOf, interfaces_behind, is_of_interfaces}
 use Rattle.tree_meaning.specs.Imports.{Imports, HasImport, imports_of, import_at, interfaces_of}
 use Rattle.tree_meaning.specs.ImportForms.{IsNamedBehind}
@@ -64,18 +64,18 @@ not-true : (b : Bool) → not b ≡ true → b ≡ true → ⊥
 not-true true h e = absurd (cc)
 not-true false h e = absurd (cc)
 
-among : (xs : List ℕ) (x : ℕ) → Contains xs x → is_among xs x ≡ true
+among : (xs : List ℕ) (x : ℕ) → Contains xs x → has_placed xs x ≡ true
 among [] x c = absurd (omega (arith, c.1))
-among (y ∷ xs) x (zero, l, e) = ap (λ (b : Bool). b || is_among xs x) (is-that y x e)
-among (y ∷ xs) x (suc k, l, e) = or-right (y == x) (is_among xs x) (among xs x (k, omega (arith, l), e))
+among (y ∷ xs) x (zero, l, e) = ap (λ (b : Bool). b || has_placed xs x) (is-that y x e)
+among (y ∷ xs) x (suc k, l, e) = or-right (y == x) (has_placed xs x) (among xs x (k, omega (arith, l), e))
   where
     or-right : (a b : Bool) → b ≡ true → (a || b) ≡ true
     or-right true b e = refl
     or-right false b e = e
 
 module _ (uses : List (List ℕ)) (order : List ℕ) (placed : IsPlacement uses order) where
-  new-at : (k : ℕ) → k < length order → is_among (take k order) (get_or order k 0) ≡ true → ⊥
-  new-at k l e = not-true (is_among (take k order) (get_or order k 0)) (split (not (is_among (take k order) (get_or order k 0))) _ (placed.next k l).ready).0 e
+  new-at : (k : ℕ) → k < length order → has_placed (take k order) (get_or order k 0) ≡ true → ⊥
+  new-at k l e = not-true (has_placed (take k order) (get_or order k 0)) (split (not (has_placed (take k order) (get_or order k 0))) _ (placed.next k l).ready).0 e
 
   before-at : (a b : ℕ) → a < b → b < length order → Contains (take b order) (get_or order a 0)
   before-at a b l m =
@@ -102,7 +102,7 @@ module _ (is : List InterfaceTree) (types : ℕ → List ℕ) where
     name = (interface_at is k).name;
     uses = map (use_meaning (interface_at is k).name) (interface_at is k).uses;
     types = in_order (interface_at is k).name (interface_at is k).types (types k);
-    functions = map (function_meaning (interface_at is k).name) (interface_at is k).functions;
+    functions = map (meaning_of_function (interface_at is k).name) (interface_at is k).functions;
   }
 
   names-are : (order : List ℕ) → block_names (map block order) ≡ names_in_order is order
@@ -117,14 +117,14 @@ pub each-map : {A : Type 0} (P : NamedDefinition → Type 0) (f : A → NamedDef
 each-map P f xs h = all-from P (map f xs) (λ y c. let u = contains-unmap f xs y c in subst P u.2 (h u.0 u.1))
 
 -- the labels of interfaces, in package order
-labels-once : (is : List InterfaceTree) (order : List ℕ) → IsPlacement (interface_uses is) order → AreDistinct (interface_names is)
+labels-once : (is : List InterfaceTree) (order : List ℕ) → IsPlacement (interface_uses is) order → AreDistinct (names_of_trees is)
     → (a b : ℕ) → a < length order → b < length order → (interface_at is (get_or order a 0)).name ≡ (interface_at is (get_or order b 0)).name → a ≡ b
 labels-once is order placed distinct a b l m e =
     let p = get_or order a 0 in
     let q = get_or order b 0 in
-    let there : (k : ℕ) → k < length order → get_or order k 0 < length (interface_names is) =
-    λ k n. omega (arith, (placed.next k n).in_range, length-map is (uses_of_interface (interface_names is)), length-map is interface_name) in
-    let same = same-place (interface_names is) p q distinct (there a l) (there b m) (sym (interface-name is p) ∙ e ∙ interface-name is q) in
+    let there : (k : ℕ) → k < length order → get_or order k 0 < length (names_of_trees is) =
+    λ k n. omega (arith, (placed.next k n).in_range, length-map is (uses_of_interface (names_of_trees is)), length-map is interface_tree_name) in
+    let same = same-place (names_of_trees is) p q distinct (there a l) (there b m) (sym (interface-name is p) ∙ e ∙ interface-name is q) in
     one-place (interface_uses is) order placed a b l m same
 
 -- The names of the interfaces of a table: behind `before` imports stand those of a tree, in package order.
@@ -133,7 +133,7 @@ module _ (m : Imports) (before : ℕ) (ns : List (List ℕ)) (imported : (q : Pa
     (is-place : (j : ℕ) → j < length order → IsPlace ns (before + j) (interface_at is (get_or order j 0)).name)
     (some : (k : ℕ) → k < length is → (interface_at is k).name ≢ []) (known : All (HasKnownNamesOf m is) is) where
   in-range : (j : ℕ) → j < length order → get_or order j 0 < length is
-  in-range j l = omega (arith, (placed.next j l).in_range, length-map is (uses_of_interface (interface_names is)))
+  in-range j l = omega (arith, (placed.next j l).in_range, length-map is (uses_of_interface (names_of_trees is)))
 
   module _ (j : ℕ) (l : j < length order) where
     abbrev i : InterfaceTree
@@ -148,12 +148,12 @@ module _ (m : Imports) (before : ℕ) (ns : List (List ℕ)) (imported : (q : Pa
 
     means-own : (u : UsedItem) → Contains i.uses u → u.«package» ≡ None → IsKnownIn m is None u.interface u.name → MeansUse ns (before + j) i.name (use_meaning i.name u)
     means-own u c none x =
-        let names = interface_names is in
-        let found = place-found names u.interface (subst (Contains names) x.2 (contains-map interface_name is x.0 x.1)) in
-        let ready = (split (not (is_among (take j order) (get_or order j 0))) (list_all (is_among (take j order)) (get_or (interface_uses is) (get_or order j 0) [])) (placed.next j l).ready).1 in
-        let all = subst (λ us. list_all (is_among (take j order)) us ≡ true) (get_or-map (uses_of_interface names) is (get_or order j 0) no_interface [] (in-range j l)) ready in
+        let names = names_of_trees is in
+        let found = place-found names u.interface (subst (Contains names) x.2 (contains-map interface_tree_name is x.0 x.1)) in
+        let ready = (split (not (has_placed (take j order) (get_or order j 0))) (list_all (has_placed (take j order)) (get_or (interface_uses is) (get_or order j 0) [])) (placed.next j l).ready).1 in
+        let all = subst (λ us. list_all (has_placed (take j order)) us ≡ true) (get_or-map (uses_of_interface names) is (get_or order j 0) no_interface [] (in-range j l)) ready in
         let used = own-used i u none c in
-        let n = among-at (take j order) found.0 (all-places (is_among (take j order)) (place_of names) (own_uses i) u.interface found.0 all used found.1) in
+        let n = among-at (take j order) found.0 (all-places (has_placed (take j order)) (place_of names) (own_uses i) u.interface found.0 all used found.1) in
         let cut : length (take j order) ≡ j = length-take j order ∙ omega (arith, l) in
         let q : n.0 < j = omega (arith, n.1, cut) in
         let at : get_or order n.0 0 ≡ found.0 = get_or_default order n.0 0 found.0 (omega (arith, q, l)) ∙ sym (get_or-take j order n.0 found.0 q) ∙ n.2 in
@@ -177,10 +177,10 @@ module _ (m : Imports) (before : ℕ) (ns : List (List ℕ)) (imported : (q : Pa
     means-type k =
         record { key = refl; tree = definition_meaning i.name (slice_index_or i.types k no_type).definition; meaning = refl; refers = body-refers i.name (slice_index_or i.types k no_type).definition }
 
-    means-function : (f : FunctionItem) → MeansFunction i.name (function_meaning i.name f)
+    means-function : (f : FunctionItem) → MeansFunction i.name (meaning_of_function i.name f)
     means-function f = record {
       key = refl;
-      params = fields_of (map (member_meaning i.name) f.function.params);
+      params = fields_of_labelled (map (member_meaning i.name) f.function.params);
       result = resolved_if i.name f.function.result;
       meaning = refl;
       params_refer = members-refer i.name f.function.params;
@@ -193,7 +193,7 @@ module _ (m : Imports) (before : ℕ) (ns : List (List ℕ)) (imported : (q : Pa
       some = some (get_or order j 0) (in-range j l);
       uses = each-map (MeansUse ns (before + j) i.name) (use_meaning i.name) i.uses means-use;
       types = each-map (MeansType i.name) (λ k. type_meaning i.name (slice_index_or i.types k no_type)) (types (get_or order j 0)) (λ k c. means-type k);
-      functions = each-map (MeansFunction i.name) (function_meaning i.name) i.functions (λ f c. means-function f);
+      functions = each-map (MeansFunction i.name) (meaning_of_function i.name) i.functions (λ f c. means-function f);
     }
 
   are-blocks : (j at : ℕ) (ks : List ℕ) → at ≡ before + j → ((n : ℕ) → n < length ks → (j + n < length order) × (get_or ks n 0 ≡ get_or order (j + n) 0)) → AreBlocks ns at (map (block is types) ks)
@@ -251,7 +251,7 @@ nothing-behind ns trees (row.Type d ∷ ds) e = by d.name e (λ q. nothing-behin
 nothing-behind ns trees (row.Function f ∷ ds) e = absurd (cc)
 
 -- interfaces of a file whose names make full names have labels
-labels-are : (es : List FileEntry) → list_all has_label es ≡ true → (n : List ℕ) → Contains (map interface_name (filter_map interface_of es)) n → is_label n ≡ true
+labels-are : (es : List FileEntry) → list_all has_label es ≡ true → (n : List ℕ) → Contains (map interface_tree_name (filter_map interface_of es)) n → is_label n ≡ true
 labels-are [] h n c = absurd (omega (arith, c.1))
 labels-are (AnInterface i xs ∷ es) h n (zero, l, e) = ap is_label (sym e) ∙ (split (is_label i) (list_all has_label es) h).0
 labels-are (AnInterface i xs ∷ es) h n (suc k, l, e) = labels-are es (split (is_label i) (list_all has_label es) h).1 n (k, omega (arith, l), e)
@@ -295,11 +295,11 @@ module _ (imports : Resolve) (f : File) (r : Resolve) (a : AreImports imports) (
   own_labels = names_in_order (interfaces f) order
 
   pub below : (k : ℕ) → k < length order → get_or order k 0 < length (interfaces f)
-  below k l = omega (arith, (p.resolves.placed.next k l).in_range, length-map trees (uses_of_interface (interface_names trees)), length-map (interfaces f) (full_interface q))
+  below k l = omega (arith, (p.resolves.placed.next k l).in_range, length-map trees (uses_of_interface (names_of_trees trees)), length-map (interfaces f) (full_interface q))
 
   pub ordered : names_in_order trees order ≡ map (own_name q) own_labels
   ordered =
-      same-map (λ (k : ℕ). (interface_at trees k).name) (λ (k : ℕ). own_name q (interface_at (interfaces f) k).name) order (λ k l. ap interface_name (interface-full q (interfaces f) (get_or order k 0) (below k l)))
+      same-map (λ (k : ℕ). (interface_at trees k).name) (λ (k : ℕ). own_name q (interface_at (interfaces f) k).name) order (λ k l. ap interface_tree_name (interface-full q (interfaces f) (get_or order k 0) (below k l)))
       ∙ sym (map-map (own_name q) (λ (k : ℕ). (interface_at (interfaces f) k).name) order)
 
   pub named : names_in r ≡ names_in imports ++ names_in_order trees order
@@ -314,9 +314,9 @@ module _ (imports : Resolve) (f : File) (r : Resolve) (a : AreImports imports) (
   own-label : (j : ℕ) → j < length own_labels → is_label (get_or own_labels j []) ≡ true
   own-label j l =
       let k = get_or order j 0 in
-      let m : k < length (interface_names (interfaces f)) = omega (arith, below j (omega (arith, l, long)), length-map (interfaces f) interface_name) in
+      let m : k < length (names_of_trees (interfaces f)) = omega (arith, below j (omega (arith, l, long)), length-map (interfaces f) interface_tree_name) in
       labels-are f.entries names-split.1 (get_or own_labels j [])
-      (k, m, get_or_default (interface_names (interfaces f)) k (get_or own_labels j []) [] m ∙ sym (interface-name (interfaces f) k) ∙ sym (name-in-order (interfaces f) order j (omega (arith, l, long))))
+      (k, m, get_or_default (names_of_trees (interfaces f)) k (get_or own_labels j []) [] m ∙ sym (interface-name (interfaces f) k) ∙ sym (name-in-order (interfaces f) order j (omega (arith, l, long))))
 
   placed-own : IsPlacement (interface_uses (interfaces f)) order
   placed-own = subst (λ (us : List (List ℕ)). IsPlacement us order) (uses-full q (interfaces f)) p.resolves.placed
@@ -331,7 +331,7 @@ module _ (imports : Resolve) (f : File) (r : Resolve) (a : AreImports imports) (
   is-place j l =
       let m : j < length own_labels = omega (arith, l, long) in
       let here : own_name q (get_or own_labels j []) ≡ (interface_at trees (get_or order j 0)).name =
-      ap (own_name q) (name-in-order (interfaces f) order j l) ∙ sym (ap interface_name (interface-full q (interfaces f) (get_or order j 0) (below j l))) in
+      ap (own_name q) (name-in-order (interfaces f) order j l) ∙ sym (ap interface_tree_name (interface-full q (interfaces f) (get_or order j 0) (below j l))) in
       subst (λ (ns : List (List ℕ)). IsPlace ns (before + j) (interface_at trees (get_or order j 0)).name) (sym all-named)
       (subst (IsPlace (names_in imports ++ map (own_name q) own_labels) (before + j)) here
       (own-place imports named_so.form a.apart q names-split.0 named_so.other own_labels own-label labels-differ j m))
@@ -451,7 +451,7 @@ module _ (imports : Resolve) (f : File) (r : Resolve) (a : AreImports imports) (
   nowhere : All RefersNowhere (all_from (names_in r) (references (names_in r) [] last) rest)
   nowhere =
       let told = back-told (names_in r) r.definitions (earlier-typed r.definitions r.earlier r.typed) r.earlier r.typed (world_name r) r.worlds cut p.items in
-      subst (All RefersNowhere) (sym (told ∙ ap worlds_definitions p.resolves.worlds)) (worlds-nowhere (imports_of imports) q (interface_names (interfaces f)) (worlds f) h.known.in_worlds)
+      subst (All RefersNowhere) (sym (told ∙ ap worlds_definitions p.resolves.worlds)) (worlds-nowhere (imports_of imports) q (names_of_trees (interfaces f)) (file_worlds f) h.known.in_worlds)
 
   worlds-in-place : (are_worlds_parted (length r.definitions) (length last) r.worlds ≡ true) × (have_items r.definitions 0 (length last) r.worlds ≡ true)
   worlds-in-place =

@@ -6,7 +6,7 @@ use Rattle.std.proofs.lemmas.Simd.{map-map}
 use Rattle.placement.specs.Order.{IsPlacement}
 use Rattle.package_form.specs.Scope.{AreDistinct}
 use Rattle.tree_meaning.specs.Declarations.{TypeItem, FunctionItem, InterfaceTree, use_local, type_name, member_name, definition_scopes, own_types}
-use Rattle.tree_meaning.specs.Resolved.{no_type, use_meaning, type_meaning, function_meaning, in_order, interface_meaning}
+use Rattle.tree_meaning.specs.Resolved.{no_type, use_meaning, type_meaning, meaning_of_function, in_order, interface_meaning}
 use Rattle.tree_meaning.specs.Resolves.{type_uses, uses_of_type}
 use Rattle.package_form.proofs.Lists.{all-append, all-contained, contains-unmap}
 use Rattle.tree_meaning.proofs.Referring.{Every}
@@ -70,12 +70,12 @@ module _ (i : InterfaceTree) (order : List ℕ) (placed : IsPlacement (type_uses
   names-are =
       let A = map (use_meaning i.name) i.uses in
       let B = in_order i.name i.types order in
-      let C = map (function_meaning i.name) i.functions in
+      let C = map (meaning_of_function i.name) i.functions in
       map-append key_name A (B ++ C)
       ∙ ap (λ (ns : List (List ℕ)). ns ++ map key_name (B ++ C)) (map-map key_name (use_meaning i.name) i.uses)
       ∙ ap (λ (ns : List (List ℕ)). uses ++ ns)
       (map-append key_name B C ∙ ap (λ (ns : List (List ℕ)). ns ++ map key_name C) (map-map key_name (λ k. type_meaning i.name (item k)) order)
-      ∙ ap (λ (ns : List (List ℕ)). map name order ++ ns) (map-map key_name (function_meaning i.name) i.functions))
+      ∙ ap (λ (ns : List (List ℕ)). map name order ++ ns) (map-map key_name (meaning_of_function i.name) i.functions))
 
   pub names-distinct : AreDistinct (map key_name (interface_meaning i order))
   names-distinct =
@@ -90,8 +90,8 @@ module _ (i : InterfaceTree) (order : List ℕ) (placed : IsPlacement (type_uses
   pub members-distinct : All HasDistinctMembers (interface_meaning i order)
   members-distinct =
       let B = in_order i.name i.types order in
-      let C = map (function_meaning i.name) i.functions in
+      let C = map (meaning_of_function i.name) i.functions in
       all-append HasDistinctMembers (map (use_meaning i.name) i.uses) (B ++ C) (each-map HasDistinctMembers (use_meaning i.name) i.uses (λ u c. none-distinct))
       (all-append HasDistinctMembers B C (each-map HasDistinctMembers (λ k. type_meaning i.name (item k)) order placed-type)
-      (each-map HasDistinctMembers (function_meaning i.name) i.functions
+      (each-map HasDistinctMembers (meaning_of_function i.name) i.functions
       (λ f c. function-distinct i.name f (all-contained (λ (g : FunctionItem). AreDistinct (map member_name g.function.params)) i.functions f h.functions c))))

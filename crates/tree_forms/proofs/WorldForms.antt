@@ -22,11 +22,11 @@ use Rattle.package_form.specs.Ids.{places_where}
 use Rattle.package_form.specs.References.{row_references, kind_references}
 use Rattle.package_form.specs.Unused.{are_used}
 use Rattle.package_form.specs.Ends.{behind_item, behind_items, world_end, world_rows, are_worlds_parted}
-use Rattle.package_form.specs.Form.{is_named, is_nameless_type, is_nameless, is_of_world, is_world_row, function_at, functions_of, has_items, have_items}
+use Rattle.package_form.specs.Form.{is_named, is_nameless_type, is_nameless, is_of_world, is_world_row, functions_in_item, functions_of, has_items, have_items}
 use Rattle.package_form.proofs.Fronts.{stands_before, row-all, row-before}
 use Rattle.package_form.proofs.Lists.{get-front, all-none, all-append, all-cons, all-head, all-tail}
 use Rattle.tree_meaning.specs.Declarations.{ItemTree, InterfaceNamed, ForeignNamed, FunctionOf, WorldTree, full_item, full_world}
-use Rattle.tree_meaning.specs.Resolved.{fields_of, member_meaning, resolved_if, item_meaning, world_meaning}
+use Rattle.tree_meaning.specs.Resolved.{fields_of_labelled, member_meaning, resolved_if, tree_item_meaning, meaning_of_world}
 use Rattle.tree_meaning.specs.Imports.{Imports}
 use Rattle.tree_meaning.specs.Resolves.{IsKnownItemOf, IsKnownWorldOf, is_behind}
 use Rattle.tables.proofs.Rows.{split, both}
@@ -52,30 +52,30 @@ pub record RefersNowhere (x : NamedDefinition) : Type 0 where
   pub params_refer : (i : List ℕ) → FieldsRefer i params
   pub result_refers : (i : List ℕ) → RefersIf i result
 
-item-nowhere : (m : Imports) (q : PackageParts) (ns : List (List ℕ)) (i : ItemTree) → IsKnownItemOf m ns i → All RefersNowhere (item_definitions (item_meaning (full_item q i)))
+item-nowhere : (m : Imports) (q : PackageParts) (ns : List (List ℕ)) (i : ItemTree) → IsKnownItemOf m ns i → All RefersNowhere (item_definitions (tree_item_meaning (full_item q i)))
 item-nowhere m q ns (InterfaceNamed way n) h = all-none RefersNowhere
 item-nowhere m q ns (ForeignNamed way p n) h = all-none RefersNowhere
 item-nowhere m q ns (FunctionOf way f) h =
     let ms = f.function.params in
     let r = f.function.result in
     all-cons RefersNowhere _ [] (record {
-      params = fields_of (map (member_meaning []) ms);
+      params = fields_of_labelled (map (member_meaning []) ms);
       result = resolved_if [] r;
       meaning = refl;
-      params_refer = λ i. subst (λ ls. FieldsRefer i (fields_of ls)) (members-same i [] ms (none-left _ _ h)) (members-refer i ms);
+      params_refer = λ i. subst (λ ls. FieldsRefer i (fields_of_labelled ls)) (members-same i [] ms (none-left _ _ h)) (members-refer i ms);
       result_refers = λ i. subst (RefersIf i) (if-same i [] r (none-right _ _ h)) (if-refers i r);
     }) (all-none RefersNowhere)
 
-items-nowhere : (m : Imports) (q : PackageParts) (ns : List (List ℕ)) (is : List ItemTree) → All (IsKnownItemOf m ns) is → All RefersNowhere (flat_map item_definitions (map item_meaning (map (full_item q) is)))
+items-nowhere : (m : Imports) (q : PackageParts) (ns : List (List ℕ)) (is : List ItemTree) → All (IsKnownItemOf m ns) is → All RefersNowhere (flat_map item_definitions (map tree_item_meaning (map (full_item q) is)))
 items-nowhere m q ns [] h = all-none RefersNowhere
 items-nowhere m q ns (i ∷ is) h =
-    all-append RefersNowhere (item_definitions (item_meaning (full_item q i))) (flat_map item_definitions (map item_meaning (map (full_item q) is)))
+    all-append RefersNowhere (item_definitions (tree_item_meaning (full_item q i))) (flat_map item_definitions (map tree_item_meaning (map (full_item q) is)))
     (item-nowhere m q ns i (all-head (IsKnownItemOf m ns) i is h)) (items-nowhere m q ns is (all-tail (IsKnownItemOf m ns) i is h))
 
-pub worlds-nowhere : (m : Imports) (q : PackageParts) (ns : List (List ℕ)) (ws : List WorldTree) → All (IsKnownWorldOf m ns) ws → All RefersNowhere (worlds_definitions (map world_meaning (map (full_world q) ws)))
+pub worlds-nowhere : (m : Imports) (q : PackageParts) (ns : List (List ℕ)) (ws : List WorldTree) → All (IsKnownWorldOf m ns) ws → All RefersNowhere (worlds_definitions (map meaning_of_world (map (full_world q) ws)))
 worlds-nowhere m q ns [] h = all-none RefersNowhere
 worlds-nowhere m q ns (w ∷ ws) h =
-    all-append RefersNowhere (world_definitions (world_meaning (full_world q w))) (worlds_definitions (map world_meaning (map (full_world q) ws)))
+    all-append RefersNowhere (world_definitions (meaning_of_world (full_world q w))) (worlds_definitions (map meaning_of_world (map (full_world q) ws)))
     (items-nowhere m q ns w.items (all-head (IsKnownWorldOf m ns) w ws h)) (worlds-nowhere m q ns ws (all-tail (IsKnownWorldOf m ns) w ws h))
 
 -- ---- rows cut behind the last function of a world
@@ -143,24 +143,24 @@ nothing-named ns trees n (row.Function f ∷ ds) e = absurd (cc)
 
 -- ---- the rows of a world
 
-items-end : (start : ℕ) (is : List WorldItem) → behind_items start is ≡ behind start (flat_map function_at is)
+items-end : (start : ℕ) (is : List WorldItem) → behind_items start is ≡ behind start (flat_map functions_in_item is)
 items-end start [] = refl
 items-end start (i ∷ is) = by i.kind (λ n. items-end n is)
   where
-    by : (k : WorldItemKind) → ((n : ℕ) → behind_items n is ≡ behind n (flat_map function_at is))
-        → behind_items (behind_item start k) is ≡ behind start (function_at (record { direction = i.direction; kind = k }) ++ flat_map function_at is)
+    by : (k : WorldItemKind) → ((n : ℕ) → behind_items n is ≡ behind n (flat_map functions_in_item is))
+        → behind_items (behind_item start k) is ≡ behind start (functions_in_item (record { direction = i.direction; kind = k }) ++ flat_map functions_in_item is)
     by (item.Interface j) again = again start
     by (item.Function f) again = again (f.0 + 1)
 
 functions-owned : (rows : List Definition) (count k : ℕ) (is : List WorldItem) → list_all (λ i. is_placed_item rows count k i.kind) is ≡ true
-    → list_all (λ n. is_function_of k (function_of (slice_get rows n))) (flat_map function_at is) ≡ true
+    → list_all (λ n. is_function_of k (function_of (slice_get rows n))) (flat_map functions_in_item is) ≡ true
 functions-owned rows count k [] h = refl
 functions-owned rows count k (i ∷ is) h =
     let s = split (is_placed_item rows count k i.kind) (list_all (λ j. is_placed_item rows count k j.kind) is) h in
     by i.kind s.0 (functions-owned rows count k is s.1)
   where
-    by : (w : WorldItemKind) → is_placed_item rows count k w ≡ true → list_all (λ n. is_function_of k (function_of (slice_get rows n))) (flat_map function_at is) ≡ true
-        → list_all (λ n. is_function_of k (function_of (slice_get rows n))) (function_at (record { direction = i.direction; kind = w }) ++ flat_map function_at is) ≡ true
+    by : (w : WorldItemKind) → is_placed_item rows count k w ≡ true → list_all (λ n. is_function_of k (function_of (slice_get rows n))) (flat_map functions_in_item is) ≡ true
+        → list_all (λ n. is_function_of k (function_of (slice_get rows n))) (functions_in_item (record { direction = i.direction; kind = w }) ++ flat_map functions_in_item is) ≡ true
     by (item.Interface j) q later = later
     by (item.Function f) q later = both (is_function_of k (function_of (slice_get rows f.0))) _ q later
 

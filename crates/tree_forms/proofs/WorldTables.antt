@@ -17,9 +17,9 @@ use Rattle.package_form.specs.Entries.{Table}
 use Rattle.package_form.specs.Form.{functions_of}
 use Rattle.package_form.specs.Ids.{is_of_worlds, is_world_function, places_where}
 use Rattle.placement.specs.Order.{IsPlacement}
-use Rattle.tree_meaning.specs.Declarations.{InterfaceTree, ItemTree, InterfaceNamed, ForeignNamed, FunctionOf, WorldTree, interfaces, worlds, package_named, interface_at, interface_names}
+use Rattle.tree_meaning.specs.Declarations.{InterfaceTree, ItemTree, InterfaceNamed, ForeignNamed, FunctionOf, WorldTree, interfaces, file_worlds, package_named, interface_at, names_of_trees}
 use Rattle.tree_meaning.specs.Imports.{Imports, imports_of}
-use Rattle.tree_meaning.specs.Resolved.{world_meaning}
+use Rattle.tree_meaning.specs.Resolved.{meaning_of_world}
 use Rattle.tree_meaning.specs.Resolves.{interface_uses, type_uses, names_in_order, IsKnownItemOf, IsKnownWorldOf, KnowsAllOf, is_behind, HasWorldsBehind, is_owned_among, is_of_interfaces, AreImports}
 use Rattle.tree_meaning.specs.Building.{DefinesPackage, start_table, table_definitions, world_functions}
 use Rattle.tree_meaning.specs.WorldRows.{AddsFunctions, DefinesWorlds}
@@ -91,17 +91,17 @@ known-more m ns ms f (ForeignNamed way q n) h = h
 known-more m ns ms f (FunctionOf way g) h = h
 
 pub worlds-known : (m : Imports) (is : List InterfaceTree) (order : List ℕ) (ns : List (List ℕ)) (trees : List WorldTree) → ns ≡ names_in_order is order → IsPlacement (interface_uses is) order
-    → All (IsKnownWorldOf m (interface_names is)) trees → All (IsKnownWorldOf m ns) trees
+    → All (IsKnownWorldOf m (names_of_trees is)) trees → All (IsKnownWorldOf m ns) trees
 worlds-known m is order ns trees same placed known =
-    all-mono (IsKnownWorldOf m (interface_names is)) (IsKnownWorldOf m ns)
-    (λ w h. all-mono (IsKnownItemOf m (interface_names is)) (IsKnownItemOf m ns) (known-more m (interface_names is) ns (λ n c. subst (λ (ms : List (List ℕ)). Contains ms n) (sym same) (ordered-has is order placed n c))) w.items h)
+    all-mono (IsKnownWorldOf m (names_of_trees is)) (IsKnownWorldOf m ns)
+    (λ w h. all-mono (IsKnownItemOf m (names_of_trees is)) (IsKnownItemOf m ns) (known-more m (names_of_trees is) ns (λ n c. subst (λ (ms : List (List ℕ)). Contains ms n) (sym same) (ordered-has is order placed n c))) w.items h)
     trees known
 
 module _ (imports : Resolve) (a : AreImports imports) (f : File) (order : List ℕ) (orders : List (List ℕ)) (names : List (List ℕ)) (old new : Table) (ws : List World)
     (placed : IsPlacement (interface_uses (interfaces f)) order)
     (types : (k : ℕ) → k < length (interfaces f) → IsPlacement (type_uses (interface_at (interfaces f) k)) (get_or orders k [])) (ordered : names ≡ names_in_order (interfaces f) order)
-    (made : DefinesPackage (start_table imports names) (interfaces f) order orders old) (labels : All IsLabel (interface_names (interfaces f))) (known : KnowsAllOf (imports_of imports) f)
-    (d : DefinesWorlds old new (length imports.packages) ws (map world_meaning (worlds f))) where
+    (made : DefinesPackage (start_table imports names) (interfaces f) order orders old) (labels : All IsLabel (names_of_trees (interfaces f))) (known : KnowsAllOf (imports_of imports) f)
+    (d : DefinesWorlds old new (length imports.packages) ws (map meaning_of_world (file_worlds f))) where
   none : world_functions old ≡ []
   none = made.adds.own ∙ none-owned (length imports.interfaces) 0 imports.definitions a.owned
 
@@ -119,8 +119,8 @@ module _ (imports : Resolve) (a : AreImports imports) (f : File) (order : List �
 
   pub is-table : IsTableOf (package_of imports) f (own_table names new ws)
   is-table = record {
-    resolves = table-resolves imports a (package_named f) (interfaces f) order orders names new placed types ordered interfaces-are (d.adds.same ∙ made.adds.definitions) labels known.in_interfaces ws (worlds f) d.read
-        (worlds-known (imports_of imports) (interfaces f) order names (worlds f) ordered placed known.in_worlds);
+    resolves = table-resolves imports a (package_named f) (interfaces f) order orders names new placed types ordered interfaces-are (d.adds.same ∙ made.adds.definitions) labels known.in_interfaces ws (file_worlds f) d.read
+        (worlds-known (imports_of imports) (interfaces f) order names (file_worlds f) ordered placed known.in_worlds);
     postfix = d.adds.postfix (made.adds.postfix a.postfix);
     behind = worlds-behind old new (flat_map functions_of ws) none d.adds;
     items = d.adds.own ∙ ap (λ (ns : List ℕ). ns ++ flat_map functions_of ws) none;

@@ -2,7 +2,7 @@
 use Rattle.std.proofs.Common.{◌≡◌, ℕ, zero, suc, ◌+◌, ◌<◌, inl, inr, subst, List, [], ◌∷◌, ◌++◌, Option, None, Some, map, take, length, get_or, refl, ap, sym, ◌∙◌, arith, All, Contains}
 use Rattle.std.specs.List.{cons_option, filter_map}
 use Rattle.wit_syntax.specs.Syntax.{FileEntry, AnInterface, AWorld}
-use Rattle.tree_meaning.specs.Declarations.{InterfaceTree, interface_tree, world_tree, interface_of, world_of, interface_names}
+use Rattle.tree_meaning.specs.Declarations.{InterfaceTree, interface_tree, world_tree, interface_of, world_of, names_of_trees}
 use Rattle.tree_meaning.specs.Imports.{Imports}
 use Rattle.tree_meaning.specs.Resolves.{HasKnownNamesOf, IsKnownWorldOf}
 use Rattle.tree_meaning.specs.Knowing.{KnowsFileEntry, LacksFileEntry, RefusesUnknown}
@@ -54,11 +54,11 @@ module _ (m : Imports) (is : List InterfaceTree) where
       (interfaces-known es (all-tail (KnowsFileEntry m is) (AnInterface n xs) es h))
   interfaces-known (AWorld at n ws ∷ es) h = interfaces-known es (all-tail (KnowsFileEntry m is) (AWorld at n ws) es h)
 
-  pub worlds-known : (es : List FileEntry) → All (KnowsFileEntry m is) es → All (IsKnownWorldOf m (interface_names is)) (filter_map world_of es)
-  worlds-known [] h = all-none (IsKnownWorldOf m (interface_names is))
+  pub worlds-known : (es : List FileEntry) → All (KnowsFileEntry m is) es → All (IsKnownWorldOf m (names_of_trees is)) (filter_map world_of es)
+  worlds-known [] h = all-none (IsKnownWorldOf m (names_of_trees is))
   worlds-known (AnInterface n xs ∷ es) h = worlds-known es (all-tail (KnowsFileEntry m is) (AnInterface n xs) es h)
   worlds-known (AWorld at n ws ∷ es) h =
-      all-cons (IsKnownWorldOf m (interface_names is)) (world_tree n ws) (filter_map world_of es) (all-head (KnowsFileEntry m is) (AWorld at n ws) es h)
+      all-cons (IsKnownWorldOf m (names_of_trees is)) (world_tree n ws) (filter_map world_of es) (all-head (KnowsFileEntry m is) (AWorld at n ws) es h)
       (worlds-known es (all-tail (KnowsFileEntry m is) (AWorld at n ws) es h))
 
   pub entry-lacks : (es : List FileEntry) (e : FileEntry) (name : List ℕ) → filter_map interface_of es ≡ is → Contains es e → LacksFileEntry m is e name

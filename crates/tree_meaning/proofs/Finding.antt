@@ -4,7 +4,7 @@ use Rattle.std.specs.Option.{option_map}
 use Rattle.std.specs.Str.{bytes_eq}
 use Rattle.std.proofs.lemmas.Slice.Eq.{bytes_eq-Decides}
 use Rattle.wit_syntax.specs.Syntax.{Entry, Uses, Defines, Declares}
-use Rattle.tree_meaning.specs.Declarations.{TypeItem, FunctionItem, InterfaceTree, interface_tree, entry_uses, entry_types, entry_functions, path_uses, type_names, named_definition, named_function}
+use Rattle.tree_meaning.specs.Declarations.{TypeItem, FunctionItem, InterfaceTree, interface_tree, entry_uses, entry_types, entry_functions, path_uses, type_names, named_definition, names_in_function}
 use Rattle.tree_meaning.specs.Knowing.{KnowsEntry, LacksEntry, LacksAny}
 use Rattle.tree_meaning.specs.Imports.{Imports}
 use Rattle.tree_meaning.specs.Resolves.{place_of, IsKnownUseOf, IsUnknownIn, HasKnownNamesOf}
@@ -73,19 +73,19 @@ module _ (m : Imports) (is : List InterfaceTree) (i : InterfaceTree) where
       (all-head (KnowsEntry m is i) (Defines at n d) es h) (types-known es (all-tail (KnowsEntry m is i) (Defines at n d) es h))
   types-known (Declares at n f ∷ es) h = types-known es (all-tail (KnowsEntry m is i) (Declares at n f) es h)
 
-  functions-known : (es : List Entry) → All (KnowsEntry m is i) es → All (λ f. All (Contains (type_names i)) (named_function f.function)) (flat_map entry_functions es)
-  functions-known [] h = all-none (λ (f : FunctionItem). All (Contains (type_names i)) (named_function f.function))
+  functions-known : (es : List Entry) → All (KnowsEntry m is i) es → All (λ f. All (Contains (type_names i)) (names_in_function f.function)) (flat_map entry_functions es)
+  functions-known [] h = all-none (λ (f : FunctionItem). All (Contains (type_names i)) (names_in_function f.function))
   functions-known (Uses at p us ∷ es) h = functions-known es (all-tail (KnowsEntry m is i) (Uses at p us) es h)
   functions-known (Defines at n d ∷ es) h = functions-known es (all-tail (KnowsEntry m is i) (Defines at n d) es h)
   functions-known (Declares at n f ∷ es) h =
-      all-cons (λ (g : FunctionItem). All (Contains (type_names i)) (named_function g.function)) (record { name = n; function = f }) (flat_map entry_functions es)
+      all-cons (λ (g : FunctionItem). All (Contains (type_names i)) (names_in_function g.function)) (record { name = n; function = f }) (flat_map entry_functions es)
       (all-head (KnowsEntry m is i) (Declares at n f) es h) (functions-known es (all-tail (KnowsEntry m is i) (Declares at n f) es h))
 
   pub interface-known : (n : List ℕ) (es : List Entry) → i ≡ interface_tree n es → All (KnowsEntry m is i) es → HasKnownNamesOf m is i
   interface-known n es e h = record {
     uses = subst (λ (j : InterfaceTree). All (IsKnownUseOf m is) j.uses) (sym e) (uses-known es h);
     types = subst (λ (j : InterfaceTree). All (λ t. All (Contains (type_names i)) (named_definition t.definition)) j.types) (sym e) (types-known es h);
-    functions = subst (λ (j : InterfaceTree). All (λ f. All (Contains (type_names i)) (named_function f.function)) j.functions) (sym e) (functions-known es h);
+    functions = subst (λ (j : InterfaceTree). All (λ f. All (Contains (type_names i)) (names_in_function f.function)) j.functions) (sym e) (functions-known es h);
   }
 
   lacks-by : (n : List ℕ) (es : List Entry) (name : List ℕ) (e : Entry) → i ≡ interface_tree n es → Contains es e → LacksEntry m is i e name → IsUnknownIn m is i name

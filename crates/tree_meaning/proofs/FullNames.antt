@@ -8,7 +8,7 @@ use Rattle.std.proofs.lemmas.Slice.Eq.{bytes_eq-Decides}
 use Rattle.tables.specs.PackageNames.{PackageParts, own_name}
 use Rattle.package_form.proofs.Lists.{all-contained, contains-map, contains-unmap}
 use Rattle.package_form.proofs.OnePackage.{one-full-name}
-use Rattle.tree_meaning.specs.Declarations.{UsedItem, InterfaceTree, full_label, full_use, full_interface, interface_at, no_interface, interface_names, own_interface, own_use, use_local, own_types, type_names, named_definition, named_function}
+use Rattle.tree_meaning.specs.Declarations.{UsedItem, InterfaceTree, full_label, full_use, full_interface, interface_at, no_interface, names_of_trees, own_interface, own_use, use_local, own_types, type_names, named_definition, names_in_function}
 use Rattle.tree_meaning.specs.Imports.{Imports}
 use Rattle.tree_meaning.specs.Resolves.{place_of, places, own_uses, uses_of_interface, interface_uses, IsKnownIn, IsKnownUseOf, HasKnownNamesOf}
 use Rattle.tree_meaning.proofs.Placing.{all-from}
@@ -38,7 +38,7 @@ places-same p ns (w ∷ ws) =
 
 -- ---- interfaces
 
-names-full : (p : PackageParts) (is : List InterfaceTree) → interface_names (map (full_interface p) is) ≡ map (own_name p) (interface_names is)
+names-full : (p : PackageParts) (is : List InterfaceTree) → names_of_trees (map (full_interface p) is) ≡ map (own_name p) (names_of_trees is)
 names-full p [] = refl
 names-full p (i ∷ is) = ap (λ (ns : List (List ℕ)). own_name p i.name ∷ ns) (names-full p is)
 
@@ -66,13 +66,13 @@ interface-full p is k l = get_or-map (full_interface p) is k no_interface no_int
 pub uses-full : (p : PackageParts) (is : List InterfaceTree) → interface_uses (map (full_interface p) is) ≡ interface_uses is
 uses-full p is = by is
   where
-    one : (i : InterfaceTree) → uses_of_interface (interface_names (map (full_interface p) is)) (full_interface p i) ≡ uses_of_interface (interface_names is) i
+    one : (i : InterfaceTree) → uses_of_interface (names_of_trees (map (full_interface p) is)) (full_interface p i) ≡ uses_of_interface (names_of_trees is) i
     one i =
         ap (λ (ms : List (List ℕ)). places ms (filter_map own_use (map (full_use p) i.uses))) (names-full p is)
-        ∙ ap (places (map (own_name p) (interface_names is))) (used-full p i.uses)
-        ∙ places-same p (interface_names is) (own_uses i)
+        ∙ ap (places (map (own_name p) (names_of_trees is))) (used-full p i.uses)
+        ∙ places-same p (names_of_trees is) (own_uses i)
 
-    by : (js : List InterfaceTree) → map (uses_of_interface (interface_names (map (full_interface p) is))) (map (full_interface p) js) ≡ map (uses_of_interface (interface_names is)) js
+    by : (js : List InterfaceTree) → map (uses_of_interface (names_of_trees (map (full_interface p) is))) (map (full_interface p) js) ≡ map (uses_of_interface (names_of_trees is)) js
     by [] = refl
     by (j ∷ js) = let a = one j in let b = by js in cc
 
@@ -93,7 +93,7 @@ module _ (m : Imports) where
         let u = contains-unmap (full_use p) i.uses v c in
         subst (IsKnownUseOf m (map (full_interface p) is)) u.2 (known-use p is u.0 (all-contained (IsKnownUseOf m is) i.uses u.0 h.uses u.1)));
     types = subst (λ (ns : List (List ℕ)). All (λ t. All (Contains ns) (named_definition t.definition)) i.types) (sym (type-names-full p i)) h.types;
-    functions = subst (λ (ns : List (List ℕ)). All (λ f. All (Contains ns) (named_function f.function)) i.functions) (sym (type-names-full p i)) h.functions;
+    functions = subst (λ (ns : List (List ℕ)). All (λ f. All (Contains ns) (names_in_function f.function)) i.functions) (sym (type-names-full p i)) h.functions;
   }
 
   pub known-full : (p : PackageParts) (is : List InterfaceTree) → All (HasKnownNamesOf m is) is → All (HasKnownNamesOf m (map (full_interface p) is)) (map (full_interface p) is)

@@ -16,17 +16,17 @@ use Rattle.tree_meaning.specs.Declarations.{path_packages, path_interface, item_
 use Rattle.tree_meaning.specs.Imports.{Imports, HasImport, import_place}
 use Rattle.tree_meaning.specs.Knowing.{IsThere}
 use Rattle.tree_meaning.specs.Resolves.{place_of, IsKnownItemOf, IsUnknownItem}
-use Rattle.tree_meaning.specs.Finished.{header}
+use Rattle.tree_meaning.specs.Finished.{header_name}
 use Rattle.tree_meaning.proofs.Finding.{place-has, place-lacks}
 use Rattle.tree_meaning.proofs.Imported.{place-none, place-there}
 use Rattle.tree_meaning.proofs.Trees.{version-is}
 
 -- ---- packages
 
-pub parts-are : (id : PackageId) → ◌≡◌ {A = PackageParts} (record { namespace = id.namespace; name = id.name; version = version_view id.version }) (header id)
+pub parts-are : (id : PackageId) → ◌≡◌ {A = PackageParts} (record { namespace = id.namespace; name = id.name; version = version_view id.version }) (header_name id)
 parts-are id = rw (version-is id.version) refl
 
-pub names-package : (q : Path) (id : PackageId) (i : List ℕ) → q ≡ path.Foreign id i → path_packages (path_view q) ≡ header id ∷ []
+pub names-package : (q : Path) (id : PackageId) (i : List ℕ) → q ≡ path.Foreign id i → path_packages (path_view q) ≡ header_name id ∷ []
 names-package q id i e = ap (λ (x : Path). path_packages (path_view x)) e ∙ ap (λ (p : PackageParts). p ∷ []) (parts-are id)
 
 -- a package of this name is one of these
@@ -64,12 +64,12 @@ local-there m names q n o e f =
     subst (λ (x : Path). IsTrue (is_some o) ↔ IsThere m names (path_view x)) (sym e)
     (some-so o (Contains names n) (λ j g. place-has names n j (sym f ∙ g)) (λ g. place-lacks names n (sym f ∙ g)))
 
-pub foreign-there : (m : Imports) (names : List (List ℕ)) (q : Path) (id : PackageId) (i : List ℕ) (o : Option ℕ) → q ≡ path.Foreign id i → o ≡ import_place m.interfaces (header id) i
+pub foreign-there : (m : Imports) (names : List (List ℕ)) (q : Path) (id : PackageId) (i : List ℕ) (o : Option ℕ) → q ≡ path.Foreign id i → o ≡ import_place m.interfaces (header_name id) i
     → IsTrue (is_some o) ↔ IsThere m names (path_view q)
 foreign-there m names q id i o e f =
     subst (λ (x : Path). IsTrue (is_some o) ↔ IsThere m names (path_view x)) (sym e)
     (subst (λ (p : PackageParts). IsTrue (is_some o) ↔ HasImport m p i) (sym (parts-are id))
-    (some-so o (HasImport m (header id) i) (λ j g. place-there m (header id) i j (sym f ∙ g)) (λ g. place-none m (header id) i (sym f ∙ g))))
+    (some-so o (HasImport m (header_name id) i) (λ j g. place-there m (header_name id) i j (sym f ∙ g)) (λ g. place-none m (header_name id) i (sym f ∙ g))))
 
 pub item-known : (m : Imports) (names : List (List ℕ)) (way : Direction) (p : PathTo) → IsThere m names p → IsKnownItemOf m names (item_tree (Whole way p))
 item-known m names way (Local n) h = h

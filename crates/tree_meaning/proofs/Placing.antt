@@ -6,8 +6,8 @@ use Rattle.std.specs.Str.{bytes_eq}
 use Rattle.std.proofs.lemmas.List.{length-map, get_or-map, get_or_default}
 use Rattle.std.proofs.lemmas.Slice.Eq.{bytes_eq-Decides}
 use Rattle.std.proofs.lemmas.Bool.Decides.{nat_tests}
-use Rattle.placement.specs.Order.{IsPlacement, is_among}
-use Rattle.tree_meaning.specs.Declarations.{TypeItem, InterfaceTree, used_names, own_types, type_names, named_definition, named_function}
+use Rattle.placement.specs.Order.{IsPlacement, has_placed}
+use Rattle.tree_meaning.specs.Declarations.{TypeItem, InterfaceTree, used_names, own_types, type_names, named_definition, names_in_function}
 use Rattle.tree_meaning.specs.Resolved.{no_type}
 use Rattle.tree_meaning.specs.Resolves.{place_of, uses_of_type, type_uses}
 use Rattle.tree_meaning.specs.Building.{NamesEarlier, TypesKnown, FunctionsKnown, ordered_names}
@@ -57,12 +57,12 @@ all-places p h (w ∷ ws) n j a (zero, l, same) e =
     (split (p j) (list_all p (filter_map h ws)) (subst (λ z. list_all p (cons_option z (filter_map h ws)) ≡ true) o a)).0
 all-places p h (w ∷ ws) n j a (suc k, l, same) e = all-places p h ws n j (rest-all p (h w) (filter_map h ws) a) (k, omega (arith, l), same) e
 
-among-here : (x : ℕ) (xs : List ℕ) (j : ℕ) (b : Bool) → (b ≡ true → x ≡ j) → (b || is_among xs j) ≡ true
-    → (is_among xs j ≡ true → Contains xs j) → Contains (x ∷ xs) j
+among-here : (x : ℕ) (xs : List ℕ) (j : ℕ) (b : Bool) → (b ≡ true → x ≡ j) → (b || has_placed xs j) ≡ true
+    → (has_placed xs j ≡ true → Contains xs j) → Contains (x ∷ xs) j
 among-here x xs j true same h rest = (0, omega arith, same refl)
 among-here x xs j false same h rest = contains-later x j xs (rest h)
 
-pub among-at : (xs : List ℕ) (j : ℕ) → is_among xs j ≡ true → Contains xs j
+pub among-at : (xs : List ℕ) (j : ℕ) → has_placed xs j ≡ true → Contains xs j
 among-at [] j h = absurd (cc)
 among-at (x ∷ xs) j h = among-here x xs j (x == j) (λ e. grind (arith, nat_tests)) h (λ g. among-at xs j g)
 
@@ -83,8 +83,8 @@ placed-earlier i order placed known k l =
     let in_range : at < length i.types = omega (arith, next.in_range, length-map i.types (uses_of_type (own_types i))) in
     let t = get_or i.types at no_type in
     let before = take k order in
-    let ready = (split (not (is_among before at)) (list_all (is_among before) (get_or (type_uses i) at [])) next.ready).1 in
-    let all = subst (λ us. list_all (is_among before) us ≡ true) (get_or-map (uses_of_type (own_types i)) i.types at no_type [] in_range) ready in (
+    let ready = (split (not (has_placed before at)) (list_all (has_placed before) (get_or (type_uses i) at [])) next.ready).1 in
+    let all = subst (λ us. list_all (has_placed before) us ≡ true) (get_or-map (uses_of_type (own_types i)) i.types at no_type [] in_range) ready in (
       in_range,
       all-from (Contains (used_names i ++ ordered_names i.types before)) (named_definition t.definition) (λ n c.
           let knows : Contains (type_names i) n = let h = known at no_type in_range c.0 n c.1 in subst (Contains (type_names i)) c.2 h in
@@ -92,7 +92,7 @@ placed-earlier i order placed known k l =
             | inl u ↦ contains-left (used_names i) (ordered_names i.types before) n u
             | inr o ↦
                 let found = place-found (own_types i) n o in
-                let placed_before = all-places (is_among before) (place_of (own_types i)) (named_definition t.definition) n found.0 all c found.1 in
+                let placed_before = all-places (has_placed before) (place_of (own_types i)) (named_definition t.definition) n found.0 all c found.1 in
                 contains-right (used_names i) (ordered_names i.types before) n (ordered i.types before found.0 n (among-at before found.0 placed_before) found.2)
           ]),
     )
@@ -111,5 +111,5 @@ all-placed i order placed n c = elim (contains-either (used_names i) (own_types 
 ]
 
 pub functions-placed : (i : InterfaceTree) (order : List ℕ) → IsPlacement (type_uses i) order → FunctionsKnown i
-    → All (λ f. All (Contains (used_names i ++ ordered_names i.types order)) (named_function f.function)) i.functions
-functions-placed i order placed known k d l = all-mono _ _ (all-placed i order placed) (named_function (get_or i.functions k d).function) (known k d l)
+    → All (λ f. All (Contains (used_names i ++ ordered_names i.types order)) (names_in_function f.function)) i.functions
+functions-placed i order placed known k d l = all-mono _ _ (all-placed i order placed) (names_in_function (get_or i.functions k d).function) (known k d l)

@@ -6,7 +6,7 @@ use Rattle.tables.specs.Tables.{is_type}
 use Rattle.tables.specs.Package.{Tree, TextTree, references, reference, definitions_from, definition_of, read_val}
 use Rattle.package_form.specs.Postfix.{Leaves, unnamed, is_unnamed_row, one_if}
 use Rattle.package_form.specs.Entries.{Table}
-use Rattle.tree_meaning.specs.Building.{table_trees, Front, Extends}
+use Rattle.tree_meaning.specs.Building.{table_trees, IsTableFront, Extends}
 use Rattle.tables.specs.declared.tables.ValType.{ValType}
 use Rattle.tables.specs.declared.tables.ValType.TheVariants as val
 use Rattle.tables.specs.declared.tables.Definition.{Definition}
@@ -32,10 +32,10 @@ trees-more old new more is rows = rw (is, rows) (references-append old.interface
 
 -- ---- rows that stood
 
-pub typed-stays : (old new : Table) → Front old new → (v : ValType) → is_type old.rows v ≡ true → is_type new.rows v ≡ true
+pub typed-stays : (old new : Table) → IsTableFront old new → (v : ValType) → is_type old.rows v ≡ true → is_type new.rows v ≡ true
 typed-stays old new x v h = subst (λ (ds : List Definition). is_type ds v ≡ true) (sym x.rows.1) (type-later old.rows x.rows.0 v h)
 
-pub read_val-same : (old new : Table) → Front old new → (v : ValType) → is_type old.rows v ≡ true → read_val (table_trees new) v ≡ read_val (table_trees old) v
+pub read_val-same : (old new : Table) → IsTableFront old new → (v : ValType) → is_type old.rows v ≡ true → read_val (table_trees new) v ≡ read_val (table_trees old) v
 read_val-same old new x (val.Primitive p) h = refl
 read_val-same old new x val.String h = refl
 read_val-same old new x (val.Id t) h =
@@ -47,7 +47,7 @@ get-end [] y n h = rw h refl
 get-end (x ∷ xs) y zero h = absurd (omega arith)
 get-end (x ∷ xs) y (suc n) h = get-end xs y n (omega arith)
 
-pub unnamed-same : (old new : Table) → Front old new → (v : ValType) → is_type old.rows v ≡ true → unnamed new.rows v ≡ unnamed old.rows v
+pub unnamed-same : (old new : Table) → IsTableFront old new → (v : ValType) → is_type old.rows v ≡ true → unnamed new.rows v ≡ unnamed old.rows v
 unnamed-same old new x (val.Primitive p) h = refl
 unnamed-same old new x val.String h = refl
 unnamed-same old new x (val.Id t) h =
@@ -57,10 +57,10 @@ unnamed-same old new x (val.Id t) h =
 
 -- ---- growth after growth
 
-pub front-none : (t : Table) → Front t t
+pub front-none : (t : Table) → IsTableFront t t
 front-none t = record { interfaces = refl; rows = ([], sym (append-nil t.rows)); earlier = λ h. h; typed = λ h. h }
 
-pub front-trans : (a b c : Table) → Front a b → Front b c → Front a c
+pub front-trans : (a b c : Table) → IsTableFront a b → IsTableFront b c → IsTableFront a c
 front-trans a b c x y = record {
   interfaces = y.interfaces ∙ x.interfaces;
   rows = (x.rows.0 ++ y.rows.0, y.rows.1 ∙ ap (λ ds. ds ++ y.rows.0) x.rows.1 ∙ append_assoc a.rows x.rows.0 y.rows.0);

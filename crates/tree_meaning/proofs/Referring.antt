@@ -14,8 +14,8 @@ use Rattle.tables.specs.declared.tables.TypeDefKind.TheVariants as kind
 use Rattle.tables.specs.declared.tables.Field.{Field}
 use Rattle.tables.specs.declared.tables.Case.{Case}
 use Rattle.tables.specs.declared.tables.Parameter.{Parameter}
-use Rattle.tree_meaning.specs.Resolved.{primitive_tree, fields_of, unlabelled, choice, choices_of, resolved, resolved_all, resolved_maybe, resolved_if, member_meaning, case_meaning, definition_meaning}
-use Rattle.package_form.specs.References.{references, references_if, field_references, case_references, parameter_references, kind_references}
+use Rattle.tree_meaning.specs.Resolved.{primitive_tree, fields_of_labelled, unlabelled, choice, choices_of, resolved, resolved_all, resolved_maybe, resolved_if, member_meaning, case_meaning, definition_meaning}
+use Rattle.package_form.specs.References.{type_references, references_if, field_references, case_references, parameter_references, kind_references}
 
 abbrev pub Every : {A : Type 0} → (A → Type 0) → List A → Type 0
 Every P [] = Unit {0}
@@ -106,7 +106,7 @@ module _ (i : List ℕ) where
   if-refers None = tt
   if-refers (Some t) = type-refers t
 
-  pub members-refer : (ms : List Member) → FieldsRefer i (fields_of (map (member_meaning i) ms))
+  pub members-refer : (ms : List Member) → FieldsRefer i (fields_of_labelled (map (member_meaning i) ms))
   members-refer [] = tt
   members-refer (m ∷ ms) = (type-refers m.ty, members-refer ms)
 
@@ -135,7 +135,7 @@ abbrev pub IdRefers : List ℕ → List Tree → TypeId → Type 0
 IdRefers i trees t = Refers i (tree_of trees t)
 
 module _ (i : List ℕ) (trees : List Tree) where
-  val-ids : (v : ValType) → Refers i (read_val trees v) → Every (IdRefers i trees) (references v)
+  val-ids : (v : ValType) → Refers i (read_val trees v) → Every (IdRefers i trees) (type_references v)
   val-ids (val.Primitive p) h = tt
   val-ids val.String h = tt
   val-ids (val.Id t) h = (h, tt)
@@ -145,17 +145,17 @@ module _ (i : List ℕ) (trees : List Tree) where
   first-choice n None cs h = (tt, h)
   first-choice n (Some v) cs h = (val-ids v h.0, h.1)
 
-  tuple-ids : (vs : List ValType) → FieldsRefer i (read_tuple trees vs) → Every (IdRefers i trees) (flat_map references vs)
+  tuple-ids : (vs : List ValType) → FieldsRefer i (read_tuple trees vs) → Every (IdRefers i trees) (flat_map type_references vs)
   tuple-ids [] h = tt
-  tuple-ids (v ∷ vs) h = every-append (IdRefers i trees) (references v) (flat_map references vs) (val-ids v h.0) (tuple-ids vs h.1)
+  tuple-ids (v ∷ vs) h = every-append (IdRefers i trees) (type_references v) (flat_map type_references vs) (val-ids v h.0) (tuple-ids vs h.1)
 
   fields-ids : (fs : List Field) → FieldsRefer i (read_fields trees fs) → Every (IdRefers i trees) (flat_map field_references fs)
   fields-ids [] h = tt
-  fields-ids (f ∷ fs) h = every-append (IdRefers i trees) (references f.ty) (flat_map field_references fs) (val-ids f.ty h.0) (fields-ids fs h.1)
+  fields-ids (f ∷ fs) h = every-append (IdRefers i trees) (type_references f.ty) (flat_map field_references fs) (val-ids f.ty h.0) (fields-ids fs h.1)
 
   pub params-ids : (ps : List Parameter) → FieldsRefer i (read_params trees ps) → Every (IdRefers i trees) (flat_map parameter_references ps)
   params-ids [] h = tt
-  params-ids (p ∷ ps) h = every-append (IdRefers i trees) (references p.ty) (flat_map parameter_references ps) (val-ids p.ty h.0) (params-ids ps h.1)
+  params-ids (p ∷ ps) h = every-append (IdRefers i trees) (type_references p.ty) (flat_map parameter_references ps) (val-ids p.ty h.0) (params-ids ps h.1)
 
   cases-ids : (cs : List Case) → ChoicesRefer i (read_cases trees cs) → Every (IdRefers i trees) (flat_map case_references cs)
   cases-ids [] h = tt

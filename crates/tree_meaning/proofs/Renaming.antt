@@ -27,7 +27,7 @@ use Rattle.tables.specs.declared.tables.WorldItem.{WorldItem}
 use Rattle.tables.specs.declared.tables.Definition.{Definition}
 use Rattle.tables.specs.declared.tables.Definition.TheVariants as row
 use Rattle.tree_meaning.specs.Declarations.{UsedItem, use_interface, TypeItem, FunctionItem, InterfaceTree, ItemTree, InterfaceNamed, ForeignNamed, FunctionOf}
-use Rattle.tree_meaning.specs.Resolved.{primitive_tree, fields_of, unlabelled, choice, choices_of, option_tree, resolved, resolved_all, resolved_maybe, resolved_if, member_meaning, case_meaning, definition_meaning, use_meaning, function_meaning, no_type, in_order, interface_meaning, direction_meaning, item_meaning as item_tree_meaning}
+use Rattle.tree_meaning.specs.Resolved.{primitive_tree, fields_of_labelled, unlabelled, choice, choices_of, option_tree, resolved, resolved_all, resolved_maybe, resolved_if, member_meaning, case_meaning, definition_meaning, use_meaning, meaning_of_function, no_type, in_order, interface_meaning, direction_meaning, tree_item_meaning}
 
 -- each interface gets another name; none has none
 module _ (to : List ℕ → List ℕ) (none-kept : to [] ≡ []) where
@@ -250,7 +250,7 @@ module _ (to : List ℕ → List ℕ) (none-kept : to [] ≡ []) where
   if-renamed i None = refl
   if-renamed i (Some t) = ap (λ (x : Tree). Some x) (type-renamed i t)
 
-  members-renamed : (i : List ℕ) (ms : List Member) → fields_of (map (member_meaning (to i)) ms) ≡ renamed_fields (fields_of (map (member_meaning i) ms))
+  members-renamed : (i : List ℕ) (ms : List Member) → fields_of_labelled (map (member_meaning (to i)) ms) ≡ renamed_fields (fields_of_labelled (map (member_meaning i) ms))
   members-renamed i [] = refl
   members-renamed i (m ∷ ms) = let a = type-renamed i m.ty in let b = members-renamed i ms in cc
 
@@ -275,17 +275,17 @@ module _ (to : List ℕ → List ℕ) (none-kept : to [] ≡ []) where
   item_under (FunctionOf way f) = FunctionOf way f
 
   -- a function of a world is of no interface
-  pub item-renamed : (i : ItemTree) → item_tree_meaning (item_under i) ≡ renamed_item (item_tree_meaning i)
+  pub item-renamed : (i : ItemTree) → tree_item_meaning (item_under i) ≡ renamed_item (tree_item_meaning i)
   item-renamed (InterfaceNamed way n) = refl
   item-renamed (ForeignNamed way q n) = refl
   item-renamed (FunctionOf way f) =
       let ms = f.function.params in
-      let params : fields_of (map (member_meaning []) ms) ≡ renamed_fields (fields_of (map (member_meaning []) ms)) =
-      ap (λ (i : List ℕ). fields_of (map (member_meaning i) ms)) (sym none-kept) ∙ members-renamed [] ms in
+      let params : fields_of_labelled (map (member_meaning []) ms) ≡ renamed_fields (fields_of_labelled (map (member_meaning []) ms)) =
+      ap (λ (i : List ℕ). fields_of_labelled (map (member_meaning i) ms)) (sym none-kept) ∙ members-renamed [] ms in
       let result : resolved_if [] f.function.result ≡ option_map renamed (resolved_if [] f.function.result) =
       ap (λ (i : List ℕ). resolved_if i f.function.result) (sym none-kept) ∙ if-renamed [] f.function.result in
       ap (λ (fs : Fields). WithFunction (direction_meaning way) f.name fs (resolved_if [] f.function.result)) params
-      ∙ ap (WithFunction (direction_meaning way) f.name (renamed_fields (fields_of (map (member_meaning []) ms)))) result
+      ∙ ap (WithFunction (direction_meaning way) f.name (renamed_fields (fields_of_labelled (map (member_meaning []) ms)))) result
 
   -- the interface, and those that it uses, under their new names
   abbrev pub used_under : UsedItem → UsedItem
@@ -302,7 +302,7 @@ module _ (to : List ℕ → List ℕ) (none-kept : to [] ≡ []) where
   types-in-order i types [] = refl
   types-in-order i types (k ∷ order) = let a = body-renamed i (slice_index_or types k no_type).definition in let b = types-in-order i types order in cc
 
-  functions-renamed : (i : List ℕ) (fs : List FunctionItem) → map (function_meaning (to i)) fs ≡ map renamed_definition (map (function_meaning i) fs)
+  functions-renamed : (i : List ℕ) (fs : List FunctionItem) → map (meaning_of_function (to i)) fs ≡ map renamed_definition (map (meaning_of_function i) fs)
   functions-renamed i [] = refl
   functions-renamed i (f ∷ fs) =
       let a = members-renamed i f.function.params in let b = if-renamed i f.function.result in let c = functions-renamed i fs in cc
@@ -311,7 +311,7 @@ module _ (to : List ℕ → List ℕ) (none-kept : to [] ≡ []) where
   meaning-renamed i order =
       let A = map (use_meaning i.name) i.uses in
       let B = in_order i.name i.types order in
-      let C = map (function_meaning i.name) i.functions in
+      let C = map (meaning_of_function i.name) i.functions in
       let a = uses-renamed i.name i.uses in
       let b = types-in-order i.name i.types order in
       let c = functions-renamed i.name i.functions in

@@ -6,9 +6,9 @@ use Rattle.std.proofs.lemmas.List.{map-append}
 use Rattle.tables.specs.Tables.{is_type, option_all}
 use Rattle.tables.specs.Package.{Tree, read_val, read_tuple, read_fields, read_params, read_cases, read_choice, Fields, field, Choices}
 use Rattle.package_form.specs.Postfix.{unnamed, unnamed_if, unnamed_parameter}
-use Rattle.tree_meaning.specs.Resolved.{Labelled, fields_of, unlabelled, choices_of, choice}
+use Rattle.tree_meaning.specs.Resolved.{Labelled, fields_of_labelled, unlabelled, choices_of, choice}
 use Rattle.package_form.specs.Entries.{Table}
-use Rattle.tree_meaning.specs.Building.{table_trees, Front, Extends, LowersEach, read_field, read_parameter, read_case, parameter_typed}
+use Rattle.tree_meaning.specs.Building.{table_trees, IsTableFront, Extends, LowersEach, read_field, read_parameter, read_case, parameter_typed}
 use Rattle.tables.specs.declared.tables.ValType.{ValType}
 use Rattle.tables.specs.declared.tables.Definition.{Definition}
 use Rattle.tables.specs.declared.tables.Field.{Field}
@@ -20,7 +20,7 @@ use Rattle.tree_meaning.proofs.Reading.{extends-trans, extends-none, read_val-sa
 
 -- ---- a type that may be left out
 
-pub option-stays : (old new : Table) → Front old new → (v : Option ValType) → option_all (is_type old.rows) v ≡ true
+pub option-stays : (old new : Table) → IsTableFront old new → (v : Option ValType) → option_all (is_type old.rows) v ≡ true
     → (option_all (is_type new.rows) v ≡ true) × (option_map (read_val (table_trees new)) v ≡ option_map (read_val (table_trees old)) v)
     × (unnamed_if new.rows v ≡ unnamed_if old.rows v)
 option-stays old new x None h = (refl, refl, refl)
@@ -34,7 +34,7 @@ choice-reads ts label (Some v) cs = refl
 
 -- what stands in a table stands in it and reads the same when more rows come
 abbrev pub Stays : {A X : Type 0} → (List Definition → A → Bool) → (List Tree → A → X) → (List Definition → A → List ℕ) → Type 0
-Stays {A} typed read rest = (old new : Table) → Front old new → (v : A) → typed old.rows v ≡ true
+Stays {A} typed read rest = (old new : Table) → IsTableFront old new → (v : A) → typed old.rows v ≡ true
     → (typed new.rows v ≡ true) × (read (table_trees new) v ≡ read (table_trees old) v) × (rest new.rows v ≡ rest old.rows v)
 
 pub val-stays : Stays is_type read_val unnamed
@@ -55,7 +55,7 @@ module _ {A X : Type 0} (typed : List Definition → A → Bool) (read : List Tr
   all-push rows (w ∷ vs) v p q = let h = split (typed rows w) (list_all (typed rows) vs) p in both _ _ h.0 (all-push rows vs v h.1 q)
 
   module _ (stays : Stays typed read rest) where
-    pub all-stay : (old new : Table) → Front old new → (vs : List A) → list_all (typed old.rows) vs ≡ true
+    pub all-stay : (old new : Table) → IsTableFront old new → (vs : List A) → list_all (typed old.rows) vs ≡ true
         → (list_all (typed new.rows) vs ≡ true) × (map (read (table_trees new)) vs ≡ map (read (table_trees old)) vs)
         × (flat_map (rest new.rows) vs ≡ flat_map (rest old.rows) vs)
     all-stay old new x [] h = (refl, refl, refl)
@@ -83,11 +83,11 @@ pub tuple-reads : (ts : List Tree) (vs : List ValType) → read_tuple ts vs ≡ 
 tuple-reads ts [] = refl
 tuple-reads ts (v ∷ vs) = ap (λ (fs : Fields). field [] (read_val ts v) fs) (tuple-reads ts vs)
 
-pub fields-read : (ts : List Tree) (fs : List Field) → read_fields ts fs ≡ fields_of (map (read_field ts) fs)
+pub fields-read : (ts : List Tree) (fs : List Field) → read_fields ts fs ≡ fields_of_labelled (map (read_field ts) fs)
 fields-read ts [] = refl
 fields-read ts (f ∷ fs) = ap (λ (gs : Fields). field f.name (read_val ts f.ty) gs) (fields-read ts fs)
 
-pub parameters-read : (ts : List Tree) (fs : List Parameter) → read_params ts fs ≡ fields_of (map (read_parameter ts) fs)
+pub parameters-read : (ts : List Tree) (fs : List Parameter) → read_params ts fs ≡ fields_of_labelled (map (read_parameter ts) fs)
 parameters-read ts [] = refl
 parameters-read ts (f ∷ fs) = ap (λ (gs : Fields). field f.name (read_val ts f.ty) gs) (parameters-read ts fs)
 

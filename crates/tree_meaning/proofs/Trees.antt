@@ -17,7 +17,7 @@ use Rattle.placement.specs.Order.{IsPlacement}
 use Rattle.tables.specs.Package.{Key, key_of, Tree, Reference, IsUse, NamedDefinition, ItemMeaning, WithInterface, WorldMeaning, trees, world_meaning, reference, reference_by, read_kind, references, package_of, interface_names as names_in, named_by, meaning_of, named_function, function_meaning as called, definition_of, definitions_from}
 use Rattle.tree_meaning.specs.Resolved.{interface_meaning}
 use Rattle.tree_meaning.specs.Resolved as tree
-use Rattle.tree_meaning.specs.Declarations.{UsedItem, InterfaceTree, ItemTree, InterfaceNamed, ForeignNamed, FunctionOf, WorldTree, full_item, interfaces, worlds, use_interface, full_label, full_use, full_interface, full_world, no_interface, interface_at, interface_name, interface_names}
+use Rattle.tree_meaning.specs.Declarations.{UsedItem, InterfaceTree, ItemTree, InterfaceNamed, ForeignNamed, FunctionOf, WorldTree, full_item, interfaces, file_worlds, use_interface, full_label, full_use, full_interface, full_world, no_interface, interface_at, interface_tree_name, names_of_trees}
 use Rattle.package_form.specs.Entries.{Table}
 use Rattle.tree_meaning.specs.Imports.{imports_of}
 use Rattle.tree_meaning.specs.Resolves.{ResolvesBehind, package_behind, names_in_order, uses_of_interface, IsKnownIn, IsKnownUseOf, HasKnownNamesOf, interface_uses, type_uses, IsKnownItemOf, IsKnownWorldOf, is_name_of, is_owned_among, is_of_interfaces, AreImports}
@@ -106,7 +106,7 @@ uses-under p j (u ∷ us) h =
 under-means : (p : PackageParts) (i : InterfaceTree) (order : List ℕ) → IsLabel i.name → ((u : UsedItem) → Contains i.uses u → u.«package» ≡ None → IsLabel u.interface)
     → interface_meaning (interface_under (full_if p) (none-full p) i) order ≡ interface_meaning (full_interface p i) order
 under-means p i order named h =
-    let rest : List ℕ → List NamedDefinition = λ n. tree.in_order n i.types order ++ map (tree.function_meaning n) i.functions in
+    let rest : List ℕ → List NamedDefinition = λ n. tree.in_order n i.types order ++ map (tree.meaning_of_function n) i.functions in
     ap (λ (n : List ℕ). map (tree.use_meaning n) (map (used_under (full_if p) (none-full p)) i.uses) ++ rest n) (full-is p i.name named)
     ∙ ap (λ (ds : List NamedDefinition). ds ++ rest (own_name p i.name)) (uses-under p (own_name p i.name) i.uses h)
 
@@ -152,19 +152,19 @@ module _ (imports : Resolve) (a : AreImports imports) (p : PackageParts) (is : L
     (types : (k : ℕ) → k < length is → IsPlacement (type_uses (interface_at is k)) (get_or orders k [])) (ordered : names ≡ names_in_order is order)
     (interfaces : t.interfaces ≡ names_in imports ++ names)
     (made : table_definitions t ≡ table_definitions (start_table imports names) ++ package_meaning is orders order)
-    (labels : All IsLabel (interface_names is)) (known : All (HasKnownNamesOf (imports_of imports) is) is) where
+    (labels : All IsLabel (names_of_trees is)) (known : All (HasKnownNamesOf (imports_of imports) is) is) where
   below : (k : ℕ) → k < length order → get_or order k 0 < length is
-  below k l = omega (arith, (placed.next k l).in_range, length-map is (uses_of_interface (interface_names is)))
+  below k l = omega (arith, (placed.next k l).in_range, length-map is (uses_of_interface (names_of_trees is)))
 
   label-here : (k : ℕ) → k < length is → IsLabel (interface_at is k).name
-  label-here k l = subst IsLabel (sym (interface-name is k)) (labels k [] (omega (arith, l, length-map is interface_name)))
+  label-here k l = subst IsLabel (sym (interface-name is k)) (labels k [] (omega (arith, l, length-map is interface_tree_name)))
 
   label-used : (k : ℕ) → k < length is → (u : UsedItem) → Contains (interface_at is k).uses u → u.«package» ≡ None → IsLabel u.interface
   label-used k l u c e =
       let here : HasKnownNamesOf (imports_of imports) is (interface_at is k) = known k no_interface l in
       let x = all-contained (IsKnownUseOf (imports_of imports) is) (interface_at is k).uses u here.uses c in
       let y = subst (λ (o : Option PackageParts). IsKnownIn (imports_of imports) is o u.interface u.name) e x in
-      subst IsLabel y.2 (all-contained IsLabel (interface_names is) y.0.name labels (contains-map interface_name is y.0 y.1))
+      subst IsLabel y.2 (all-contained IsLabel (names_of_trees is) y.0.name labels (contains-map interface_tree_name is y.0 y.1))
 
   label-ordered : (n : List ℕ) → Contains names n → IsLabel n
   label-ordered n c =
@@ -188,7 +188,7 @@ module _ (imports : Resolve) (a : AreImports imports) (p : PackageParts) (is : L
       ap (λ (ns : List (List ℕ)). names_in imports ++ ns)
       (ap (map (own_name p)) ordered ∙ map-map (own_name p) (λ (k : ℕ). (interface_at is k).name) order
       ∙ same-map (λ (k : ℕ). own_name p (interface_at is k).name) (λ (k : ℕ). (interface_at (map (full_interface p) is) k).name) order
-      (λ k l. ap interface_name (sym (interface-full p is (get_or order k 0) (below k l)))))
+      (λ k l. ap interface_tree_name (sym (interface-full p is (get_or order k 0) (below k l)))))
 
   meaning-here : (k : ℕ) → k < length is
       → map (renamed_definition (full_if p) (none-full p)) (interface_meaning (interface_at is k) (get_or orders k [])) ≡ interface_meaning (interface_at (map (full_interface p) is) k) (get_or orders k [])
@@ -220,29 +220,29 @@ module _ (imports : Resolve) (a : AreImports imports) (p : PackageParts) (is : L
       (λ k. interface_meaning (interface_at (map (full_interface p) is) k) (get_or orders k [])) order (λ k l. meaning-here (get_or order k 0) (below k l)))
 
   -- the worlds, whose interfaces are known
-  module _ (ws : List World) (trees : List WorldTree) (read : map (world_reads t) ws ≡ map tree.world_meaning trees) (here : All (IsKnownWorldOf (imports_of imports) names) trees) where
-    item-full : (i : ItemTree) → IsKnownItemOf (imports_of imports) names i → renamed_item (full_if p) (none-full p) (tree.item_meaning i) ≡ tree.item_meaning (full_item p i)
+  module _ (ws : List World) (trees : List WorldTree) (read : map (world_reads t) ws ≡ map tree.meaning_of_world trees) (here : All (IsKnownWorldOf (imports_of imports) names) trees) where
+    item-full : (i : ItemTree) → IsKnownItemOf (imports_of imports) names i → renamed_item (full_if p) (none-full p) (tree.tree_item_meaning i) ≡ tree.tree_item_meaning (full_item p i)
     item-full (InterfaceNamed way n) c = ap (WithInterface (tree.direction_meaning way)) (full-is p n (label-ordered n c))
     item-full (ForeignNamed way q n) c = ap (WithInterface (tree.direction_meaning way)) (full-stays p (own_name q n) (not-label q n))
     item-full (FunctionOf way f) c = sym (item-renamed (full_if p) (none-full p) (FunctionOf way f))
 
     items-full : (is : List ItemTree) → All (IsKnownItemOf (imports_of imports) names) is
-        → map (renamed_item (full_if p) (none-full p)) (map tree.item_meaning is) ≡ map tree.item_meaning (map (full_item p) is)
+        → map (renamed_item (full_if p) (none-full p)) (map tree.tree_item_meaning is) ≡ map tree.tree_item_meaning (map (full_item p) is)
     items-full [] h = refl
     items-full (i ∷ is) h =
-        ap (λ (m : ItemMeaning). m ∷ map (renamed_item (full_if p) (none-full p)) (map tree.item_meaning is)) (item-full i (all-head (IsKnownItemOf (imports_of imports) names) i is h))
-        ∙ ap (λ (ms : List ItemMeaning). tree.item_meaning (full_item p i) ∷ ms) (items-full is (all-tail (IsKnownItemOf (imports_of imports) names) i is h))
+        ap (λ (m : ItemMeaning). m ∷ map (renamed_item (full_if p) (none-full p)) (map tree.tree_item_meaning is)) (item-full i (all-head (IsKnownItemOf (imports_of imports) names) i is h))
+        ∙ ap (λ (ms : List ItemMeaning). tree.tree_item_meaning (full_item p i) ∷ ms) (items-full is (all-tail (IsKnownItemOf (imports_of imports) names) i is h))
 
     -- a world under its full name, and so its interfaces
     abbrev full_meaning : WorldMeaning → WorldMeaning
     full_meaning m = record { name = own_name p m.name; items = map (renamed_item (full_if p) (none-full p)) m.items }
 
-    worlds-meant : (xs : List WorldTree) → All (IsKnownWorldOf (imports_of imports) names) xs → map full_meaning (map tree.world_meaning xs) ≡ map tree.world_meaning (map (full_world p) xs)
+    worlds-meant : (xs : List WorldTree) → All (IsKnownWorldOf (imports_of imports) names) xs → map full_meaning (map tree.meaning_of_world xs) ≡ map tree.meaning_of_world (map (full_world p) xs)
     worlds-meant [] h = refl
     worlds-meant (x ∷ xs) h =
-        ap (λ (ms : List ItemMeaning). record { name = own_name p x.name; items = ms } ∷ map full_meaning (map tree.world_meaning xs))
+        ap (λ (ms : List ItemMeaning). record { name = own_name p x.name; items = ms } ∷ map full_meaning (map tree.meaning_of_world xs))
         (items-full x.items (all-head (IsKnownWorldOf (imports_of imports) names) x xs h))
-        ∙ ap (λ (ms : List WorldMeaning). tree.world_meaning (full_world p x) ∷ ms) (worlds-meant xs (all-tail (IsKnownWorldOf (imports_of imports) names) x xs h))
+        ∙ ap (λ (ms : List WorldMeaning). tree.meaning_of_world (full_world p x) ∷ ms) (worlds-meant xs (all-tail (IsKnownWorldOf (imports_of imports) names) x xs h))
 
     world-read : (w : World) → world_meaning fulls (references fulls [] t.rows) t.rows (own_name p w.name) w ≡ full_meaning (world_reads t w)
     unfolding table_trees

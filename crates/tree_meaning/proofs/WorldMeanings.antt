@@ -19,8 +19,8 @@ use Rattle.tables.specs.declared.tables.WorldItem.{WorldItem}
 use Rattle.tables.specs.declared.tables.World.{World}
 use Rattle.package_form.specs.Entries.{Table, entries_at, world_entries}
 use Rattle.package_form.specs.Ids.{is_of_worlds, is_world_function, places_where}
-use Rattle.package_form.specs.Form.{function_at, functions_of}
-use Rattle.tree_meaning.specs.Building.{Front, table_trees}
+use Rattle.package_form.specs.Form.{functions_in_item, functions_of}
+use Rattle.tree_meaning.specs.Building.{IsTableFront, table_trees}
 use Rattle.tree_meaning.specs.Resolves.{is_behind, HasWorldsBehind, HasItems}
 use Rattle.tables.proofs.Rows.{split}
 use Rattle.package_form.proofs.Lists.{flat_map-append}
@@ -81,11 +81,11 @@ module _ (ns : List (List ℕ)) (rows : List Definition) where
 
   -- ---- seen from the items
 
-  items-defined : (is : List WorldItem) → flat_map at (flat_map function_at is) ≡ flat_map item_definitions (map (λ i. item_meaning ns trees rows i.direction i.kind) is)
+  items-defined : (is : List WorldItem) → flat_map at (flat_map functions_in_item is) ≡ flat_map item_definitions (map (λ i. item_meaning ns trees rows i.direction i.kind) is)
   items-defined [] = refl
   items-defined (i ∷ is) =
-      flat_map-append at (function_at i) (flat_map function_at is)
-      ∙ ap (λ (xs : List NamedDefinition). xs ++ flat_map at (flat_map function_at is)) (by i.kind)
+      flat_map-append at (functions_in_item i) (flat_map functions_in_item is)
+      ∙ ap (λ (xs : List NamedDefinition). xs ++ flat_map at (flat_map functions_in_item is)) (by i.kind)
       ∙ ap (λ (xs : List NamedDefinition). item_definitions (item_meaning ns trees rows i.direction i.kind) ++ xs) (items-defined is)
     where
       told : (o : Option Definition) → at_place o ++ [] ≡ item_definitions (function_item trees i.direction (function_of o))
@@ -93,7 +93,7 @@ module _ (ns : List (List ℕ)) (rows : List Definition) where
       told (Some (row.Type d)) = refl
       told (Some (row.Function f)) = refl
 
-      by : (k : WorldItemKind) → flat_map at (function_at (record { direction = i.direction; kind = k })) ≡ item_definitions (item_meaning ns trees rows i.direction k)
+      by : (k : WorldItemKind) → flat_map at (functions_in_item (record { direction = i.direction; kind = k })) ≡ item_definitions (item_meaning ns trees rows i.direction k)
       by (item.Interface j) = refl
       by (item.Function f) = told (slice_get rows f.0)
 
@@ -113,7 +113,7 @@ module _ (ns : List (List ℕ)) (rows : List Definition) where
     function-told pre f post e =
         let old : Table = record { interfaces = ns; worlds = []; rows = pre } in
         let new : Table = record { interfaces = ns; worlds = []; rows = rows } in
-        let front : Front old new = record { interfaces = refl; rows = (row.Function f ∷ post, e); earlier = λ h. earlier; typed = λ h. types } in
+        let front : IsTableFront old new = record { interfaces = refl; rows = (row.Function f ∷ post, e); earlier = λ h. earlier; typed = λ h. types } in
         let r = function-read old new front f (typed pre (row.Function f) post e) in
         (sym r.1, sym r.2)
 
@@ -210,7 +210,7 @@ module _ (ns : List (List ℕ)) (trees : List Tree) (rows : List Definition) whe
   abbrev there : ℕ → Bool
   there n = is_there (function_of (slice_get rows n))
 
-  item-sized : (way : Direction) (k : WorldItemKind) → list_all there (function_at (record { direction = way; kind = k })) ≡ true
+  item-sized : (way : Direction) (k : WorldItemKind) → list_all there (functions_in_item (record { direction = way; kind = k })) ≡ true
       → entries_at (record { direction = way; kind = k }) ≡ item_size (item_meaning ns trees rows way k)
   item-sized way (item.Interface j) h = refl
   item-sized way (item.Function f) h = by (function_of (slice_get rows f.0)) h
@@ -219,11 +219,11 @@ module _ (ns : List (List ℕ)) (trees : List Tree) (rows : List Definition) whe
       by None q = absurd (cc)
       by (Some g) q = refl
 
-  items-sized : (is : List WorldItem) → list_all there (flat_map function_at is) ≡ true
+  items-sized : (is : List WorldItem) → list_all there (flat_map functions_in_item is) ≡ true
       → sum (map entries_at is) ≡ sum (map item_size (map (λ i. item_meaning ns trees rows i.direction i.kind) is))
   items-sized [] h = refl
   items-sized (i ∷ is) h =
-      let s = split (list_all there (function_at i)) (list_all there (flat_map function_at is)) (sym (list_all-append there (function_at i) (flat_map function_at is)) ∙ h) in
+      let s = split (list_all there (functions_in_item i)) (list_all there (flat_map functions_in_item is)) (sym (list_all-append there (functions_in_item i) (flat_map functions_in_item is)) ∙ h) in
       let m = item_meaning ns trees rows i.direction i.kind in
       let ms = map (λ j. item_meaning ns trees rows j.direction j.kind) is in
       let left : sum (map entries_at (i ∷ is)) ≡ entries_at i + sum (map entries_at is) = sum_by-cons (λ x. x) (entries_at i) (map entries_at is) in

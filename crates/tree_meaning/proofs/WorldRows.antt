@@ -8,8 +8,8 @@ use Rattle.tables.specs.Package.{Tree, ListTree, ItemMeaning, WithInterface, Wor
 use Rattle.package_form.specs.Postfix.{unnamed_parameter}
 use Rattle.package_form.specs.Entries.{Table}
 use Rattle.tree_meaning.specs.Declarations.{named, named_all, named_maybe, named_if, named_member}
-use Rattle.tree_meaning.specs.Resolved.{Labelled, resolved, resolved_all, resolved_maybe, resolved_if, member_meaning, fields_of, option_tree, tuple_tree, result_tree}
-use Rattle.tree_meaning.specs.Building.{Front, table_trees, parameter_typed, read_parameter}
+use Rattle.tree_meaning.specs.Resolved.{Labelled, resolved, resolved_all, resolved_maybe, resolved_if, member_meaning, fields_of_labelled, option_tree, tuple_tree, result_tree}
+use Rattle.tree_meaning.specs.Building.{IsTableFront, table_trees, parameter_typed, read_parameter}
 use Rattle.tree_meaning.specs.WorldRows.{is_typed, has_types, item_stands, world_stands, worlds_stand, item_reads, world_reads}
 use Rattle.tables.specs.declared.tables.Direction.{Direction}
 use Rattle.tables.specs.declared.tables.Function.{Function}
@@ -72,7 +72,7 @@ get-kept [] ys n d e = absurd (cc)
 get-kept (x ∷ xs) ys zero d e = e
 get-kept (x ∷ xs) ys (suc n) d e = get-kept xs ys n d e
 
-module _ (old new : Table) (x : Front old new) where
+module _ (old new : Table) (x : IsTableFront old new) where
   -- a function reads the same
   pub function-read : (f : Function) → function_all (is_type old.rows) f ≡ true → (function_all (is_type new.rows) f ≡ true)
       × (read_params (table_trees new) f.params ≡ read_params (table_trees old) f.params) × (option_map (read_val (table_trees new)) f.result ≡ option_map (read_val (table_trees old)) f.result)
@@ -81,7 +81,7 @@ module _ (old new : Table) (x : Front old new) where
       let p = all-stay parameter_typed read_parameter unnamed_parameter parameter-stays old new x f.params s.0 in
       let r = option-stays old new x f.result s.1 in (
         both (list_all (parameter_typed new.rows) f.params) (option_all (is_type new.rows) f.result) p.0 r.0,
-        parameters-read (table_trees new) f.params ∙ ap fields_of p.1 ∙ sym (parameters-read (table_trees old) f.params),
+        parameters-read (table_trees new) f.params ∙ ap fields_of_labelled p.1 ∙ sym (parameters-read (table_trees old) f.params),
         r.1,
       )
 

@@ -5,7 +5,7 @@ use Rattle.std.specs.Option.{option_map}
 use Rattle.tables.specs.Tables.{option_all, kind_all, are_earlier, is_type, name_types}
 use Rattle.tables.specs.Package.{Tree, Reference, NamedDefinition, Meaning, IsType, references, definitions_from, read_val, meaning_of, interface_names}
 use Rattle.package_form.specs.Postfix.{Leaves, unnamed, unnamed_if, unnamed_field, unnamed_case, unnamed_parameter, parts, aliased, is_inner}
-use Rattle.tree_meaning.specs.Declarations.{TypeItem, InterfaceTree, interface_at, named_definition, named_function, type_names}
+use Rattle.tree_meaning.specs.Declarations.{TypeItem, InterfaceTree, interface_at, named_definition, names_in_function, type_names}
 use Rattle.tree_meaning.specs.Resolved.{Labelled, Choice, interface_meaning, no_type}
 use Rattle.package_form.specs.Entries.{Table}
 use Rattle.package_form.specs.Ids.{is_world_function, places_where}
@@ -18,7 +18,7 @@ use Rattle.tables.specs.declared.tables.Case.{Case}
 use Rattle.tables.specs.declared.tables.TypeDefKind.{TypeDefKind}
 use Rattle.tables.specs.declared.tables.TypeDefKind.TheVariants as kind
 use Rattle.tables.specs.declared.tables.Resolve.{Resolve}
-use Rattle.package_form.specs.Scoped.{Entry}
+use Rattle.package_form.specs.Scoped.{NameEntry}
 
 -- what a reference to each row of a table stands for, and the definitions with names
 unfoldable pub table_trees : Table → List Tree
@@ -27,30 +27,30 @@ table_trees t = references t.interfaces [] t.rows
 unfoldable pub table_definitions : Table → List NamedDefinition
 table_definitions t = definitions_from t.interfaces [] t.rows
 
-abbrev pub name_at : Table → ℕ → List ℕ
-name_at t i = slice_index_or t.interfaces i []
+abbrev pub label_at : Table → ℕ → List ℕ
+label_at t i = slice_index_or t.interfaces i []
 
 -- the functions of worlds among a table's rows
 abbrev pub world_functions : Table → List ℕ
 world_functions t = places_where is_world_function 0 t.rows
 
 -- new is old with more rows behind it
-pub record Front (old new : Table) : Type 0 where
+pub record IsTableFront (old new : Table) : Type 0 where
   pub interfaces : new.interfaces ≡ old.interfaces
   pub rows : (more : List Definition) × (new.rows ≡ old.rows ++ more)
   pub earlier : IsTrue (are_earlier 0 old.rows) → IsTrue (are_earlier 0 new.rows)
   pub typed : IsTrue (name_types old.rows) → IsTrue (name_types new.rows)
 
 -- .. with these definitions; no row is left to be used
-pub record Adds (old new : Table) (ds : List NamedDefinition) : Type 0 where
-  pub front : Front old new
+pub record AddsDefinitions (old new : Table) (ds : List NamedDefinition) : Type 0 where
+  pub front : IsTableFront old new
   pub own : world_functions new ≡ world_functions old
   pub definitions : table_definitions new ≡ table_definitions old ++ ds
   pub postfix : Leaves old.rows [] → Leaves new.rows []
 
 -- .. with no definition that has a name; these rows are to be used
 pub record Extends (old new : Table) (unused : List ℕ) : Type 0 where
-  pub front : Front old new
+  pub front : IsTableFront old new
   pub own : world_functions new ≡ world_functions old
   pub same : table_definitions new ≡ table_definitions old
   pub postfix : (before : List ℕ) → Leaves old.rows before → Leaves new.rows (before ++ unused)
@@ -125,7 +125,7 @@ pub record LowersInner (old new : Table) (k : TypeDefKind) (tree : Tree) : Type 
 -- ---- scopes
 
 -- each name is that name of the interface, and a row with a name
-pub record IsEntry (t : Table) (i : List ℕ) (e : Entry) : Type 0 where
+pub record IsEntry (t : Table) (i : List ℕ) (e : NameEntry) : Type 0 where
   pub stands : TreeStands t (val.Id e.id) (Reference (record { interface = i; name = e.name }))
   pub named : unnamed t.rows (val.Id e.id) ≡ []
 
@@ -149,7 +149,7 @@ abbrev pub TypesKnown : InterfaceTree → Type 0
 TypesKnown i = All (λ t. All (Contains (type_names i)) (named_definition t.definition)) i.types
 
 abbrev pub FunctionsKnown : InterfaceTree → Type 0
-FunctionsKnown i = All (λ f. All (Contains (type_names i)) (named_function f.function)) i.functions
+FunctionsKnown i = All (λ f. All (Contains (type_names i)) (names_in_function f.function)) i.functions
 
 -- the definitions of the interfaces in this order, the types of each in its own
 abbrev pub package_meaning : List InterfaceTree → List (List ℕ) → List ℕ → List NamedDefinition
@@ -157,4 +157,4 @@ package_meaning is orders order = flat_map (λ k. interface_meaning (interface_a
 
 -- .. behind those that the first table has
 pub record DefinesPackage (start : Table) (is : List InterfaceTree) (order : List ℕ) (orders : List (List ℕ)) (t : Table) : Type 0 where
-  pub adds : Adds start t (package_meaning is orders order)
+  pub adds : AddsDefinitions start t (package_meaning is orders order)

@@ -105,8 +105,8 @@ world_of (AnInterface n es) = None
 world_of (AWorld at n es) = Some (world_tree n es)
 
 -- the worlds of a file
-abbrev pub worlds : File → List WorldTree
-worlds f = filter_map world_of f.entries
+abbrev pub file_worlds : File → List WorldTree
+file_worlds f = filter_map world_of f.entries
 
 -- ---- other packages
 
@@ -161,7 +161,7 @@ abbrev pub full_world : PackageParts → WorldTree → WorldTree
 full_world p w = record { name = own_name p w.name; items = map (full_item p) w.items }
 
 abbrev pub full_worlds : File → List WorldTree
-full_worlds f = map (full_world (package_named f)) (worlds f)
+full_worlds f = map (full_world (package_named f)) (file_worlds f)
 
 -- the interfaces of a file under their full names
 abbrev pub full_interfaces : File → List InterfaceTree
@@ -210,14 +210,14 @@ named_definition (Variant cs) = flat_map named_case cs
 named_definition (Enumeration ns) = []
 named_definition (FlagSet ns) = []
 
-abbrev pub named_function : Function → List (List ℕ)
-named_function f = flat_map named_member f.params ++ named_if f.result
+abbrev pub names_in_function : Function → List (List ℕ)
+names_in_function f = flat_map named_member f.params ++ named_if f.result
 
-abbrev pub interface_name : InterfaceTree → List ℕ
-interface_name i = i.name
+abbrev pub interface_tree_name : InterfaceTree → List ℕ
+interface_tree_name i = i.name
 
-abbrev pub interface_names : List InterfaceTree → List (List ℕ)
-interface_names is = map interface_name is
+abbrev pub names_of_trees : List InterfaceTree → List (List ℕ)
+names_of_trees is = map interface_tree_name is
 
 -- the name that a used interface goes by: one of another package has its full name
 abbrev pub use_interface : UsedItem → List ℕ
@@ -252,13 +252,13 @@ type_names i = used_names i ++ own_types i
 abbrev pub member_name : Member → List ℕ
 member_name m = m.name
 
-abbrev pub case_name : CaseOf → List ℕ
-case_name c = c.name
+abbrev pub tree_case_name : CaseOf → List ℕ
+tree_case_name c = c.name
 
 abbrev pub definition_scopes : Definition → List (List (List ℕ))
 definition_scopes (Alias t) = []
 definition_scopes (Record ms) = map member_name ms ∷ []
-definition_scopes (Variant cs) = map case_name cs ∷ []
+definition_scopes (Variant cs) = map tree_case_name cs ∷ []
 definition_scopes (Enumeration ns) = ns ∷ []
 definition_scopes (FlagSet ns) = ns ∷ []
 

@@ -26,22 +26,22 @@ abbrev pub owned_in : Owner → Option ℕ
 owned_in (owner.Interface i) = Some i.0
 owned_in (owner.World w) = None
 
-abbrev pub interface_of : Definition → Option ℕ
-interface_of (row.Type d) = named_in d.name
-interface_of (row.Function f) = owned_in f.owner
+abbrev pub definition_interface : Definition → Option ℕ
+definition_interface (row.Type d) = named_in d.name
+definition_interface (row.Function f) = owned_in f.owner
 
 -- the interface with one more definition, which stands at place k
-abbrev pub with_type : ℕ → TypeDefKind → Interface → Interface
-with_type k (kind.Use t) i = record { «package» = i.«package»; name = i.name; uses = i.uses ++ type_id k ∷ []; types = i.types; functions = i.functions }
-with_type k _ i = record { «package» = i.«package»; name = i.name; uses = i.uses; types = i.types ++ type_id k ∷ []; functions = i.functions }
+abbrev pub with_new_type : ℕ → TypeDefKind → Interface → Interface
+with_new_type k (kind.Use t) i = record { «package» = i.«package»; name = i.name; uses = i.uses ++ type_id k ∷ []; types = i.types; functions = i.functions }
+with_new_type k _ i = record { «package» = i.«package»; name = i.name; uses = i.uses; types = i.types ++ type_id k ∷ []; functions = i.functions }
 
-abbrev pub with_row : ℕ → Definition → Interface → Interface
-with_row k (row.Type d) i = with_type k d.kind i
-with_row k (row.Function f) i = record { «package» = i.«package»; name = i.name; uses = i.uses; types = i.types; functions = i.functions ++ function_id k ∷ [] }
+abbrev pub with_definition : ℕ → Definition → Interface → Interface
+with_definition k (row.Type d) i = with_new_type k d.kind i
+with_definition k (row.Function f) i = record { «package» = i.«package»; name = i.name; uses = i.uses; types = i.types; functions = i.functions ++ function_id k ∷ [] }
 
 -- the name of the package that a header gives
-abbrev pub header : PackageId → PackageParts
-header p = record { namespace = p.namespace; name = p.name; version = option_map string_bytes p.version }
+abbrev pub header_name : PackageId → PackageParts
+header_name p = record { namespace = p.namespace; name = p.name; version = option_map string_bytes p.version }
 
 -- .. behind its imports, with own interfaces of these names
 pub record IsFinished (imports : Resolve) (p : PackageParts) (names : List (List ℕ)) (t : Table) (r : Resolve) : Type 0 where

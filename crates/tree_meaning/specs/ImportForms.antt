@@ -1,7 +1,7 @@
 -- What it takes of imports for the table of a package behind them to be one that packages have.
 use Rattle.std.specs.Prelude.{◌≡◌, ◌<◌, ◌⊎◌, ℕ, List, [], length, All, IsTrue, Contains, Some}
 use Rattle.wit_syntax.specs.Syntax.{File}
-use Rattle.wit_syntax.specs.FullNames.{has_full_names}
+use Rattle.wit_syntax.specs.FullNames.{file_has_full_names}
 use Rattle.wit_syntax.specs.declared.ast.Direction.{Direction}
 use Rattle.tables.specs.PackageNames.{PackageParts}
 use Rattle.tables.specs.declared.tables.Resolve.{Resolve}
@@ -10,7 +10,7 @@ use Rattle.package_form.specs.Ends.{is_parted}
 use Rattle.package_form.specs.Form.{are_interfaces, has_full_names as have_full_names}
 use Rattle.package_form.specs.Laws.{IsLabelled}
 use Rattle.package_form.specs.Reached.{reached as reached_by}
-use Rattle.tree_meaning.specs.Declarations.{UsedItem, InterfaceTree, WorldTree, ForeignNamed, interfaces, worlds, package_named}
+use Rattle.tree_meaning.specs.Declarations.{UsedItem, InterfaceTree, WorldTree, ForeignNamed, interfaces, file_worlds, package_named}
 use Rattle.tree_meaning.specs.Imports.{Import, import_at, interfaces_of}
 
 -- Imports as they stand in the table of a package: their names make full names, and rows stand interface by interface, each row in its own.
@@ -23,7 +23,7 @@ pub record AreImportsInForm (imports : Resolve) : Type 0 where
 -- .. and a file of another package than theirs, whose names make full names too
 pub record IsNamedBehind (imports : Resolve) (f : File) : Type 0 where
   pub form : AreImportsInForm imports
-  pub names : IsTrue (has_full_names f)
+  pub names : IsTrue (file_has_full_names f)
   pub other : ¬ Contains imports.packages (package_named f)
 
 -- ---- imports that are reached
@@ -34,7 +34,7 @@ UsesImport f q i = (j : InterfaceTree) × Contains (interfaces f) j × ((u : Use
 
 -- a world of the file has this interface of this package among its items
 abbrev pub HasImportItem : File → PackageParts → List ℕ → Type 0
-HasImportItem f q i = (w : WorldTree) × Contains (worlds f) w × ((way : Direction) × Contains w.items (ForeignNamed way q i))
+HasImportItem f q i = (w : WorldTree) × Contains (file_worlds f) w × ((way : Direction) × Contains w.items (ForeignNamed way q i))
 
 -- a path of the file names the import
 abbrev pub NamesImport : File → Import → Type 0

@@ -3,7 +3,7 @@ use Rattle.std.specs.Prelude.{◌≡◌, ◌⊎◌, ℕ, List, All, Contains}
 use Rattle.std.specs.Map.{lookup}
 use Rattle.std.specs.Str.{bytes_eq}
 use Rattle.wit_syntax.specs.Syntax.{PathTo, Local, Foreign, Entry, Uses, Defines, Declares, FileEntry, AnInterface, AWorld}
-use Rattle.tree_meaning.specs.Declarations.{UsedItem, InterfaceTree, ItemTree, WorldTree, interface_tree, world_tree, interface_names, path_uses, type_names, named_definition, named_function}
+use Rattle.tree_meaning.specs.Declarations.{UsedItem, InterfaceTree, ItemTree, WorldTree, interface_tree, world_tree, names_of_trees, path_uses, type_names, named_definition, names_in_function}
 use Rattle.tree_meaning.specs.Imports.{Imports, HasImport}
 use Rattle.tree_meaning.specs.Resolves.{place_of, IsKnownUseOf, IsUnknownUse, IsUnknownName, IsUnknownIn, HasKnownNamesOf, IsUnknownItem, IsUnknownInWorld, IsKnownWorldOf}
 use Rattle.tables.specs.PackageNames.{PackageParts}
@@ -13,7 +13,7 @@ use Rattle.tables.specs.declared.error.ResolveError.TheVariants as error
 abbrev pub KnowsEntry : Imports → List InterfaceTree → InterfaceTree → Entry → Type 0
 KnowsEntry m is i (Uses at p us) = All (IsKnownUseOf m is) (path_uses p us)
 KnowsEntry m is i (Defines at n d) = All (Contains (type_names i)) (named_definition d)
-KnowsEntry m is i (Declares at n f) = All (Contains (type_names i)) (named_function f)
+KnowsEntry m is i (Declares at n f) = All (Contains (type_names i)) (names_in_function f)
 
 abbrev pub LacksUse : Imports → List InterfaceTree → List UsedItem → List ℕ → Type 0
 LacksUse m is us n = (u : UsedItem) × Contains us u × IsUnknownUse m is u n
@@ -21,7 +21,7 @@ LacksUse m is us n = (u : UsedItem) × Contains us u × IsUnknownUse m is u n
 abbrev pub LacksEntry : Imports → List InterfaceTree → InterfaceTree → Entry → List ℕ → Type 0
 LacksEntry m is i (Uses at p us) n = LacksUse m is (path_uses p us) n
 LacksEntry m is i (Defines at name d) n = IsUnknownName i (named_definition d) n
-LacksEntry m is i (Declares at name f) n = IsUnknownName i (named_function f) n
+LacksEntry m is i (Declares at name f) n = IsUnknownName i (names_in_function f) n
 
 abbrev pub LacksAny : Imports → List InterfaceTree → InterfaceTree → List Entry → List ℕ → Type 0
 LacksAny m is i es n = (e : Entry) × Contains es e × LacksEntry m is i e n
@@ -37,15 +37,15 @@ IsThere m names (Foreign namespace name v i) = HasImport m (record { namespace =
 -- an interface or a world of a file
 abbrev pub KnowsFileEntry : Imports → List InterfaceTree → FileEntry → Type 0
 KnowsFileEntry m is (AnInterface n es) = HasKnownNamesOf m is (interface_tree n es)
-KnowsFileEntry m is (AWorld at n es) = IsKnownWorldOf m (interface_names is) (world_tree n es)
+KnowsFileEntry m is (AWorld at n es) = IsKnownWorldOf m (names_of_trees is) (world_tree n es)
 
 abbrev pub LacksFileEntry : Imports → List InterfaceTree → FileEntry → List ℕ → Type 0
 LacksFileEntry m is (AnInterface name es) n = IsUnknownIn m is (interface_tree name es) n
-LacksFileEntry m is (AWorld at name es) n = IsUnknownInWorld m (interface_names is) (world_tree name es) n
+LacksFileEntry m is (AWorld at name es) n = IsUnknownInWorld m (names_of_trees is) (world_tree name es) n
 
 abbrev pub RefusesUnknown : Imports → List InterfaceTree → List WorldTree → ResolveError → Type 0
 RefusesUnknown m is ws (error.Unknown n) =
-    ((i : InterfaceTree) × Contains is i × IsUnknownIn m is i n) ⊎ ((w : WorldTree) × Contains ws w × IsUnknownInWorld m (interface_names is) w n)
+    ((i : InterfaceTree) × Contains is i × IsUnknownIn m is i n) ⊎ ((w : WorldTree) × Contains ws w × IsUnknownInWorld m (names_of_trees is) w n)
 RefusesUnknown m is ws error.NoMemory = Unit {0}
 RefusesUnknown m is ws _ = ⊥
 

@@ -50,9 +50,9 @@ pub record Choice : Type 0 where
   pub name : List ℕ
   pub payload : Option Tree
 
-abbrev pub fields_of : List Labelled → Fields
-fields_of [] = no_fields
-fields_of (f ∷ fs) = field f.name f.tree (fields_of fs)
+abbrev pub fields_of_labelled : List Labelled → Fields
+fields_of_labelled [] = no_fields
+fields_of_labelled (f ∷ fs) = field f.name f.tree (fields_of_labelled fs)
 
 abbrev pub unlabelled : List Tree → Fields
 unlabelled [] = no_fields
@@ -105,7 +105,7 @@ case_meaning i c = record { name = c.name; payload = resolved_if i c.payload }
 
 abbrev pub definition_meaning : List ℕ → Definition → Tree
 definition_meaning i (Alias t) = resolved i t
-definition_meaning i (Record ms) = RecordTree Plain (fields_of (map (member_meaning i) ms))
+definition_meaning i (Record ms) = RecordTree Plain (fields_of_labelled (map (member_meaning i) ms))
 definition_meaning i (Variant cs) = VariantTree Plain (choices_of (map (case_meaning i) cs))
 definition_meaning i (Enumeration ns) = VariantTree AsEnum (read_enum ns)
 definition_meaning i (FlagSet ns) = FlagsTree ns
@@ -123,10 +123,10 @@ type_meaning i t = record {
   meaning = IsType (definition_meaning i t.definition);
 }
 
-abbrev pub function_meaning : List ℕ → FunctionItem → NamedDefinition
-function_meaning i f = record {
+abbrev pub meaning_of_function : List ℕ → FunctionItem → NamedDefinition
+meaning_of_function i f = record {
   key = record { interface = i; name = f.name };
-  meaning = IsFunction (fields_of (map (member_meaning i) f.function.params)) (resolved_if i f.function.result);
+  meaning = IsFunction (fields_of_labelled (map (member_meaning i) f.function.params)) (resolved_if i f.function.result);
 }
 
 abbrev pub no_type : TypeItem
@@ -139,7 +139,7 @@ in_order i types order = map (λ k. type_meaning i (slice_index_or types k no_ty
 -- an interface's uses, its types in this order, and its functions
 abbrev pub interface_meaning : InterfaceTree → List ℕ → List NamedDefinition
 interface_meaning i order =
-    map (use_meaning i.name) i.uses ++ (in_order i.name i.types order ++ map (function_meaning i.name) i.functions)
+    map (use_meaning i.name) i.uses ++ (in_order i.name i.types order ++ map (meaning_of_function i.name) i.functions)
 
 -- ---- worlds
 
@@ -148,12 +148,12 @@ direction_meaning syntax.Import = direction.Import
 direction_meaning syntax.Export = direction.Export
 
 -- a function of a world names no type, so the interface of its references is none
-abbrev pub item_meaning : ItemTree → ItemMeaning
-item_meaning (InterfaceNamed way i) = WithInterface (direction_meaning way) i
-item_meaning (ForeignNamed way q i) = WithInterface (direction_meaning way) (own_name q i)
-item_meaning (FunctionOf way f) =
-    WithFunction (direction_meaning way) f.name (fields_of (map (member_meaning []) f.function.params)) (resolved_if [] f.function.result)
+abbrev pub tree_item_meaning : ItemTree → ItemMeaning
+tree_item_meaning (InterfaceNamed way i) = WithInterface (direction_meaning way) i
+tree_item_meaning (ForeignNamed way q i) = WithInterface (direction_meaning way) (own_name q i)
+tree_item_meaning (FunctionOf way f) =
+    WithFunction (direction_meaning way) f.name (fields_of_labelled (map (member_meaning []) f.function.params)) (resolved_if [] f.function.result)
 
 -- a world under its name, its items in order
-abbrev pub world_meaning : WorldTree → WorldMeaning
-world_meaning w = record { name = w.name; items = map item_meaning w.items }
+abbrev pub meaning_of_world : WorldTree → WorldMeaning
+meaning_of_world w = record { name = w.name; items = map tree_item_meaning w.items }

@@ -20,10 +20,10 @@ use Rattle.tables.specs.declared.tables.Owner.TheVariants as owner
 use Rattle.tables.specs.declared.tables.Definition.{Definition}
 use Rattle.tables.specs.declared.tables.Definition.TheVariants as row
 use Rattle.package_form.specs.Postfix.{IsPostfix}
-use Rattle.tree_meaning.specs.Declarations.{UsedItem, TypeItem, FunctionItem, InterfaceTree, ItemTree, InterfaceNamed, ForeignNamed, FunctionOf, WorldTree, path_package, path_interface, other_packages, interfaces, worlds, full_interfaces, full_worlds, package_named, interface_at, interface_names, own_use, type_names, own_types, named_definition, named_function}
+use Rattle.tree_meaning.specs.Declarations.{UsedItem, TypeItem, FunctionItem, InterfaceTree, ItemTree, InterfaceNamed, ForeignNamed, FunctionOf, WorldTree, path_package, path_interface, other_packages, interfaces, file_worlds, full_interfaces, full_worlds, package_named, interface_at, names_of_trees, own_use, type_names, own_types, named_definition, names_in_function}
 use Rattle.tree_meaning.specs.Imports.{Import, Imports, no_package, no_imports, AreApart, HasImport, import_place, interfaces_of, imports_of}
 use Rattle.tree_meaning.specs.Scopes.{scopes}
-use Rattle.tree_meaning.specs.Resolved.{interface_meaning, world_meaning}
+use Rattle.tree_meaning.specs.Resolved.{interface_meaning, meaning_of_world}
 use Rattle.tables.specs.declared.error.ResolveError.{ResolveError}
 use Rattle.tables.specs.declared.error.ResolveError.TheVariants as error
 use Rattle.tables.specs.declared.tables.Resolve.{Resolve}
@@ -48,7 +48,7 @@ uses_of_interface ns i = places ns (own_uses i)
 
 -- which interfaces of its own package each interface uses: those of others stand before all
 abbrev pub interface_uses : List InterfaceTree → List (List ℕ)
-interface_uses is = map (uses_of_interface (interface_names is)) is
+interface_uses is = map (uses_of_interface (names_of_trees is)) is
 
 -- the place of an interface of the file's own package, of these names, or of another one: imports stand before the own interfaces
 abbrev pub used_place : List Import → List (List ℕ) → Option PackageParts → List ℕ → Option ℕ
@@ -79,7 +79,7 @@ pub record ResolvesBehind (before : Package) (is : List InterfaceTree) (ws : Lis
   pub types : ℕ → List ℕ
   pub types_placed : (k : ℕ) → k < length is → IsPlacement (type_uses (interface_at is k)) (types k)
   pub names : p.interfaces ≡ before.interfaces ++ names_in_order is order
-  pub worlds : p.worlds ≡ map world_meaning ws
+  pub worlds : p.worlds ≡ map meaning_of_world ws
   pub definitions : p.definitions ≡ before.definitions ++ flat_map (λ k. interface_meaning (interface_at is k) (types k)) order
 
 -- .. of a file that stands alone
@@ -166,7 +166,7 @@ IsKnownUseOf m is u = IsKnownIn m is u.«package» u.interface u.name
 -- n is the interface's name where the interface isn't there, or the name where the interface lacks it
 abbrev pub IsLackingIn : Imports → List InterfaceTree → Option PackageParts → List ℕ → List ℕ → List ℕ → Type 0
 IsLackingIn m is None i name n =
-    ((n ≡ i) × (¬ Contains (interface_names is) n))
+    ((n ≡ i) × (¬ Contains (names_of_trees is) n))
     ⊎ ((n ≡ name) × ((j : InterfaceTree) × Contains is j × (j.name ≡ i) × (¬ Contains (type_names j) n)))
 IsLackingIn m is (Some q) i name n =
     ((n ≡ i) × (¬ HasImport m q n))
@@ -183,13 +183,13 @@ abbrev pub IsUnknownIn : Imports → List InterfaceTree → InterfaceTree → Li
 IsUnknownIn m is i n =
     ((u : UsedItem) × Contains i.uses u × IsUnknownUse m is u n)
     ⊎ (((t : TypeItem) × Contains i.types t × IsUnknownName i (named_definition t.definition) n)
-    ⊎ ((f : FunctionItem) × Contains i.functions f × IsUnknownName i (named_function f.function) n))
+    ⊎ ((f : FunctionItem) × Contains i.functions f × IsUnknownName i (names_in_function f.function) n))
 
 -- an item of a world names an interface that is none of these or no import, or a type, of which a world declares none
 abbrev pub IsUnknownItem : Imports → List (List ℕ) → ItemTree → List ℕ → Type 0
 IsUnknownItem m names (InterfaceNamed way i) n = (n ≡ i) × (¬ Contains names n)
 IsUnknownItem m names (ForeignNamed way q i) n = (n ≡ i) × (¬ HasImport m q n)
-IsUnknownItem m names (FunctionOf way f) n = Contains (named_function f.function) n
+IsUnknownItem m names (FunctionOf way f) n = Contains (names_in_function f.function) n
 
 abbrev pub IsUnknownInWorld : Imports → List (List ℕ) → WorldTree → List ℕ → Type 0
 IsUnknownInWorld m names w n = (i : ItemTree) × Contains w.items i × IsUnknownItem m names i n
@@ -197,17 +197,17 @@ IsUnknownInWorld m names w n = (i : ItemTree) × Contains w.items i × IsUnknown
 abbrev pub HasUnknown : Imports → File → List ℕ → Type 0
 HasUnknown m f n =
     ((i : InterfaceTree) × Contains (interfaces f) i × IsUnknownIn m (interfaces f) i n)
-    ⊎ ((w : WorldTree) × Contains (worlds f) w × IsUnknownInWorld m (interface_names (interfaces f)) w n)
+    ⊎ ((w : WorldTree) × Contains (file_worlds f) w × IsUnknownInWorld m (names_of_trees (interfaces f)) w n)
 
 pub record HasKnownNamesOf (m : Imports) (is : List InterfaceTree) (i : InterfaceTree) : Type 0 where
   pub uses : All (IsKnownUseOf m is) i.uses
   pub types : All (λ t. All (Contains (type_names i)) (named_definition t.definition)) i.types
-  pub functions : All (λ f. All (Contains (type_names i)) (named_function f.function)) i.functions
+  pub functions : All (λ f. All (Contains (type_names i)) (names_in_function f.function)) i.functions
 
 abbrev pub IsKnownItemOf : Imports → List (List ℕ) → ItemTree → Type 0
 IsKnownItemOf m names (InterfaceNamed way i) = Contains names i
 IsKnownItemOf m names (ForeignNamed way q i) = HasImport m q i
-IsKnownItemOf m names (FunctionOf way f) = named_function f.function ≡ []
+IsKnownItemOf m names (FunctionOf way f) = names_in_function f.function ≡ []
 
 abbrev pub IsKnownWorldOf : Imports → List (List ℕ) → WorldTree → Type 0
 IsKnownWorldOf m names w = All (IsKnownItemOf m names) w.items
@@ -215,7 +215,7 @@ IsKnownWorldOf m names w = All (IsKnownItemOf m names) w.items
 -- each name stands for something
 pub record KnowsAllOf (m : Imports) (f : File) : Type 0 where
   pub in_interfaces : All (HasKnownNamesOf m (interfaces f)) (interfaces f)
-  pub in_worlds : All (IsKnownWorldOf m (interface_names (interfaces f))) (worlds f)
+  pub in_worlds : All (IsKnownWorldOf m (names_of_trees (interfaces f))) (file_worlds f)
 
 -- interfaces that use each other, or types of one interface that name each other
 abbrev pub HasCycle : File → Type 0

@@ -4,12 +4,12 @@ use Rattle.wit_syntax.specs.Syntax.{FileEntry, AnInterface, AWorld, File}
 use Rattle.tables.specs.PackageNames.{PackageParts}
 use Rattle.package_form.specs.Naming.{world_scopes}
 use Rattle.tree_meaning.specs.Declarations.{item_scopes, world_tree, full_world, package_named}
-use Rattle.tree_meaning.specs.Resolved.{world_meaning}
+use Rattle.tree_meaning.specs.Resolved.{meaning_of_world}
 
 -- those in an interface, or in a world of the package of this name: its imports, its exports, and the parameters of each function
 abbrev pub interface_scopes : PackageParts → FileEntry → List (List (List ℕ))
 interface_scopes p (AnInterface n es) = item_scopes es
-interface_scopes p (AWorld at n es) = world_scopes (world_meaning (full_world p (world_tree n es)))
+interface_scopes p (AWorld at n es) = world_scopes (meaning_of_world (full_world p (world_tree n es)))
 
 abbrev pub file_name : FileEntry → List ℕ
 file_name (AnInterface n es) = n

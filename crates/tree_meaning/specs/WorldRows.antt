@@ -5,8 +5,8 @@ use Rattle.tables.specs.Tables.{is_type, function_all, function_of, is_placed_it
 use Rattle.tables.specs.Package.{ItemMeaning, WorldMeaning, item_meaning}
 use Rattle.package_form.specs.Postfix.{Leaves}
 use Rattle.package_form.specs.Entries.{Table}
-use Rattle.package_form.specs.Form.{function_at, functions_of}
-use Rattle.tree_meaning.specs.Building.{Front, table_trees, table_definitions, world_functions}
+use Rattle.package_form.specs.Form.{functions_in_item, functions_of}
+use Rattle.tree_meaning.specs.Building.{IsTableFront, table_trees, table_definitions, world_functions}
 use Rattle.tables.specs.declared.tables.Function.{Function}
 use Rattle.tables.specs.declared.tables.Definition.{Definition}
 use Rattle.tables.specs.declared.tables.WorldItemKind.{WorldItemKind}
@@ -16,7 +16,7 @@ use Rattle.tables.specs.declared.tables.World.{World}
 
 -- the table got these functions of worlds, and no definition of an interface; no row is left to be used
 pub record AddsFunctions (old new : Table) (functions : List ℕ) : Type 0 where
-  pub front : Front old new
+  pub front : IsTableFront old new
   pub same : table_definitions new ≡ table_definitions old
   pub postfix : Leaves old.rows [] → Leaves new.rows []
   pub own : world_functions new ≡ world_functions old ++ functions
@@ -55,12 +55,12 @@ with_worlds t ws = record { interfaces = t.interfaces; worlds = ws; rows = t.row
 
 -- the table got the rows of an item of the world at place k, which reads so
 pub record DefinesItem (old new : Table) (k : ℕ) (i : WorldItem) (m : ItemMeaning) : Type 0 where
-  pub adds : AddsFunctions old new (function_at i)
+  pub adds : AddsFunctions old new (functions_in_item i)
   pub stands : item_stands new k i ≡ true
   pub reads : item_reads new i ≡ m
 
 pub record DefinesItems (old new : Table) (k : ℕ) (is : List WorldItem) (ms : List ItemMeaning) : Type 0 where
-  pub adds : AddsFunctions old new (flat_map function_at is)
+  pub adds : AddsFunctions old new (flat_map functions_in_item is)
   pub stand : list_all (item_stands new k) is ≡ true
   pub read : map (item_reads new) is ≡ ms
 

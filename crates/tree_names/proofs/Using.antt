@@ -4,8 +4,8 @@ use Rattle.std.specs.List.{cons_option}
 use Rattle.std.proofs.lemmas.List.{length-map, length-append, get_or-map, get_or_append_left, get_or_at}
 use Rattle.std.proofs.lemmas.List.Elements.{filter_map-append}
 use Rattle.placement.specs.Order.{IsPlacement}
-use Rattle.tree_meaning.specs.Declarations.{InterfaceTree, interface_at, no_interface, interface_names, interface_name, own_types, type_name, named_definition}
-use Rattle.tree_scopes.specs.Lent.{lent, lent_name}
+use Rattle.tree_meaning.specs.Declarations.{InterfaceTree, interface_at, no_interface, names_of_trees, interface_tree_name, own_types, type_name, named_definition}
+use Rattle.tree_scopes.specs.Lent.{lent_names, lent_name}
 use Rattle.tree_scopes.specs.Sources.{declared_tree}
 use Rattle.tree_meaning.specs.Resolves.{place_of, places, interface_uses, uses_of_interface, own_uses, type_uses, uses_of_type}
 use Rattle.tree_scopes.specs.declared.declared.Declarations.{Declarations}
@@ -14,14 +14,14 @@ use Rattle.package_form.proofs.Meeting.{below_or_at}
 use Rattle.tree_meaning.proofs.Finding.{place-below}
 
 module _ (ns : List (List ℕ)) (wanted : List (Bor (List ℕ))) (k : ℕ) (x : Bor (List ℕ)) (l : k < length wanted) (is : x ≡ get_or wanted k x) where
-  places-more : places ns (lent (take (k + 1) wanted)) ≡ places ns (lent (take k wanted)) ++ cons_option (place_of ns x.now) []
-  places-more = ap (places ns) (map-more lent_name wanted k x l is) ∙ filter_map-append (place_of ns) (lent (take k wanted)) (x.now ∷ [])
+  places-more : places ns (lent_names (take (k + 1) wanted)) ≡ places ns (lent_names (take k wanted)) ++ cons_option (place_of ns x.now) []
+  places-more = ap (places ns) (map-more lent_name wanted k x l is) ∙ filter_map-append (place_of ns) (lent_names (take k wanted)) (x.now ∷ [])
 
-  pub places-some : (j : ℕ) → place_of ns x.now ≡ Some j → places ns (lent (take (k + 1) wanted)) ≡ places ns (lent (take k wanted)) ++ j ∷ []
-  places-some j e = places-more ∙ ap (λ (o : Option ℕ). places ns (lent (take k wanted)) ++ cons_option o []) e
+  pub places-some : (j : ℕ) → place_of ns x.now ≡ Some j → places ns (lent_names (take (k + 1) wanted)) ≡ places ns (lent_names (take k wanted)) ++ j ∷ []
+  places-some j e = places-more ∙ ap (λ (o : Option ℕ). places ns (lent_names (take k wanted)) ++ cons_option o []) e
 
-  pub places-none : place_of ns x.now ≡ None → places ns (lent (take (k + 1) wanted)) ≡ places ns (lent (take k wanted))
-  places-none e = places-more ∙ ap (λ (o : Option ℕ). places ns (lent (take k wanted)) ++ cons_option o []) e ∙ by (places ns (lent (take k wanted)))
+  pub places-none : place_of ns x.now ≡ None → places ns (lent_names (take (k + 1) wanted)) ≡ places ns (lent_names (take k wanted))
+  places-none e = places-more ∙ ap (λ (o : Option ℕ). places ns (lent_names (take k wanted)) ++ cons_option o []) e ∙ by (places ns (lent_names (take k wanted)))
     where
       by : (xs : List ℕ) → xs ++ [] ≡ xs
       by [] = refl
@@ -44,8 +44,8 @@ graph-below h n xs e f = subst (λ m. All (λ used. All (λ u. u < m) used) (map
 
 pub interface_graph-below : (is : List InterfaceTree) (g : List (List ℕ)) → g ≡ interface_uses is → All (λ used. All (λ u. u < length g) used) g
 interface_graph-below is g e =
-    let ns = interface_names is in
-    let len : length ns ≡ length (interface_uses is) = length-map is interface_name ∙ sym (length-map is (uses_of_interface ns)) in
+    let ns = names_of_trees is in
+    let len : length ns ≡ length (interface_uses is) = length-map is interface_tree_name ∙ sym (length-map is (uses_of_interface ns)) in
     subst (λ (x : List (List ℕ)). All (λ used. All (λ u. u < length x) used) x) (sym e)
     (graph-below (uses_of_interface ns) (length ns) is len (λ i. places-below ns (own_uses i)))
 

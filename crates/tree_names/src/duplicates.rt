@@ -3,7 +3,7 @@ ghost use Rattle.std.specs.Prelude.{◌≡◌, ◌++◌, ◌∷◌, [], ◌⊎�
 ghost use Rattle.wit_syntax.specs.View.{used_view, field_view, case_view, definition_view, entry_view, item_view};
 ghost use Rattle.tables.specs.PackageNames.{PackageParts};
 ghost use Rattle.tables.specs.Package.{ItemMeaning};
-ghost use Rattle.tree_meaning.specs.Declarations.{local_name, member_name, case_name, definition_scopes, entry_names, entry_scopes, item_scopes};
+ghost use Rattle.tree_meaning.specs.Declarations.{local_name, member_name, tree_case_name, definition_scopes, entry_names, entry_scopes, item_scopes};
 ghost use Rattle.tree_meaning.specs.Scopes.{file_name, interface_scopes, scopes_in};
 ghost use Rattle.tree_scopes.specs.Sources.{item_in, world_in};
 ghost use Rattle.package_form.specs.Naming.{item_name, item_parameters, world_scopes};
@@ -43,8 +43,8 @@ fn distinct_fields(alloc: Global, keyed: KeyedState, fields: &[Field]) -> Result
 }
 
 fn distinct_cases(alloc: Global, keyed: KeyedState, cases: &[Case]) -> Result<(), ResolveError>
-    ensures ok { OnOk result (AreDistinct (map case_name (map case_view cases.now))) }
-    ensures err { IfErr result (RefusesNames (map case_name (map case_view cases.now))) }
+    ensures ok { OnOk result (AreDistinct (map tree_case_name (map case_view cases.now))) }
+    ensures err { IfErr result (RefusesNames (map tree_case_name (map case_view cases.now))) }
 {
     let mut scope = Scope::new(alloc, keyed);
     for case in cases {

@@ -3,7 +3,7 @@ ghost use Rattle.std.specs.Prelude.{◌≡◌, ◌++◌, ◌<◌, ◌⊎◌, ℕ
 ghost use Rattle.tree_meaning.specs.Declarations.{InterfaceTree, interface_at, own_use};
 ghost use Rattle.placement.specs.Order.{IsPlacement, IsCycle};
 ghost use Rattle.tree_meaning.specs.Resolves.{places, interface_uses, type_uses};
-ghost use Rattle.tree_scopes.specs.Lent.{lent, used_item_of};
+ghost use Rattle.tree_scopes.specs.Lent.{lent_names, used_item_of};
 ghost use Rattle.tree_scopes.specs.Sources.{declared_tree};
 
 use crate::named::definition_names;
@@ -16,7 +16,7 @@ use wit_syntax::Path;
 
 /// The places of these names, without those that don't stand there.
 fn places(alloc: Global, names: &Names, wanted: &[&Label]) -> Result<Sequence<usize>, AllocError>
-    ensures { IfOk result (λ ps. ps ≡ places names.now (lent wanted.now)) }
+    ensures { IfOk result (λ ps. ps ≡ places names.now (lent_names wanted.now)) }
 {
     let mut found = Vec::new(alloc);
     for name in wanted {
@@ -29,7 +29,7 @@ fn places(alloc: Global, names: &Names, wanted: &[&Label]) -> Result<Sequence<us
 
 /// Appends the names of the interfaces of the own package that are used.
 fn push_interfaces<'a>(names: &mut Vec<&'a Label>, uses: &[UsedType<'a>]) -> Result<(), AllocError>
-    ensures { OnOk result (lent names.new.items ≡ lent names.old.items ++ filter_map own_use (map used_item_of uses.now)) }
+    ensures { OnOk result (lent_names names.new.items ≡ lent_names names.old.items ++ filter_map own_use (map used_item_of uses.now)) }
 {
     for used in uses {
         if let Path::Local(interface) = used.path {

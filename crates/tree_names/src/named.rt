@@ -2,8 +2,8 @@
 ghost use Rattle.std.specs.Prelude.{◌≡◌, ◌++◌, map, flat_map, OnOk, IfOk};
 ghost use Rattle.wit_syntax.specs.Syntax.{tys_of};
 ghost use Rattle.wit_syntax.specs.View.{ty_view, boxed_view, optional_view, field_view, case_view, definition_view, function_view};
-ghost use Rattle.tree_meaning.specs.Declarations.{named, named_all, named_maybe, named_if, named_member, named_case, named_definition, named_function};
-ghost use Rattle.tree_scopes.specs.Lent.{lent};
+ghost use Rattle.tree_meaning.specs.Declarations.{named, named_all, named_maybe, named_if, named_member, named_case, named_definition, names_in_function};
+ghost use Rattle.tree_scopes.specs.Lent.{lent_names};
 
 use atoms::Label;
 use std::alloc::{AllocError, Global};
@@ -12,7 +12,7 @@ use wit_syntax::{Case, Field, FuncType, TypeDefKind, TypeExpression};
 /// Appends the names that a type names, from the left.
 #[cycle(named)]
 fn push_named<'a>(names: &mut Vec<&'a Label>, ty: &'a TypeExpression) -> Result<(), AllocError>
-    ensures { OnOk result (lent names.new.items ≡ lent names.old.items ++ named (ty_view ty.now)) }
+    ensures { OnOk result (lent_names names.new.items ≡ lent_names names.old.items ++ named (ty_view ty.now)) }
 {
     match ty {
         TypeExpression::Primitive(_) => Ok(()),
@@ -31,7 +31,7 @@ fn push_named_boxed<'a>(
     names: &mut Vec<&'a Label>,
     ty: &'a Option<Box<TypeExpression>>,
 ) -> Result<(), AllocError>
-    ensures { OnOk result (lent names.new.items ≡ lent names.old.items ++ named_maybe (boxed_view ty.now)) }
+    ensures { OnOk result (lent_names names.new.items ≡ lent_names names.old.items ++ named_maybe (boxed_view ty.now)) }
 {
     match ty {
         Some(ty) => push_named(names, ty),
@@ -44,7 +44,7 @@ fn push_named_all<'a>(
     names: &mut Vec<&'a Label>,
     types: &'a Vec<TypeExpression>,
 ) -> Result<(), AllocError>
-    ensures { OnOk result (lent names.new.items ≡ lent names.old.items ++ named_all (tys_of (map ty_view types.now.items))) }
+    ensures { OnOk result (lent_names names.new.items ≡ lent_names names.old.items ++ named_all (tys_of (map ty_view types.now.items))) }
 {
     for ty in types {
         push_named(names, ty)?;
@@ -56,7 +56,7 @@ fn push_named_optional<'a>(
     names: &mut Vec<&'a Label>,
     ty: &'a Option<TypeExpression>,
 ) -> Result<(), AllocError>
-    ensures { OnOk result (lent names.new.items ≡ lent names.old.items ++ named_if (optional_view ty.now)) }
+    ensures { OnOk result (lent_names names.new.items ≡ lent_names names.old.items ++ named_if (optional_view ty.now)) }
 {
     match ty {
         Some(ty) => push_named(names, ty),
@@ -65,7 +65,7 @@ fn push_named_optional<'a>(
 }
 
 fn push_named_fields<'a>(names: &mut Vec<&'a Label>, fields: &'a [Field]) -> Result<(), AllocError>
-    ensures { OnOk result (lent names.new.items ≡ lent names.old.items ++ flat_map named_member (map field_view fields.now)) }
+    ensures { OnOk result (lent_names names.new.items ≡ lent_names names.old.items ++ flat_map named_member (map field_view fields.now)) }
 {
     for field in fields {
         push_named(names, &field.ty)?;
@@ -74,7 +74,7 @@ fn push_named_fields<'a>(names: &mut Vec<&'a Label>, fields: &'a [Field]) -> Res
 }
 
 fn push_named_cases<'a>(names: &mut Vec<&'a Label>, cases: &'a [Case]) -> Result<(), AllocError>
-    ensures { OnOk result (lent names.new.items ≡ lent names.old.items ++ flat_map named_case (map case_view cases.now)) }
+    ensures { OnOk result (lent_names names.new.items ≡ lent_names names.old.items ++ flat_map named_case (map case_view cases.now)) }
 {
     for case in cases {
         push_named_optional(names, &case.payload)?;
@@ -87,7 +87,7 @@ pub fn definition_names<'a>(
     alloc: Global,
     kind: &'a TypeDefKind,
 ) -> Result<Vec<&'a Label>, AllocError>
-    ensures { IfOk result (λ ns. lent ns.items ≡ named_definition (definition_view kind.now)) }
+    ensures { IfOk result (λ ns. lent_names ns.items ≡ named_definition (definition_view kind.now)) }
 {
     let mut names = Vec::new(alloc);
     match kind {
@@ -101,7 +101,7 @@ pub fn definition_names<'a>(
 
 /// The names that a function names, from the left.
 pub fn function_names<'a>(alloc: Global, ty: &'a FuncType) -> Result<Vec<&'a Label>, AllocError>
-    ensures { IfOk result (λ ns. lent ns.items ≡ named_function (function_view ty.now)) }
+    ensures { IfOk result (λ ns. lent_names ns.items ≡ names_in_function (function_view ty.now)) }
 {
     let mut names = Vec::new(alloc);
     push_named_fields(&mut names, &ty.params)?;

@@ -2,7 +2,7 @@
 ghost use Rattle.std.specs.Prelude.{◌≡◌, true, map, filter_map, All, IfOk, IfErr, OnOk};
 ghost use Rattle.atoms.specs.Label.{IsLabel};
 ghost use Rattle.wit_syntax.specs.View.{item_view, file_view};
-ghost use Rattle.tree_meaning.specs.Declarations.{interface_of, interfaces, interface_names};
+ghost use Rattle.tree_meaning.specs.Declarations.{interface_of, interfaces, names_of_trees};
 ghost use Rattle.tree_meaning.specs.Imports.{imports_of};
 ghost use Rattle.tree_meaning.specs.Resolves.{ResolveRefusesOf, HasNoFaultsOf, file_fits};
 ghost use Rattle.tree_scopes.specs.Sources.{declared_tree};
@@ -43,7 +43,7 @@ pub fn declarations<'a>(
 ) -> Result<Vec<Declarations<'a>>, ResolveError>
     ensures faults { IfOk result (λ _. HasNoFaultsOf (imports_of imports.now.table) (file_view ast.now)) }
     ensures ok { IfOk result (λ ds. map declared_tree ds.items ≡ interfaces (file_view ast.now)) }
-    ensures labels { IfOk result (λ _. All IsLabel (interface_names (interfaces (file_view ast.now)))) }
+    ensures labels { IfOk result (λ _. All IsLabel (names_of_trees (interfaces (file_view ast.now)))) }
     ensures fits { OnOk result (file_fits (file_view ast.now) ≡ true) }
     ensures err { IfErr result (ResolveRefusesOf (imports_of imports.now.table) (file_view ast.now)) }
 {

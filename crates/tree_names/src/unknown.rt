@@ -2,11 +2,11 @@
 ghost use Rattle.std.specs.Prelude.{◌≡◌, ◌↔◌, ◌<◌, All, Contains, IsTrue, IfOk, IfErr, OnOk, IfSome, IfNone, None, Some, map, filter_map, length};
 ghost use Rattle.atoms.specs.Label.{IsLabel};
 ghost use Rattle.wit_syntax.specs.View.{entry_view, path_view, used_view, world_entry_view, item_view};
-ghost use Rattle.tree_meaning.specs.Declarations.{InterfaceTree, path_uses, item_tree, interface_of, world_of, interface_at, interface_names};
+ghost use Rattle.tree_meaning.specs.Declarations.{InterfaceTree, path_uses, item_tree, interface_of, world_of, interface_at, names_of_trees};
 ghost use Rattle.tree_meaning.specs.Imports.{imports_of};
 ghost use Rattle.tree_meaning.specs.Resolves.{IsKnownIn, IsKnownUseOf, IsLackingIn, IsUnknownUse, HasKnownNamesOf, IsKnownItemOf, IsUnknownItem, IsKnownWorldOf};
-ghost use Rattle.tree_meaning.specs.Finished.{header};
-ghost use Rattle.tree_scopes.specs.Lent.{lent};
+ghost use Rattle.tree_meaning.specs.Finished.{header_name};
+ghost use Rattle.tree_scopes.specs.Lent.{lent_names};
 ghost use Rattle.tree_scopes.specs.Sources.{declared_tree, use_of};
 ghost use Rattle.tree_meaning.specs.Knowing.{IsThere, KnowsEntry, LacksEntry, LacksUse, LacksAny, LacksItem, KnowsFileEntry, LacksFileEntry, RefusesUnknown};
 
@@ -24,13 +24,13 @@ struct Tree<'a> {
     all: &'a [Declarations<'a>],
     /// The names of these interfaces.
     names: Names<'a>,
-    ghost named: { names ≡ interface_names (map declared_tree all.now) },
+    ghost named: { names ≡ names_of_trees (map declared_tree all.now) },
 }
 
 /// The first of these names that isn't known.
 fn first_unknown<'a>(known: &Names, names: &[&'a Label]) -> Option<&'a Label>
-    ensures none { IfNone result (All (Contains known.now) (lent names.now)) }
-    ensures some { IfSome result (λ n. Contains (lent names.now) n.now × (¬ Contains known.now n.now)) }
+    ensures none { IfNone result (All (Contains known.now) (lent_names names.now)) }
+    ensures some { IfSome result (λ n. Contains (lent_names names.now) n.now × (¬ Contains known.now n.now)) }
 {
     for name in names {
         let Some(_) = known.place_of(name) else {
@@ -42,7 +42,7 @@ fn first_unknown<'a>(known: &Names, names: &[&'a Label]) -> Option<&'a Label>
 
 /// The interface of this name.
 fn find_interface<'a>(tree: &Tree<'a>, name: &Label) -> Option<&'a Declarations<'a>>
-    ensures none { IfNone result (¬ Contains (interface_names (map declared_tree tree.now.all.now)) name.now) }
+    ensures none { IfNone result (¬ Contains (names_of_trees (map declared_tree tree.now.all.now)) name.now) }
     ensures some { IfSome result (λ d. Contains (map declared_tree tree.now.all.now) (declared_tree d.now) × ((declared_tree d.now).name ≡ name.now)) }
 {
     match tree.names.place_of(name) {
@@ -72,8 +72,8 @@ fn unknown_in_import<'a>(
     interface: &'a Label,
     name: &'a Label,
 ) -> Option<&'a Label>
-    ensures none { IfNone result (IsKnownIn (imports_of tree.now.imports.now.table) (map declared_tree tree.now.all.now) (Some (header «package».now)) interface.now name.now) }
-    ensures some { IfSome result (λ n. IsLackingIn (imports_of tree.now.imports.now.table) (map declared_tree tree.now.all.now) (Some (header «package».now)) interface.now name.now n.now) }
+    ensures none { IfNone result (IsKnownIn (imports_of tree.now.imports.now.table) (map declared_tree tree.now.all.now) (Some (header_name «package».now)) interface.now name.now) }
+    ensures some { IfSome result (λ n. IsLackingIn (imports_of tree.now.imports.now.table) (map declared_tree tree.now.all.now) (Some (header_name «package».now)) interface.now name.now n.now) }
 {
     match import_place(&tree.imports.table, package, interface) {
         None => Some(interface),
@@ -238,8 +238,8 @@ pub fn known_names(
 ) -> Result<(), ResolveError>
     requires { map declared_tree all.now ≡ filter_map interface_of (map item_view items.now) }
     ensures ok { OnOk result (All (HasKnownNamesOf (imports_of imports.now.table) (map declared_tree all.now)) (map declared_tree all.now)) }
-    ensures worlds { OnOk result (All (IsKnownWorldOf (imports_of imports.now.table) (interface_names (map declared_tree all.now))) (filter_map world_of (map item_view items.now))) }
-    ensures labels { OnOk result (All IsLabel (interface_names (map declared_tree all.now))) }
+    ensures worlds { OnOk result (All (IsKnownWorldOf (imports_of imports.now.table) (names_of_trees (map declared_tree all.now))) (filter_map world_of (map item_view items.now))) }
+    ensures labels { OnOk result (All IsLabel (names_of_trees (map declared_tree all.now))) }
     ensures err { IfErr result (RefusesUnknown (imports_of imports.now.table) (map declared_tree all.now) (filter_map world_of (map item_view items.now))) }
 {
     let names = interface_names(alloc, imports.keyed, all)?;

@@ -15,7 +15,7 @@ use Rattle.tables.specs.declared.tables.Interface.{Interface}
 use Rattle.tables.proofs.Rows.{split, both}
 use Rattle.package_form.proofs.Lists.{list-grows}
 use Rattle.package_form.specs.Ids.{interface_in, interfaces_from}
-use Rattle.tree_meaning.specs.Finished.{interface_of, with_type, with_row}
+use Rattle.tree_meaning.specs.Finished.{definition_interface, with_new_type, with_definition}
 use Rattle.tree_meaning.specs.Resolves.{in_package, interfaces_behind}
 use Rattle.tree_rows.proofs.Finishing.{interfaces-more, rows-elsewhere, rows-there}
 use Rattle.tree_meaning.proofs.TableRows.{interfaces-length, get-some}
@@ -80,17 +80,17 @@ pub interfaces-more-in : (n : ℕ) (rows : List Definition) (first : ℕ) (ns : 
 interfaces-more-in n rows first ns k name l is =
     ap (map (in_package n)) (interfaces-more rows first ns k name l is) ∙ map-append (in_package n) (interfaces_from rows first (take k ns)) (interface_in rows (first + k) name ∷ [])
 
-with-in : (n k : ℕ) (d : Definition) (y : Interface) → in_package n (with_row k d y) ≡ with_row k d (in_package n y)
+with-in : (n k : ℕ) (d : Definition) (y : Interface) → in_package n (with_definition k d y) ≡ with_definition k d (in_package n y)
 with-in n k (row.Function f) y = refl
 with-in n k (row.Type d) y = by d.kind
   where
-    by : (t : TypeDefKind) → in_package n (with_type k t y) ≡ with_type k t (in_package n y)
+    by : (t : TypeDefKind) → in_package n (with_new_type k t y) ≡ with_new_type k t (in_package n y)
     by (kind.Use t) = refl
     by _ = refl
 
 module _ (n : ℕ) (rows : List Definition) (k : ℕ) (d : Definition) (l : k < length rows) (at : d ≡ get_or rows k d) where
   -- the row stands in none of these interfaces
-  pub rows-elsewhere-in : (first : ℕ) (ns : List (List ℕ)) → ((j : ℕ) → j < length ns → interface_of d ≡ Some (first + j) → ⊥)
+  pub rows-elsewhere-in : (first : ℕ) (ns : List (List ℕ)) → ((j : ℕ) → j < length ns → definition_interface d ≡ Some (first + j) → ⊥)
       → interfaces_behind n first (take (k + 1) rows) ns ≡ interfaces_behind n first (take k rows) ns
   rows-elsewhere-in first ns h =
       ap (map (in_package n)) (rows-elsewhere rows k d l at first ns (λ j p q g.
@@ -98,11 +98,11 @@ module _ (n : ℕ) (rows : List Definition) (k : ℕ) (d : Definition) (l : k < 
       h (j - first) (omega (arith, p, q)) (g ∙ ap (λ (m : ℕ). Some m) same)))
 
   -- .. or in the one at place m
-  pub rows-there-in : (first m : ℕ) (ns : List (List ℕ)) (e : Interface) → m < length ns → interface_of d ≡ Some (first + m)
-      → interfaces_behind n first (take (k + 1) rows) ns ≡ set (interfaces_behind n first (take k rows) ns) m (with_row k d (get_or (interfaces_behind n first (take k rows) ns) m e))
+  pub rows-there-in : (first m : ℕ) (ns : List (List ℕ)) (e : Interface) → m < length ns → definition_interface d ≡ Some (first + m)
+      → interfaces_behind n first (take (k + 1) rows) ns ≡ set (interfaces_behind n first (take k rows) ns) m (with_definition k d (get_or (interfaces_behind n first (take k rows) ns) m e))
   rows-there-in first m ns e q h =
       let xs = interfaces_from (take k rows) first ns in
       let here : m < length xs = omega (arith, q, interfaces-length (take k rows) first ns) in
       ap (map (in_package n)) (rows-there rows k d l at first m ns e q h)
-      ∙ map-set (in_package n) xs m (with_row k d (get_or xs m e))
-      ∙ ap (set (map (in_package n) xs) m) (with-in n k d (get_or xs m e) ∙ ap (with_row k d) (sym (get_or-map (in_package n) xs m e e here)))
+      ∙ map-set (in_package n) xs m (with_definition k d (get_or xs m e))
+      ∙ ap (set (map (in_package n) xs) m) (with-in n k d (get_or xs m e) ∙ ap (with_definition k d) (sym (get_or-map (in_package n) xs m e e here)))

@@ -8,9 +8,9 @@ use Rattle.tables.specs.Tables.{is_type, option_all, function_all, function_of, 
 use Rattle.tables.specs.Package.{Tree, ItemMeaning, WithInterface, WithFunction, WorldMeaning, read_params, function_item}
 use Rattle.package_form.specs.Postfix.{Leaves, whole, unnamed_if, unnamed_parameter}
 use Rattle.package_form.specs.Entries.{Table}
-use Rattle.package_form.specs.Form.{function_at, functions_of}
+use Rattle.package_form.specs.Form.{functions_in_item, functions_of}
 use Rattle.tree_meaning.specs.Declarations.{named}
-use Rattle.tree_meaning.specs.Resolved.{Labelled, fields_of}
+use Rattle.tree_meaning.specs.Resolved.{Labelled, fields_of_labelled}
 use Rattle.tree_meaning.specs.Building.{Extends, LowersIf, LowersParameters, table_trees, world_functions, parameter_typed, read_parameter}
 use Rattle.tree_meaning.specs.WorldRows.{AddsFunctions, is_typed, item_stands, world_stands, worlds_stand, item_reads, world_reads, DefinesItem, DefinesItems, DefinesWorld, DefinesWorlds}
 use Rattle.tables.specs.declared.tables.Direction.{Direction}
@@ -59,7 +59,7 @@ pub items-more : (a b c : Table) (k : ℕ) (is : List WorldItem) (ms : List Item
 items-more a b c k is ms i m x y =
     let s = items-stay b c y.adds.front k is x.stand in
     record {
-      adds = subst (AddsFunctions a c) (last-flat function_at is i) (functions-trans a b c _ _ x.adds y.adds);
+      adds = subst (AddsFunctions a c) (last-flat functions_in_item is i) (functions-trans a b c _ _ x.adds y.adds);
       stand = list_all-append (item_stands c k) is (i ∷ [])
           ∙ both (list_all (item_stands c k) is) (item_stands c k i && true) s.0 (both (item_stands c k i) true y.stands refl);
       read = map-append (item_reads c) is (i ∷ []) ∙ rw (s.1, x.read, y.reads) refl;
@@ -70,7 +70,7 @@ pub world-defined : (own : PackageId) (old new : Table) (k : ℕ) (n name : List
 world-defined own old new k n name is js ms ns en ej em d =
     let named : List ℕ → List ItemMeaning → WorldMeaning = λ m xs. record { name = m; items = xs } in
     record {
-      adds = subst (λ (xs : List WorldItem). AddsFunctions old new (flat_map function_at xs)) (sym ej) d.adds;
+      adds = subst (λ (xs : List WorldItem). AddsFunctions old new (flat_map functions_in_item xs)) (sym ej) d.adds;
       stands = both (own.0 == own.0) (list_all (item_stands new k) js) (is-that own.0 own.0 refl) (ap (list_all (item_stands new k)) ej ∙ d.stand);
       reads = ap (λ (m : List ℕ). named m (map (item_reads new) js)) en ∙ ap (named name) (ap (map (item_reads new)) ej ∙ d.read ∙ em);
     }
@@ -102,7 +102,7 @@ worlds-more own a b c ws ms k w m at x y =
 pub function-defined : (old mid last new : Table) (k : WorldId) (n name : List ℕ) (ps : List Parameter) (ls : List Labelled) (r : Option ValType) (t : Option Tree) (id : ℕ)
     → LowersParameters old mid ps ls → LowersIf mid last r t → n ≡ name → id ≡ length last.rows
     → With last (row.Function (record { owner = owner.World k; name = n; params = ps; result = r })) new
-    → (way : Direction) → DefinesItem old new k.0 (record { direction = way; kind = item.Function (record { 0 = id }) }) (WithFunction way name (fields_of ls) t)
+    → (way : Direction) → DefinesItem old new k.0 (record { direction = way; kind = item.Function (record { 0 = id }) }) (WithFunction way name (fields_of_labelled ls) t)
 function-defined old mid last new k n name ps ls r t id l m en at with way =
     let f : Function = record { owner = owner.World k; name = n; params = ps; result = r } in
     let d = row.Function f in
@@ -110,7 +110,7 @@ function-defined old mid last new k n name ps ls r t id l m en at with way =
     let extends = subst (λ (us : List ℕ). Extends old last (us ++ unnamed_if last.rows r)) (sym s.2) (extends-trans old mid last _ _ l.extends m.extends) in
     let typed : function_all (is_type last.rows) f ≡ true = both (list_all (parameter_typed last.rows) ps) (option_all (is_type last.rows) r) s.0 m.typed in
     let front = with-front last new d with typed in
-    let reads : read_params (table_trees last) ps ≡ fields_of ls = parameters-read (table_trees last) ps ∙ ap fields_of (s.1 ∙ l.reads) in
+    let reads : read_params (table_trees last) ps ≡ fields_of_labelled ls = parameters-read (table_trees last) ps ∙ ap fields_of_labelled (s.1 ∙ l.reads) in
     let there : slice_get new.rows id ≡ Some d = ap (λ (ds : List Definition). slice_get ds id) (with-rows last new d with) ∙ get-end last.rows d id at in
     let q = function-stays last new front way f typed in
     record {

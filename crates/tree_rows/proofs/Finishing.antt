@@ -9,7 +9,7 @@ use Rattle.tables.specs.declared.tables.TypeDefKind.{TypeDefKind}
 use Rattle.tables.specs.declared.tables.TypeDefKind.TheVariants as kind
 use Rattle.tables.specs.Tables.{is_type_id, is_function_id, is_placed, are_placed, is_there, type_of, function_of}
 use Rattle.package_form.specs.Ids.{places_where, is_in, is_use, is_owned_by, is_use_in, is_type_in, is_function_in, type_id, function_id, interface_in, interfaces_from}
-use Rattle.tree_meaning.specs.Finished.{named_in, owned_in, interface_of, with_type, with_row}
+use Rattle.tree_meaning.specs.Finished.{named_in, owned_in, definition_interface, with_new_type, with_definition}
 use Rattle.tables.specs.declared.tables.TypeDef.{TypeDef}
 use Rattle.tables.specs.declared.tables.Owner.{Owner}
 use Rattle.tables.specs.declared.tables.Owner.TheVariants as owner
@@ -70,7 +70,7 @@ added k d i x = record {
   functions = x.functions ++ map function_id (cond (is_function_in i d) (k ∷ []) []);
 }
 
-type-there : (k : ℕ) (d : TypeDef) (i : ℕ) (x : Interface) → is_in i d.name ≡ true → added k (row.Type d) i x ≡ with_row k (row.Type d) x
+type-there : (k : ℕ) (d : TypeDef) (i : ℕ) (x : Interface) → is_in i d.name ≡ true → added k (row.Type d) i x ≡ with_definition k (row.Type d) x
 type-there k d i x e = rw e (by d.kind)
   where
     by : (t : TypeDefKind) → record {
@@ -79,7 +79,7 @@ type-there k d i x e = rw e (by d.kind)
       uses = x.uses ++ map type_id (cond (is_use t) (k ∷ []) []);
       types = x.types ++ map type_id (cond (not (is_use t)) (k ∷ []) []);
       functions = x.functions ++ [];
-    } ≡ with_type k t x
+    } ≡ with_new_type k t x
     by (kind.Use t) = rw (append-nil x.types, append-nil x.functions) refl
     by (kind.Alias v) = rw (append-nil x.uses, append-nil x.functions) refl
     by (kind.List v) = rw (append-nil x.uses, append-nil x.functions) refl
@@ -110,11 +110,11 @@ owned-elsewhere : (o : Owner) (i : ℕ) → (owned_in o ≡ Some i → ⊥) → 
 owned-elsewhere (owner.Interface j) i h = ne_eqb j.0 i (λ e. h (ap (λ (m : ℕ). Some m) e))
 owned-elsewhere (owner.World w) i h = refl
 
-added-there : (k : ℕ) (d : Definition) (i : ℕ) (x : Interface) → interface_of d ≡ Some i → added k d i x ≡ with_row k d x
+added-there : (k : ℕ) (d : Definition) (i : ℕ) (x : Interface) → definition_interface d ≡ Some i → added k d i x ≡ with_definition k d x
 added-there k (row.Type d) i x e = type-there k d i x (named-there d.name i e)
 added-there k (row.Function f) i x e = rw (owned-there f.owner i e, append-nil x.uses, append-nil x.types) refl
 
-added-elsewhere : (k : ℕ) (d : Definition) (i : ℕ) (x : Interface) → (interface_of d ≡ Some i → ⊥) → added k d i x ≡ x
+added-elsewhere : (k : ℕ) (d : Definition) (i : ℕ) (x : Interface) → (definition_interface d ≡ Some i → ⊥) → added k d i x ≡ x
 added-elsewhere k (row.Type d) i x h = rw (named-elsewhere d.name i h) (nothing-added x)
 added-elsewhere k (row.Function f) i x h = rw (owned-elsewhere f.owner i h) (nothing-added x)
 
@@ -124,7 +124,7 @@ module _ (rows : List Definition) (k : ℕ) (d : Definition) (l : k < length row
       rw (ids-more (is_use_in i) type_id rows k d l at, ids-more (is_type_in i) type_id rows k d l at, ids-more (is_function_in i) function_id rows k d l at) refl
 
   -- the row stands in none of these interfaces
-  pub rows-elsewhere : (i : ℕ) (ns : List (List ℕ)) → ((j : ℕ) → i ≤ j → j < i + length ns → interface_of d ≡ Some j → ⊥)
+  pub rows-elsewhere : (i : ℕ) (ns : List (List ℕ)) → ((j : ℕ) → i ≤ j → j < i + length ns → definition_interface d ≡ Some j → ⊥)
       → interfaces_from (take (k + 1) rows) i ns ≡ interfaces_from (take k rows) i ns
   rows-elsewhere i [] h = refl
   rows-elsewhere i (n ∷ ns) h =
@@ -134,12 +134,12 @@ module _ (rows : List Definition) (k : ℕ) (d : Definition) (l : k < length row
       ) refl
 
   -- .. or in the one at place m
-  pub rows-there : (i m : ℕ) (ns : List (List ℕ)) (e : Interface) → m < length ns → interface_of d ≡ Some (i + m)
-      → interfaces_from (take (k + 1) rows) i ns ≡ set (interfaces_from (take k rows) i ns) m (with_row k d (get_or (interfaces_from (take k rows) i ns) m e))
+  pub rows-there : (i m : ℕ) (ns : List (List ℕ)) (e : Interface) → m < length ns → definition_interface d ≡ Some (i + m)
+      → interfaces_from (take (k + 1) rows) i ns ≡ set (interfaces_from (take k rows) i ns) m (with_definition k d (get_or (interfaces_from (take k rows) i ns) m e))
   rows-there i m [] e q h = absurd (omega arith)
   rows-there i zero (n ∷ ns) e q h =
       let same : i + 0 ≡ i = omega arith in
-      let here : interface_of d ≡ Some i = h ∙ ap (λ (j : ℕ). Some j) same in
+      let here : definition_interface d ≡ Some i = h ∙ ap (λ (j : ℕ). Some j) same in
       rw (
         one-more i n ∙ added-there k d i (interface_in (take k rows) i n) here,
         rows-elsewhere (i + 1) ns (λ j p r g. let z : i ≡ j = same_Some _ _ (sym here ∙ g) in absurd (omega (arith, p, z))),

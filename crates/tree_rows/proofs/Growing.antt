@@ -7,12 +7,12 @@ use Rattle.tables.specs.Package.{Tree, Reference, NamedDefinition, Meaning, IsUs
 use Rattle.package_form.specs.Postfix.{Leaves, whole, unnamed_if, unnamed_parameter}
 use Rattle.tree_meaning.specs.Imports.{Import}
 use Rattle.tree_meaning.specs.Declarations.{UsedItem, TypeItem, FunctionItem, InterfaceTree, used_names}
-use Rattle.tree_meaning.specs.Resolved.{Labelled, use_meaning, function_meaning, in_order, interface_meaning, no_type, fields_of}
+use Rattle.tree_meaning.specs.Resolved.{Labelled, use_meaning, meaning_of_function, in_order, interface_meaning, no_type, fields_of_labelled}
 use Rattle.package_form.specs.Entries.{Table}
-use Rattle.tree_meaning.specs.Building.{table_trees, table_definitions, name_at, Front, Extends, Adds, TreeStands, LowersKind, LowersIf, LowersParameters, IsEntry, names_of, ordered_names, parameter_typed, read_parameter}
+use Rattle.tree_meaning.specs.Building.{table_trees, table_definitions, label_at, IsTableFront, Extends, AddsDefinitions, TreeStands, LowersKind, LowersIf, LowersParameters, IsEntry, names_of, ordered_names, parameter_typed, read_parameter}
 use Rattle.tree_rows.specs.Defining.{Grows, CanUse, DefinesInterface}
 use Rattle.tree_scopes.specs.KnownScopes.{IsScope, scope_name, scope_names, KnowsNames}
-use Rattle.package_form.specs.Scoped.{Entry}
+use Rattle.package_form.specs.Scoped.{NameEntry}
 use Rattle.tree_scopes.specs.declared.known.KnownTypes.{KnownTypes}
 use Rattle.tables.specs.declared.tables.Function.{Function}
 use Rattle.tables.specs.declared.tables.Parameter.{Parameter}
@@ -41,7 +41,7 @@ on-ok (Err e) P Q f h = tt
 abbrev one : List ℕ → List ℕ → Meaning → List NamedDefinition
 one i n m = record { key = record { interface = i; name = n }; meaning = m } ∷ []
 
-scope-push : (t : Table) (before after : KnownTypes) (e : Entry) → IsScope t before → IsEntry t (scope_name t before) e
+scope-push : (t : Table) (before after : KnownTypes) (e : NameEntry) → IsScope t before → IsEntry t (scope_name t before) e
     → after ≡ record { interface = before.interface; entries = before.entries ++ e ∷ [] } → IsScope t after
 scope-push t before after e h p is =
     let P = IsEntry t (scope_name t before) in
@@ -81,7 +81,7 @@ define-grows first mid new before after k n m name id meaning en em at with is s
       };
       scoped = scope-push new before after (record { name = m; id = id }) (scope-later first new before all scope) here is;
       interface = ap (λ (s : KnownTypes). s.interface) is;
-      names = ap scope_names is ∙ map-append (λ (e : Entry). e.name) before.entries (record { name = m; id = id } ∷ [])
+      names = ap scope_names is ∙ map-append (λ (e : NameEntry). e.name) before.entries (record { name = m; id = id } ∷ [])
           ∙ ap (λ (z : List ℕ). scope_names before ++ z ∷ []) em;
     }
 
@@ -89,7 +89,7 @@ define-grows first mid new before after k n m name id meaning en em at with is s
 pub function-adds : (old mid last new : Table) (i : InterfaceId) (n name : List ℕ) (ps : List Parameter) (ls : List Labelled) (r : Option ValType) (t : Option Tree)
     → LowersParameters old mid ps ls → LowersIf mid last r t → n ≡ name
     → With last (row.Function (record { owner = owner.Interface i; name = n; params = ps; result = r })) new
-    → Adds old new (one (name_at old i.0) name (IsFunction (fields_of ls) t))
+    → AddsDefinitions old new (one (label_at old i.0) name (IsFunction (fields_of_labelled ls) t))
 function-adds old mid last new i n name ps ls r t l m en with =
     let f : Function = record { owner = owner.Interface i; name = n; params = ps; result = r } in
     let d = row.Function f in
@@ -97,8 +97,8 @@ function-adds old mid last new i n name ps ls r t l m en with =
     let extends = subst (λ (us : List ℕ). Extends old last (us ++ unnamed_if last.rows r)) (sym s.2) (extends-trans old mid last _ _ l.extends m.extends) in
     let typed : function_all (is_type last.rows) f ≡ true = both (list_all (parameter_typed last.rows) ps) (option_all (is_type last.rows) r) s.0 m.typed in
     let front = with-front last new d with typed in
-    let reads : read_params (table_trees last) ps ≡ fields_of ls = parameters-read (table_trees last) ps ∙ ap fields_of (s.1 ∙ l.reads) in
-    let defined : definition_of last.interfaces (table_trees last) d ≡ one (name_at old i.0) name (IsFunction (fields_of ls) t) =
+    let reads : read_params (table_trees last) ps ≡ fields_of_labelled ls = parameters-read (table_trees last) ps ∙ ap fields_of_labelled (s.1 ∙ l.reads) in
+    let defined : definition_of last.interfaces (table_trees last) d ≡ one (label_at old i.0) name (IsFunction (fields_of_labelled ls) t) =
     rw (reads, m.reads, en, extends.front.interfaces) refl in
     record {
       front = front-trans old last new extends.front front;
@@ -137,7 +137,7 @@ use-names i (u ∷ us) = ap (λ (ns : List (List ℕ)). u.local ∷ ns) (use-nam
 pub knows-by : (s : KnownTypes) (ns ms : List (List ℕ)) → scope_names s ≡ ms → All (Contains ms) ns → KnowsNames s ns
 knows-by s ns ms e h = subst (λ (zs : List (List ℕ)). All (Contains zs) ns) (sym e) h
 
-pub can_use-later : (ks : List Import) (names : List (List ℕ)) (old new : Table) (scopes : List KnownTypes) (u : UsedItem) → Front old new → CanUse ks names old scopes u → CanUse ks names new scopes u
+pub can_use-later : (ks : List Import) (names : List (List ℕ)) (old new : Table) (scopes : List KnownTypes) (u : UsedItem) → IsTableFront old new → CanUse ks names old scopes u → CanUse ks names new scopes u
 can_use-later ks names old new scopes u x h = record {
   place = h.place;
   found = h.found;
@@ -146,16 +146,16 @@ can_use-later ks names old new scopes u x h = record {
   has = h.has;
 }
 
-pub scopes-later : (old new : Table) (scopes : List KnownTypes) → Front old new → All (IsScope old) scopes → All (IsScope new) scopes
+pub scopes-later : (old new : Table) (scopes : List KnownTypes) → IsTableFront old new → All (IsScope old) scopes → All (IsScope new) scopes
 scopes-later old new scopes x h k d l = scope-later old new (get_or scopes k d) x (h k d l)
 
 -- ---- an interface
 
 pub defines-interface : (old b1 b2 b3 : Table) (s0 s1 s2 : KnownTypes) (place : InterfaceId) (i : InterfaceTree) (order : List ℕ) (us : List UsedItem) (ts : List TypeItem) (fs : List FunctionItem)
-    → us ≡ i.uses → ts ≡ i.types → fs ≡ i.functions → s0.interface ≡ place → s0.entries ≡ [] → name_at old place.0 ≡ i.name
+    → us ≡ i.uses → ts ≡ i.types → fs ≡ i.functions → s0.interface ≡ place → s0.entries ≡ [] → label_at old place.0 ≡ i.name
     → Grows old s0 b1 s1 (map (use_meaning (scope_name old s0)) us)
     → Grows b1 s1 b2 s2 (in_order (scope_name b1 s1) ts order)
-    → Adds b2 b3 (map (function_meaning (scope_name b2 s2)) fs)
+    → AddsDefinitions b2 b3 (map (meaning_of_function (scope_name b2 s2)) fs)
     → DefinesInterface old b3 s2 place i order
 defines-interface old b1 b2 b3 s0 s1 s2 place i order us ts fs eu et ef at free named u t f =
     let zeroth : scope_name old s0 ≡ i.name = ap (λ (p : InterfaceId). get_or old.interfaces p.0 []) at ∙ named in
@@ -163,13 +163,13 @@ defines-interface old b1 b2 b3 s0 s1 s2 place i order us ts fs eu et ef at free 
     let second : scope_name b2 s2 ≡ i.name = grown_name b1 s1 b2 s2 _ t ∙ first in
     let both = grows-trans old s0 b1 s1 b2 s2 _ _ u t in
     let all = adds-trans old b2 b3 _ _ both.adds f in
-    let same : (map (use_meaning (scope_name old s0)) us ++ in_order (scope_name b1 s1) ts order) ++ map (function_meaning (scope_name b2 s2)) fs ≡ interface_meaning i order =
-    rw (zeroth, first, second, eu, et, ef) (append_assoc (map (use_meaning i.name) i.uses) (in_order i.name i.types order) (map (function_meaning i.name) i.functions)) in
+    let same : (map (use_meaning (scope_name old s0)) us ++ in_order (scope_name b1 s1) ts order) ++ map (meaning_of_function (scope_name b2 s2)) fs ≡ interface_meaning i order =
+    rw (zeroth, first, second, eu, et, ef) (append_assoc (map (use_meaning i.name) i.uses) (in_order i.name i.types order) (map (meaning_of_function i.name) i.functions)) in
     let names : scope_names s1 ≡ used_names i =
-    u.names ∙ ap (λ (es : List Entry). map (λ (e : Entry). e.name) es ++ names_of (map (use_meaning (scope_name old s0)) us)) free
+    u.names ∙ ap (λ (es : List NameEntry). map (λ (e : NameEntry). e.name) es ++ names_of (map (use_meaning (scope_name old s0)) us)) free
     ∙ use-names (scope_name old s0) us ∙ ap (λ (vs : List UsedItem). map (λ (v : UsedItem). v.local) vs) eu in
     record {
-      adds = subst (λ (ds : List NamedDefinition). Adds old b3 ds) same all;
+      adds = subst (λ (ds : List NamedDefinition). AddsDefinitions old b3 ds) same all;
       scoped = scope-later b2 b3 s2 f.front t.scoped;
       interface = t.interface ∙ u.interface ∙ at;
       names = t.names ∙ ap (λ (ns : List (List ℕ)). ns ++ names_of (in_order (scope_name b1 s1) ts order)) names
@@ -179,7 +179,7 @@ defines-interface old b1 b2 b3 s0 s1 s2 place i order us ts fs eu et ef at free 
 pub first_names : (old b1 : Table) (s0 s1 : KnownTypes) (i : List ℕ) (us vs : List UsedItem) → us ≡ vs → s0.entries ≡ []
     → Grows old s0 b1 s1 (map (use_meaning i) us) → scope_names s1 ≡ map (λ u. u.local) vs
 first_names old b1 s0 s1 i us vs eu free u =
-    u.names ∙ ap (λ (es : List Entry). map (λ (e : Entry). e.name) es ++ names_of (map (use_meaning i) us)) free
+    u.names ∙ ap (λ (es : List NameEntry). map (λ (e : NameEntry). e.name) es ++ names_of (map (use_meaning i) us)) free
     ∙ use-names i us ∙ ap (λ (vs : List UsedItem). map (λ (v : UsedItem). v.local) vs) eu
 
 pub both_names : (b1 b2 : Table) (s1 s2 : KnownTypes) (i : List ℕ) (ns : List (List ℕ)) (ts us : List TypeItem) (order : List ℕ) → ts ≡ us → scope_names s1 ≡ ns

@@ -7,9 +7,9 @@ use Rattle.tables.specs.Tables.{is_type, option_all}
 use Rattle.tables.specs.Package.{Tree, Reference, ListTree, IsType, read_val, read_kind, Fields, Choices, RecordTree, VariantTree, Plain, AsTuple}
 use Rattle.package_form.specs.Postfix.{unnamed, unnamed_if, unnamed_field, unnamed_case}
 use Rattle.tree_meaning.specs.Declarations.{named, named_all}
-use Rattle.tree_meaning.specs.Resolved.{Labelled, Choice, resolved, resolved_all, option_tree, tuple_tree, result_tree, fields_of, unlabelled, choices_of}
+use Rattle.tree_meaning.specs.Resolved.{Labelled, Choice, resolved, resolved_all, option_tree, tuple_tree, result_tree, fields_of_labelled, unlabelled, choices_of}
 use Rattle.package_form.specs.Entries.{Table}
-use Rattle.tree_meaning.specs.Building.{table_trees, Front, Extends, TreeStands, Lowers, LowersIf, LowersEach, LowersKind, LowersInner, read_field, read_case, field_typed, case_typed}
+use Rattle.tree_meaning.specs.Building.{table_trees, IsTableFront, Extends, TreeStands, Lowers, LowersIf, LowersEach, LowersKind, LowersInner, read_field, read_case, field_typed, case_typed}
 use Rattle.tree_scopes.specs.KnownScopes.{IsScope, KnowsNames, scope_name}
 use Rattle.tree_scopes.specs.declared.known.KnownTypes.{KnownTypes}
 use Rattle.canonical_abi.specs.Labelled.{ok_label, error_label}
@@ -27,7 +27,7 @@ use Rattle.tree_meaning.proofs.Staying.{option-stays, choice-reads, Stays, val-s
 
 -- ---- scopes
 
-pub scope-later : (old new : Table) (s : KnownTypes) → Front old new → IsScope old s → IsScope new s
+pub scope-later : (old new : Table) (s : KnownTypes) → IsTableFront old new → IsScope old s → IsScope new s
 scope-later old new s x h = record {
   each = λ k d l.
       let e = get_or s.entries k d in
@@ -39,7 +39,7 @@ scope-later old new s x h = record {
       };
 }
 
-pub same_name : (old new : Table) (s : KnownTypes) → Front old new → scope_name new s ≡ scope_name old s
+pub same_name : (old new : Table) (s : KnownTypes) → IsTableFront old new → scope_name new s ≡ scope_name old s
 same_name old new s x = ap (λ (ns : List (List ℕ)). get_or ns s.interface.0 []) x.interfaces
 
 -- ---- one type
@@ -132,11 +132,11 @@ choice-same n m t u e h = rw (e, h) refl
 -- ---- bodies of definitions
 
 pub lowers-record : (a b : Table) (fs : List Field) (ls : List Labelled) → LowersEach field_typed read_field unnamed_field a b fs ls
-    → LowersKind a b (kind.Record fs) (IsType (RecordTree Plain (fields_of ls)))
+    → LowersKind a b (kind.Record fs) (IsType (RecordTree Plain (fields_of_labelled ls)))
 lowers-record a b fs ls l = record {
   extends = l.extends;
   typed = l.within;
-  means = ap (λ (gs : Fields). IsType (RecordTree Plain gs)) (fields-read (table_trees b) fs ∙ ap fields_of l.reads);
+  means = ap (λ (gs : Fields). IsType (RecordTree Plain gs)) (fields-read (table_trees b) fs ∙ ap fields_of_labelled l.reads);
   names = refl;
 }
 

@@ -6,7 +6,7 @@ use Rattle.tables.specs.Package.{Tree, TextTree, NamedDefinition, Meaning, IsUse
 use Rattle.package_form.specs.Postfix.{Leaves, inner, unnamed, is_inner, is_unnamed, is_unnamed_row, one_if, inner_row}
 use Rattle.package_form.specs.Ids.{is_world_function, places_where}
 use Rattle.package_form.specs.Entries.{Table}
-use Rattle.tree_meaning.specs.Building.{world_functions, table_trees, table_definitions, Front, Adds, TreeStands, Lowers, LowersInner, is_expressed}
+use Rattle.tree_meaning.specs.Building.{world_functions, table_trees, table_definitions, IsTableFront, AddsDefinitions, TreeStands, Lowers, LowersInner, is_expressed}
 use Rattle.tables.specs.declared.tables.ValType.{ValType}
 use Rattle.tables.specs.declared.tables.ValType.TheVariants as val
 use Rattle.tables.specs.declared.tables.TypeId.{TypeId}
@@ -19,16 +19,16 @@ use Rattle.tree_meaning.proofs.Typing.{definition-grows, names-later}
 use Rattle.tree_rows.proofs.Finishing.{places-end}
 use Rattle.tree_meaning.proofs.Reading.{trees-length, trees-more, typed-stays, read_val-same, get-end, front-none, front-trans, definitions-append}
 
-pub stands-later : (old new : Table) (v : ValType) (tree : Tree) → Front old new → TreeStands old v tree → TreeStands new v tree
+pub stands-later : (old new : Table) (v : ValType) (tree : Tree) → IsTableFront old new → TreeStands old v tree → TreeStands new v tree
 stands-later old new v tree x s = record {
   typed = typed-stays old new x v s.typed;
   reads = read_val-same old new x v s.typed ∙ s.reads;
 }
 
-pub adds-none : (t : Table) → Adds t t []
+pub adds-none : (t : Table) → AddsDefinitions t t []
 adds-none t = record { front = front-none t; own = refl; definitions = sym (append-nil (table_definitions t)); postfix = λ h. h }
 
-pub adds-trans : (a b c : Table) (ds es : List NamedDefinition) → Adds a b ds → Adds b c es → Adds a c (ds ++ es)
+pub adds-trans : (a b c : Table) (ds es : List NamedDefinition) → AddsDefinitions a b ds → AddsDefinitions b c es → AddsDefinitions a c (ds ++ es)
 adds-trans a b c ds es x y = record {
   front = front-trans a b c x.front y.front;
   own = y.own ∙ x.own;
@@ -63,7 +63,7 @@ module _ (old new : Table) (d : Definition) (is : With old d new) where
   pub with-names : new.interfaces ≡ old.interfaces
   with-names = ap (λ (t : Table). t.interfaces) is
 
-  pub with-front : definition_all (is_type old.rows) d ≡ true → Front old new
+  pub with-front : definition_all (is_type old.rows) d ≡ true → IsTableFront old new
   with-front typed =
       let zero_plus : 0 + length old.rows ≡ length old.rows = omega arith in
       let below : definition_below (length old.rows) d ≡ true = definition-grows _ _ (type-below old.rows) d typed in

@@ -4,17 +4,17 @@ use Rattle.std.specs.List.{list_all}
 use Rattle.std.specs.Option.{option_map}
 use Rattle.std.proofs.lemmas.List.{length-append, length-map, length-take, get_or-map, get_or_default, get_or_append_left, get_or_at, get_or-take, take_all}
 use Rattle.package_form.specs.Scope.{AreDistinct}
-use Rattle.placement.specs.Order.{IsPlacement, is_among}
+use Rattle.placement.specs.Order.{IsPlacement, has_placed}
 use Rattle.tables.specs.Names.{full_name, full_name_in}
 use Rattle.tables.specs.PackageNames.{PackageParts}
 use Rattle.tables.specs.Package.{NamedDefinition, interface_names as import_names}
 use Rattle.tables.specs.declared.tables.Resolve.{Resolve}
-use Rattle.tree_meaning.specs.Declarations.{UsedItem, InterfaceTree, interface_at, no_interface, interface_name, interface_names, type_names}
+use Rattle.tree_meaning.specs.Declarations.{UsedItem, InterfaceTree, interface_at, no_interface, interface_tree_name, names_of_trees, type_names}
 use Rattle.tree_meaning.specs.Resolved.{interface_meaning}
 use Rattle.package_form.specs.Entries.{Table}
 use Rattle.tree_meaning.specs.Imports.{Import, AreApart, no_import, interfaces_of, imports_of}
 use Rattle.tree_meaning.specs.Resolves.{interface_uses, own_uses, uses_of_interface, type_uses, IsKnownIn, IsKnownUseOf, HasKnownNamesOf, names_in_order, place_of, used_place}
-use Rattle.tree_meaning.specs.Building.{name_at, Adds, DefinesPackage, package_meaning, start_table}
+use Rattle.tree_meaning.specs.Building.{label_at, AddsDefinitions, DefinesPackage, package_meaning, start_table}
 use Rattle.tree_scopes.specs.KnownScopes.{IsScope, scope_names, ArePlaced, AreImportScopes}
 use Rattle.tree_rows.specs.Defining.{CanUse, DefinesInterface}
 use Rattle.tables.specs.declared.tables.InterfaceId.{InterfaceId}
@@ -32,7 +32,7 @@ use Rattle.tree_meaning.proofs.OrderedNames.{interface-name, name-in-order}
 
 -- the scopes of the imports and of the first k interfaces
 pub record PackageSoFar (imports : Resolve) (k : ℕ) (is : List InterfaceTree) (order : List ℕ) (orders : List (List ℕ)) (start t : Table) (scopes : List KnownTypes) : Type 0 where
-  pub adds : Adds start t (package_meaning is orders (take k order))
+  pub adds : AddsDefinitions start t (package_meaning is orders (take k order))
   pub count : length scopes ≡ length imports.interfaces + k
   pub scoped : All (IsScope t) scopes
   pub ids : ArePlaced scopes
@@ -55,13 +55,13 @@ none-defined imports is order orders names t scopes e h =
     }
 
 module _ (imports : Resolve) (is : List InterfaceTree) (order : List ℕ) (orders : List (List ℕ)) (start t : Table) (scopes : List KnownTypes) (k : ℕ) (names : List (List ℕ))
-    (starts : start ≡ start_table imports names) (ordered : names ≡ names_in_order is order) (placed : IsPlacement (interface_uses is) order) (distinct : AreDistinct (interface_names is))
+    (starts : start ≡ start_table imports names) (ordered : names ≡ names_in_order is order) (placed : IsPlacement (interface_uses is) order) (distinct : AreDistinct (names_of_trees is))
     (apart : AreApart (interfaces_of imports)) (h : PackageSoFar imports k is order orders start t scopes) (l : k < length order) where
   abbrev before : ℕ
   before = length imports.interfaces
 
   in-range : (m : ℕ) → m < length order → get_or order m 0 < length is
-  in-range m q = omega (arith, (placed.next m q).in_range, length-map is (uses_of_interface (interface_names is)))
+  in-range m q = omega (arith, (placed.next m q).in_range, length-map is (uses_of_interface (names_of_trees is)))
 
   pub index-below : get_or order k 0 < length is
   index-below = in-range k l
@@ -69,7 +69,7 @@ module _ (imports : Resolve) (is : List InterfaceTree) (order : List ℕ) (order
   interfaces-are : t.interfaces ≡ import_names imports ++ names
   interfaces-are = h.adds.front.interfaces ∙ ap (λ (x : Table). x.interfaces) starts
 
-  pub name-here : (m : ℕ) → m < length order → name_at t (before + m) ≡ (interface_at is (get_or order m 0)).name
+  pub name-here : (m : ℕ) → m < length order → label_at t (before + m) ≡ (interface_at is (get_or order m 0)).name
   name-here m q =
       ap (λ (ns : List (List ℕ)). get_or ns (before + m) []) interfaces-are
       ∙ get_or-append-right (import_names imports) names [] before m (sym (length-map imports.interfaces (full_name imports)))
@@ -79,15 +79,15 @@ module _ (imports : Resolve) (is : List InterfaceTree) (order : List ℕ) (order
   use-own : (u : UsedItem) → Contains (own_uses (interface_at is (get_or order k 0))) u.interface → (o : Option PackageParts) → u.«package» ≡ o → o ≡ None
       → IsKnownIn (imports_of imports) is None u.interface u.name → CanUse (interfaces_of imports) names t scopes u
   use-own u used o e none x =
-      let ns = interface_names is in
+      let ns = names_of_trees is in
       let j = get_or order k 0 in
       let i = interface_at is j in
-      let there : Contains ns u.interface = subst (Contains ns) x.2 (contains-map interface_name is x.0 x.1) in
+      let there : Contains ns u.interface = subst (Contains ns) x.2 (contains-map interface_tree_name is x.0 x.1) in
       let found = place-found ns u.interface there in
       let so_far = take k order in
-      let ready = (split (not (is_among so_far j)) (list_all (is_among so_far) (get_or (interface_uses is) j [])) (placed.next k l).ready).1 in
-      let all = subst (λ us. list_all (is_among so_far) us ≡ true) (get_or-map (uses_of_interface ns) is j no_interface [] index-below) ready in
-      let m = among-at so_far found.0 (all-places (is_among so_far) (place_of ns) (own_uses i) u.interface found.0 all used found.1) in
+      let ready = (split (not (has_placed so_far j)) (list_all (has_placed so_far) (get_or (interface_uses is) j [])) (placed.next k l).ready).1 in
+      let all = subst (λ us. list_all (has_placed so_far) us ≡ true) (get_or-map (uses_of_interface ns) is j no_interface [] index-below) ready in
+      let m = among-at so_far found.0 (all-places (has_placed so_far) (place_of ns) (own_uses i) u.interface found.0 all used found.1) in
       let long : length so_far ≡ k = length-take k order ∙ omega (arith, l) in
       let q : m.0 < k = omega (arith, m.1, long) in
       let at : get_or order m.0 0 ≡ found.0 = get_or_default order m.0 0 found.0 (omega (arith, q, l)) ∙ sym (get_or-take k order m.0 found.0 q) ∙ m.2 in
@@ -102,8 +102,8 @@ module _ (imports : Resolve) (is : List InterfaceTree) (order : List ℕ) (order
       let p = get_or order n 0 in
       let np : p < length is = in-range n (omega (arith, nk, l)) in
       let here : get_or names n [] ≡ (interface_at is p).name = ap (λ (ms : List (List ℕ)). get_or ms n []) ordered ∙ name-in-order is order n (omega (arith, nk, l)) in
-      let same : get_or ns p [] ≡ get_or ns r [] = sym (interface-name is p) ∙ sym here ∙ first.2 ∙ sym x.2 ∙ ap interface_name (sym is_x) ∙ interface-name is r in
-      let pr : p ≡ r = same-place ns p r distinct (omega (arith, np, length-map is interface_name)) (omega (arith, x.1.1, length-map is interface_name)) same in
+      let same : get_or ns p [] ≡ get_or ns r [] = sym (interface-name is p) ∙ sym here ∙ first.2 ∙ sym x.2 ∙ ap interface_tree_name (sym is_x) ∙ interface-name is r in
+      let pr : p ≡ r = same-place ns p r distinct (omega (arith, np, length-map is interface_tree_name)) (omega (arith, x.1.1, length-map is interface_tree_name)) same in
       let tree : interface_at is p ≡ x.0 = ap (interface_at is) pr ∙ is_x in
       let none_here : u.«package» ≡ None = e ∙ none in
       let counted : length (interfaces_of imports) ≡ before = imports-length imports.packages imports.definitions 0 imports.interfaces in
@@ -159,7 +159,7 @@ module _ (imports : Resolve) (is : List InterfaceTree) (order : List ℕ) (order
       ap (λ (ds : List NamedDefinition). package_meaning is orders (take k order) ++ ds) (this ∙ sym (flat_map-one f j))
       ∙ sym (flat_map-append f (take k order) (j ∷ [])) ∙ ap (flat_map f) (sym (take-more order k j l (get_or_default order k 0 j l))) in
       subst (PackageSoFar imports (k + 1) is order orders start new) (sym more) (record {
-        adds = subst (Adds start new) all (adds-trans start t new _ _ h.adds d.adds);
+        adds = subst (AddsDefinitions start new) all (adds-trans start t new _ _ h.adds d.adds);
         count = omega (arith, length-append scopes (scope ∷ []), h.count);
         scoped = all-append (IsScope new) scopes (scope ∷ []) (scopes-later t new scopes d.adds.front h.scoped) (all-cons (IsScope new) scope [] d.scoped (all-none (IsScope new)));
         ids = λ m e q. by-id m e (below_or_at m (before + k) (omega (arith, q, length-append scopes (scope ∷ []), h.count)));
@@ -190,4 +190,4 @@ module _ (imports : Resolve) (is : List InterfaceTree) (order : List ℕ) (order
 pub defines-package : (imports : Resolve) (is : List InterfaceTree) (order : List ℕ) (orders : List (List ℕ)) (start t : Table) (scopes : List KnownTypes) (k : ℕ) (names : List (List ℕ))
     → start ≡ start_table imports names → length order ≤ k → PackageSoFar imports k is order orders start t scopes → DefinesPackage (start_table imports names) is order orders t
 defines-package imports is order orders start t scopes k names e l h =
-    subst (λ (x : Table). DefinesPackage x is order orders t) e (record { adds = subst (λ (ks : List ℕ). Adds start t (package_meaning is orders ks)) (take_all k order l) h.adds })
+    subst (λ (x : Table). DefinesPackage x is order orders t) e (record { adds = subst (λ (ks : List ℕ). AddsDefinitions start t (package_meaning is orders ks)) (take_all k order l) h.adds })

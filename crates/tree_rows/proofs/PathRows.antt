@@ -15,7 +15,7 @@ use Rattle.tables.specs.declared.tables.WorldItemKind.TheVariants as item
 use Rattle.package_form.specs.Entries.{Table}
 use Rattle.tree_meaning.specs.Declarations.{item_tree}
 use Rattle.tree_meaning.specs.Imports.{interfaces_of, imports_of}
-use Rattle.tree_meaning.specs.Resolved.{direction_meaning, item_meaning}
+use Rattle.tree_meaning.specs.Resolved.{direction_meaning, tree_item_meaning}
 use Rattle.tree_meaning.specs.Resolves.{place_of, path_place, IsKnownItemOf}
 use Rattle.tree_meaning.specs.WorldRows.{DefinesItem}
 use Rattle.tree_meaning.proofs.Finding.{place-at, place-below}
@@ -36,7 +36,7 @@ item-there imports names way (Foreign a b v n) known e =
 
 pub path-defined : (imports : Resolve) (names : List (List ℕ)) (t : Table) (k : ℕ) (way : Direction) (d : Side) (p : PathTo) (id : InterfaceId) (place : ℕ) → t.interfaces ≡ import_names imports ++ names
     → d ≡ direction_meaning way → id.0 ≡ place → path_place (interfaces_of imports) names p ≡ Some place
-    → DefinesItem t t k (record { direction = d; kind = item.Interface id }) (item_meaning (item_tree (Whole way p)))
+    → DefinesItem t t k (record { direction = d; kind = item.Interface id }) (tree_item_meaning (item_tree (Whole way p)))
 path-defined imports names t k way d p id place is same at e = by p e
   where
     before : length (import_names imports) ≡ length imports.interfaces
@@ -49,7 +49,7 @@ path-defined imports names t k way d p id place is same at e = by p e
     long = omega (arith, ap length is, length-append (import_names imports) names, before)
 
     own : (n : List ℕ) (o : Option ℕ) → place_of names n ≡ o → option_map (λ j. length (interfaces_of imports) + j) o ≡ Some place
-        → DefinesItem t t k (record { direction = d; kind = item.Interface id }) (item_meaning (item_tree (Whole way (Local n))))
+        → DefinesItem t t k (record { direction = d; kind = item.Interface id }) (tree_item_meaning (item_tree (Whole way (Local n))))
     own n None f g = absurd (cc)
     own n (Some j) f g =
         let here : length (interfaces_of imports) + j ≡ place = cc in
@@ -60,7 +60,7 @@ path-defined imports names t k way d p id place is same at e = by p e
         ∙ get_or-append-right (import_names imports) names [] (length imports.interfaces) j (sym before) ∙ place-at names n j [] f)
 
     by : (p : PathTo) → path_place (interfaces_of imports) names p ≡ Some place
-        → DefinesItem t t k (record { direction = d; kind = item.Interface id }) (item_meaning (item_tree (Whole way p)))
+        → DefinesItem t t k (record { direction = d; kind = item.Interface id }) (tree_item_meaning (item_tree (Whole way p)))
     by (Local n) e = own n (place_of names n) refl e
     by (Foreign a b v n) e =
         let q : PackageParts = record { namespace = a; name = b; version = v } in

@@ -9,12 +9,12 @@ use Rattle.tree_meaning.specs.Resolves.{used_place}
 use Rattle.tables.specs.declared.tables.InterfaceId.{InterfaceId}
 use Rattle.tables.specs.declared.tables.TypeDefKind.{TypeDefKind}
 use Rattle.tree_scopes.specs.declared.known.KnownTypes.{KnownTypes}
-use Rattle.tree_meaning.specs.Building.{name_at, Adds, LowersKind, names_of, ordered_names}
+use Rattle.tree_meaning.specs.Building.{label_at, AddsDefinitions, LowersKind, names_of, ordered_names}
 use Rattle.tree_scopes.specs.KnownScopes.{IsScope, scope_name, scope_names}
 
 -- the table and the scope of an interface grew by these definitions
 pub record Grows (old : Table) (before : KnownTypes) (new : Table) (after : KnownTypes) (ds : List NamedDefinition) : Type 0 where
-  pub adds : Adds old new ds
+  pub adds : AddsDefinitions old new ds
   pub scoped : IsScope new after
   pub interface : after.interface ≡ before.interface
   pub names : scope_names after ≡ scope_names before ++ names_of ds
@@ -29,12 +29,12 @@ pub record CanUse (ks : List Import) (names : List (List ℕ)) (t : Table) (scop
   pub place : ℕ
   pub found : used_place ks names u.«package» u.interface ≡ Some place
   pub within : place < length scopes
-  pub named : name_at t place ≡ use_interface u
+  pub named : label_at t place ≡ use_interface u
   pub has : (d : KnownTypes) → Contains (scope_names (slice_index_or scopes place d)) u.name
 
 -- the table got the interface's definitions, and its scope has the names of its uses and types
 pub record DefinesInterface (old new : Table) (s : KnownTypes) (place : InterfaceId) (i : InterfaceTree) (order : List ℕ) : Type 0 where
-  pub adds : Adds old new (interface_meaning i order)
+  pub adds : AddsDefinitions old new (interface_meaning i order)
   pub scoped : IsScope new s
   pub interface : s.interface ≡ place
   pub names : scope_names s ≡ used_names i ++ ordered_names i.types order

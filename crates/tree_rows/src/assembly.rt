@@ -4,7 +4,7 @@ ghost use Rattle.tree_meaning.specs.Building.{DefinesPackage, start_table};
 ghost use Rattle.tree_meaning.specs.Resolves.{names_in_order};
 ghost use Rattle.tree_scopes.specs.KnownScopes.{AreImportScopes};
 ghost use Rattle.tree_scopes.specs.Sources.{declared_tree};
-ghost use Rattle.tree_rows.specs.Planning.{IsPlan, trees};
+ghost use Rattle.tree_rows.specs.Planning.{IsPlan, planned_trees};
 
 use crate::builder::Builder;
 use crate::define::define_interface;
@@ -56,7 +56,7 @@ pub fn define_package(
     requires plan { IsPlan plan.now }
     requires starts { builder.old ≡ start_table plan.now.imports.now plan.now.names.now }
     requires scopes { AreImportScopes plan.now.imports.now scopes.items }
-    ensures { OnOk result (DefinesPackage (start_table plan.now.imports.now plan.now.names.now) (trees plan.now) plan.now.order.now plan.now.types.now builder.new) }
+    ensures { OnOk result (DefinesPackage (start_table plan.now.imports.now plan.now.names.now) (planned_trees plan.now) plan.now.order.now plan.now.types.now builder.new) }
 {
     for (place, index) in plan.order.iter().enumerate() {
         let id = interface_id(place_behind(plan.imports, place)?)?;

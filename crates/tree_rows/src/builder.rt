@@ -3,7 +3,7 @@ ghost use Rattle.std.specs.Prelude.{◌≡◌, ◌≢◌, ◌<◌, ◌++◌, ◌
 ghost use Rattle.std.specs.Bool.{OnTrue, OnFalse};
 ghost use Rattle.tables.specs.Package.{Tree, interface_names};
 ghost use Rattle.package_form.specs.Entries.{Table};
-ghost use Rattle.tree_meaning.specs.Building.{Lowers, LowersInner, name_at};
+ghost use Rattle.tree_meaning.specs.Building.{Lowers, LowersInner, label_at};
 
 use atoms::Label;
 use package_names::IndexedTable;

@@ -6,7 +6,7 @@ ghost use Rattle.wit_syntax.specs.View.{file_view};
 ghost use Rattle.tree_meaning.specs.Declarations.{package_named};
 ghost use Rattle.tree_meaning.specs.Resolves.{PassesLimit, interfaces_behind};
 ghost use Rattle.package_form.specs.Entries.{world_entries, entries_of};
-ghost use Rattle.tree_meaning.specs.Finished.{IsFinished, interface_of, with_row};
+ghost use Rattle.tree_meaning.specs.Finished.{IsFinished, definition_interface, with_definition};
 ghost use Rattle.tree_meaning.specs.WorldRows.{worlds_stand, with_worlds};
 
 use crate::builder::Builder;
@@ -27,7 +27,7 @@ const MAX_ENTRIES: usize = 65535;
 
 /// The interface that a row has a name in.
 fn interface_of(row: &Definition) -> Option<usize>
-    ensures { result ≡ interface_of row.now }
+    ensures { result ≡ definition_interface row.now }
 {
     match row {
         Definition::Type(definition) => match &definition.name {
@@ -43,8 +43,8 @@ fn interface_of(row: &Definition) -> Option<usize>
 
 /// The place among so many interfaces, the first of which stands at this place, of that which a row has a name in.
 fn own_place(first: usize, count: usize, row: &Definition) -> Option<usize>
-    ensures none { IfNone result ((j : ℕ) → j < count → interface_of row.now ≡ Some (first + j) → ⊥) }
-    ensures some { IfSome result (λ j. (j < count) × (interface_of row.now ≡ Some (first + j))) }
+    ensures none { IfNone result ((j : ℕ) → j < count → definition_interface row.now ≡ Some (first + j) → ⊥) }
+    ensures some { IfSome result (λ j. (j < count) × (definition_interface row.now ≡ Some (first + j))) }
 {
     let index = interface_of(row)?;
     let place = index.checked_sub(first)?;
@@ -54,7 +54,7 @@ fn own_place(first: usize, count: usize, row: &Definition) -> Option<usize>
 /// Puts the id of the row at this place behind the interface's ids of its kind.
 fn push_id(interface: &mut Interface, place: usize, row: &Definition) -> Result<(), AllocError>
     requires { place ≤ 65535 }
-    ensures { OnOk result (interface.new ≡ with_row place row.now interface.old) }
+    ensures { OnOk result (interface.new ≡ with_definition place row.now interface.old) }
 {
     match row {
         Definition::Type(definition) => match definition.kind {

@@ -1,14 +1,14 @@
 //! The definitions of an interface as rows of the table.
 ghost use Rattle.std.specs.Prelude.{◌≡◌, ◌++◌, ◌∷◌, [], map, All, Contains, IfOk, OnOk};
-ghost use Rattle.tree_meaning.specs.Declarations.{named_definition, named_function};
-ghost use Rattle.tree_meaning.specs.Resolved.{use_meaning, type_meaning, function_meaning, in_order};
+ghost use Rattle.tree_meaning.specs.Declarations.{named_definition, names_in_function};
+ghost use Rattle.tree_meaning.specs.Resolved.{use_meaning, type_meaning, meaning_of_function, in_order};
 ghost use Rattle.tables.specs.Package.{Reference};
 ghost use Rattle.placement.specs.Order.{IsPlacement};
 ghost use Rattle.tree_meaning.specs.Imports.{interfaces_of};
 ghost use Rattle.tree_meaning.specs.Resolves.{type_uses};
 ghost use Rattle.tree_scopes.specs.Lent.{used_item_of, type_item, declared_type};
-ghost use Rattle.tree_scopes.specs.Sources.{declared_tree, used_key, function_item, declared_function};
-ghost use Rattle.tree_meaning.specs.Building.{Adds, TreeStands, NamesEarlier, TypesKnown, FunctionsKnown, name_at};
+ghost use Rattle.tree_scopes.specs.Sources.{declared_tree, used_key, function_in_tree, declared_function};
+ghost use Rattle.tree_meaning.specs.Building.{AddsDefinitions, TreeStands, NamesEarlier, TypesKnown, FunctionsKnown, label_at};
 ghost use Rattle.tree_rows.specs.Defining.{Grows, CanUse, DefinesInterface, DefinesNamed};
 ghost use Rattle.tree_scopes.specs.KnownScopes.{IsScope, ArePlaced, KnowsNames, scope_name, scope_names};
 ghost use Rattle.tables.specs.declared.tables.ValType.TheVariants.{Id};
@@ -81,10 +81,10 @@ fn define_function(
     scope: &KnownTypes,
     item: &Func,
 ) -> Result<(), AllocError>
-    requires known { KnowsNames scope.now (named_function (function_item item.now).function) }
+    requires known { KnowsNames scope.now (names_in_function (function_in_tree item.now).function) }
     requires scoped { IsScope builder.old scope.now }
-    ensures { OnOk result (Adds builder.old builder.new
-        (function_meaning (scope_name builder.old scope.now) (function_item item.now) ∷ [])) }
+    ensures { OnOk result (AddsDefinitions builder.old builder.new
+        (meaning_of_function (scope_name builder.old scope.now) (function_in_tree item.now) ∷ [])) }
 {
     let params = lower_parameters(alloc, builder, scope, &item.ty.params)?;
     let result = lower_optional(alloc, builder, scope, &item.ty.result)?;
@@ -122,10 +122,10 @@ fn define_functions(
     scope: &KnownTypes,
     functions: &[&Func],
 ) -> Result<(), AllocError>
-    requires known { All (λ f. KnowsNames scope.now (named_function f.function)) (map declared_function functions.now) }
+    requires known { All (λ f. KnowsNames scope.now (names_in_function f.function)) (map declared_function functions.now) }
     requires scoped { IsScope builder.old scope.now }
-    ensures { OnOk result (Adds builder.old builder.new
-        (map (function_meaning (scope_name builder.old scope.now)) (map declared_function functions.now))) }
+    ensures { OnOk result (AddsDefinitions builder.old builder.new
+        (map (meaning_of_function (scope_name builder.old scope.now)) (map declared_function functions.now))) }
 {
     for function in functions {
         define_function(alloc, builder, scope, function)?;
@@ -182,7 +182,7 @@ pub fn define_interface(
     scopes: &[KnownTypes],
     own: &Own<'_>,
 ) -> Result<KnownTypes, AllocError>
-    requires named { name_at builder.old own.now.id.0 ≡ own.now.declared.now.name.now }
+    requires named { label_at builder.old own.now.id.0 ≡ own.now.declared.now.name.now }
     requires others { All (IsScope builder.old) scopes.now }
     requires ids { ArePlaced scopes.now }
     requires uses { All (CanUse (interfaces_of plan.now.imports.now) plan.now.names.now builder.old scopes.now) (declared_tree own.now.declared.now).uses }

@@ -6,13 +6,13 @@ ghost use Rattle.package_form.specs.Closed.{is_closed};
 ghost use Rattle.package_form.specs.Form.{IsInPackageForm};
 ghost use Rattle.package_form.specs.Naming.{package_scopes};
 ghost use Rattle.package_form.specs.Scope.{AreDistinct};
-ghost use Rattle.tree_meaning.specs.Declarations.{interfaces, interface_names};
+ghost use Rattle.tree_meaning.specs.Declarations.{interfaces, names_of_trees};
 ghost use Rattle.tree_meaning.specs.ImportForms.{IsNamedBehind, AreReachedFrom};
 ghost use Rattle.tree_meaning.specs.Imports.{imports_of};
 ghost use Rattle.tree_meaning.specs.Resolves.{AreImports, IsClosedPackageOf, ResolveRefusesOf, HasNoFaultsOf, AnswersOnlyBehind, file_fits};
 ghost use Rattle.tree_scopes.specs.KnownScopes.{AreImportScopes};
 ghost use Rattle.tree_scopes.specs.Sources.{declared_tree};
-ghost use Rattle.tree_rows.specs.Planning.{IsPlan, imported, file};
+ghost use Rattle.tree_rows.specs.Planning.{IsPlan, imported, planned_file};
 
 use crate::assembly::{define_package, ordered_index, ordered_names};
 use crate::builder::Builder;
@@ -29,8 +29,8 @@ use wit_syntax::Ast;
 fn planned(alloc: Global, plan: &Plan<'_>, scopes: Vec<KnownTypes>) -> Result<Resolve, ResolveError>
     requires plan { IsPlan plan.now }
     requires scopes { AreImportScopes plan.now.imports.now scopes.items }
-    ensures ok { IfOk result (IsClosedPackageOf (imported plan.now) (file plan.now)) }
-    ensures err { IfErr result (ResolveRefusesOf (imports_of (imported plan.now)) (file plan.now)) }
+    ensures ok { IfOk result (IsClosedPackageOf (imported plan.now) (planned_file plan.now)) }
+    ensures err { IfErr result (ResolveRefusesOf (imports_of (imported plan.now)) (planned_file plan.now)) }
 {
     let (packages, interfaces, rows) = copied_parts(alloc, plan.imports)?;
     let mut builder = Builder::new(plan.imports, plan.labels, rows);
@@ -50,7 +50,7 @@ fn defined(
     requires scopes { AreImportScopes imports.table imports.scopes.items }
     requires all { map declared_tree all.now ≡ interfaces (file_view ast.now) }
     requires faults { HasNoFaultsOf (imports_of imports.table) (file_view ast.now) }
-    requires labels { All IsLabel (interface_names (interfaces (file_view ast.now))) }
+    requires labels { All IsLabel (names_of_trees (interfaces (file_view ast.now))) }
     ensures ok { IfOk result (IsClosedPackageOf imports.entry.table (file_view ast.now)) }
     ensures err { IfErr result (ResolveRefusesOf (imports_of imports.entry.table) (file_view ast.now)) }
 {

@@ -1,12 +1,12 @@
 //! The worlds of a tree: their functions as rows of the table, and their items.
 ghost use Rattle.std.specs.Prelude.{◌≡◌, ◌++◌, [], map, filter_map, length, All, IfOk};
 ghost use Rattle.wit_syntax.specs.View.{item_view};
-ghost use Rattle.tree_meaning.specs.Declarations.{FunctionOf, world_of, named_function};
-ghost use Rattle.tree_meaning.specs.Resolved.{direction_meaning, item_meaning, world_meaning};
+ghost use Rattle.tree_meaning.specs.Declarations.{FunctionOf, world_of, names_in_function};
+ghost use Rattle.tree_meaning.specs.Resolved.{direction_meaning, tree_item_meaning, meaning_of_world};
 ghost use Rattle.tables.specs.Package.{interface_names as named_imports};
 ghost use Rattle.tree_meaning.specs.Imports.{imports_of};
 ghost use Rattle.tree_meaning.specs.Resolves.{IsKnownItemOf, IsKnownWorldOf};
-ghost use Rattle.tree_scopes.specs.Sources.{function_item, declared_item, declared_world};
+ghost use Rattle.tree_scopes.specs.Sources.{function_in_tree, declared_item, declared_world};
 ghost use Rattle.tree_meaning.specs.WorldRows.{DefinesItem, DefinesItems, DefinesWorld, DefinesWorlds};
 ghost use Rattle.wit_syntax.specs.declared.ast.Direction.{Direction as Way};
 ghost use Rattle.tables.specs.declared.tables.WorldItemKind.TheVariants.{Function as FunctionAt};
@@ -33,9 +33,9 @@ fn define_function(
     world: WorldId,
     function: &Func,
 ) -> Result<FunctionId, AllocError>
-    requires known { named_function (function_item function.now).function ≡ [] }
+    requires known { names_in_function (function_in_tree function.now).function ≡ [] }
     ensures { IfOk result (λ id. (way : Way) → DefinesItem builder.old builder.new world.0
-        (record { direction = direction_meaning way; kind = FunctionAt id }) (item_meaning (FunctionOf way (function_item function.now)))) }
+        (record { direction = direction_meaning way; kind = FunctionAt id }) (tree_item_meaning (FunctionOf way (function_in_tree function.now)))) }
 {
     let scope = KnownTypes {
         interface: InterfaceId(0),
@@ -62,7 +62,7 @@ fn define_item(
 ) -> Result<WorldItem, AllocError>
     requires known { IsKnownItemOf (imports_of plan.now.imports.now) plan.now.names.now (declared_item item.now) }
     requires names { builder.old.interfaces ≡ named_imports plan.now.imports.now ++ plan.now.names.now }
-    ensures { IfOk result (λ i. DefinesItem builder.old builder.new world.0 i (item_meaning (declared_item item.now))) }
+    ensures { IfOk result (λ i. DefinesItem builder.old builder.new world.0 i (tree_item_meaning (declared_item item.now))) }
 {
     let direction = side_of(item.direction);
     match &item.kind {
@@ -92,7 +92,7 @@ fn define_items(
 ) -> Result<Vec<WorldItem>, AllocError>
     requires known { All (IsKnownItemOf (imports_of plan.now.imports.now) plan.now.names.now) (map declared_item items.now) }
     requires names { builder.old.interfaces ≡ named_imports plan.now.imports.now ++ plan.now.names.now }
-    ensures { IfOk result (λ is. DefinesItems builder.old builder.new world.0 is.items (map item_meaning (map declared_item items.now))) }
+    ensures { IfOk result (λ is. DefinesItems builder.old builder.new world.0 is.items (map tree_item_meaning (map declared_item items.now))) }
 {
     let mut defined = Vec::new(alloc);
     for item in items {
@@ -111,7 +111,7 @@ fn define_world(
 ) -> Result<World, AllocError>
     requires known { IsKnownWorldOf (imports_of plan.now.imports.now) plan.now.names.now (declared_world world.now) }
     requires names { builder.old.interfaces ≡ named_imports plan.now.imports.now ++ plan.now.names.now }
-    ensures { IfOk result (λ w. DefinesWorld builder.old builder.new (length plan.now.imports.now.packages) id.0 w (world_meaning (declared_world world.now))) }
+    ensures { IfOk result (λ w. DefinesWorld builder.old builder.new (length plan.now.imports.now.packages) id.0 w (meaning_of_world (declared_world world.now))) }
 {
     let package = package_id(plan.imports)?;
     let items = define_items(alloc, plan, builder, id, &world.items)?;
@@ -141,7 +141,7 @@ pub fn define_worlds(
 ) -> Result<Vec<World>, AllocError>
     requires known { All (IsKnownWorldOf (imports_of plan.now.imports.now) plan.now.names.now) (filter_map world_of (map item_view items.now)) }
     requires names { builder.old.interfaces ≡ named_imports plan.now.imports.now ++ plan.now.names.now }
-    ensures { IfOk result (λ ws. DefinesWorlds builder.old builder.new (length plan.now.imports.now.packages) ws.items (map world_meaning (filter_map world_of (map item_view items.now)))) }
+    ensures { IfOk result (λ ws. DefinesWorlds builder.old builder.new (length plan.now.imports.now.packages) ws.items (map meaning_of_world (filter_map world_of (map item_view items.now)))) }
 {
     let mut worlds = Vec::new(alloc);
     for item in items {

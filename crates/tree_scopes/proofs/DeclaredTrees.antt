@@ -1,10 +1,10 @@
 -- What is declared by parts of a tree that are lent.
 use Rattle.std.proofs.Common.{◌≡◌, List, [], ◌∷◌, ◌++◌, map, ap, sym, ◌∙◌, ℕ, ◌<◌, Some, length, get_or, subst, arith, Contains, All, Bor}
-use Rattle.tree_meaning.specs.Declarations.{InterfaceTree, interface_names, interface_name, interface_at, no_interface, type_names}
+use Rattle.tree_meaning.specs.Declarations.{InterfaceTree, names_of_trees, interface_tree_name, interface_at, no_interface, type_names}
 use Rattle.tree_scopes.specs.Sources.{declared_tree}
 use Rattle.tree_scopes.specs.declared.declared.Declarations.{Declarations}
 use Rattle.std.proofs.lemmas.List.{map-append, get_or-map, length-map, get_or_default}
-use Rattle.tree_scopes.specs.Lent.{lent}
+use Rattle.tree_scopes.specs.Lent.{lent_names}
 use Rattle.tree_meaning.proofs.Finding.{place-below, place-at}
 use Rattle.tree_meaning.specs.Resolves.{place_of, IsUnknownName, interface_uses, uses_of_interface}
 use Rattle.placement.specs.Order.{IsPlacement}
@@ -16,30 +16,30 @@ declared-more all before d i is js e h di f =
     ap (map declared_tree) e ∙ map-append declared_tree before (d ∷ []) ∙ ap (λ (ts : List InterfaceTree). ts ++ declared_tree d ∷ []) h ∙ ap (λ (t : InterfaceTree). is ++ t ∷ []) di ∙ sym f
 
 -- .. where they are the names of interfaces
-pub place-in : (all : List Declarations) (names : List (List ℕ)) (n : List ℕ) (j : ℕ) → names ≡ interface_names (map declared_tree all) → place_of names n ≡ Some j → j < length all
+pub place-in : (all : List Declarations) (names : List (List ℕ)) (n : List ℕ) (j : ℕ) → names ≡ names_of_trees (map declared_tree all) → place_of names n ≡ Some j → j < length all
 place-in all names n j same e =
-    omega (arith, place-below names n j e, ap length same, length-map (map declared_tree all) interface_name, length-map all declared_tree)
+    omega (arith, place-below names n j e, ap length same, length-map (map declared_tree all) interface_tree_name, length-map all declared_tree)
 
-pub interface-there : (all : List Declarations) (names : List (List ℕ)) (n : List ℕ) (j : ℕ) (d : Declarations) → names ≡ interface_names (map declared_tree all)
+pub interface-there : (all : List Declarations) (names : List (List ℕ)) (n : List ℕ) (j : ℕ) (d : Declarations) → names ≡ names_of_trees (map declared_tree all)
     → place_of names n ≡ Some j → d ≡ get_or all j d → d.name.now ≡ n
 interface-there all names n j d same e is =
     let l = place-in all names n j same e in
     let here : j < length (map declared_tree all) = omega (arith, l, length-map all declared_tree) in
     ap (λ (x : Declarations). x.name.now) is
     ∙ sym (ap (λ (i : InterfaceTree). i.name) (get_or-map declared_tree all j d no_interface l))
-    ∙ sym (get_or-map interface_name (map declared_tree all) j no_interface [] here)
+    ∙ sym (get_or-map interface_tree_name (map declared_tree all) j no_interface [] here)
     ∙ ap (λ (ns : List (List ℕ)). get_or ns j []) (sym same) ∙ place-at names n j [] e
 
 -- ---- the names of an interface's types
 
 module _ (d : Declarations) where
-  pub knows-all : (names : List (Bor (List ℕ))) (ns : List (List ℕ)) → lent names ≡ ns → All (Contains d.names) (lent names) → All (Contains (type_names (declared_tree d))) ns
+  pub knows-all : (names : List (Bor (List ℕ))) (ns : List (List ℕ)) → lent_names names ≡ ns → All (Contains d.names) (lent_names names) → All (Contains (type_names (declared_tree d))) ns
   knows-all names ns e h = subst (λ zs. All (Contains zs) ns) d.named (subst (λ zs. All (Contains d.names) zs) e h)
 
   pub lacks-one : (n : List ℕ) → (¬ Contains d.names n) → ¬ Contains (type_names (declared_tree d)) n
   lacks-one n h c = h (subst (λ zs. Contains zs n) (sym d.named) c)
 
-  pub lacks-name : (names : List (Bor (List ℕ))) (ns : List (List ℕ)) (n : List ℕ) → lent names ≡ ns → Contains (lent names) n × (¬ Contains d.names n)
+  pub lacks-name : (names : List (Bor (List ℕ))) (ns : List (List ℕ)) (n : List ℕ) → lent_names names ≡ ns → Contains (lent_names names) n × (¬ Contains d.names n)
       → IsUnknownName (declared_tree d) ns n
   lacks-name names ns n e h = (subst (λ zs. Contains zs n) e h.0, lacks-one n h.1)
 
@@ -51,4 +51,4 @@ order-below all order placed k d l =
     let is = map declared_tree all in
     let r = (placed.next k l).in_range in
     let same = get_or_default order k 0 d l in
-    omega (arith, r, same, length-map is (uses_of_interface (interface_names is)), length-map all declared_tree)
+    omega (arith, r, same, length-map is (uses_of_interface (names_of_trees is)), length-map all declared_tree)

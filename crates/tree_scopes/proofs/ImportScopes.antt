@@ -16,11 +16,11 @@ use Rattle.tables.specs.declared.tables.Resolve.{Resolve}
 use Rattle.package_form.specs.Entries.{Table}
 use Rattle.package_form.specs.Postfix.{is_unnamed_row, one_if}
 use Rattle.package_form.specs.Reached.{name_of}
-use Rattle.package_form.specs.Scoped.{Entry}
+use Rattle.package_form.specs.Scoped.{NameEntry}
 use Rattle.package_form.proofs.Lists.{all-append, all-cons, all-none, map-more}
 use Rattle.package_form.proofs.Meeting.{below_or_at, take-more}
 use Rattle.tree_meaning.specs.Imports.{Import, no_import, import_at, name_within, type_within, types_within, interfaces_of}
-use Rattle.tree_meaning.specs.Building.{IsEntry, name_at, table_trees}
+use Rattle.tree_meaning.specs.Building.{IsEntry, label_at, table_trees}
 use Rattle.tree_scopes.specs.KnownScopes.{IsScope, ArePlaced, HaveImportNames, scope_names}
 use Rattle.tree_scopes.specs.declared.known.KnownTypes.{KnownTypes}
 use Rattle.tree_meaning.proofs.Imported.{imports-at, imports-length}
@@ -61,13 +61,13 @@ named-row rows k t n e = by (slice_get rows t.0) refl e
     by (Some (row.Type d)) at g = named d d.name at refl g
     by (Some (row.Function f)) at g = absurd (cc)
 
-pub is-entry : (t : Table) (rows : List Definition) (k : InterfaceId) (id : TypeId) (n : List ℕ) → t.rows ≡ rows → type_within rows k.0 id ≡ Some n → IsEntry t (name_at t k.0) (record { name = n; id = id })
+pub is-entry : (t : Table) (rows : List Definition) (k : InterfaceId) (id : TypeId) (n : List ℕ) → t.rows ≡ rows → type_within rows k.0 id ≡ Some n → IsEntry t (label_at t k.0) (record { name = n; id = id })
 unfolding table_trees
 is-entry t rows k id n same e =
     let h = named-row rows k.0 id n e in
     let at : slice_get t.rows id.0 ≡ Some (row.Type h.kind) = ap (λ (ds : List Definition). slice_get ds id.0) same ∙ h.at in
     let s = get-split t.rows id.0 (row.Type h.kind) at in
-    let told : reference t.interfaces (references t.interfaces [] s.0) (row.Type h.kind) ≡ Reference (record { interface = name_at t k.0; name = n }) = rw h.has (rw (h.within, h.is) refl) in
+    let told : reference t.interfaces (references t.interfaces [] s.0) (row.Type h.kind) ≡ Reference (record { interface = label_at t k.0; name = n }) = rw h.has (rw (h.within, h.is) refl) in
     record {
       stands = record {
         typed = ap (λ (o : Option Definition). is_there (type_of o)) at;
@@ -93,8 +93,8 @@ take-at xs k d l = take-more xs k (get_or xs k d) l (get_or_default xs k d (get_
 pub scope-more : (t : Table) (rows : List Definition) (s after : KnownTypes) (id : TypeId) (n : List ℕ) → t.rows ≡ rows → type_within rows s.interface.0 id ≡ Some n
     → after ≡ record { interface = s.interface; entries = s.entries ++ record { name = n; id = id } ∷ [] } → IsScope t s → IsScope t after
 scope-more t rows s after id n same e is h =
-    let P = IsEntry t (name_at t s.interface.0) in
-    let x : Entry = record { name = n; id = id } in
+    let P = IsEntry t (label_at t s.interface.0) in
+    let x : NameEntry = record { name = n; id = id } in
     subst (IsScope t) (sym is) (record { each = all-append P s.entries (x ∷ []) h.each (all-cons P x [] (is-entry t rows s.interface id n same e) (all-none P)) })
 
 -- ---- the scopes of the first imports

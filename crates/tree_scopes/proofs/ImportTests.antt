@@ -11,12 +11,12 @@ use Rattle.package_names.specs.Indexed.{interface_place}
 use Rattle.tree_meaning.specs.Imports.{AreApart, Import, nameless, no_import, import_at, import_place, interfaces_of}
 use Rattle.tree_meaning.proofs.Imported.{at-itself, imports-at, imports-length, place-is, place-some}
 use Rattle.tree_scopes.proofs.ImportPlaces.{place-same}
-use Rattle.tree_scopes.specs.Tested.{IsFirst}
+use Rattle.tree_scopes.specs.Tested.{IsFirstOfName}
 
 counted : (r : Resolve) → length (interfaces_of r) ≡ length r.interfaces
 counted r = imports-length r.packages r.definitions 0 r.interfaces
 
-pub all-first : (r : Resolve) → ((k : ℕ) → k < length r.interfaces → IsFirst r k) → AreApart (interfaces_of r)
+pub all-first : (r : Resolve) → ((k : ℕ) → k < length r.interfaces → IsFirstOfName r k) → AreApart (interfaces_of r)
 all-first r h = record {
   each = λ j k l m e f.
       let ks = interfaces_of r in
@@ -25,7 +25,7 @@ all-first r h = record {
       ∙ h k (omega (arith, m, counted r)));
 }
 
-pub first-at : (r : Resolve) → AreApart (interfaces_of r) → (k : ℕ) → k < length r.interfaces → IsFirst r k
+pub first-at : (r : Resolve) → AreApart (interfaces_of r) → (k : ℕ) → k < length r.interfaces → IsFirstOfName r k
 first-at r apart k l =
     let ks = interfaces_of r in
     let x = import_at ks k in

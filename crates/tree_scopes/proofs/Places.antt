@@ -7,9 +7,9 @@ use Rattle.std.specs.Str.{bytes_eq}
 use Rattle.std.proofs.lemmas.Slice.Eq.{bytes_eq-Decides}
 use Rattle.tree_meaning.specs.Resolves.{place_of}
 use Rattle.tree_meaning.specs.Knowing.{TellsPlaces}
-use Rattle.tree_scopes.specs.Lent.{lent, lent_name}
+use Rattle.tree_scopes.specs.Lent.{lent_names, lent_name}
 use Rattle.package_form.proofs.Meeting.{split-at}
-use Rattle.package_form.specs.Scoped.{Entry, entry_of}
+use Rattle.package_form.specs.Scoped.{NameEntry, mapped_entry}
 use Rattle.tables.specs.declared.tables.TypeId.{TypeId}
 use Rattle.package_form.proofs.Lists.{contains-here, contains-later}
 use Rattle.tree_meaning.proofs.Finding.{same-bytes}
@@ -68,15 +68,15 @@ place-front (m ∷ ns) ms n j e = by (bytes_eq m n) e (λ i q. place-front ns ms
     by true r rest = r
     by false r rest = after (place_of ns n) refl r rest
 
-pub first-found : (xs : List (Bor (List ℕ))) (n : List ℕ) (k : ℕ) (x : Bor (List ℕ)) → k < length xs → x ≡ get_or xs k x → place_of (lent (take k xs)) n ≡ None → bytes_eq x.now n ≡ true
-    → place_of (lent xs) n ≡ Some k
+pub first-found : (xs : List (Bor (List ℕ))) (n : List ℕ) (k : ℕ) (x : Bor (List ℕ)) → k < length xs → x ≡ get_or xs k x → place_of (lent_names (take k xs)) n ≡ None → bytes_eq x.now n ≡ true
+    → place_of (lent_names xs) n ≡ Some k
 first-found xs n k x l is none same =
     let r = split-at xs k x l is in
-    let whole : lent xs ≡ (lent (take k xs) ++ x.now ∷ []) ++ lent r.0 =
-    ap lent r.1 ∙ map-append lent_name (take k xs ++ x ∷ []) r.0 ∙ ap (λ (ns : List (List ℕ)). ns ++ lent r.0) (map-append lent_name (take k xs) (x ∷ [])) in
-    let at : length (lent (take k xs)) ≡ k = omega (arith, l, length-map (take k xs) lent_name, length-take k xs) in
+    let whole : lent_names xs ≡ (lent_names (take k xs) ++ x.now ∷ []) ++ lent_names r.0 =
+    ap lent_names r.1 ∙ map-append lent_name (take k xs ++ x ∷ []) r.0 ∙ ap (λ (ns : List (List ℕ)). ns ++ lent_names r.0) (map-append lent_name (take k xs) (x ∷ [])) in
+    let at : length (lent_names (take k xs)) ≡ k = omega (arith, l, length-map (take k xs) lent_name, length-take k xs) in
     ap (λ (ns : List (List ℕ)). place_of ns n) whole
-    ∙ place-front (lent (take k xs) ++ x.now ∷ []) (lent r.0) n k (first-here (lent (take k xs)) x.now n none same ∙ ap Some at)
+    ∙ place-front (lent_names (take k xs) ++ x.now ∷ []) (lent_names r.0) n k (first-here (lent_names (take k xs)) x.now n none same ∙ ap Some at)
 
 bytes-same : (x : List ℕ) → bytes_eq x x ≡ true
 bytes-same x = (bytes_eq-Decides x x).1 refl
@@ -121,20 +121,20 @@ none-there (Some x) e = absurd (true≢false e)
 
 module _ {V : Type 0} (items : V → List ℕ) where
   found-at : (e : V × TypeId) (es : List (V × TypeId)) (n : List ℕ) (id : TypeId) (b : Bool) → bytes_eq n (items e.0) ≡ b → cond b (Some e.1) (lookup (λ v. bytes_eq n (items v)) es) ≡ Some id
-      → (lookup (λ v. bytes_eq n (items v)) es ≡ Some id → Contains (map (entry_of items) es) (record { name = n; id = id }))
-      → Contains (entry_of items e ∷ map (entry_of items) es) (record { name = n; id = id })
+      → (lookup (λ v. bytes_eq n (items v)) es ≡ Some id → Contains (map (mapped_entry items) es) (record { name = n; id = id }))
+      → Contains (mapped_entry items e ∷ map (mapped_entry items) es) (record { name = n; id = id })
   found-at e es n id true q h rest =
       let same : e.1 ≡ id = cc in
-      let is : entry_of items e ≡ record { name = n; id = id } = rw (sym (same-bytes n (items e.0) q), same) refl in
-      subst (Contains (entry_of items e ∷ map (entry_of items) es)) is (contains-here (entry_of items e) (map (entry_of items) es))
-  found-at e es n id false q h rest = contains-later (entry_of items e) (record { name = n; id = id }) (map (entry_of items) es) (rest h)
+      let is : mapped_entry items e ≡ record { name = n; id = id } = rw (sym (same-bytes n (items e.0) q), same) refl in
+      subst (Contains (mapped_entry items e ∷ map (mapped_entry items) es)) is (contains-here (mapped_entry items e) (map (mapped_entry items) es))
+  found-at e es n id false q h rest = contains-later (mapped_entry items e) (record { name = n; id = id }) (map (mapped_entry items) es) (rest h)
 
-  pub entry-found : (es : List (V × TypeId)) (n : List ℕ) (id : TypeId) → lookup (λ v. bytes_eq n (items v)) es ≡ Some id → Contains (map (entry_of items) es) (record { name = n; id = id })
+  pub entry-found : (es : List (V × TypeId)) (n : List ℕ) (id : TypeId) → lookup (λ v. bytes_eq n (items v)) es ≡ Some id → Contains (map (mapped_entry items) es) (record { name = n; id = id })
   entry-found [] n id h = absurd (cc)
   entry-found (e ∷ es) n id h = found-at e es n id (bytes_eq n (items e.0)) refl h (λ q. entry-found es n id q)
 
-  pub entry-missed : (es : List (V × TypeId)) (n : List ℕ) (k : ℕ) → k < length (map (λ (e : Entry). e.name) (map (entry_of items) es))
-      → get_or (map (λ (e : Entry). e.name) (map (entry_of items) es)) k n ≡ n → lookup (λ v. bytes_eq n (items v)) es ≡ None → ⊥
+  pub entry-missed : (es : List (V × TypeId)) (n : List ℕ) (k : ℕ) → k < length (map (λ (e : NameEntry). e.name) (map (mapped_entry items) es))
+      → get_or (map (λ (e : NameEntry). e.name) (map (mapped_entry items) es)) k n ≡ n → lookup (λ v. bytes_eq n (items v)) es ≡ None → ⊥
   entry-missed [] n k l h q = omega arith
   entry-missed (e ∷ es) n zero l h q = by (bytes_eq n (items e.0)) (ap (λ z. bytes_eq n z) h ∙ bytes-same n) q
     where

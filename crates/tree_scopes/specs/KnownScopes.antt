@@ -4,14 +4,14 @@ use Rattle.package_form.specs.Entries.{Table}
 use Rattle.tree_meaning.specs.Imports.{interfaces_of}
 use Rattle.tables.specs.declared.tables.Resolve.{Resolve}
 use Rattle.tree_scopes.specs.declared.known.KnownTypes.{KnownTypes}
-use Rattle.tree_meaning.specs.Building.{name_at, IsEntry}
+use Rattle.tree_meaning.specs.Building.{label_at, IsEntry}
 
 pub record IsScope (t : Table) (s : KnownTypes) : Type 0 where
-  pub each : All (IsEntry t (name_at t s.interface.0)) s.entries
+  pub each : All (IsEntry t (label_at t s.interface.0)) s.entries
 
 -- the name of a scope's interface
 abbrev pub scope_name : Table → KnownTypes → List ℕ
-scope_name t s = name_at t s.interface.0
+scope_name t s = label_at t s.interface.0
 
 abbrev pub scope_names : KnownTypes → List (List ℕ)
 scope_names s = map (λ e. e.name) s.entries

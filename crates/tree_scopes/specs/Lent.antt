@@ -9,8 +9,8 @@ use Rattle.tree_scopes.specs.declared.declared.UsedType.{UsedType}
 abbrev pub lent_name : Bor (List ℕ) → List ℕ
 lent_name b = b.now
 
-abbrev pub lent : List (Bor (List ℕ)) → List (List ℕ)
-lent ns = map lent_name ns
+abbrev pub lent_names : List (Bor (List ℕ)) → List (List ℕ)
+lent_names ns = map lent_name ns
 
 abbrev pub used_item_of : UsedType → UsedItem
 used_item_of u = record {

@@ -8,7 +8,7 @@ use Rattle.wit_syntax.specs.declared.ast.World.{World}
 use Rattle.tables.specs.PackageNames.{PackageParts}
 use Rattle.wit_syntax.specs.declared.ast.Func.{Func}
 use Rattle.tables.specs.Package.{Key, ItemMeaning, WorldMeaning}
-use Rattle.tree_meaning.specs.Resolved.{item_meaning}
+use Rattle.tree_meaning.specs.Resolved.{tree_item_meaning}
 use Rattle.tree_meaning.specs.Declarations.{UsedItem, FunctionItem, InterfaceTree, ItemTree, WorldTree, item_tree, full_item, world_tree, path_package, path_interface, use_interface}
 use Rattle.tree_scopes.specs.Lent.{declared_type, used_item_of}
 use Rattle.tree_scopes.specs.declared.declared.Declarations.{Declarations}
@@ -21,7 +21,7 @@ declared_world w = world_tree w.name (map world_entry_view w.items.items)
 
 -- an item of a world of this package, and a world of these items, under full names
 abbrev pub item_in : PackageParts → WorldItem → ItemMeaning
-item_in p i = item_meaning (full_item p (declared_item i))
+item_in p i = tree_item_meaning (full_item p (declared_item i))
 
 abbrev pub world_in : PackageParts → List WorldItem → WorldMeaning
 world_in p is = record { name = []; items = map (item_in p) is }
@@ -33,11 +33,11 @@ use_of p n = record { «package» = path_package p; interface = path_interface p
 abbrev pub used_key : UsedItem → Key
 used_key u = record { interface = use_interface u; name = u.name }
 
-abbrev pub function_item : Func → FunctionItem
-function_item f = record { name = f.name; function = function_view f.ty }
+abbrev pub function_in_tree : Func → FunctionItem
+function_in_tree f = record { name = f.name; function = function_view f.ty }
 
 abbrev pub declared_function : Bor Func → FunctionItem
-declared_function f = function_item f.now
+declared_function f = function_in_tree f.now
 
 abbrev pub declared_tree : Declarations → InterfaceTree
 declared_tree d = record {

@@ -4,5 +4,5 @@ use Rattle.tables.specs.declared.tables.Resolve.{Resolve}
 use Rattle.tree_meaning.specs.Imports.{import_at, import_place, interfaces_of}
 
 -- the interface at place k is the first of its name in its package
-abbrev pub IsFirst : Resolve → ℕ → Type 0
-IsFirst r k = import_place (interfaces_of r) (import_at (interfaces_of r) k).«package» (import_at (interfaces_of r) k).name ≡ Some k
+abbrev pub IsFirstOfName : Resolve → ℕ → Type 0
+IsFirstOfName r k = import_place (interfaces_of r) (import_at (interfaces_of r) k).«package» (import_at (interfaces_of r) k).name ≡ Some k

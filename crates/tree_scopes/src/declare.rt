@@ -2,8 +2,8 @@
 ghost use Rattle.std.specs.Prelude.{◌≡◌, ◌++◌, map, All, OnOk, IfOk};
 ghost use Rattle.atoms.specs.Label.{IsLabel};
 ghost use Rattle.wit_syntax.specs.View.{entry_view, path_view, used_view};
-ghost use Rattle.tree_meaning.specs.Declarations.{interface_tree, interface_name, interface_names, path_uses, local_name, use_local, type_name};
-ghost use Rattle.tree_scopes.specs.Lent.{declared_type, used_item_of, lent};
+ghost use Rattle.tree_meaning.specs.Declarations.{interface_tree, interface_tree_name, names_of_trees, path_uses, local_name, use_local, type_name};
+ghost use Rattle.tree_scopes.specs.Lent.{declared_type, used_item_of, lent_names};
 ghost use Rattle.tree_scopes.specs.Sources.{declared_tree};
 
 use crate::declared::{Declarations, UsedType};
@@ -48,7 +48,7 @@ fn push_use<'a>(uses: &mut Vec<UsedType<'a>>, used: &'a Use) -> Result<(), Alloc
 }
 
 fn push_locals<'a>(names: &mut Vec<&'a Label>, uses: &[UsedType<'a>]) -> Result<(), AllocError>
-    ensures { OnOk result (lent names.new.items ≡ lent names.old.items ++ map use_local (map used_item_of uses.now)) }
+    ensures { OnOk result (lent_names names.new.items ≡ lent_names names.old.items ++ map use_local (map used_item_of uses.now)) }
 {
     for used in uses {
         names.push(used.local)?;
@@ -58,7 +58,7 @@ fn push_locals<'a>(names: &mut Vec<&'a Label>, uses: &[UsedType<'a>]) -> Result<
 
 /// Appends the names of types.
 pub fn push_types<'a>(names: &mut Vec<&'a Label>, types: &[&'a TypeDef]) -> Result<(), AllocError>
-    ensures { OnOk result (lent names.new.items ≡ lent names.old.items ++ map type_name (map declared_type types.now)) }
+    ensures { OnOk result (lent_names names.new.items ≡ lent_names names.old.items ++ map type_name (map declared_type types.now)) }
 {
     for definition in types {
         names.push(&definition.name)?;
@@ -68,7 +68,7 @@ pub fn push_types<'a>(names: &mut Vec<&'a Label>, types: &[&'a TypeDef]) -> Resu
 
 /// Appends the names of interfaces.
 fn push_names<'a>(names: &mut Vec<&'a Label>, all: &[Declarations<'a>]) -> Result<(), AllocError>
-    ensures { OnOk result (lent names.new.items ≡ lent names.old.items ++ map interface_name (map declared_tree all.now)) }
+    ensures { OnOk result (lent_names names.new.items ≡ lent_names names.old.items ++ map interface_tree_name (map declared_tree all.now)) }
 {
     for declared in all {
         names.push(declared.name)?;
@@ -82,7 +82,7 @@ pub fn interface_names<'a>(
     keyed: KeyedState,
     all: &[Declarations<'a>],
 ) -> Result<Names<'a>, AllocError>
-    ensures names { IfOk result (λ ns. ns ≡ interface_names (map declared_tree all.now)) }
+    ensures names { IfOk result (λ ns. ns ≡ names_of_trees (map declared_tree all.now)) }
     ensures labels { IfOk result (λ ns. All IsLabel ns) }
 {
     let mut names = Vec::new(alloc);

@@ -5,7 +5,7 @@ ghost use Rattle.package_form.specs.Closed.{is_same_package};
 ghost use Rattle.package_form.specs.Entries.{Table};
 ghost use Rattle.package_names.specs.Indexed.{key_parts};
 ghost use Rattle.package_form.specs.Reached.{name_at};
-ghost use Rattle.tree_meaning.specs.Finished.{header};
+ghost use Rattle.tree_meaning.specs.Finished.{header_name};
 ghost use Rattle.tree_meaning.specs.Imports.{import_place, interfaces_of, type_within, types_within};
 ghost use Rattle.tree_scopes.specs.KnownScopes.{IsScope, scope_names, AreImportScopes};
 
@@ -21,7 +21,7 @@ use wit_syntax::PackageId;
 
 /// Whether the package has the name that a path gives.
 fn is_package(package: &PackageName, id: &PackageId) -> bool
-    ensures { result ≡ is_same_package «package».now (header id.now) }
+    ensures { result ≡ is_same_package «package».now (header_name id.now) }
 {
     package.namespace.as_bytes() == id.namespace.as_bytes()
         && package.name.as_bytes() == id.name.as_bytes()
@@ -30,7 +30,7 @@ fn is_package(package: &PackageName, id: &PackageId) -> bool
 
 /// Whether one of these packages has the name that a path gives.
 pub fn has_package(packages: &[PackageName], id: &PackageId) -> bool
-    ensures { result ≡ list_any (λ p. is_same_package p (header id.now)) packages.now }
+    ensures { result ≡ list_any (λ p. is_same_package p (header_name id.now)) packages.now }
 {
     for package in packages {
         if is_package(package, id) {
@@ -42,7 +42,7 @@ pub fn has_package(packages: &[PackageName], id: &PackageId) -> bool
 
 /// The name of the package that a tree's header gives.
 pub fn package_name(alloc: Global, id: &PackageId) -> Result<PackageName, AllocError>
-    ensures { IfOk result (λ p. p ≡ header id.now) }
+    ensures { IfOk result (λ p. p ≡ header_name id.now) }
 {
     Ok(PackageName {
         namespace: id.namespace.copy(alloc)?,
@@ -53,7 +53,7 @@ pub fn package_name(alloc: Global, id: &PackageId) -> Result<PackageName, AllocE
 
 /// The name of a package that a path gives, lent.
 pub fn package_key(id: &PackageId) -> PackageKey<'_>
-    ensures { key_parts result ≡ header id.now }
+    ensures { key_parts result ≡ header_name id.now }
 {
     PackageKey {
         namespace: id.namespace.as_bytes(),
@@ -64,7 +64,7 @@ pub fn package_key(id: &PackageId) -> PackageKey<'_>
 
 /// The place of the interface of this name of this package.
 pub fn import_place(imports: &IndexedTable<'_>, package: &PackageId, name: &Label) -> Option<usize>
-    ensures { result ≡ import_place (interfaces_of imports.now) (header «package».now) name.now }
+    ensures { result ≡ import_place (interfaces_of imports.now) (header_name «package».now) name.now }
 {
     imports.place(package_key(package), name)
 }

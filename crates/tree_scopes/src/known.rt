@@ -16,11 +16,11 @@ pub struct TypeIds {
 impl Model for TypeIds {
     ghost use Rattle.std.specs.Prelude.{List, map};
     ghost use Rattle.std.specs.String.{string_bytes};
-    ghost use Rattle.package_form.specs.Scoped.{Entry, entry_of};
+    ghost use Rattle.package_form.specs.Scoped.{NameEntry, mapped_entry};
 
-    ghost Value = { List Entry };
+    ghost Value = { List NameEntry };
 
-    ghost view = { λ t. map (entry_of string_bytes) t.ids.entries };
+    ghost view = { λ t. map (mapped_entry string_bytes) t.ids.entries };
 }
 
 impl TypeIds {

@@ -1,7 +1,7 @@
 //! Names that are found by their bytes.
 ghost use Rattle.std.specs.Prelude.{◌≡◌, All, IfOk};
 ghost use Rattle.atoms.specs.Label.{IsLabel};
-ghost use Rattle.tree_scopes.specs.Lent.{lent};
+ghost use Rattle.tree_scopes.specs.Lent.{lent_names};
 ghost use Rattle.tree_meaning.specs.Resolves.{place_of};
 ghost use Rattle.tree_meaning.specs.Knowing.{TellsPlaces};
 
@@ -20,19 +20,19 @@ pub struct Names<'a> {
 
 impl<'a> Model for Names<'a> {
     ghost use Rattle.std.specs.Prelude.{◌<◌, List, ℕ, length};
-    ghost use Rattle.tree_scopes.specs.Lent.{lent};
+    ghost use Rattle.tree_scopes.specs.Lent.{lent_names};
     ghost use Rattle.tree_meaning.specs.Knowing.{TellsPlaces};
 
     ghost Value = { List (List ℕ) };
 
-    ghost view = { λ n. lent n.names.items };
+    ghost view = { λ n. lent_names n.names.items };
 
-    ghost invariant = { λ n. 16 < length n.names.items → TellsPlaces (λ s. s.now) n.places.entries (lent n.names.items) };
+    ghost invariant = { λ n. 16 < length n.names.items → TellsPlaces (λ s. s.now) n.places.entries (lent_names n.names.items) };
 }
 
 /// The first place of a name among these.
 fn first_place(names: &[&Label], name: &Label) -> Option<usize>
-    ensures { result ≡ place_of (lent names.now) name.now }
+    ensures { result ≡ place_of (lent_names names.now) name.now }
 {
     for (place, other) in names.iter().enumerate() {
         if other.as_bytes() == name.as_bytes() {
@@ -48,7 +48,7 @@ fn places_of<'a>(
     keyed: KeyedState,
     names: &[&'a Label],
 ) -> Result<IndexMap<&'a str, usize, KeyedState>, AllocError>
-    ensures { IfOk result (λ m. TellsPlaces (λ s. s.now) m.entries (lent names.now)) }
+    ensures { IfOk result (λ m. TellsPlaces (λ s. s.now) m.entries (lent_names names.now)) }
 {
     let mut places = IndexMap::with_capacity_and_hasher(alloc, names.len(), keyed)?;
     for (place, name) in names.iter().enumerate() {
@@ -62,7 +62,7 @@ fn places_of<'a>(
 
 /// Names are labels.
 fn are_labels(names: &[&Label])
-    ensures { All IsLabel (lent names.now) }
+    ensures { All IsLabel (lent_names names.now) }
 {
     for name in names {
         name.as_bytes();
@@ -76,7 +76,7 @@ impl<'a> Names<'a> {
         keyed: KeyedState,
         names: Vec<&'a Label>,
     ) -> Result<Names<'a>, AllocError>
-        ensures names { IfOk result (λ n. n ≡ lent names.entry.items) }
+        ensures names { IfOk result (λ n. n ≡ lent_names names.entry.items) }
         ensures labels { IfOk result (λ n. All IsLabel n) }
     {
         are_labels(&names);

@@ -3,7 +3,7 @@ ghost use Rattle.std.specs.Prelude.{◌≡◌, ◌<◌, length, slice_index_or, 
 ghost use Rattle.std.specs.List.{list_all};
 ghost use Rattle.tree_meaning.specs.Imports.{AreApart, interfaces_of};
 ghost use Rattle.tree_meaning.specs.Resolves.{AreImports, is_of_interfaces};
-ghost use Rattle.tree_scopes.specs.Tested.{IsFirst};
+ghost use Rattle.tree_scopes.specs.Tested.{IsFirstOfName};
 
 use package_form::is_postfix;
 use package_names::{IndexedTable, PackageKey};
@@ -36,7 +36,7 @@ fn are_of_interfaces(count: usize, rows: &[Definition]) -> bool
 fn is_first(table: &IndexedTable<'_>, place: usize, interface: &Interface) -> bool
     requires below { place < length table.now.interfaces }
     requires there { interface.now ≡ slice_index_or table.now.interfaces place interface.now }
-    ensures { Decides result (IsFirst table.now place) }
+    ensures { Decides result (IsFirstOfName table.now place) }
 {
     let package = &table.table().packages.as_slice()[interface.package.0 as usize];
     match table.place(PackageKey::of(package), &interface.name) {

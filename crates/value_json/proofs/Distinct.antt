@@ -8,7 +8,7 @@ use Rattle.tables.specs.declared.tables.TypeDefKind.TheVariants as kind
 use Rattle.tables.specs.declared.tables.Field.{Field}
 use Rattle.tables.specs.declared.tables.Definition.{Definition}
 use Rattle.tables.specs.declared.tables.Definition.TheVariants as row
-use Rattle.value_json.specs.Apart.{AreApart, KindApart, RowApart}
+use Rattle.value_json.specs.Apart.{HaveLabelsApart, KindApart, RowApart}
 use Rattle.value_json.specs.Json.{IsNotAmong, AreDistinctLabels, IsOfNoCase, HasDistinctLabels, MembersHaveDistinctLabels, PayloadHasDistinctLabels, FieldsHaveDistinctLabels, CasesHaveDistinctLabels}
 
 prop-all : {A : Type 0} (P : A → Type 0) → ((a : A) → IsProp (P a)) → (xs : List A) → IsProp (AllByRecursion P xs)
@@ -20,7 +20,7 @@ prop-differs a b = hlevel
 
 -- ---- records
 
-prop-apart : (fs : List Field) → IsProp (AreApart fs)
+prop-apart : (fs : List Field) → IsProp (HaveLabelsApart fs)
 prop-apart [] = hlevel
 prop-apart (f ∷ fs) = hlevel (prop-all (λ (g : Field). g.name ≡ f.name → ⊥) (λ g. prop-differs g.name f.name) fs, prop-apart fs)
 

@@ -17,7 +17,7 @@ use Rattle.serde_json.specs.declared.value.Value.{Value as JsonValue}
 use Rattle.serde_json.proofs.Views.{get_member-put, get_member-put_other}
 use Rattle.tables.specs.declared.tables.Field.{Field}
 use Rattle.tables.specs.Labelled.{labelled_val, labelled_fields}
-use Rattle.value_json.specs.Apart.{AreApart}
+use Rattle.value_json.specs.Apart.{HaveLabelsApart}
 use Rattle.value_json.specs.Json.{Json, FieldsJson}
 use Rattle.value_json.proofs.Objects.{same-key}
 use Rattle.value_json.proofs.Runs.{Run}
@@ -113,7 +113,7 @@ more-stand rows l d rest ms (f ∷ fs) vs is_put gone (v, vs2, is, (x, at, stand
     let other : f.name ≡ l → ⊥ = λ same. let both : None ≡ Some x = sym gone ∙ ap (λ q. get_member q rest) (sym same) ∙ at in absurd (cc) in
     (v, vs2, is, (x, ap (get_member f.name) is_put ∙ get_member-put_other f.name l d rest other ∙ at, stands), more-stand rows l d rest ms fs vs2 is_put gone r)
 
-pub fields-of : (rows : List LabelledType) (fs : List Field) (ms : Members) (vs : List Value) → AreApart fs → Sorted ms → members_len ms ≡ length fs
+pub fields-of : (rows : List LabelledType) (fs : List Field) (ms : Members) (vs : List Value) → HaveLabelsApart fs → Sorted ms → members_len ms ≡ length fs
     → Run (FieldStands rows ms) fs vs → FieldsJson (labelled_fields rows fs) vs ms
 fields-of rows [] no_members vs apart s len r = (r, refl)
 fields-of rows [] (member k e ms) vs apart s len r = absurd (omega (arith, len))

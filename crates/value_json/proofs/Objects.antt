@@ -10,7 +10,7 @@ use Rattle.serde_json.specs.Events.{members_len}
 use Rattle.serde_json.specs.Find.{as_str, as_array, as_object, get_member, get}
 use Rattle.serde_json.specs.View.{items_of}
 use Rattle.serde_json.proofs.Views.{get_member-put}
-use Rattle.value_json.specs.Json.{single}
+use Rattle.value_json.specs.Json.{one_member}
 
 pub text-is : (d : Data) (s : List ℕ) → Some s ≡ as_str d → d ≡ json.string s
 text-is json.null s e = absurd (cc)
@@ -39,17 +39,17 @@ object-is (json.object ms) s e = cc
 pub same-key : (k l : List ℕ) → slice_cmp nat_cmp k l ≡ Equal → k ≡ l
 same-key k l e = (bytes_eq-Decides k l).0 (sym (is_eq-slice_cmp k l) ∙ ap is_eq e)
 
-pub single-found : (ms : Members) (l : List ℕ) (x : Data) → members_len ms ≡ 1 → get_member l ms ≡ Some x → json.object ms ≡ single l x
+pub single-found : (ms : Members) (l : List ℕ) (x : Data) → members_len ms ≡ 1 → get_member l ms ≡ Some x → json.object ms ≡ one_member l x
 single-found no_members l x one found = absurd (cc)
 single-found (member k d no_members) l x one found = by (slice_cmp nat_cmp l k) refl found
   where
-    by : (o : Ordering) → slice_cmp nat_cmp l k ≡ o → match_ordering o None (Some d) None ≡ Some x → json.object (member k d no_members) ≡ single l x
+    by : (o : Ordering) → slice_cmp nat_cmp l k ≡ o → match_ordering o None (Some d) None ≡ Some x → json.object (member k d no_members) ≡ one_member l x
     by Less e f = absurd (cc)
     by Greater e f = absurd (cc)
     by Equal e f = let same = same-key l k e in let is : d ≡ x = cc in rw (same, is) refl
 single-found (member k d (member k2 d2 ms)) l x one found = absurd (omega (arith, one))
 
-pub single-get : (l : List ℕ) (d : Data) → get l (single l d) ≡ Some d
+pub single-get : (l : List ℕ) (d : Data) → get l (one_member l d) ≡ Some d
 single-get l d = get_member-put l d no_members
 
 abbrev list_of : Items → List Data
@@ -70,7 +70,7 @@ abbrev length_of : Data → ℕ
 length_of (json.object ms) = members_len ms
 length_of _ = 0
 
-pub one-long : (ms : Members) (l : List ℕ) (d : Data) → json.object ms ≡ single l d → members_len ms ≡ 1
+pub one-long : (ms : Members) (l : List ℕ) (d : Data) → json.object ms ≡ one_member l d → members_len ms ≡ 1
 one-long ms l d e = ap length_of e
 
 members_of_object : Data → Members

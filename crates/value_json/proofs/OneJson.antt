@@ -8,7 +8,7 @@ use Rattle.canonical_abi.proofs.Asked.{items-of}
 use Rattle.serde_json.specs.Data as json
 use Rattle.serde_json.specs.Data.{Data, Members, put}
 use Rattle.serde_json.specs.View.{items_of}
-use Rattle.value_json.specs.Json.{PrimJson, Json, EachJson, MembersJson, PayloadJson, CasesJson, FieldsJson, FlagsJson, single}
+use Rattle.value_json.specs.Json.{PrimJson, Json, EachJson, MembersJson, PayloadJson, CasesJson, FieldsJson, FlagsJson, one_member}
 use Rattle.value_json.specs.Writing.{HasCase}
 
 same-values : (vs ws : List Value) → values_of vs ≡ values_of ws → vs ≡ ws
@@ -78,7 +78,7 @@ mutual
   one-json (labelled_option t) v j k (inl (a, is_j)) (inr (w, d, s, b, is_k)) = plain-payload v w 0 1 a b
   one-json (labelled_option t) v j k (inr (w, d, s, b, is_j)) (inl (a, is_k)) = plain-payload v w 0 1 a b
   one-json (labelled_option t) v j k (inr (w, d, s, a, is_j)) (inr (u, e, r, b, is_k)) =
-      let same : w ≡ u = cc in is_j ∙ ap (single _) (one-json t u d e (subst (λ x. Json t x d) same s) r) ∙ sym is_k
+      let same : w ≡ u = cc in is_j ∙ ap (one_member _) (one-json t u d e (subst (λ x. Json t x d) same s) r) ∙ sym is_k
   one-json (labelled_tuple ts) v j k (vs, js, each, is_v, is_j) (ws, ks, each2, is_w, is_k) =
       let same = records-same vs ws v is_v is_w in
       is_j ∙ ap (λ x. json.array (items_of x)) (members-one ts ws js ks (subst (λ x. MembersJson ts x js) same each) each2) ∙ sym is_k
@@ -105,7 +105,7 @@ mutual
   payload-one : (p : Payload) (l : Label) (i : ℕ) (v : Value) (j k : Data) → PayloadJson p l i v j → PayloadJson p l i v k → j ≡ k
   payload-one no_payload l i v j k (a, is_j) (b, is_k) = is_j ∙ sym is_k
   payload-one (payload t) l i v j k (w, d, s, a, is_j) (u, e, r, b, is_k) =
-      let same : w ≡ u = cc in is_j ∙ ap (single l) (one-json t u d e (subst (λ x. Json t x d) same s) r) ∙ sym is_k
+      let same : w ≡ u = cc in is_j ∙ ap (one_member l) (one-json t u d e (subst (λ x. Json t x d) same s) r) ∙ sym is_k
 
   cases-one : (cs : LabelledCases) (i : ℕ) (v : Value) (j k : Data) → CasesJson cs i v j → CasesJson cs i v k → j ≡ k
   cases-one no_labelled_case i v j k a b = absurd a

@@ -27,7 +27,7 @@ use Rattle.package_form.proofs.Scopes.{interfaces-distinct}
 use Rattle.std.proofs.Math.Logic.{∥∥₁_elim}
 use Rattle.package_form.specs.Form.{IsInPackageForm}
 use Rattle.package_form.specs.Naming.{package_scopes}
-use Rattle.value_json.specs.Apart.{AreApart, KindApart, RowApart, HasApartLabels}
+use Rattle.value_json.specs.Apart.{HaveLabelsApart, KindApart, RowApart, HasApartLabels}
 use Rattle.value_json.specs.Json.{IsNotAmong, AreDistinctLabels, IsOfNoCase, HasDistinctLabels, MembersHaveDistinctLabels, PayloadHasDistinctLabels, FieldsHaveDistinctLabels, CasesHaveDistinctLabels}
 use Rattle.value_json.specs.Laws.{LabelsAreApart}
 use Rattle.value_json.proofs.Distinct.{prop-rows, prop-type}
@@ -133,7 +133,7 @@ distinct-labels : (ls : List Label) → AreDistinct ls → AreDistinctLabels ls
 distinct-labels [] d = tt
 distinct-labels (l ∷ ls) d = (not-in l ls (distinct-apart (l ∷ []) ls l d (contains-here l [])), distinct-labels ls (distinct-back (l ∷ []) ls d))
 
-apart-fields : (fs : List Field) → AreDistinctLabels (map field_name fs) → AreApart fs
+apart-fields : (fs : List Field) → AreDistinctLabels (map field_name fs) → HaveLabelsApart fs
 apart-fields [] d = tt
 apart-fields (f ∷ fs) (first, d) = (by fs first, apart-fields fs d)
   where

@@ -16,7 +16,7 @@ use Rattle.tables.specs.declared.tables.ValType.{ValType}
 use Rattle.tables.specs.declared.tables.Field.{Field}
 use Rattle.tables.specs.declared.tables.Case.{Case}
 use Rattle.tables.specs.Labelled.{labelled_val, labelled_members, labelled_fields, labelled_cases, labelled_payload}
-use Rattle.value_json.specs.Apart.{AreApart}
+use Rattle.value_json.specs.Apart.{HaveLabelsApart}
 use Rattle.value_json.specs.Json.{Json, EachJson, MembersJson, FieldsJson, FlagsJson}
 use Rattle.value_json.specs.Writing.{HasCase, HasPayload}
 use Rattle.values.specs.Val.{value_of}
@@ -59,7 +59,7 @@ pub items-next : (P : Value → Data → Type 0) (vs : List Val) (i : ℕ) (v : 
 items-next P vs i v js j h is each p =
     subst (λ xs. EachJson P xs (js ++ j ∷ [])) (sym (values-more vs i v h is)) (each-more P (map value_of (take i vs)) js (value_of v) j each p)
 
-pub apart-from : (fs : List Field) (i : ℕ) (f : Field) → i < length fs → AreApart fs → AllByRecursion (λ g. g.name ≡ (get_or fs i f).name → ⊥) (drop (suc i) fs)
+pub apart-from : (fs : List Field) (i : ℕ) (f : Field) → i < length fs → HaveLabelsApart fs → AllByRecursion (λ g. g.name ≡ (get_or fs i f).name → ⊥) (drop (suc i) fs)
 apart-from [] i f h apart = absurd (omega arith)
 apart-from (g ∷ fs) zero f h (first, apart) = first
 apart-from (g ∷ fs) (suc i) f h (first, apart) = apart-from fs i f (omega arith) apart
@@ -134,7 +134,7 @@ module _ (rows : List LabelledType) where
 
   -- the fields from the last one on, and the one before them
   pub fields-next : (fs : List Field) (vs : List Val) (k : ℕ) (f : Field) (v : Val) (d : Data) (ms more : Members) → k < length fs → k < length vs
-      → f ≡ get_or fs k f → v ≡ get_or vs k v → AreApart fs → more ≡ put f.name d ms → Json (labelled_val rows f.ty) (value_of v) d
+      → f ≡ get_or fs k f → v ≡ get_or vs k v → HaveLabelsApart fs → more ≡ put f.name d ms → Json (labelled_val rows f.ty) (value_of v) d
       → FieldsJson (labelled_fields rows (drop (suc k) fs)) (map value_of (drop (suc k) vs)) ms → FieldsJson (labelled_fields rows (drop k fs)) (map value_of (drop k vs)) more
   fields-next fs vs k f v d ms more h hv is_f is_v apart is_put stands each =
       let split_f : drop k fs ≡ f ∷ drop (suc k) fs = drop-cons fs k f h ∙ ap (λ x. x ∷ drop (suc k) fs) (sym is_f) in

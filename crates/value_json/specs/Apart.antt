@@ -9,12 +9,12 @@ use Rattle.tables.specs.declared.tables.Definition.TheVariants as row
 use Rattle.tables.specs.declared.tables.Resolve.{Resolve}
 
 -- the fields' labels differ
-abbrev pub AreApart : List Field → Type 0
-AreApart [] = Unit {0}
-AreApart (f ∷ fs) = AllByRecursion (λ g. g.name ≡ f.name → ⊥) fs × AreApart fs
+abbrev pub HaveLabelsApart : List Field → Type 0
+HaveLabelsApart [] = Unit {0}
+HaveLabelsApart (f ∷ fs) = AllByRecursion (λ g. g.name ≡ f.name → ⊥) fs × HaveLabelsApart fs
 
 abbrev pub KindApart : TypeDefKind → Type 0
-KindApart (kind.Record fs) = AreApart fs
+KindApart (kind.Record fs) = HaveLabelsApart fs
 KindApart _ = Unit {0}
 
 abbrev pub RowApart : Definition → Type 0

@@ -21,8 +21,8 @@ abbrev pub HasNoneOfPrim : Prim → Data → Type 0
 HasNoneOfPrim p j = (v : Value) → PrimJson p v j → ⊥
 
 -- an object of this one member
-abbrev pub single : Label → Data → Data
-single l d = json.object (json.member l d no_members)
+abbrev pub one_member : Label → Data → Data
+one_member l d = json.object (json.member l d no_members)
 
 -- the JSON values stand for these values, each of one type
 abbrev pub EachJson : (Value → Data → Type 0) → List Value → List Data → Type 0
@@ -45,7 +45,7 @@ abbrev mutual
       (vs : List Value) × (js : List Data) × EachJson (Json t) vs js × (v ≡ list_value (values_of vs)) × (j ≡ json.array (items_of js))
   Json (labelled_option t) v j =
       ((v ≡ plain_value 0) × (j ≡ json.string none_label))
-      ⊎ ((w : Value) × (d : Data) × Json t w d × (v ≡ payload_value 1 w) × (j ≡ single some_label d))
+      ⊎ ((w : Value) × (d : Data) × Json t w d × (v ≡ payload_value 1 w) × (j ≡ one_member some_label d))
   Json (labelled_tuple ts) v j =
       (vs : List Value) × (js : List Data) × MembersJson ts vs js × (v ≡ record_value (values_of vs)) × (j ≡ json.array (items_of js))
   Json (labelled_result ok error) v j = PayloadJson ok ok_label 0 v j ⊎ PayloadJson error error_label 1 v j
@@ -66,7 +66,7 @@ abbrev mutual
   -- a case: its label alone, or an object of its one member
   pub PayloadJson : Payload → Label → ℕ → Value → Data → Type 0
   PayloadJson no_payload l i v j = (v ≡ plain_value i) × (j ≡ json.string l)
-  PayloadJson (payload t) l i v j = (w : Value) × (d : Data) × Json t w d × (v ≡ payload_value i w) × (j ≡ single l d)
+  PayloadJson (payload t) l i v j = (w : Value) × (d : Data) × Json t w d × (v ≡ payload_value i w) × (j ≡ one_member l d)
 
   -- one of these cases, the first of which is case i
   pub CasesJson : LabelledCases → ℕ → Value → Data → Type 0

@@ -11,7 +11,7 @@ ghost use Rattle.tables.specs.Tables.{is_type_id, is_type, is_below, kind_all, o
 ghost use Rattle.values.specs.Members.{fields_of_types, AreTypesOf};
 ghost use Rattle.values.specs.Val.{value_of};
 ghost use Rattle.tables.specs.Labelled.{labelled_type, labelled_types, labelled_val, labelled_kind, labelled_payload, labelled_members, labelled_fields, labelled_cases};
-ghost use Rattle.value_json.specs.Apart.{AreApart, KindApart, HasApartLabels};
+ghost use Rattle.value_json.specs.Apart.{HaveLabelsApart, KindApart, HasApartLabels};
 ghost use Rattle.value_json.specs.Json.{Json as StandsAs, HasNone, EachJson, MembersJson, PayloadJson, CasesJson, HasFields, HasMembers, FlagsJson};
 
 use crate::error::JsonError;
@@ -233,7 +233,7 @@ impl Reader<'_> {
         requires below { IsTrue (list_all (λ f. is_below _place f.ty) fields.now) }
         requires typed { IsTrue (list_all (λ f. is_type self.now.resolve.now.definitions f.ty) fields.now) }
         requires labels { HasApartLabels self.now.resolve.now }
-        requires apart { AreApart fields.now }
+        requires apart { HaveLabelsApart fields.now }
         ensures ok { IfOk result (λ vs. HasFields (labelled_fields (labelled_types self.now.resolve.now) fields.now) (map value_of vs.items) (view json.now)) }
         ensures other { IsErrOf result JsonError.NotThisType
             → (vs : List Value) → HasFields (labelled_fields (labelled_types self.now.resolve.now) fields.now) vs (view json.now) → ⊥ }

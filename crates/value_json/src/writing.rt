@@ -13,7 +13,7 @@ ghost use Rattle.tables.specs.Tables.{is_below, is_type, option_all, kind_all, i
 ghost use Rattle.values.specs.Val.{value_of};
 ghost use Rattle.value_json.specs.Json.{Json as StandsAs, EachJson, MembersJson, PayloadJson, CasesJson, FieldsJson};
 ghost use Rattle.tables.specs.Labelled.{labelled_type, labelled_types, labelled_kind, labelled_payload, labelled_members, labelled_fields, labelled_cases};
-ghost use Rattle.value_json.specs.Apart.{HasApartLabels, KindApart, AreApart};
+ghost use Rattle.value_json.specs.Apart.{HasApartLabels, KindApart, HaveLabelsApart};
 ghost use Rattle.value_json.specs.Writing.{HasCase, HasPayload};
 
 use crate::reading::kind_of;
@@ -207,7 +207,7 @@ impl Writer<'_> {
         requires below { IsTrue (list_all (λ f. is_below _place f.ty) fields.now) }
         requires types { IsTrue (list_all (λ f. is_type self.now.resolve.now.definitions f.ty) fields.now) }
         requires labels { HasApartLabels self.now.resolve.now }
-        requires apart { AreApart fields.now }
+        requires apart { HaveLabelsApart fields.now }
         requires typed { HaveTypes (map value_of values.now) (closed_fields (labelled_fields (labelled_types self.now.resolve.now) fields.now)) }
         ensures { IfOk result (λ members. FieldsJson (labelled_fields (labelled_types self.now.resolve.now) fields.now) (map value_of values.now) (members_view members.entries)) }
     {

@@ -9,7 +9,7 @@ use Rattle.std.proofs.lemmas.Option.{same_Some}
 use Rattle.canonical_abi.specs.Types.{ClosedType, string_type, record_type, record_fields, Fields, no_field, field, nth_field, field_count}
 use Rattle.canonical_abi.specs.Layout.{size, align, end_from, field_extents}
 use Rattle.canonical_abi.proofs.Sizes.{end-le}
-use Rattle.layout.specs.Layout.{Table, layouts_of}
+use Rattle.layout.specs.Layout.{LayoutTable, layouts_of}
 use Rattle.tables.specs.Closed.{closed_type, closed_types, closed_params, closed_val, function_at, function_type, type_of_function, IsFunction}
 use Rattle.tables.specs.Tables.{is_below}
 use Rattle.tables.specs.declared.tables.Function.{Function}
@@ -67,7 +67,7 @@ all-inside n [] h k d below = absurd (omega arith)
 all-inside n (v ∷ types) h zero d below = (and_parts _ _ h).0
 all-inside n (v ∷ types) h (suc k) d below = all-inside n types (and_parts _ _ h).1 k d (omega arith)
 
-pub have-rows : (r : Resolve) (table : Table) (types : List ValType) → table ≡ layouts_of r → AreAllInside r types → (k : ℕ) (d : ValType) → k < length types → IsTrue (is_below (length table.rows) (slice_index_or types k d))
+pub have-rows : (r : Resolve) (table : LayoutTable) (types : List ValType) → table ≡ layouts_of r → AreAllInside r types → (k : ℕ) (d : ValType) → k < length types → IsTrue (is_below (length table.rows) (slice_index_or types k d))
 have-rows r table types is inside k d below = has-row r table (slice_index_or types k d) is (all-inside (length r.definitions) types inside k d below)
 
 pub nth-type : (r : Resolve) (types : List ValType) (i : ℕ) (d : ValType) → i < length types → nth_field (fields_of_types r types) i ≡ Some (closed_type r (get_or types i d))

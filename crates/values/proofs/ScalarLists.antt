@@ -14,11 +14,11 @@ use Rattle.canonical_abi.specs.declared.flat.CoreKind.{CoreKind}
 use Rattle.canonical_abi.specs.declared.flat.Flat.{Flat}
 use Rattle.canonical_abi.specs.declared.trap.TrapKind.{TrapKind}
 use Rattle.canonical_abi.specs.declared.trap.TrapKind.TheVariants as trap
-use Rattle.tables.specs.Closed.{prim_of, is_scalar}
+use Rattle.tables.specs.Closed.{prim_of, is_scalar_type}
 use Rattle.tables.specs.declared.tables.ValType.{ValType}
 use Rattle.tables.specs.declared.tables.ValType.TheVariants as val
 use Rattle.values.specs.Scalar.{value_in, ScalarIs}
-use Rattle.values.specs.Scalars.{AreScalar, fields_in, prim_of_type, KindsFit, ScalarsStand, FirstFault, StandFor, FailAs}
+use Rattle.values.specs.Scalars.{AreScalar, fields_in, prim_of_type, ScalarKindsFit, ScalarsStand, FirstFault, StandFor, FailAs}
 use Rattle.values.specs.declared.scalar.Scalar.{Scalar}
 
 -- ---- a list from its front
@@ -27,7 +27,7 @@ abbrev kinds_in : List ValType → List CoreKind
 kinds_in types = map (λ t. prim_kind (prim_of_type t)) types
 
 -- as many core values as types
-pub same_count : (types : List ValType) (flats : List Flat) → KindsFit types flats → length flats ≡ length types
+pub same_count : (types : List ValType) (flats : List Flat) → ScalarKindsFit types flats → length flats ≡ length types
 same_count [] [] h = refl
 same_count (t ∷ types) [] h = cc
 same_count [] (f ∷ flats) h = cc
@@ -36,7 +36,7 @@ same_count (t ∷ types) (f ∷ flats) h =
     ap suc (same_count types flats tail)
 
 -- the core value at a place has its type's kind
-pub kind_at : (i : ℕ) (types : List ValType) (flats : List Flat) (d : Flat) (e : ValType) → KindsFit types flats → i < length types → kind_of (get_or flats i d) ≡ prim_kind (prim_of_type (get_or types i e))
+pub kind_at : (i : ℕ) (types : List ValType) (flats : List Flat) (d : Flat) (e : ValType) → ScalarKindsFit types flats → i < length types → kind_of (get_or flats i d) ≡ prim_kind (prim_of_type (get_or types i e))
 kind_at i [] flats d e h below = absurd (omega arith)
 kind_at i (t ∷ types) [] d e h below = cc
 kind_at zero (t ∷ types) (f ∷ flats) d e h below = cc
@@ -70,14 +70,14 @@ unfolding low_bits
 first_bits n ns b = refl
 
 -- the kinds of scalar types are those of their fields
-pub field_kinds-scalars : (rows : List ClosedType) (types : List ValType) → list_all is_scalar types ≡ true → field_kinds (fields_in rows types) ≡ kinds_in types
+pub field_kinds-scalars : (rows : List ClosedType) (types : List ValType) → list_all is_scalar_type types ≡ true → field_kinds (fields_in rows types) ≡ kinds_in types
 field_kinds-scalars rows [] h = refl
 field_kinds-scalars rows (val.Primitive p ∷ types) h = ap (λ ks. prim_kind (prim_of_type (val.Primitive p)) ∷ ks) (field_kinds-scalars rows types h)
 field_kinds-scalars rows (val.String ∷ types) h = cc
 field_kinds-scalars rows (val.Id t ∷ types) h = cc
 
 -- scalars stand for the values of the fields
-pub stands_lift : (rows : List ClosedType) (m : List ℕ) (types : List ValType) (flats : List Flat) (ss : List Scalar) → list_all is_scalar types ≡ true → ScalarsStand types flats ss → FieldsLift (fields_in rows types) m (map number_of flats) (map value_in ss)
+pub stands_lift : (rows : List ClosedType) (m : List ℕ) (types : List ValType) (flats : List Flat) (ss : List Scalar) → list_all is_scalar_type types ≡ true → ScalarsStand types flats ss → FieldsLift (fields_in rows types) m (map number_of flats) (map value_in ss)
 stands_lift rows m [] [] [] a h = refl
 stands_lift rows m [] [] (s ∷ ss) a h = absurd h
 stands_lift rows m [] (f ∷ flats) ss a h = absurd h
@@ -89,7 +89,7 @@ stands_lift rows m (val.String ∷ types) (f ∷ flats) (s ∷ ss) a h = cc
 stands_lift rows m (val.Id t ∷ types) (f ∷ flats) (s ∷ ss) a h = cc
 
 -- the first fault is that of the fields
-pub faults_lift : (rows : List ClosedType) (m : List ℕ) (types : List ValType) (flats : List Flat) (k : TrapKind) → list_all is_scalar types ≡ true → FirstFault types flats k → FieldsLiftFaulty (fields_in rows types) m (map number_of flats) k
+pub faults_lift : (rows : List ClosedType) (m : List ℕ) (types : List ValType) (flats : List Flat) (k : TrapKind) → list_all is_scalar_type types ≡ true → FirstFault types flats k → FieldsLiftFaulty (fields_in rows types) m (map number_of flats) k
 faults_lift rows m [] flats k a h = absurd h
 faults_lift rows m (t ∷ types) [] k a h = absurd h
 faults_lift rows m (val.String ∷ types) (f ∷ flats) k a h = cc
@@ -99,13 +99,13 @@ faults_lift rows m (val.Primitive p ∷ types) (f ∷ flats) k a (inr h) =
     inr (value_in h.0, rw first_bits h.1.1, faults_lift rows m types flats k a h.2)
 
 -- as many fields as types, and they go flat where that many may
-count_kinds : (rows : List ClosedType) (types : List ValType) → list_all is_scalar types ≡ true → length (field_kinds (fields_in rows types)) ≡ length types
+count_kinds : (rows : List ClosedType) (types : List ValType) → list_all is_scalar_type types ≡ true → length (field_kinds (fields_in rows types)) ≡ length types
 count_kinds rows types a = ap length (field_kinds-scalars rows types a) ∙ length-map types _
 
-pub scalars_fit : (rows : List ClosedType) (types : List ValType) (limit : ℕ) → list_all is_scalar types ≡ true → length types ≤ limit → fits_flat limit (fields_in rows types) ≡ true
+pub scalars_fit : (rows : List ClosedType) (types : List ValType) (limit : ℕ) → list_all is_scalar_type types ≡ true → length types ≤ limit → fits_flat limit (fields_in rows types) ≡ true
 scalars_fit rows types limit a few = le-leb _ limit (omega (arith, count_kinds rows types a))
 
-pub passed_kinds-scalars : (rows : List ClosedType) (types : List ValType) (limit : ℕ) → list_all is_scalar types ≡ true → length types ≤ limit → passed_kinds limit (fields_in rows types) ≡ kinds_in types
+pub passed_kinds-scalars : (rows : List ClosedType) (types : List ValType) (limit : ℕ) → list_all is_scalar_type types ≡ true → length types ≤ limit → passed_kinds limit (fields_in rows types) ≡ kinds_in types
 passed_kinds-scalars rows types limit a few = rw (scalars_fit rows types limit a few) (field_kinds-scalars rows types a)
 
 -- ---- the values have their types
@@ -124,7 +124,7 @@ prim_typed (signed w) n v h = (_, read_sfits (width_of w) (n % 2 ^ bits w), h)
 prim_typed scalar_value n v h = (_, h.0, h.1)
 
 -- scalars that stand for core values are of their types
-pub stands_typed : (rows : List ClosedType) (types : List ValType) (flats : List Flat) (ss : List Scalar) → list_all is_scalar types ≡ true → ScalarsStand types flats ss → HaveTypes (map value_in ss) (fields_in rows types)
+pub stands_typed : (rows : List ClosedType) (types : List ValType) (flats : List Flat) (ss : List Scalar) → list_all is_scalar_type types ≡ true → ScalarsStand types flats ss → HaveTypes (map value_in ss) (fields_in rows types)
 stands_typed rows [] [] [] a h = refl
 stands_typed rows [] [] (s ∷ ss) a h = absurd h
 stands_typed rows [] (f ∷ flats) ss a h = absurd h
@@ -137,14 +137,14 @@ stands_typed rows (val.Id t ∷ types) (f ∷ flats) (s ∷ ss) a h = cc
 
 -- ---- what the whole list says
 
-pub lifted_values : (types : List ValType) (flats : List Flat) (ss : List Scalar) → AreScalar types → KindsFit types flats → ScalarsStand types flats ss → StandFor types flats (map value_in ss)
+pub lifted_values : (types : List ValType) (flats : List Flat) (ss : List Scalar) → AreScalar types → ScalarKindsFit types flats → ScalarsStand types flats ss → StandFor types flats (map value_in ss)
 lifted_values types flats ss scalar kinds h rows limit m few =
     (kinds ∙ sym (passed_kinds-scalars rows types limit scalar.primitive few), inl (scalars_fit rows types limit scalar.primitive few, stands_lift rows m types flats ss scalar.primitive h))
 
-pub lifted_fault : (types : List ValType) (flats : List Flat) (k : TrapKind) → AreScalar types → KindsFit types flats → FirstFault types flats k → FailAs types flats k
+pub lifted_fault : (types : List ValType) (flats : List Flat) (k : TrapKind) → AreScalar types → ScalarKindsFit types flats → FirstFault types flats k → FailAs types flats k
 lifted_fault types flats k scalar kinds h rows limit m few =
     inr (kinds ∙ sym (passed_kinds-scalars rows types limit scalar.primitive few), inl (scalars_fit rows types limit scalar.primitive few, faults_lift rows m types flats k scalar.primitive h))
 
-pub other_kinds : (types : List ValType) (flats : List Flat) → AreScalar types → (KindsFit types flats → ⊥) → FailAs types flats trap.CoreSignature
+pub other_kinds : (types : List ValType) (flats : List Flat) → AreScalar types → (ScalarKindsFit types flats → ⊥) → FailAs types flats trap.CoreSignature
 other_kinds types flats scalar other rows limit m few =
     inl (λ kinds. other (kinds ∙ passed_kinds-scalars rows types limit scalar.primitive few), refl)

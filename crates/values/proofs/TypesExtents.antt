@@ -6,7 +6,7 @@ use Rattle.canonical_abi.specs.Guest.{IsAlignment}
 use Rattle.canonical_abi.specs.Types.{ClosedType, record_type, variant_type, Fields, no_field, field, Cases, no_case, plain_case, case_with, case_count, nth_field, nth_case, variant_cases, depth, fields_depth, cases_depth}
 use Rattle.canonical_abi.specs.Layout.{size, align, discriminant_size, greatest_align, end_from, field_extents, payload_extents, payload_place}
 use Rattle.canonical_abi.proofs.Sizes.{is-alignment, greatest-le, max-alignment}
-use Rattle.layout.specs.Layout.{Table, layouts_of}
+use Rattle.layout.specs.Layout.{LayoutTable, layouts_of}
 use Rattle.tables.specs.Tables.{is_below}
 use Rattle.tables.specs.declared.tables.Resolve.{Resolve}
 use Rattle.tables.specs.declared.tables.ValType.{ValType}
@@ -14,10 +14,10 @@ use Rattle.tables.proofs.Rows.{length-closed_rows}
 use Rattle.values.specs.Types.{IsInside}
 
 -- a type of the package has a row
-pub row-count : (r : Resolve) (table : Table) → table ≡ layouts_of r → length table.rows ≡ length r.definitions
+pub row-count : (r : Resolve) (table : LayoutTable) → table ≡ layouts_of r → length table.rows ≡ length r.definitions
 row-count r table is = ap (λ t. length t.rows) is ∙ length-map _ _ ∙ length-closed_rows [] r.definitions ∙ omega arith
 
-pub has-row : (r : Resolve) (table : Table) (v : ValType) → table ≡ layouts_of r → IsInside r v → IsTrue (is_below (length table.rows) v)
+pub has-row : (r : Resolve) (table : LayoutTable) (v : ValType) → table ≡ layouts_of r → IsInside r v → IsTrue (is_below (length table.rows) v)
 has-row r table v is inside =
     rw (row-count r table is) inside
 

@@ -13,7 +13,7 @@ use Rattle.tables.specs.declared.tables.ValType.{ValType}
 use Rattle.tables.specs.declared.tables.ValType.TheVariants as val
 use Rattle.tables.proofs.Rows.{closed-at}
 use Rattle.tables.proofs.Standards.{type-standard}
-use Rattle.layout.specs.Layout.{Table, layouts_of}
+use Rattle.layout.specs.Layout.{LayoutTable, layouts_of}
 use Rattle.layout.specs.Queries as queries
 use Rattle.layout.specs.declared.queries.Shape.{Shape}
 use Rattle.layout.specs.declared.queries.Shape.TheVariants as shape
@@ -34,7 +34,7 @@ below-Tuple n (v ∷ vs) (suc k) h = below-Tuple n vs k (and_parts _ _ h).1
 
 -- ---- what is told
 
-shape-in : (r : Resolve) (t : ClosedType) (s : Shape) → queries.HasShape (closed_type r) (length r.definitions) t s → HasShape r t s
+shape-in : (r : Resolve) (t : ClosedType) (s : Shape) → queries.IsShaped (closed_type r) (length r.definitions) t s → HasShape r t s
 shape-in r t (shape.Primitive p) h = (h, tt)
 shape-in r t shape.String h = (h, tt)
 shape-in r t (shape.List e) h = h
@@ -42,11 +42,11 @@ shape-in r t (shape.Record k) h = (h, tt)
 shape-in r t (shape.Variant k) h = (h, tt)
 shape-in r t (shape.Flags k) h = (h, tt)
 
-pub shape-told : (r : Resolve) (table : Table) (v : ValType) (s : Shape) → table ≡ layouts_of r
-    → queries.HasShape (closed_type r) (length table.rows) (closed_type r v) s → HasShape r (closed_type r v) s
+pub shape-told : (r : Resolve) (table : LayoutTable) (v : ValType) (s : Shape) → table ≡ layouts_of r
+    → queries.IsShaped (closed_type r) (length table.rows) (closed_type r v) s → HasShape r (closed_type r v) s
 shape-told r table v s is h = shape-in r (closed_type r v) s (rw (row-count r table is) at h)
 
-pub inside-told : (r : Resolve) (table : Table) (o : Option ValType) → table ≡ layouts_of r → IsTrue (option_below (length table.rows) o) → IfSome o (IsInside r)
+pub inside-told : (r : Resolve) (table : LayoutTable) (o : Option ValType) → table ≡ layouts_of r → IsTrue (option_below (length table.rows) o) → IfSome o (IsInside r)
 inside-told r table None is h = tt
 inside-told r table (Some v) is h = rw (row-count r table is) at h
 

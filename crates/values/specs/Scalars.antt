@@ -9,7 +9,7 @@ use Rattle.canonical_abi.specs.Memory.{PrimFaulty}
 use Rattle.canonical_abi.specs.Flat.{Denotes, DenotesFault}
 use Rattle.canonical_abi.specs.declared.flat.Flat.{Flat}
 use Rattle.canonical_abi.specs.declared.trap.TrapKind.{TrapKind}
-use Rattle.tables.specs.Closed.{prim_of, closed_val, is_scalar}
+use Rattle.tables.specs.Closed.{prim_of, closed_val, is_scalar_type}
 use Rattle.tables.specs.declared.tables.ValType.{ValType}
 use Rattle.tables.specs.declared.tables.ValType.TheVariants as val
 use Rattle.values.specs.Scalar.{value_in, ScalarIs}
@@ -18,7 +18,7 @@ use Rattle.values.specs.declared.scalar.Scalar.{Scalar}
 -- at most 16 types, each a primitive
 pub record AreScalar (types : List ValType) : Type 0 where
   pub few : length types ≤ 16
-  pub primitive : list_all is_scalar types ≡ true
+  pub primitive : list_all is_scalar_type types ≡ true
 
 -- the types as the fields of a record, over the closed types of a table
 abbrev pub fields_in : List ClosedType → List ValType → Fields
@@ -44,8 +44,8 @@ prim_of_type (val.Primitive p) = prim_of p
 prim_of_type _ = boolean
 
 -- the core values have the types' kinds
-abbrev pub KindsFit : List ValType → List Flat → Type 0
-KindsFit types flats = map kind_of flats ≡ map (λ t. prim_kind (prim_of_type t)) types
+abbrev pub ScalarKindsFit : List ValType → List Flat → Type 0
+ScalarKindsFit types flats = map kind_of flats ≡ map (λ t. prim_kind (prim_of_type t)) types
 
 -- each core value stands for the scalar of its type
 abbrev pub ScalarsStand : List ValType → List Flat → List Scalar → Type 0

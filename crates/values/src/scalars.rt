@@ -1,9 +1,9 @@
 //! Lists of values of primitive types: parameters and results that need no memory.
 ghost use Rattle.std.specs.Prelude.{◌≡◌, ◌≤◌, ◌↔◌, IsTrue, IfOk, IfErr, length, map};
-ghost use Rattle.tables.specs.Closed.{prim_of, is_scalar};
+ghost use Rattle.tables.specs.Closed.{prim_of, is_scalar_type};
 ghost use Rattle.tables.specs.declared.tables.ValType.{ValType};
 ghost use Rattle.values.specs.Scalar.{value_in};
-ghost use Rattle.values.specs.Scalars.{AreScalar, prim_of_type, KindsFit, ScalarsStand, FirstFault, StandFor, FailAs, AreOfTypes};
+ghost use Rattle.values.specs.Scalars.{AreScalar, prim_of_type, ScalarKindsFit, ScalarsStand, FirstFault, StandFor, FailAs, AreOfTypes};
 
 use crate::scalar::{Scalar, core_kind, lift_scalar};
 use arrayvec::ArrayVec;
@@ -49,7 +49,7 @@ pub fn flat_results(flats: &[Flat]) -> FlatResults
 /// Whether the core values have the number and the kinds that the types ask for.
 fn kinds_fit(types: &[ValType], flats: &[Flat]) -> bool
     requires { AreScalar types.now }
-    ensures { IsTrue result ↔ KindsFit types.now flats.now }
+    ensures { IsTrue result ↔ ScalarKindsFit types.now flats.now }
 {
     if flats.len() != types.len() {
         return false;
@@ -65,7 +65,7 @@ fn kinds_fit(types: &[ValType], flats: &[Flat]) -> bool
 /// The values that core values of the right kinds carry.
 fn lift_each(types: &[ValType], flats: &[Flat]) -> Result<Scalars, TrapKind>
     requires scalar { AreScalar types.now }
-    requires kinds { KindsFit types.now flats.now }
+    requires kinds { ScalarKindsFit types.now flats.now }
     ensures values { IfOk result (λ ss. ScalarsStand types.now flats.now ss.items) }
     ensures fault { IfErr result (FirstFault types.now flats.now) }
 {
@@ -78,7 +78,7 @@ fn lift_each(types: &[ValType], flats: &[Flat]) -> Result<Scalars, TrapKind>
 
 /// The primitive that a scalar type is.
 fn primitive_of(ty: ValType) -> Primitive
-    requires { IsTrue (is_scalar ty) }
+    requires { IsTrue (is_scalar_type ty) }
     ensures { prim_of result ≡ prim_of_type ty }
 {
     match ty {

@@ -40,7 +40,7 @@ use Rattle.package_form.specs.References.{row_references}
 use Rattle.wit_component.specs.Rows.{Place, outer_alias, declarations_of, places_after, place_after}
 use Rattle.wit_component.specs.Worlds.{directed, rows_between, function_declared, Surroundings, items_declared, StandFrom}
 use Rattle.package_form.specs.Ends.{behind_types, behind_functions, end_of, rows_of, interfaces_end, behind_items, world_end, is_parted}
-use Rattle.wit_component.specs.Component.{instance_export, row_alias, aliases_of, Front, first_place, interface_direction, interface_declarations, front_after, interfaces_declared, no_front, interfaces_front, surroundings, world_front, worlds_declared, package_declarations, component_of}
+use Rattle.wit_component.specs.Component.{instance_export, row_alias, aliases_of, ComponentFront, first_place, interface_direction, interface_declarations, front_after, interfaces_declared, no_front, interfaces_front, surroundings, world_front, worlds_declared, package_declarations, component_of}
 use Rattle.package_form.specs.Closed.{own_package}
 use Rattle.package_form.specs.Reached.{used_by, used_in, name_of, name_at}
 use Rattle.package_form.specs.Form.{is_own, is_own_name, is_earlier_name, is_earlier_type, uses_earlier, is_owned, is_local, is_named, ids_of, is_use_type, is_use_at, has_ids, are_interfaces, IsInPackageForm}
@@ -173,7 +173,7 @@ module _ (rows : List Definition) (start : ℕ) (i : Interface) (before : start 
   later-rows : later_rows ≡ drop (end_of start i) rows
   later-rows = let e : start + (end_of start i - start) ≡ end_of start i = omega (arith, before) in drop-drop (end_of start i - start) start rows ∙ ap (λ n. drop n rows) e
 
-  module _ (k : ℕ) (at : Front) (rest : List Decl) (way : Direction) (name : List ℕ) (front : Before rows k start at.indices) (placed : is_placed rows i ≡ true)
+  module _ (k : ℕ) (at : ComponentFront) (rest : List Decl) (way : Direction) (name : List ℕ) (front : Before rows k start at.indices) (placed : is_placed rows i ≡ true)
       (earlier : are_earlier start (drop start rows) ≡ true) (used : are_used rows start [] (drop start rows) ≡ true) (ids : has_ids rows start i ≡ true) (local : list_all (is_local rows k) (rows_of rows start i) ≡ true) where
     abbrev count : ℕ
     count = at.types + length (aliases_of rows own_rows)
@@ -249,16 +249,16 @@ module _ (r : Resolve) where
       (leb-true start (end_of start i) a.0, leb-true (end_of start i) (length rows) b.0, b.1)
 
   -- what follows stands here, behind k interfaces
-  abbrev InstancesKnown : ℕ → Front → Type 0
+  abbrev InstancesKnown : ℕ → ComponentFront → Type 0
   InstancesKnown k at = (length at.instances ≡ k) × ((i : ℕ) → i < k → slice_index at.instances i < at.types)
 
-  record Ended (k start : ℕ) (at : Front) : Type 0 where
+  record Ended (k start : ℕ) (at : ComponentFront) : Type 0 where
     indices : Before rows k start at.indices
     instances : InstancesKnown k at
     earlier : are_earlier start (drop start rows) ≡ true
     used : are_used rows start [] (drop start rows) ≡ true
 
-  instances-next : (k : ℕ) (at : Front) (ds : List Definition) → InstancesKnown k at → InstancesKnown (k + 1) (front_after rows at ds)
+  instances-next : (k : ℕ) (at : ComponentFront) (ds : List Definition) → InstancesKnown k at → InstancesKnown (k + 1) (front_after rows at ds)
   instances-next k at ds h = (omega (arith, h.0, length-append at.instances (index ∷ [])), λ i low. by (cases_lt i k) low)
     where
       index : ℕ
@@ -274,7 +274,7 @@ module _ (r : Resolve) where
       by {i} (inl l) low = old i l
       by {i} (inr l) low = new i (omega (arith, l, low))
 
-  interfaces-range : (more : List Decl) (is : List Interface) (k start : ℕ) (at : Front) → Ended k start at → is_parted (length rows) start is r.worlds ≡ true → are_interfaces rows k start is ≡ true
+  interfaces-range : (more : List Decl) (is : List Interface) (k start : ℕ) (at : ComponentFront) → Ended k start at → is_parted (length rows) start is r.worlds ≡ true → are_interfaces rows k start is ≡ true
       → are_placed rows is ≡ true → (Ended (k + length is) (interfaces_end start is) (interfaces_front rows at start is) → DeclsInRange (0 ∷ []) (interfaces_front rows at start is).types (k + length is) (decls_of more))
       → DeclsInRange (0 ∷ []) at.types k (decls_of (interfaces_declared r at start is ++ more))
   unfolding DeclsInRange
@@ -304,7 +304,7 @@ module _ (r : Resolve) where
 
   -- worlds behind so many interfaces, whose names alone there are
   module _ (lows : (t : ℕ) (m : TypeName) → named_at rows t ≡ Some m → m.interface.0 < length r.interfaces) where
-    begun : (w start : ℕ) (at : Front) → Ended (length r.interfaces) start at → BeforeRows rows (length r.interfaces) at.types w start (first_place at) [] (drop start rows)
+    begun : (w start : ℕ) (at : ComponentFront) → Ended (length r.interfaces) start at → BeforeRows rows (length r.interfaces) at.types w start (first_place at) [] (drop start rows)
     begun w start at front = record {
       here = refl;
       earlier = front.earlier;
@@ -317,7 +317,7 @@ module _ (r : Resolve) where
       };
     }
 
-    worlds-range : (ws : List World) (w start : ℕ) (at : Front) → Ended (length r.interfaces) start at → AreWorlds rows (length r.interfaces) w start ws
+    worlds-range : (ws : List World) (w start : ℕ) (at : ComponentFront) → Ended (length r.interfaces) start at → AreWorlds rows (length r.interfaces) w start ws
         → DeclsInRange (0 ∷ []) at.types (length r.interfaces) (decls_of (worlds_declared r at start ws))
     unfolding DeclsInRange
     worlds-range [] w start at front are = tt
@@ -372,7 +372,7 @@ module _ (r : Resolve) where
   directed-entries direction.Import name d none = omega (arith, none)
   directed-entries direction.Export name d none = omega (arith, none)
 
-  interface-entries : (at : Front) (ds : List Definition) (way : Direction) (name : List ℕ) (rest : List Decl) → All CanStand ds → entries (interface_declarations rows at ds way name ++ rest) ≤ 1 + sum (map entries_of ds) + entries rest
+  interface-entries : (at : ComponentFront) (ds : List Definition) (way : Direction) (name : List ℕ) (rest : List Decl) → All CanStand ds → entries (interface_declarations rows at ds way name ++ rest) ≤ 1 + sum (map entries_of ds) + entries rest
   unfolding entries_of_decls
   interface-entries at ds way name rest h =
       let named = directed way name (described.Instance (at.types + length (aliases_of rows ds))) in
@@ -384,7 +384,7 @@ module _ (r : Resolve) where
       let zero = directed-entries way name (described.Instance (at.types + length (aliases_of rows ds))) refl in
       omega (arith, all, own, none, zero)
 
-  interfaces-entries : (more : List Decl) (is : List Interface) (start : ℕ) (at : Front) → is_parted (length rows) start is r.worlds ≡ true → All CanStand (drop start rows)
+  interfaces-entries : (more : List Decl) (is : List Interface) (start : ℕ) (at : ComponentFront) → is_parted (length rows) start is r.worlds ≡ true → All CanStand (drop start rows)
       → (entries (interfaces_declared r at start is ++ more) + sum (map entries_of (drop (interfaces_end start is) rows)) ≤ length is + sum (map entries_of (drop start rows)) + entries more)
       × All CanStand (drop (interfaces_end start is) rows)
   unfolding entries_of_decls
@@ -458,7 +458,7 @@ module _ (r : Resolve) where
             let all : sum (map entries_at (record { direction = i.direction; kind = item.Function f } ∷ is)) ≡ 0 + sum (map entries_at is) = sum_by-cons (λ n. n) 0 (map entries_at is) in
             (omega (arith, more.0, before, mine, whole, sums, all), more.1)
 
-  worlds-entries : (ws : List World) (w start : ℕ) (at : Front) → AreWorlds rows (length r.interfaces) w start ws → All CanStand (drop start rows)
+  worlds-entries : (ws : List World) (w start : ℕ) (at : ComponentFront) → AreWorlds rows (length r.interfaces) w start ws → All CanStand (drop start rows)
       → entries (worlds_declared r at start ws) ≤ sum (map world_entries ws) + sum (map entries_of (drop start rows))
   unfolding entries_of_decls
   worlds-entries [] w start at are h = omega arith
@@ -490,7 +490,7 @@ module _ (r : Resolve) where
   directed-allowed depth direction.Import name d rest h = (refl, h)
   directed-allowed depth direction.Export name d rest h = (tt, h)
 
-  interface-allowed : (at : Front) (ds : List Definition) (way : Direction) (name : List ℕ) (depth : ℕ) (rest : List Decl) → list_all is_standard ds ≡ true → AllowedDecls (suc depth) true (decls_of rest)
+  interface-allowed : (at : ComponentFront) (ds : List Definition) (way : Direction) (name : List ℕ) (depth : ℕ) (rest : List Decl) → list_all is_standard ds ≡ true → AllowedDecls (suc depth) true (decls_of rest)
       → AllowedDecls (suc depth) true (decls_of (interface_declarations rows at ds way name ++ rest))
   unfolding AllowedDecls
   interface-allowed at ds way name depth rest standard h =
@@ -500,7 +500,7 @@ module _ (r : Resolve) where
       (aliases-allowed ds (suc depth) (Entry (Instance (decls_of (declarations_of (first_place at) ds))) ∷ named ∷ rest)
       (rows-allowed depth false ds (first_place at) standard, directed-allowed (suc depth) way name (described.Instance (at.types + length (aliases_of rows ds))) rest h))
 
-  interfaces-allowed : (more : List Decl) (is : List Interface) (start : ℕ) (at : Front) (depth : ℕ) → is_parted (length rows) start is r.worlds ≡ true → list_all is_standard (drop start rows) ≡ true
+  interfaces-allowed : (more : List Decl) (is : List Interface) (start : ℕ) (at : ComponentFront) (depth : ℕ) → is_parted (length rows) start is r.worlds ≡ true → list_all is_standard (drop start rows) ≡ true
       → AllowedDecls (suc depth) true (decls_of more) → AllowedDecls (suc depth) true (decls_of (interfaces_declared r at start is ++ more))
   unfolding AllowedDecls
   interfaces-allowed more [] start at depth parted h then = then
@@ -546,7 +546,7 @@ module _ (r : Resolve) where
           (function-allowed depth (places_after at (rows_between p.rows n f.0)) i.direction (function_of (slice_get p.rows f.0))))
           (again (f.0 + 1) (places_after at (rows_between p.rows n (f.0 + 1))))
 
-  worlds-allowed : (depth : ℕ) (ws : List World) (start : ℕ) (at : Front) → AllowedDecls (suc depth) true (decls_of (worlds_declared r at start ws))
+  worlds-allowed : (depth : ℕ) (ws : List World) (start : ℕ) (at : ComponentFront) → AllowedDecls (suc depth) true (decls_of (worlds_declared r at start ws))
   unfolding AllowedDecls
   worlds-allowed depth [] start at = tt
   worlds-allowed depth (w ∷ ws) start at =
@@ -558,7 +558,7 @@ module _ (r : Resolve) where
     abbrev end : ℕ
     end = interfaces_end 0 r.interfaces
 
-    abbrev behind-interfaces : Front
+    abbrev behind-interfaces : ComponentFront
     behind-interfaces = interfaces_front rows no_front 0 r.interfaces
 
     all-worlds : AreWorlds rows (length r.interfaces) 0 end r.worlds

@@ -21,8 +21,8 @@ use Rattle.tables.specs.declared.tables.Definition.TheVariants as row
 use Rattle.package_form.specs.Postfix.{is_inner}
 use Rattle.package_form.specs.Ids.{is_use}
 use Rattle.package_form.specs.Entries.{entries_under, entries_of}
-use Rattle.package_form.specs.References.{references, references_if, field_references, case_references, parameter_references, kind_references, row_references}
-use Rattle.wit_component.specs.Rows.{Place, valtype_of, field_of, parameter_of, case_of, signature_of, defined_of, definition_of, definition_index, type_export, row_declarations, defined_types, exported_types, place_after}
+use Rattle.package_form.specs.References.{type_references, references_if, field_references, case_references, parameter_references, kind_references, row_references}
+use Rattle.wit_component.specs.Rows.{Place, valtype_of, field_of, parameter_of, case_of, signature_of, defined_of, definition_declared, definition_index, type_export, row_declarations, defined_types, exported_types, place_after}
 use Rattle.wit_component.specs.Component.{instance_export, row_alias}
 use Rattle.package_form.specs.Reached.{used_by, name_at}
 
@@ -52,7 +52,7 @@ module _ (indices : List ℕ) (types : ℕ) where
   abbrev Known : List TypeId → Type 0
   Known ts = All (IsKnown indices types) ts
 
-  val-range : (v : ValType) → Known (references v) → ValTypeInRange types (valtype_of indices v)
+  val-range : (v : ValType) → Known (type_references v) → ValTypeInRange types (valtype_of indices v)
   val-range (val.Primitive p) h = tt
   val-range val.String h = tt
   val-range (val.Id t) h = h.0
@@ -77,7 +77,7 @@ module _ (indices : List ℕ) (types : ℕ) where
   defined-range (kind.List v) h = val-range v h
   defined-range (kind.Option v) h = val-range v h
   defined-range (kind.Result v w) h = let s = all-split (IsKnown indices types) (references_if v) (references_if w) h in (if-range v s.0, if-range w s.1)
-  defined-range (kind.Tuple vs) h = all-range references (valtype_of indices) (ValTypeInRange types) val-range vs h
+  defined-range (kind.Tuple vs) h = all-range type_references (valtype_of indices) (ValTypeInRange types) val-range vs h
   defined-range (kind.Record fs) h = all-range field_references (field_of indices) (FieldInRange types) (λ f q. val-range f.ty q) fs h
   defined-range (kind.Variant cs) h = all-range case_references (case_of indices) (CaseInRange types) (λ c q. if-range c.ty q) cs h
   defined-range (kind.Enum ns) h = tt
@@ -97,7 +97,7 @@ module _ (count instances : ℕ) (at : Place) where
   at-count : (m n : ℕ) (ds : List Decl) → m ≡ n → Ranged m ds → Ranged n ds
   at-count m n ds e h = subst (λ (c : ℕ). Ranged c ds) e h
 
-  definition-range : (k : TypeDefKind) (rest : List Decl) → All (IsKnown at.indices at.types) (kind_references k) → (is_use k ≡ true → at.used < count) → Ranged (at.types + defined_types k) rest → Ranged at.types (definition_of at k ++ rest)
+  definition-range : (k : TypeDefKind) (rest : List Decl) → All (IsKnown at.indices at.types) (kind_references k) → (is_use k ≡ true → at.used < count) → Ranged (at.types + defined_types k) rest → Ranged at.types (definition_declared at k ++ rest)
   unfolding DeclsInRange
   definition-range (kind.Use t) rest h used r = ((omega arith, used refl), r)
   definition-range (kind.Alias (val.Primitive p)) rest h used r = (tt, r)
@@ -135,7 +135,7 @@ module _ (count instances : ℕ) (at : Place) where
   unfolding DeclsInRange
   row-range (row.Type d) rest h used r =
       let all : at.types + (defined_types d.kind + exported_types d.name) ≡ at.types + defined_types d.kind + exported_types d.name = omega arith in
-      subst (λ (ds : List Decl). Ranged at.types ds) (sym (append_assoc (definition_of at d.kind) (type_export d.name (definition_index at d.kind)) rest))
+      subst (λ (ds : List Decl). Ranged at.types ds) (sym (append_assoc (definition_declared at d.kind) (type_export d.name (definition_index at d.kind)) rest))
       (definition-range d.kind (type_export d.name (definition_index at d.kind) ++ rest) h used
       (export-range d.name (at.types + defined_types d.kind) (definition_index at d.kind) rest (index-range d.kind h)
       (at-count (at.types + (defined_types d.kind + exported_types d.name)) (at.types + defined_types d.kind + exported_types d.name) rest all r)))
@@ -158,7 +158,7 @@ module _ (at : Place) (depth : ℕ) (component : Bool) where
   export-allowed None i rest r = r
   export-allowed (Some n) i rest r = (tt, r)
 
-  definition-allowed : (k : TypeDefKind) (rest : List Decl) → is_standard_kind k ≡ true → Allowed rest → Allowed (definition_of at k ++ rest)
+  definition-allowed : (k : TypeDefKind) (rest : List Decl) → is_standard_kind k ≡ true → Allowed rest → Allowed (definition_declared at k ++ rest)
   unfolding AllowedDecls
   definition-allowed (kind.Use t) rest h r = (tt, r)
   definition-allowed (kind.Alias (val.Primitive p)) rest h r = (tt, r)
@@ -176,7 +176,7 @@ module _ (at : Place) (depth : ℕ) (component : Bool) where
   pub row-allowed : (d : Definition) (rest : List Decl) → is_standard d ≡ true → Allowed rest → Allowed (row_declarations at d ++ rest)
   unfolding AllowedDecls
   row-allowed (row.Type d) rest h r =
-      subst (λ (ds : List Decl). Allowed ds) (sym (append_assoc (definition_of at d.kind) (type_export d.name (definition_index at d.kind)) rest))
+      subst (λ (ds : List Decl). Allowed ds) (sym (append_assoc (definition_declared at d.kind) (type_export d.name (definition_index at d.kind)) rest))
       (definition-allowed d.kind (type_export d.name (definition_index at d.kind) ++ rest) h (export-allowed d.name (definition_index at d.kind) rest r))
   row-allowed (row.Function f) rest h r = (tt, (tt, r))
 
@@ -191,7 +191,7 @@ module _ (rows : List Definition) (at : Place) (rest : List Decl) where
   entries ds = entries_of_decls (decls_of ds)
 
   -- a type's declarations, and its alias in the component type
-  type-entries : (k : TypeDefKind) (o : Option TypeName) → StandsSo o k → entries ((definition_of at k ++ type_export o (definition_index at k)) ++ rest) + length (instance_export (name_at rows (used_by k))) ≤ entries_under o k + entries rest
+  type-entries : (k : TypeDefKind) (o : Option TypeName) → StandsSo o k → entries ((definition_declared at k ++ type_export o (definition_index at k)) ++ rest) + length (instance_export (name_at rows (used_by k))) ≤ entries_under o k + entries rest
   unfolding entries_of_decls
   type-entries (kind.Use t) None h = absurd (let e : false ≡ true = h refl in cc)
   type-entries (kind.Use t) (Some n) h = let one = one-alias (name_at rows (Some t)) in omega (arith, one)

@@ -7,7 +7,7 @@ use Rattle.ctype_format.specs.View.{decls_of}
 use Rattle.ctype_format.specs.Formed.{All}
 use Rattle.ctype_format.specs.declared.raw.RawDescription.{RawDescription}
 use Rattle.ctype_format.specs.declared.raw.RawDescription.TheVariants as described
-use Rattle.ctype_bin.specs.InRange.{DescriptionInRange, DeclsInRange, types_with, instances_with}
+use Rattle.ctype_bin.specs.InRange.{DescriptionInRange, DeclsInRange, described_types, instances_with}
 use Rattle.tables.specs.Tables.{type_of, function_of, definition_below, are_earlier, is_function_of, is_placed_item}
 use Rattle.tables.specs.declared.tables.TypeName.{TypeName}
 use Rattle.tables.specs.declared.tables.Function.{Function}
@@ -39,7 +39,7 @@ use Rattle.wit_component.proofs.RowsBetween.{end-length, rest-is, first-row, cut
 
 -- an import and an export have the same range
 pub directed-range : (around : List ℕ) (types instances : ℕ) (way : Direction) (name : List ℕ) (d : RawDescription) (rest : List Decl) → DescriptionInRange types d
-    → DeclsInRange around (types_with types d) (instances_with instances d) (decls_of rest) → DeclsInRange around types instances (decls_of (directed way name d ∷ rest))
+    → DeclsInRange around (described_types types d) (instances_with instances d) (decls_of rest) → DeclsInRange around types instances (decls_of (directed way name d ∷ rest))
 unfolding DeclsInRange
 directed-range around types instances direction.Import name d rest own h = (own, h)
 directed-range around types instances direction.Export name d rest own h = (own, h)

@@ -4,7 +4,7 @@ use Rattle.std.specs.List.{list_all}
 use Rattle.std.specs.Str.{bytes_eq}
 use Rattle.atoms.specs.Label.{is_label}
 use Rattle.std.proofs.lemmas.Bool.Decides.{nat_tests}
-use Rattle.ctype_format.specs.Raw.{Decl, Entry, Instance, Component, Export, File}
+use Rattle.ctype_format.specs.Raw.{Decl, Entry, Instance, Component, Export, BinaryFile}
 use Rattle.ctype_format.specs.View.{decls_of}
 use Rattle.ctype_format.specs.declared.raw.RawDescription.TheVariants as described
 use Rattle.tables.specs.Tables.{type_of, function_of, is_there, is_type_id, is_function_id, is_type, option_all, kind_all, definition_all, definition_below, are_earlier, is_standard, is_placed, is_function_of, is_placed_item, is_placed_world, are_placed_worlds}
@@ -36,11 +36,11 @@ use Rattle.package_form.specs.Entries.{entries_of, world_entries, type_entries, 
 use Rattle.package_form.specs.References.{row_references}
 use Rattle.package_form.specs.Unused.{unnamed_at, inner_rows, is_next, unused_after, are_used}
 use Rattle.wit_component.specs.Rows.{Place, row_declarations, place_after, declarations_of, places_after}
-use Rattle.wit_component.specs.Component.{instance_export, row_alias, aliases_of, Front, first_place, interface_direction, interface_declarations, front_after, interfaces_declared, no_front, interfaces_front, surroundings, world_declarations, world_front, worlds_declared, package_declarations, package_export, component_of}
+use Rattle.wit_component.specs.Component.{instance_export, row_alias, aliases_of, ComponentFront, first_place, interface_direction, interface_declarations, front_after, interfaces_declared, no_front, interfaces_front, surroundings, world_declarations, world_front, worlds_declared, package_declarations, package_export, component_of}
 use Rattle.package_form.specs.Reached.{used_in, name_of, name_at}
 use Rattle.wit_component.specs.Worlds.{directed, rows_between, function_declared, Surroundings, item_declarations, item_place, items_declared, items_place}
 use Rattle.package_form.specs.Ends.{end_of, rows_of, interfaces_end, behind_item, world_end, world_rows, is_parted}
-use Rattle.package_form.specs.Reached.{interface_of, reached_by_row, reached_by_world, reached, are_reached}
+use Rattle.package_form.specs.Reached.{named_interface, reached_by_row, reached_by_world, reached, are_reached}
 use Rattle.package_form.specs.Closed.{own_package, is_world_of, has_own, are_of_a_set, has_each_package, is_closed_table, is_closed}
 use Rattle.package_form.specs.Form.{is_named, is_own_name, is_own_type, is_own, is_earlier_name, is_earlier_type, is_earlier, uses_earlier, is_owned, is_local, is_use_type, is_use_at, has_ids, are_interfaces, is_package_name, has_full_names, ids_of, is_nameless_type, is_nameless, is_of_world, is_world_row, functions_of, has_items, have_items, IsInPackageForm}
 use Rattle.wit_component.specs.ToComponent.{is_labelled, are_labelled}
@@ -391,15 +391,15 @@ module _ (rows new : List Definition) (h : Alikes rows rows new) where
   reached-row-same : (n : ℕ) (d e : Definition) → IsAlike rows n d e → reached_by_row new e ≡ reached_by_row rows d
   reached-row-same n _ _ (same d) = by (used_in d)
     where
-      by : (o : Option TypeId) → interface_of (name_at new o) ≡ interface_of (name_at rows o)
+      by : (o : Option TypeId) → named_interface (name_at new o) ≡ named_interface (name_at rows o)
       by None = refl
-      by (Some t) = ap interface_of (name-same t)
-  reached-row-same n _ _ (uses x t u y at to below) = ap interface_of (name-same u ∙ to ∙ sym at)
+      by (Some t) = ap named_interface (name-same t)
+  reached-row-same n _ _ (uses x t u y at to below) = ap named_interface (name-same u ∙ to ∙ sym at)
 
   reached-same : (ws : List World) → reached new ws ≡ reached rows ws
   reached-same ws = ap (λ (ns : List ℕ). ns ++ flat_map reached_by_world ws) (alikes-flat rows (reached_by_row rows) (reached_by_row new) reached-row-same rows new h)
 
-  interface-same : (at : Front) (start : ℕ) (i : Interface) (way : Direction) (name : List ℕ)
+  interface-same : (at : ComponentFront) (start : ℕ) (i : Interface) (way : Direction) (name : List ℕ)
       → interface_declarations new at (rows_of new start i) way name ≡ interface_declarations rows at (rows_of rows start i) way name
   interface-same at start i way name =
       let a = alikes-flat rows (row_alias rows) (row_alias new) aliases-same (rows_of rows start i) (rows_of new start i) (rows-alike start i) in
@@ -407,7 +407,7 @@ module _ (rows new : List Definition) (h : Alikes rows rows new) where
       ap (λ xs. xs ++ Entry (Instance (decls_of (declarations_of (first_place at) (rows_of new start i)))) ∷ directed way name (described.Instance (at.types + length xs)) ∷ []) a
       ∙ ap (λ ds. aliases_of rows (rows_of rows start i) ++ Entry (Instance (decls_of ds)) ∷ directed way name (described.Instance (at.types + length (aliases_of rows (rows_of rows start i)))) ∷ []) d
 
-  front-same : (at : Front) (start : ℕ) (i : Interface) → front_after new at (rows_of new start i) ≡ front_after rows at (rows_of rows start i)
+  front-same : (at : ComponentFront) (start : ℕ) (i : Interface) → front_after new at (rows_of new start i) ≡ front_after rows at (rows_of rows start i)
   front-same at start i =
       let a = alikes-flat rows (row_alias rows) (row_alias new) aliases-same (rows_of rows start i) (rows_of new start i) (rows-alike start i) in
       let p = placed-after rows (first_place at) (rows_of rows start i) (rows_of new start i) (rows-alike start i) in
@@ -448,17 +448,17 @@ module _ (rows new : List Definition) (h : Alikes rows rows new) where
   items-place-same at start (i ∷ is) =
       ap (λ p. items_place new p (behind_item start i.kind) is) (item-place-same at start i.kind) ∙ items-place-same (item_place rows at start i.kind) (behind_item start i.kind) is
 
-  world-front-same : (at : Front) (start : ℕ) (w : World) → world_front new at start w ≡ world_front rows at start w
+  world-front-same : (at : ComponentFront) (start : ℕ) (w : World) → world_front new at start w ≡ world_front rows at start w
   world-front-same at start w = ap (λ (p : Place). record { indices = p.indices; types = at.types + 1; instances = at.instances }) (items-place-same (first_place at) start w.items)
 
-  interfaces-front-same : (at : Front) (start : ℕ) (is : List Interface) → interfaces_front new at start is ≡ interfaces_front rows at start is
+  interfaces-front-same : (at : ComponentFront) (start : ℕ) (is : List Interface) → interfaces_front new at start is ≡ interfaces_front rows at start is
   interfaces-front-same at start [] = refl
   interfaces-front-same at start (i ∷ is) =
       ap (λ f. interfaces_front new f (end_of start i) is) (front-same at start i) ∙ interfaces-front-same (front_after rows at (rows_of rows start i)) (end_of start i) is
 
 -- ---- packages
 
-abbrev file_with : List Decl → File
+abbrev file_with : List Decl → BinaryFile
 file_with ds = record { types = Component (decls_of ds) ∷ []; exports = record { name = package_export; type = 0 } ∷ [] }
 
 -- a package with the names and the interfaces of another, and rows alike
@@ -492,7 +492,7 @@ module _ (r p : Resolve) (a : IsAlikePackage r p) where
   abbrev way : Interface → Direction
   way i = interface_direction (own_package r.packages) i
 
-  written : (at : Front) (start : ℕ) (is : List Interface) → interfaces_declared p at start is ≡ interfaces_declared r at start is
+  written : (at : ComponentFront) (start : ℕ) (is : List Interface) → interfaces_declared p at start is ≡ interfaces_declared r at start is
   written at start [] = refl
   written at start (i ∷ is) =
       ap (λ ds. ds ++ interfaces_declared p (front_after p.definitions at (rows_of p.definitions start i)) (end_of start i) is)
@@ -509,14 +509,14 @@ module _ (r p : Resolve) (a : IsAlikePackage r p) where
   world-name : (w : World) → world_name p w ≡ world_name r w
   world-name w = ap (λ (ps : List PackageParts). full_name_in (slice_get ps w.«package».0) w.name) a.packages
 
-  world-written : (at : Front) (start : ℕ) (w : World) → world_declarations p at start w ≡ world_declarations r at start w
+  world-written : (at : ComponentFront) (start : ℕ) (w : World) → world_declarations p at start w ≡ world_declarations r at start w
   world-written at start w =
       let items : items_declared (surroundings p at) (first_place at) start w.items ≡ items_declared (surroundings r at) (first_place at) start w.items =
       ap (λ (ns : List (List ℕ)). items_declared (record { rows = p.definitions; names = ns; instances = at.instances }) (first_place at) start w.items) names-are
       ∙ items-declared-same r.definitions p.definitions like (interface_names r) at.instances (first_place at) start w.items in
       λ j. Entry (Component (decls_of (items j))) ∷ Export (world-name w j) (described.Component at.types) ∷ []
 
-  worlds-written : (at : Front) (start : ℕ) (ws : List World) → worlds_declared p at start ws ≡ worlds_declared r at start ws
+  worlds-written : (at : ComponentFront) (start : ℕ) (ws : List World) → worlds_declared p at start ws ≡ worlds_declared r at start ws
   worlds-written at start [] = refl
   worlds-written at start (w ∷ ws) =
       ap (λ ds. ds ++ worlds_declared p (world_front p.definitions at start w) (world_end start w) ws) (world-written at start w)
@@ -530,7 +530,7 @@ module _ (r p : Resolve) (a : IsAlikePackage r p) where
       let front : interfaces_front p.definitions no_front 0 r.interfaces ≡ interfaces_front r.definitions no_front 0 r.interfaces = interfaces-front-same r.definitions p.definitions like no_front 0 r.interfaces in
       ap (λ ds. ds ++ worlds_declared p (interfaces_front p.definitions no_front 0 p.interfaces) (interfaces_end 0 p.interfaces) p.worlds) first
       ∙ ap (λ (is : List Interface). interfaces_declared r no_front 0 r.interfaces ++ worlds_declared p (interfaces_front p.definitions no_front 0 is) (interfaces_end 0 is) p.worlds) a.interfaces
-      ∙ ap (λ (f : Front). interfaces_declared r no_front 0 r.interfaces ++ worlds_declared p f end p.worlds) front
+      ∙ ap (λ (f : ComponentFront). interfaces_declared r no_front 0 r.interfaces ++ worlds_declared p f end p.worlds) front
       ∙ ap (λ (ws : List World). interfaces_declared r no_front 0 r.interfaces ++ worlds_declared p (interfaces_front r.definitions no_front 0 r.interfaces) end ws) a.worlds
       ∙ ap (λ ds. interfaces_declared r no_front 0 r.interfaces ++ ds) (worlds-written (interfaces_front r.definitions no_front 0 r.interfaces) end r.worlds)
 

@@ -1,8 +1,8 @@
 -- The candidate of a component is the package that it stands for.
 use Rattle.std.proofs.Common.{◌≡◌, ◌<◌, ◌+◌, true, false, cond, ℕ, List, [], ◌∷◌, ◌++◌, map, length, slice_get, append_assoc, arith, None, Some, Ok, Err, refl, ap, sym, subst, ◌∙◌, All, Contains, inl, inr}
-use Rattle.ctype_format.specs.Raw.{Decl, File}
+use Rattle.ctype_format.specs.Raw.{Decl, BinaryFile}
 use Rattle.ctype_format.specs.View.{decls_of}
-use Rattle.ctype_bin.specs.FileView.{file_view}
+use Rattle.ctype_bin.specs.FileView.{raw_component_view}
 use Rattle.ctype_bin.specs.declared.component.RawComponent.{RawComponent}
 use Rattle.tables.specs.Parts.{is_package}
 use Rattle.tables.specs.Same.{IsSamePackage}
@@ -20,7 +20,7 @@ use Rattle.package_form.specs.Distinct.{RefusesScopes}
 use Rattle.package_form.proofs.Lists.{all-contained}
 use Rattle.component_reader.specs.declared.unread.Unread.TheVariants as unread
 use Rattle.package_form.specs.Ends.{end_of, rows_of, interfaces_end}
-use Rattle.wit_component.specs.Component.{aliases_of, Front, interface_declarations, interface_direction, front_after, interfaces_declared, no_front, interfaces_front, worlds_declared, package_declarations, component_of}
+use Rattle.wit_component.specs.Component.{aliases_of, ComponentFront, interface_declarations, interface_direction, front_after, interfaces_declared, no_front, interfaces_front, worlds_declared, package_declarations, component_of}
 use Rattle.wit_component.specs.FromComponent.{is_none, is_empty_package}
 use Rattle.package_form.specs.Naming.{package_scopes, table_scopes}
 use Rattle.package_form.specs.Closed.{own_package}
@@ -35,7 +35,7 @@ use Rattle.wit_component.proofs.AlikeForm.{IsAlikePackage, package-same, compone
 use Rattle.wit_component.proofs.OneTarget.{same-definitions, same-package}
 
 module _ (raw : RawComponent) (r : Resolve) (s : ComponentStands raw r) where
-  candidate-is : (c : Candidate) × (candidate_of (file_view raw) ≡ Some c) × ((p : Resolve) → IsMadeOf c p → IsAlikePackage r p)
+  candidate-is : (c : Candidate) × (candidate_of (raw_component_view raw) ≡ Some c) × ((p : Resolve) → IsMadeOf c p → IsAlikePackage r p)
       × (All AreDistinct (package_scopes r) → IsMadeOf c r)
   candidate-is =
       let x = reread r s.form s.labels s.world_labels in
@@ -61,11 +61,11 @@ module _ (raw : RawComponent) (r : Resolve) (s : ComponentStands raw r) where
         },
       )
 
-  pub reads-as : All AreDistinct (package_scopes r) → Makes (candidate_of (file_view raw)) (Ok r)
+  pub reads-as : All AreDistinct (package_scopes r) → Makes (candidate_of (raw_component_view raw)) (Ok r)
   reads-as d = let x = candidate-is in (x.0, x.1, x.3 d)
 
   -- what was read is like it
-  pub is-alike : (p : Resolve) → Makes (candidate_of (file_view raw)) (Ok p) → IsAlikePackage r p
+  pub is-alike : (p : Resolve) → Makes (candidate_of (raw_component_view raw)) (Ok p) → IsAlikePackage r p
   is-alike p (c, found, made) =
       let x = candidate-is in
       let same : x.0 ≡ c = some-is (sym x.1 ∙ found) in
@@ -75,18 +75,18 @@ module _ (raw : RawComponent) (r : Resolve) (s : ComponentStands raw r) where
       some-is e = cc
 
   -- so it is found
-  pub no-other-shape : Makes (candidate_of (file_view raw)) (Err unread.NotThisShape) → ⊥
+  pub no-other-shape : Makes (candidate_of (raw_component_view raw)) (Err unread.NotThisShape) → ⊥
   no-other-shape (inl e) = absurd (cc)
   no-other-shape (inr e) = absurd (let x = candidate-is in let y : Some x.0 ≡ None = sym x.1 ∙ e.1 in cc)
 
-  pub in-form : (p : Resolve) → Makes (candidate_of (file_view raw)) (Ok p) → IsInPackageForm p
+  pub in-form : (p : Resolve) → Makes (candidate_of (raw_component_view raw)) (Ok p) → IsInPackageForm p
   in-form p m = form-same r p (is-alike p m) s.form
 
   -- and it is the same component
-  pub written-again : (p : Resolve) → Makes (candidate_of (file_view raw)) (Ok p) → file_view raw ≡ component_of p
+  pub written-again : (p : Resolve) → Makes (candidate_of (raw_component_view raw)) (Ok p) → raw_component_view raw ≡ component_of p
   written-again p m = s.component ∙ sym (component-same r p (is-alike p m))
 
-  pub is-that-package : All AreDistinct (package_scopes r) → (p : Resolve) → Makes (candidate_of (file_view raw)) (Ok p) → IsSamePackage p r
+  pub is-that-package : All AreDistinct (package_scopes r) → (p : Resolve) → Makes (candidate_of (raw_component_view raw)) (Ok p) → IsSamePackage p r
   is-that-package d p m = same-package r p (is-alike p m) s.form d
 
 -- a package's component has declarations
@@ -94,7 +94,7 @@ some-decls : (xs : List Decl) (y : Decl) (ys : List Decl) → is_none (decls_of 
 some-decls [] y ys = refl
 some-decls (x ∷ xs) y ys = refl
 
-some-declared : (r : Resolve) (is : List Interface) (at : Front) (start : ℕ) (ws : List World) → 0 < length is + length ws
+some-declared : (r : Resolve) (is : List Interface) (at : ComponentFront) (start : ℕ) (ws : List World) → 0 < length is + length ws
     → is_none (decls_of (interfaces_declared r no_front 0 is ++ worlds_declared r at start ws)) ≡ false
 some-declared r [] at start [] some = absurd (omega (arith, some))
 some-declared r [] at start (w ∷ ws) some = refl
@@ -104,9 +104,9 @@ some-declared r (i ∷ is) at start ws some =
     ap (λ (xs : List Decl). is_none (decls_of xs)) (append_assoc (interface_declarations r.definitions no_front ds (interface_direction (own_package r.packages) i) (full_name r i)) rest (worlds_declared r at start ws))
     ∙ ap (λ (xs : List Decl). is_none (decls_of xs)) (append_assoc (aliases_of r.definitions ds) _ (rest ++ worlds_declared r at start ws)) ∙ some-decls (aliases_of r.definitions ds) _ _
 
-pub not-empty : (raw : RawComponent) (r : Resolve) → ComponentStands raw r → is_empty_package (file_view raw).types ≡ false
+pub not-empty : (raw : RawComponent) (r : Resolve) → ComponentStands raw r → is_empty_package (raw_component_view raw).types ≡ false
 not-empty raw r s =
-    ap (λ (f : File). is_empty_package f.types) s.component
+    ap (λ (f : BinaryFile). is_empty_package f.types) s.component
     ∙ some-declared r r.interfaces (interfaces_front r.definitions no_front 0 r.interfaces) (interfaces_end 0 r.interfaces) r.worlds (some-part r s.form.closed)
 
 -- the worlds of these tables, as their names tell them

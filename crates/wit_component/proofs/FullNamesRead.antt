@@ -6,7 +6,7 @@ use Rattle.tables.specs.PackageNames.{PackageParts, name_parts}
 use Rattle.tables.specs.Names.{full_name_in, full_name}
 use Rattle.tables.specs.declared.tables.Interface.{Interface}
 use Rattle.tables.specs.declared.tables.Resolve.{Resolve}
-use Rattle.component_reader.specs.Component.{interface_in, package_named}
+use Rattle.component_reader.specs.Component.{interface_text, package_in_name}
 use Rattle.package_form.specs.Form.{is_package_name, has_full_names}
 use Rattle.component_reader.proofs.Cutting.{parts-cut}
 use Rattle.component_reader.proofs.ExportNames.{no-label}
@@ -29,7 +29,7 @@ module _ (r : Resolve) (p : PackageParts) (i : Interface) (at : slice_get r.pack
         name = record { spelt = refl; label = label; reads = b.1 };
       }
 
-  pub full-name-cut : (package_named (full_name r i) ≡ p) × (interface_in (full_name r i) ≡ i.name)
+  pub full-name-cut : (package_in_name (full_name r i) ≡ p) × (interface_text (full_name r i) ≡ i.name)
   full-name-cut =
       let cut = parts-cut (full_name r i) (name_parts p i.name) is-full in
       (λ j. record { namespace = cut.0 j; name = cut.1 j; version = cut.3 j }, cut.2)

@@ -20,9 +20,9 @@ use Rattle.tables.specs.declared.tables.Definition.{Definition}
 use Rattle.tables.specs.declared.tables.Interface.{Interface}
 use Rattle.component_reader.specs.Instance.{if_found, InstanceRead, nothing_read, instance_read, type_named}
 use Rattle.component_reader.specs.Types.{found_in}
-use Rattle.component_reader.specs.World.{interface_at}
-use Rattle.component_reader.specs.Component.{ComponentRead, with_instance, interface_in, package_named, with_package, last_package, interface_named, with_interface, instance_named, declaration_read, declarations_read}
-use Rattle.wit_component.specs.Component.{aliases_of, Front, first_place, interface_declarations, front_after}
+use Rattle.component_reader.specs.World.{interface_index}
+use Rattle.component_reader.specs.Component.{ComponentRead, with_read_instance, interface_text, package_in_name, with_package, last_package, interface_named, with_interface, instance_named, declaration_read, declarations_read}
+use Rattle.wit_component.specs.Component.{aliases_of, ComponentFront, first_place, interface_declarations, front_after}
 use Rattle.package_form.specs.Reached.{name_at}
 use Rattle.package_form.specs.Ends.{end_of, rows_of}
 use Rattle.package_form.proofs.Postfixed.{is_function}
@@ -50,15 +50,15 @@ get-last (x ∷ xs) y = get-last xs y
 
 -- each of k interfaces is the one whose instance type has its index
 abbrev pub KnowsInterfaces : List (Option InterfaceId) → List ℕ → ℕ → Type 0
-KnowsInterfaces instances indices k = (j : ℕ) → j < k → interface_at instances (slice_index indices j) ≡ Some (record { 0 = j })
+KnowsInterfaces instances indices k = (j : ℕ) → j < k → interface_index instances (slice_index indices j) ≡ Some (record { 0 = j })
 
-pub interface-more : (xs ys : List (Option InterfaceId)) (i : ℕ) (t : InterfaceId) → interface_at xs i ≡ Some t → interface_at (xs ++ ys) i ≡ Some t
+pub interface-more : (xs ys : List (Option InterfaceId)) (i : ℕ) (t : InterfaceId) → interface_index xs i ≡ Some t → interface_index (xs ++ ys) i ≡ Some t
 interface-more [] ys i t h = absurd (cc)
 interface-more (x ∷ xs) ys zero t h = h
 interface-more (x ∷ xs) ys (suc i) t h = interface-more xs ys i t h
 
 -- what was read of the interfaces before interface k, whose rows end before start
-pub record HasReadTo (table : List Definition) (at : Front) (k start : ℕ) (done : List Interface) (s : ComponentRead) : Type 0 where
+pub record HasReadTo (table : List Definition) (at : ComponentFront) (k start : ℕ) (done : List Interface) (s : ComponentRead) : Type 0 where
   pub rows : AreAlike table 0 (take start table) s.rows
   pub count : length at.indices ≡ start
   pub row_count : length s.rows ≡ start
@@ -84,13 +84,13 @@ same-interface : (i : Interface) (p : PackageId) (n : List ℕ) (us ts : List Ty
     → record { «package» = p; name = n; uses = us; types = ts; functions = fs } ≡ i
 same-interface i p n us ts fs own a b c d = λ j. record { «package» = own j; name = a j; uses = b j; types = c j; functions = d j }
 
-module _ (table : List Definition) (at : Front) (k start : ℕ) (i : Interface) (is : IsInterfaceAt table start k i) where
+module _ (table : List Definition) (at : ComponentFront) (k start : ℕ) (i : Interface) (is : IsInterfaceAt table start k i) where
   -- rows like the interface's give it again
-  interface-again : (es rows : List Definition) (p : PackageId) (text : List ℕ) → p ≡ i.«package» → length rows ≡ start → AreRowsOf k es → AreAlike table start (rows_of table start i) es → interface_in text ≡ i.name
+  interface-again : (es rows : List Definition) (p : PackageId) (text : List ℕ) → p ≡ i.«package» → length rows ≡ start → AreRowsOf k es → AreAlike table start (rows_of table start i) es → interface_text text ≡ i.name
       → interface_named p text (rows_after k es (nothing_read rows)) ≡ i
   interface-again es rows p text of-package len own alike name =
       let ids = ids-own table start k i is in
-      same-interface i p (interface_in text) (rows_after k es (nothing_read rows)).uses (rows_after k es (nothing_read rows)).types (rows_after k es (nothing_read rows)).functions of-package name
+      same-interface i p (interface_text text) (rows_after k es (nothing_read rows)).uses (rows_after k es (nothing_read rows)).types (rows_after k es (nothing_read rows)).functions of-package name
       (rows-uses k es own (nothing_read rows)
       ∙ ap (λ n. map type_id (places_where is_use_row n es)) len ∙ ap (map type_id) (sym (alike-places table is_use_row (λ x t u. refl) start (rows_of table start i) es alike)) ∙ ids.uses)
       (rows-types k es own (nothing_read rows)
@@ -120,7 +120,7 @@ module _ (table : List Definition) (at : Front) (k start : ℕ) (i : Interface) 
 
     -- the state behind the interface
     abbrev after : List ℕ → ComponentRead
-    after text = with_interface text (with_instance (with_types s found.0) inside) inside
+    after text = with_interface text (with_read_instance (with_types s found.0) inside) inside
 
     rows-told : inside.rows ≡ s.rows ++ reread.0
     rows-told = rows-rows k reread.0 reread.2 (nothing_read s.rows)
@@ -164,9 +164,9 @@ module _ (table : List Definition) (at : Front) (k start : ℕ) (i : Interface) 
 
     -- its package
     abbrev of_package : List ℕ → PackageId
-    of_package text = last_package (with_package s.packages (package_named text))
+    of_package text = last_package (with_package s.packages (package_in_name text))
 
-    has-after : (text : List ℕ) → of_package text ≡ i.«package» → interface_in text ≡ i.name
+    has-after : (text : List ℕ) → of_package text ≡ i.«package» → interface_text text ≡ i.name
         → HasReadTo table (front_after table at (rows_of table start i)) (k + 1) (end_of start i) (done ++ i ∷ []) (after text)
     has-after text own_package name = record {
       rows = subst (λ ds. AreAlike table 0 ds inside.rows) (rows-front table start i is.low is.high)
@@ -197,13 +197,13 @@ module _ (table : List Definition) (at : Front) (k start : ℕ) (i : Interface) 
             length-append s.instances (no_interfaces found.0)
             ∙ omega (arith, length-map {B = Option InterfaceId} found.0 (λ (u : TypeId). None), has.instances, aliases-length table start k s.exports found.0 (rows_of table start i) found.1)
 
-        by : (j : ℕ) → (j < k) ⊎ (k ≤ j) → j < k + 1 → interface_at ((s.instances ++ no_interfaces found.0) ++ Some (record { 0 = length s.interfaces }) ∷ []) (slice_index (at.instances ++ last ∷ []) j) ≡ Some (record { 0 = j })
+        by : (j : ℕ) → (j < k) ⊎ (k ≤ j) → j < k + 1 → interface_index ((s.instances ++ no_interfaces found.0) ++ Some (record { 0 = length s.interfaces }) ∷ []) (slice_index (at.instances ++ last ∷ []) j) ≡ Some (record { 0 = j })
         by j (inl l) low =
-            ap (interface_at ((s.instances ++ no_interfaces found.0) ++ Some (record { 0 = length s.interfaces }) ∷ [])) (get_or_append_left at.instances (last ∷ []) 0 j (omega (arith, l, has.each)))
+            ap (interface_index ((s.instances ++ no_interfaces found.0) ++ Some (record { 0 = length s.interfaces }) ∷ [])) (get_or_append_left at.instances (last ∷ []) 0 j (omega (arith, l, has.each)))
             ∙ interface-more (s.instances ++ no_interfaces found.0) (Some (record { 0 = length s.interfaces }) ∷ []) _ _ (interface-more s.instances (no_interfaces found.0) _ _ (has.known j l))
         by j (inr l) low =
             let here : j ≡ k = omega (arith, l, low) in
-            ap (interface_at ((s.instances ++ no_interfaces found.0) ++ Some (record { 0 = length s.interfaces }) ∷ [])) (get_or_push at.instances last 0 j (has.each ∙ sym here) ∙ sym index)
+            ap (interface_index ((s.instances ++ no_interfaces found.0) ++ Some (record { 0 = length s.interfaces }) ∷ [])) (get_or_push at.instances last 0 j (has.each ∙ sym here) ∙ sym index)
             ∙ ap found_in (get-last (s.instances ++ no_interfaces found.0) (Some (record { 0 = length s.interfaces })))
             ∙ ap (λ (n : ℕ). Some (record { 0 = n })) (has.index ∙ sym here)
 
@@ -223,12 +223,12 @@ module _ (table : List Definition) (at : Front) (k start : ℕ) (i : Interface) 
         let export = directed way text (described.Instance (at.types + length (aliases_of table ds))) in
         ap (λ es. declarations_read (decls_of es) s) (append_assoc (aliases_of table ds) (Entry (Instance body) ∷ export ∷ []) more)
         ∙ aliases-read table start k s.exports found.0 ds found.1 s refl (Entry (Instance body) ∷ export ∷ more)
-        ∙ ap (λ n. if_found (option_map (with_instance (with_types s found.0)) (instance_read (s.indices ++ all_some found.0) n body s.rows)) (declarations_read (decls_of (export ∷ more)))) has.index
-        ∙ ap (λ o. if_found (option_map (with_instance (with_types s found.0)) o) (declarations_read (decls_of (export ∷ more)))) reread.3
-        ∙ ap (λ o. if_found o (declarations_read (decls_of more))) (directed-read way text (at.types + length (aliases_of table ds)) (with_instance (with_types s found.0) inside) full)
+        ∙ ap (λ n. if_found (option_map (with_read_instance (with_types s found.0)) (instance_read (s.indices ++ all_some found.0) n body s.rows)) (declarations_read (decls_of (export ∷ more)))) has.index
+        ∙ ap (λ o. if_found (option_map (with_read_instance (with_types s found.0)) o) (declarations_read (decls_of (export ∷ more)))) reread.3
+        ∙ ap (λ o. if_found o (declarations_read (decls_of more))) (directed-read way text (at.types + length (aliases_of table ds)) (with_read_instance (with_types s found.0) inside) full)
 
-    pub interface-reread : (way : Direction) (text : List ℕ) → is_label text ≡ false → of_package text ≡ i.«package» → interface_in text ≡ i.name
+    pub interface-reread : (way : Direction) (text : List ℕ) → is_label text ≡ false → of_package text ≡ i.«package» → interface_text text ≡ i.name
         → (s2 : ComponentRead) × HasReadTo table (front_after table at (rows_of table start i)) (k + 1) (end_of start i) (done ++ i ∷ []) s2
         × ((more : List Decl) → declarations_read (decls_of (interface_declarations table at (rows_of table start i) way text ++ more)) s ≡ declarations_read (decls_of more) s2)
-        × (s2.packages ≡ with_package s.packages (package_named text))
+        × (s2.packages ≡ with_package s.packages (package_in_name text))
     interface-reread way text full own_package name = (after text, has-after text own_package name, interface-read way text full, refl)

@@ -5,7 +5,7 @@ use Rattle.std.proofs.lemmas.Bool.Decides.{nat_tests}
 use Rattle.std.proofs.lemmas.Slice.Eq.{bytes_eq-Decides}
 use Rattle.std.proofs.lemmas.Bool.{ltb-true, lt-ltb}
 use Rattle.package_form.specs.Postfix.{inner_row}
-use Rattle.package_form.specs.Scoped.{Entry as Named}
+use Rattle.package_form.specs.Scoped.{NameEntry}
 use Rattle.package_form.specs.Ids.{type_id}
 use Rattle.tables.specs.Tables.{type_of, is_there, is_type_id}
 use Rattle.tables.specs.declared.tables.TypeId.{TypeId}
@@ -95,7 +95,7 @@ module _ (table : List Definition) (start k : ℕ) where
         by : (t.0 < length at.indices) ⊎ (t.0 ≡ length at.indices) → NamesType table start k (length at.indices + 1) s2 y
         by (inl l) =
             let q = has.names t y low l e in
-            record { id = q.id; found = ap (λ (es : List Named). type_named es y.name) is ∙ q.found; named = q.named; lower = q.lower; upper = omega (arith, q.upper); here = q.here }
+            record { id = q.id; found = ap (λ (es : List NameEntry). type_named es y.name) is ∙ q.found; named = q.named; lower = q.lower; upper = omega (arith, q.upper); here = q.here }
         by (inr q) =
             let clash : None ≡ Some y = sym none ∙ ap (λ (o : Option Definition). name_of (type_of o)) (sym here) ∙ ap (λ (n : ℕ). name_of (type_of (slice_get table n))) (sym q) ∙ e in
             absurd (cc)
@@ -112,7 +112,7 @@ module _ (table : List Definition) (start k : ℕ) where
         this : record { interface = record { 0 = k }; name = x } ≡ y → NamesType table start k (length at.indices + 1) s2 y
         this q = record {
           id = type_id (length s.rows);
-          found = ap (λ (es : List Named). type_named es y.name) is ∙ ap (λ (z : TypeName). type_named (named s.names x (type_id (length s.rows))) z.name) (sym q)
+          found = ap (λ (es : List NameEntry). type_named es y.name) is ∙ ap (λ (z : TypeName). type_named (named s.names x (type_id (length s.rows))) z.name) (sym q)
               ∙ named-found s.names x (type_id (length s.rows));
           named = own ∙ ap (λ (z : TypeName). Some z) q;
           lower = omega (arith, has.rows, has.begins);
@@ -128,7 +128,7 @@ module _ (table : List Definition) (start k : ℕ) where
         other q false apart =
             record {
               id = q.id;
-              found = ap (λ (es : List Named). type_named es y.name) is ∙ named-other s.names x (type_id (length s.rows)) y.name apart ∙ q.found;
+              found = ap (λ (es : List NameEntry). type_named es y.name) is ∙ named-other s.names x (type_id (length s.rows)) y.name apart ∙ q.found;
               named = q.named;
               lower = q.lower;
               upper = omega (arith, q.upper);

@@ -1,11 +1,11 @@
 -- The names of an instance type: what a name stands for when one more is exported.
 use Rattle.std.proofs.Common.{◌≡◌, ℕ, Bool, true, false, cond, List, [], ◌∷◌, Option, None, Some, bytes_eq, refl, ap, sym, ◌∙◌}
 use Rattle.std.proofs.lemmas.Slice.Eq.{bytes_eq-Decides}
-use Rattle.package_form.specs.Scoped.{Entry as Named}
+use Rattle.package_form.specs.Scoped.{NameEntry}
 use Rattle.tables.specs.declared.tables.TypeId.{TypeId}
 use Rattle.component_reader.specs.Instance.{named, type_named}
 
-pub named-found : (es : List Named) (n : List ℕ) (t : TypeId) → type_named (named es n t) n ≡ Some t
+pub named-found : (es : List NameEntry) (n : List ℕ) (t : TypeId) → type_named (named es n t) n ≡ Some t
 named-found [] n t = ap (λ (b : Bool). cond b (Some t) None) ((bytes_eq-Decides n n).1 refl)
 named-found (e ∷ es) n t = by (bytes_eq n e.name) refl (named-found es n t)
   where
@@ -14,7 +14,7 @@ named-found (e ∷ es) n t = by (bytes_eq n e.name) refl (named-found es n t)
     by true is again = ap (λ (b : Bool). cond b (Some t) (type_named es n)) is
     by false is again = ap (λ (b : Bool). cond b (Some e.id) (type_named (named es n t) n)) is ∙ again
 
-pub named-other : (es : List Named) (n : List ℕ) (t : TypeId) (m : List ℕ) → bytes_eq m n ≡ false → type_named (named es n t) m ≡ type_named es m
+pub named-other : (es : List NameEntry) (n : List ℕ) (t : TypeId) (m : List ℕ) → bytes_eq m n ≡ false → type_named (named es n t) m ≡ type_named es m
 named-other [] n t m h = ap (λ (b : Bool). cond b (Some t) None) h
 named-other (e ∷ es) n t m h = by (bytes_eq n e.name) refl (named-other es n t m h)
   where

@@ -35,9 +35,9 @@ use Rattle.package_form.proofs.OwnPackage.{package-there, packages-apart, each-p
 use Rattle.package_form.proofs.Postfix.{postfix-used}
 use Rattle.component_reader.specs.Instance.{if_found, nothing_read}
 use Rattle.component_reader.specs.World.{no_world, world_read}
-use Rattle.component_reader.specs.Component.{ComponentRead, no_component, with_component, interface_in, package_named, with_package, last_package, world_named, with_world, component_exported, declarations_read}
+use Rattle.component_reader.specs.Component.{ComponentRead, no_component, with_component, interface_text, package_in_name, with_package, last_package, world_named, with_world, component_exported, declarations_read}
 use Rattle.component_reader.proofs.ExportNames.{no-label}
-use Rattle.wit_component.specs.Component.{Front, no_front, first_place, interface_direction, interface_declarations, front_after, interfaces_declared, interfaces_front, surroundings, world_declarations, world_front, worlds_declared, package_declarations}
+use Rattle.wit_component.specs.Component.{ComponentFront, no_front, first_place, interface_direction, interface_declarations, front_after, interfaces_declared, interfaces_front, surroundings, world_declarations, world_front, worlds_declared, package_declarations}
 use Rattle.wit_component.specs.ToComponent.{is_labelled, are_labelled, are_worlds_labelled}
 use Rattle.wit_component.specs.Worlds.{items_declared}
 use Rattle.wit_component.proofs.AfterRows.{alike-length}
@@ -120,7 +120,7 @@ module _ (r : Resolve) (names : IsTrue (has_full_names r)) (apart : are_apart r.
   table = r.definitions
 
   -- these interfaces were read, whatever follows them
-  record InterfacesRead (at : Front) (next k start : ℕ) (is done : List Interface) (s : ComponentRead) : Type 0 where
+  record InterfacesRead (at : ComponentFront) (next k start : ℕ) (is done : List Interface) (s : ComponentRead) : Type 0 where
     state : ComponentRead
     packages : HasPackages r.packages (packages_after next is) state.packages
     has : HasReadTo table (interfaces_front table at start is) (k + length is) (interfaces_end start is) (done ++ is) state
@@ -131,7 +131,7 @@ module _ (r : Resolve) (names : IsTrue (has_full_names r)) (apart : are_apart r.
   abbrev way : Interface → Direction
   way i = interface_direction (own_package r.packages) i
 
-  interfaces-reread : (last first next : ℕ) (is : List Interface) (at : Front) (k start : ℕ) (done : List Interface) (s : ComponentRead)
+  interfaces-reread : (last first next : ℕ) (is : List Interface) (at : ComponentFront) (k start : ℕ) (done : List Interface) (s : ComponentRead)
       → AreInterfaces (length r.packages) last first next table r.worlds k start is → HasPackages r.packages next s.packages → HasReadTo table at k start done s
       → InterfacesRead at next k start is done s
   interfaces-reread last first next [] at k start done s are packages has =
@@ -152,7 +152,7 @@ module _ (r : Resolve) (names : IsTrue (has_full_names r)) (apart : are_apart r.
       let low = behind-first count last first next table r.worlds k start i is are in
       let near = are.near in
       let step = package-next r.packages apart i.«package».0 p.0 p.1 next s.packages packages (to-next count last first next table r.worlds k start i is are) (omega (arith, low, near)) in
-      let told : with_package s.packages p.0 ≡ with_package s.packages (package_named (full_name r i)) = ap (with_package s.packages) (sym cut.0) in
+      let told : with_package s.packages p.0 ≡ with_package s.packages (package_in_name (full_name r i)) = ap (with_package s.packages) (sym cut.0) in
       let own = interface-reread table at k start i here done s has (way i) (full_name r i) (full-no-label r p.0 i p.1 names here.label) (ap last_package (sym told) ∙ step.1) cut.1 in
       let ds = rows_of table start i in
       let rest = interfaces_declared r (front_after table at ds) (end_of start i) is in
@@ -184,7 +184,7 @@ module _ (r : Resolve) (names : IsTrue (has_full_names r)) (apart : are_apart r.
   module _ (p : PackageParts) (there : slice_get r.packages own_place ≡ Some p) (lows : (t : TypeId) (y : TypeName) → name_at table (Some t) ≡ Some y → y.interface.0 < count)
       (full : (i : ℕ) → i < count → is_label (slice_index_or (interface_names r) i []) ≡ false) where
     -- what was read of the worlds before world w, whose rows end before start
-    record HasWorldsTo (at : Front) (next w start : ℕ) (done : List World) (s : ComponentRead) : Type 0 where
+    record HasWorldsTo (at : ComponentFront) (next w start : ℕ) (done : List World) (s : ComponentRead) : Type 0 where
       packages : HasPackages r.packages next s.packages
       near : own_place ≤ next
       rows : AreAlike table 0 (take start table) s.rows
@@ -197,7 +197,7 @@ module _ (r : Resolve) (names : IsTrue (has_full_names r)) (apart : are_apart r.
       earlier : are_earlier start (drop start table) ≡ true
       used : are_used table start [] (drop start table) ≡ true
 
-    module _ (x : World) (next w start : ℕ) (at : Front) (done : List World) (s : ComponentRead) (is : IsWorldAt table count w start x) (mine : x.«package».0 ≡ own_place)
+    module _ (x : World) (next w start : ℕ) (at : ComponentFront) (done : List World) (s : ComponentRead) (is : IsWorldAt table count w start x) (mine : x.«package».0 ≡ own_place)
         (labels : (is_label x.name ≡ true) × (list_all is_labelled (world_rows table start x) ≡ true)) (has : HasWorldsTo at next w start done s) where
       abbrev own : List Definition
       own = world_rows table start x
@@ -245,16 +245,16 @@ module _ (r : Resolve) (names : IsTrue (has_full_names r)) (apart : are_apart r.
       at_place : slice_get r.packages x.«package».0 ≡ Some p
       at_place = ap (slice_get r.packages) mine ∙ there
 
-      cut : (package_named (world_name r x) ≡ p) × (interface_in (world_name r x) ≡ x.name)
+      cut : (package_in_name (world_name r x) ≡ p) × (interface_text (world_name r x) ≡ x.name)
       cut = full-name-cut r p (as_interface x) at_place names labels.0
 
       step : HasPackages r.packages (own_place + 1) (with_package s.packages p) × (last_package (with_package s.packages p) ≡ package_id own_place)
       step = package-next r.packages apart own_place p there next s.packages has.packages has.near (let within = has.packages.within in omega (arith, within))
 
-      told : with_package s.packages p ≡ with_package s.packages (package_named (world_name r x))
+      told : with_package s.packages p ≡ with_package s.packages (package_in_name (world_name r x))
       told = ap (with_package s.packages) (sym cut.0)
 
-      its-package : last_package (with_package s.packages (package_named (world_name r x))) ≡ x.«package»
+      its-package : last_package (with_package s.packages (package_in_name (world_name r x))) ≡ x.«package»
       its-package = ap last_package (sym told) ∙ step.1 ∙ ap package_id (sym mine)
 
       ends : length items.state.inside.rows ≡ world_end start x
@@ -280,10 +280,10 @@ module _ (r : Resolve) (names : IsTrue (has_full_names r)) (apart : are_apart r.
         count_before = sym items.kept.rows ∙ ends;
         row_count = ends;
         interfaces = has.interfaces;
-        worlds = ap (λ (xs : List World). xs ++ world_named (last_package (with_package s.packages (package_named (world_name r x)))) (world_name r x) items.state ∷ []) has.worlds
+        worlds = ap (λ (xs : List World). xs ++ world_named (last_package (with_package s.packages (package_in_name (world_name r x)))) (world_name r x) items.state ∷ []) has.worlds
             ∙ ap (λ (v : World). done ++ v ∷ [])
-            (same-world x (last_package (with_package s.packages (package_named (world_name r x)))) (interface_in (world_name r x)) items.state.items its-package cut.1 items.items);
-        index = length-append s.worlds (world_named (last_package (with_package s.packages (package_named (world_name r x)))) (world_name r x) items.state ∷ []) ∙ ap (λ (n : ℕ). n + 1) has.index;
+            (same-world x (last_package (with_package s.packages (package_in_name (world_name r x)))) (interface_text (world_name r x)) items.state.items its-package cut.1 items.items);
+        index = length-append s.worlds (world_named (last_package (with_package s.packages (package_in_name (world_name r x)))) (world_name r x) items.state ∷ []) ∙ ap (λ (n : ℕ). n + 1) has.index;
         known = λ j low. interface-more s.instances (None ∷ []) _ _ (has.known j low);
         earlier = subst (λ (n : ℕ). are_earlier n later ≡ true) (world-length table start x is.low is.high) items.earlier;
         used = subst (λ (n : ℕ). are_used table n [] later ≡ true) (world-length table start x is.low is.high) items.used;
@@ -300,7 +300,7 @@ module _ (r : Resolve) (names : IsTrue (has_full_names r)) (apart : are_apart r.
     packages_behind next [] = next
     packages_behind next (x ∷ ws) = packages_behind (own_place + 1) ws
 
-    worlds-reread : (ws : List World) (next w start : ℕ) (at : Front) (done : List World) (s : ComponentRead) → AreWorlds table count w start ws → list_all (is_world_of own_place) ws ≡ true
+    worlds-reread : (ws : List World) (next w start : ℕ) (at : ComponentFront) (done : List World) (s : ComponentRead) → AreWorlds table count w start ws → list_all (is_world_of own_place) ws ≡ true
         → are_worlds_labelled table start ws ≡ true → HasWorldsTo at next w start done s
         → (s2 : ComponentRead) × (declarations_read (decls_of (worlds_declared r at start ws)) s ≡ Some s2) × (s2.interfaces ≡ r.interfaces) × (s2.worlds ≡ done ++ ws) × AreAlike table 0 table s2.rows
         × HasPackages r.packages (packages_behind next ws) s2.packages

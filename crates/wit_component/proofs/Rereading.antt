@@ -14,8 +14,8 @@ use Rattle.tables.specs.declared.tables.TypeDefKind.TheVariants as kind
 use Rattle.tables.specs.declared.tables.Parameter.{Parameter}
 use Rattle.tables.specs.declared.tables.Field.{Field}
 use Rattle.tables.specs.declared.tables.Case.{Case}
-use Rattle.component_reader.specs.Types.{both_found, all_found, primitive_type, row_at, val_type, optional_type, field_named, field_read, parameter_named, parameter_read, case_named, case_read, kind_of}
-use Rattle.package_form.specs.References.{references, references_if, field_references, case_references, parameter_references, kind_references}
+use Rattle.component_reader.specs.Types.{both_found, all_found, primitive_type, row_at, val_type, optional_type, field_named, field_read, parameter_named, parameter_read, case_named, case_read, kind_defined}
+use Rattle.package_form.specs.References.{type_references, references_if, field_references, case_references, parameter_references, kind_references}
 use Rattle.wit_component.specs.Rows.{raw_primitive, valtype_of, field_of, parameter_of, case_of, defined_of}
 use Rattle.tables.proofs.Rows.{split}
 
@@ -39,7 +39,7 @@ is_defined _ = true
 
 -- each of these types has the property, by which it is found again
 module _ (written : List ℕ) (read : List (Option TypeId)) (p : TypeId → Bool) (known : (t : TypeId) → p t ≡ true → row_at read (slice_index written t.0) ≡ Some t) where
-  val-reread : (v : ValType) → list_all p (references v) ≡ true → val_type read (valtype_of written v) ≡ Some v
+  val-reread : (v : ValType) → list_all p (type_references v) ≡ true → val_type read (valtype_of written v) ≡ Some v
   val-reread (val.Primitive q) h = ap (λ (v : ValType). Some v) (primitive-reread q)
   val-reread val.String h = refl
   val-reread (val.Id t) h = ap (option_map (λ (u : TypeId). val.Id u)) (known t (split (p t) true h).0)
@@ -80,7 +80,7 @@ module _ (written : List ℕ) (read : List (Option TypeId)) (p : TypeId → Bool
 
   -- a kind's definition, which is that kind
   pub kind-reread : (k : TypeDefKind) → is_defined k ≡ true → list_all p (kind_references k) ≡ true
-      → (d : Defined) × (defined_of written k ≡ Some d) × (kind_of read d ≡ Some k)
+      → (d : Defined) × (defined_of written k ≡ Some d) × (kind_defined read d ≡ Some k)
   kind-reread (kind.Use t) is h = absurd (cc)
   kind-reread (kind.Alias (val.Id t)) is h = absurd (cc)
   kind-reread (kind.Alias (val.Primitive q)) is h = (Prim (raw_primitive q), refl, ap (λ (v : ValType). Some (kind.Alias v)) (primitive-reread q))
@@ -89,7 +89,7 @@ module _ (written : List ℕ) (read : List (Option TypeId)) (p : TypeId → Bool
   kind-reread (kind.Option v) is h = (OptionOf (valtype_of written v), refl, ap (option_map (λ (w : ValType). kind.Option w)) (val-reread v h))
   kind-reread (kind.Result v w) is h = (ResultOf (option_map (valtype_of written) v) (option_map (valtype_of written) w), refl, result-reread v w h)
   kind-reread (kind.Tuple vs) is h =
-      (Tuple (map (valtype_of written) vs), refl, ap (option_map (λ (ws : List ValType). kind.Tuple ws)) (all-reread (valtype_of written) (val_type read) references val-reread vs h))
+      (Tuple (map (valtype_of written) vs), refl, ap (option_map (λ (ws : List ValType). kind.Tuple ws)) (all-reread (valtype_of written) (val_type read) type_references val-reread vs h))
   kind-reread (kind.Record fs) is h =
       (Record (map (field_of written) fs), refl, ap (option_map (λ (gs : List Field). kind.Record gs)) (all-reread (field_of written) (field_read read) field_references field-reread fs h))
   kind-reread (kind.Variant cs) is h =

@@ -20,11 +20,11 @@ use Rattle.tables.specs.declared.tables.Owner.TheVariants as owner
 use Rattle.tables.specs.declared.tables.Function.{Function}
 use Rattle.tables.specs.declared.tables.Definition.{Definition}
 use Rattle.tables.specs.declared.tables.Definition.TheVariants as definition
-use Rattle.component_reader.specs.Instance.{if_found, AType, AFunction, InstanceRead, awaiting, with_unnamed, settled, settled_as, named_row, with_named, with_index, alias_to, renamed, type_exported, exported, function_row, defined, decl_read, decls_read}
-use Rattle.component_reader.specs.Types.{both_found, row_at, optional_type, kind_of}
+use Rattle.component_reader.specs.Instance.{if_found, AType, AFunction, InstanceRead, awaiting, with_unnamed, settled, settled_as, named_row, with_named, with_index, alias_to, renamed, type_exported, exported_read, function_row, defined_read, decl_read, decls_read}
+use Rattle.component_reader.specs.Types.{both_found, row_at, optional_type, kind_defined}
 use Rattle.package_form.specs.References.{parameter_references, references_if, kind_references, row_references}
 use Rattle.package_form.specs.Reached.{name_at}
-use Rattle.wit_component.specs.Rows.{Place, valtype_of, signature_of, definition_of, definition_index, definition_if, defined_of, outer_alias, row_declarations, defined_types, place_after}
+use Rattle.wit_component.specs.Rows.{Place, valtype_of, signature_of, definition_declared, definition_index, definition_if, defined_of, outer_alias, row_declarations, defined_types, place_after}
 use Rattle.wit_component.proofs.Alike.{IsAlike, same, uses}
 use Rattle.wit_component.proofs.Keeping.{unnamed-kept, defined-kept, renamed-kept, function-kept}
 use Rattle.tables.proofs.Rows.{split}
@@ -48,7 +48,7 @@ pub indexed-defined : (what : TypeDefKind) → is_defined what ≡ true → (s :
 indexed-defined (kind.Alias (val.Id t)) h s = absurd (cc)
 indexed-defined _ h s = refl
 
-defined-alone : (at : Place) (what : TypeDefKind) (d : Defined) → is_defined what ≡ true → defined_of at.indices what ≡ Some d → definition_of at what ≡ Entry (Define d) ∷ []
+defined-alone : (at : Place) (what : TypeDefKind) (d : Defined) → is_defined what ≡ true → defined_of at.indices what ≡ Some d → definition_declared at what ≡ Entry (Define d) ∷ []
 defined-alone at (kind.Use t) d h e = absurd (cc)
 defined-alone at _ d h e = ap definition_if e
 
@@ -65,11 +65,11 @@ row-at-end (x ∷ xs) t (suc i) e = row-at-end xs t i (omega arith)
 -- a function's signature, of an interface or of a world
 pub signature-read : (table : List Definition) (start k : ℕ) (at : Place) (s s1 : InstanceRead) → IsSettled table s s1 → HasRead table start k at s1 → (f : Function)
     → list_all (is_inside table start (length at.indices)) (row_references (definition.Function f)) ≡ true
-    → if_found (settled s) (defined (Func (signature_of at.indices f))) ≡ Some (awaiting s1 (AFunction f.params f.result))
+    → if_found (settled s) (defined_read (Func (signature_of at.indices f))) ≡ Some (awaiting s1 (AFunction f.params f.result))
 signature-read table start k at s s1 settles has f refs =
     let p = is_inside table start (length at.indices) in
     let both = split (list_all p (flat_map parameter_references f.params)) (list_all p (references_if f.result)) (sym (list_all-append p (flat_map parameter_references f.params) (references_if f.result)) ∙ refs) in
-    ap (λ (o : Option InstanceRead). if_found o (defined (Func (signature_of at.indices f)))) (settled-is table s s1 settles)
+    ap (λ (o : Option InstanceRead). if_found o (defined_read (Func (signature_of at.indices f)))) (settled-is table s s1 settles)
     ∙ ap (λ (o : Option (List Parameter)). option_map (awaiting s1) (both_found AFunction o (optional_type s1.indices (option_map (valtype_of at.indices) f.result)))) (parameters-reread at.indices s1.indices p has.known f.params both.0)
     ∙ ap (λ (o : Option (Option ValType)). option_map (awaiting s1) (both_found AFunction (Some f.params) o)) (if-reread at.indices s1.indices p has.known f.result both.1)
 
@@ -82,28 +82,28 @@ module _ (table : List Definition) (around : List (Option TypeId)) (start k : �
       → decls_read around k (decls_of (d ∷ e ∷ [])) s ≡ Some s3
   two-read d e s s2 s3 p q = ap (λ (o : Option InstanceRead). if_found o (decls_read around k (decls_of (e ∷ [])))) p ∙ one-read e s2 s3 q
 
-  define-read : (d : Defined) (what : TypeDefKind) (s s1 : InstanceRead) → settled s ≡ Some s1 → kind_of s1.indices d ≡ Some what
+  define-read : (d : Defined) (what : TypeDefKind) (s s1 : InstanceRead) → settled s ≡ Some s1 → kind_defined s1.indices d ≡ Some what
       → decl_read around k (Entry (Define d)) s ≡ Some (awaiting s1 (AType what))
   define-read d what s s1 e q =
-      ap (λ (o : Option InstanceRead). if_found o (λ (s : InstanceRead). option_map (λ what. awaiting s (AType what)) (kind_of s.indices d))) e
+      ap (λ (o : Option InstanceRead). if_found o (λ (s : InstanceRead). option_map (λ what. awaiting s (AType what)) (kind_defined s.indices d))) e
       ∙ ap (option_map (λ (what : TypeDefKind). awaiting s1 (AType what))) q
 
   -- the export of what was defined last
   export-read : (x : List ℕ) (what : TypeDefKind) (i : ℕ) (s : InstanceRead) → is_label x ≡ true → i ≡ length s.indices
       → decl_read around k (Export x (described.TypeEqual i)) (awaiting s (AType what)) ≡ Some (with_named k x what (with_index s))
   export-read x what i s label e =
-      ap (λ (b : Bool). cond b (exported k x (described.TypeEqual i) (awaiting s (AType what))) None) label
+      ap (λ (b : Bool). cond b (exported_read k x (described.TypeEqual i) (awaiting s (AType what))) None) label
       ∙ ap (λ (b : Bool). cond b (Some (with_named k x what (with_index s))) (renamed k x i (with_unnamed s what))) (eq-eqb i (length s.indices) e)
 
   renamed-read : (x : List ℕ) (t : TypeId) (i : ℕ) (s s1 : InstanceRead) → IsSettled table s s1 → is_label x ≡ true
       → row_at s1.indices i ≡ Some t → is_unnamed_row (slice_get table t.0) ≡ false
       → decl_read around k (Export x (described.TypeEqual i)) s ≡ Some (with_named k x (alias_to t) s1)
   renamed-read x t i _ _ (rests s e) label found named =
-      ap (λ (b : Bool). cond b (exported k x (described.TypeEqual i) s) None) label
+      ap (λ (b : Bool). cond b (exported_read k x (described.TypeEqual i) s) None) label
       ∙ ap (type_exported k x i s) e
       ∙ ap (option_map (λ (t : TypeId). with_named k x (alias_to t) s)) found
   renamed-read x t i _ _ (awaits s what e) label found named =
-      ap (λ (b : Bool). cond b (exported k x (described.TypeEqual i) (awaiting s (AType what))) None) label
+      ap (λ (b : Bool). cond b (exported_read k x (described.TypeEqual i) (awaiting s (AType what))) None) label
       ∙ ap (λ (b : Bool). cond b (Some (with_named k x what (with_index s))) (renamed k x i (with_unnamed s what))) (ne_eqb i (length s.indices) other)
       ∙ ap (option_map (λ (t : TypeId). with_named k x (alias_to t) (with_unnamed s what))) found
     where
@@ -134,7 +134,7 @@ module _ (table : List Definition) (around : List (Option TypeId)) (start k : �
     inner-read what here is refs =
         let p = kind-reread at.indices s1.indices (is_inside table start (length at.indices)) has.known what (inner-defined what is) refs in
         let alone : row_declarations at (inner_row what) ≡ Entry (Define p.0) ∷ [] =
-        append-nil (definition_of at what) ∙ defined-alone at what p.0 (inner-defined what is) p.1 in
+        append-nil (definition_declared at what) ∙ defined-alone at what p.0 (inner-defined what is) p.1 in
         record {
           row = inner_row what;
           own = nameless what is;

@@ -3,7 +3,7 @@ use Rattle.std.proofs.Common.{◌≡◌, ◌≤◌, ◌<◌, ◌⊎◌, inl, inr
 use Rattle.std.specs.List.{list_all}
 use Rattle.std.proofs.lemmas.Bool.Decides.{nat_tests}
 use Rattle.std.proofs.lemmas.Bool.{ltb-true}
-use Rattle.package_form.specs.Scoped.{Entry as Named}
+use Rattle.package_form.specs.Scoped.{NameEntry}
 use Rattle.tables.specs.Tables.{definition_below, type_of}
 use Rattle.tables.specs.declared.tables.TypeId.{TypeId}
 use Rattle.tables.specs.declared.tables.TypeDef.{TypeDef}
@@ -27,17 +27,17 @@ use Rattle.wit_component.proofs.UsesFirst.{UsesFirst, no_use, one_use}
 use Rattle.wit_component.proofs.AcceptedRows.{is_use_def}
 
 -- an exported type of this name, before place start
-pub record IsExported (table : List Definition) (exports : List (List Named)) (start : ℕ) (y : TypeName) : Type 0 where
+pub record IsExported (table : List Definition) (exports : List (List NameEntry)) (start : ℕ) (y : TypeName) : Type 0 where
   pub id : TypeId
   pub found : exported_type exports y.interface.0 y.name ≡ Some id
   pub named : name_at table (Some id) ≡ Some y
   pub below : id.0 < start
 
-abbrev pub NamesFound : List Definition → List (List Named) → ℕ → Type 0
+abbrev pub NamesFound : List Definition → List (List NameEntry) → ℕ → Type 0
 NamesFound table exports start = (t : TypeId) (y : TypeName) → t.0 < start → name_at table (Some t) ≡ Some y → IsExported table exports start y
 
 -- used names, found as these types, and then no more
-pub data UsesFound (table : List Definition) (exports : List (List Named)) (start k : ℕ) : List TypeId → List Definition → Type 0 where
+pub data UsesFound (table : List Definition) (exports : List (List NameEntry)) (start k : ℕ) : List TypeId → List Definition → Type 0 where
   found_none : (ds : List Definition) → list_all (λ d. not (is_use_def d)) ds ≡ true → UsesFound table exports start k [] ds
   found_one : (x : List ℕ) (t : TypeId) (y : TypeName) (us : List TypeId) (ds : List Definition) → name_at table (Some t) ≡ Some y
       → (e : IsExported table exports start y) → UsesFound table exports start k us ds → UsesFound table exports start k (e.id ∷ us) (named_row k x (kind.Use t) ∷ ds)
@@ -85,7 +85,7 @@ module _ (table : List Definition) (start k : ℕ) where
           named None h = absurd (cc)
           named (Some y) h = (y, refl, ltb-true y.interface.0 k h)
 
-  module _ (exports : List (List Named)) (names : NamesFound table exports start) (end : ℕ)
+  module _ (exports : List (List NameEntry)) (names : NamesFound table exports start) (end : ℕ)
       (own : (t : TypeId) (y : TypeName) → start ≤ t.0 → t.0 < end → name_at table (Some t) ≡ Some y → y.interface.0 ≡ k) where
     use-found : (n : ℕ) (unused : List ℕ) (x : List ℕ) (t : TypeId) (ds rest : List Definition) → n < end → HasFacts table start k n unused (named_row k x (kind.Use t) ∷ ds) rest
         → (y : TypeName) × (name_at table (Some t) ≡ Some y) × IsExported table exports start y
@@ -119,7 +119,7 @@ around-at pre u us = let e : length pre ≡ length pre + 0 = omega arith in ap (
 abbrev pub all_some : List TypeId → List (Option TypeId)
 all_some us = map (λ u. Some u) us
 
-module _ (table : List Definition) (exports : List (List Named)) (start k : ℕ) (around : List (Option TypeId)) where
+module _ (table : List Definition) (exports : List (List NameEntry)) (start k : ℕ) (around : List (Option TypeId)) where
   pub found-readable : (us : List TypeId) (ds : List Definition) → UsesFound table exports start k us ds → (pre : List (Option TypeId)) → around ≡ pre ++ all_some us
       → (n : ℕ) (unused : List ℕ) (rest : List Definition) → NameEarlier table start k → StandAt table n ds → HasFacts table start k n unused ds rest
       → AreReadable table around start k n (length pre) ds

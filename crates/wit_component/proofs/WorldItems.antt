@@ -7,7 +7,7 @@ use Rattle.std.proofs.lemmas.List.Sums.{sum_by-cons}
 use Rattle.std.proofs.lemmas.Slice.Eq.{bytes_eq-Decides}
 use Rattle.package_form.specs.Ends.{end_of, rows_of, interfaces_end, world_end, world_rows, are_worlds_parted, is_parted}
 use Rattle.package_form.specs.Entries.{entries_of, entries_at, world_entries}
-use Rattle.package_form.specs.Form.{is_named, is_own_type, is_own, is_nameless_type, is_nameless, function_at, functions_of, is_world_row, has_items, have_items, IsInPackageForm}
+use Rattle.package_form.specs.Form.{is_named, is_own_type, is_own, is_nameless_type, is_nameless, functions_in_item, functions_of, is_world_row, has_items, have_items, IsInPackageForm}
 use Rattle.package_form.specs.Ids.{places_where}
 use Rattle.tables.specs.Tables.{type_of, function_of, is_there, is_function_of, is_placed_item, is_placed_world, are_placed_worlds, are_worlds_grouped}
 use Rattle.tables.specs.declared.tables.TypeId.{TypeId}
@@ -24,7 +24,7 @@ use Rattle.tables.specs.declared.tables.Resolve.{Resolve}
 use Rattle.tables.proofs.Rows.{split}
 use Rattle.package_form.proofs.Forms.{rows-few}
 use Rattle.package_form.proofs.OneRow.{worlds-parted}
-use Rattle.wit_component.specs.Component.{Front, front_after, interfaces_front}
+use Rattle.wit_component.specs.Component.{ComponentFront, front_after, interfaces_front}
 use Rattle.wit_component.specs.Worlds.{StandFrom}
 
 -- m is the first place of these rows, the first of which stands at place n, that has the property; ms are the others
@@ -56,7 +56,7 @@ function-there w None h = absurd (cc)
 function-there w (Some f) h = refl
 
 module _ (rows : List Definition) (count k : ℕ) where
-  stand-from : (items : List WorldItem) (n start : ℕ) (ds : List Definition) → places_where is_named n ds ≡ flat_map function_at items → start ≤ n → n + length ds ≤ length rows
+  stand-from : (items : List WorldItem) (n start : ℕ) (ds : List Definition) → places_where is_named n ds ≡ flat_map functions_in_item items → start ≤ n → n + length ds ≤ length rows
       → list_all (λ i. is_placed_item rows count k i.kind) items ≡ true → StandFrom count rows start items
   stand-from [] n start ds e low up placed = tt
   stand-from (i ∷ is) n start ds e low up placed = by i.kind e (split (is_placed_item rows count k i.kind) _ placed).0 (λ n start ds e low up. stand-from is n start ds e low up others)
@@ -64,12 +64,12 @@ module _ (rows : List Definition) (count k : ℕ) where
       others : list_all (λ i. is_placed_item rows count k i.kind) is ≡ true
       others = (split (is_placed_item rows count k i.kind) _ placed).1
 
-      by : (what : WorldItemKind) → places_where is_named n ds ≡ function_at (record { direction = i.direction; kind = what }) ++ flat_map function_at is → is_placed_item rows count k what ≡ true
-          → ((n start : ℕ) (ds : List Definition) → places_where is_named n ds ≡ flat_map function_at is → start ≤ n → n + length ds ≤ length rows → StandFrom count rows start is)
+      by : (what : WorldItemKind) → places_where is_named n ds ≡ functions_in_item (record { direction = i.direction; kind = what }) ++ flat_map functions_in_item is → is_placed_item rows count k what ≡ true
+          → ((n start : ℕ) (ds : List Definition) → places_where is_named n ds ≡ flat_map functions_in_item is → start ≤ n → n + length ds ≤ length rows → StandFrom count rows start is)
           → StandFrom count rows start (record { direction = i.direction; kind = what } ∷ is)
       by (item.Interface x) e here again = (ltb-true x.0 count here, again n start ds e low up)
       by (item.Function f) e here again =
-          let first = first-at is_named n ds f.0 (flat_map function_at is) e in (
+          let first = first-at is_named n ds f.0 (flat_map functions_in_item is) e in (
             (omega (arith, low, first.low), omega (arith, first.ends, up), function-there k (function_of (slice_get rows f.0)) here),
             again (f.0 + 1) (f.0 + 1) first.rest first.places (omega arith) (omega (arith, first.ends, up)),
           )
@@ -82,11 +82,11 @@ module _ (rows : List Definition) (count k : ℕ) where
 
 -- ---- items are few
 
-items-count : (items : List WorldItem) → length items ≡ sum (map entries_at items) + length (flat_map function_at items)
+items-count : (items : List WorldItem) → length items ≡ sum (map entries_at items) + length (flat_map functions_in_item items)
 items-count [] = refl
 items-count (i ∷ is) = by i.kind (items-count is)
   where
-    by : (what : WorldItemKind) → length is ≡ sum (map entries_at is) + length (flat_map function_at is) → length (i ∷ is) ≡ sum (map entries_at (record { direction = i.direction; kind = what } ∷ is)) + length (flat_map function_at (record { direction = i.direction; kind = what } ∷ is))
+    by : (what : WorldItemKind) → length is ≡ sum (map entries_at is) + length (flat_map functions_in_item is) → length (i ∷ is) ≡ sum (map entries_at (record { direction = i.direction; kind = what } ∷ is)) + length (flat_map functions_in_item (record { direction = i.direction; kind = what } ∷ is))
     by (item.Interface x) more =
         let all : sum (map entries_at (record { direction = i.direction; kind = item.Interface x } ∷ is)) ≡ 1 + sum (map entries_at is) = sum_by-cons (λ n. n) 1 (map entries_at is) in
         omega (arith, all, more)
@@ -220,7 +220,7 @@ module _ (r : Resolve) (form : IsInPackageForm r) where
   world-items-few k start w low e has = omega (arith, entries-sum, one-of-sum r.worlds k w low e, items-few r.definitions start w has, rows-few r form)
 
 -- each interface has an instance type
-pub instances-count : (rows : List Definition) (at : Front) (start : ℕ) (is : List Interface) → length (interfaces_front rows at start is).instances ≡ length at.instances + length is
+pub instances-count : (rows : List Definition) (at : ComponentFront) (start : ℕ) (is : List Interface) → length (interfaces_front rows at start is).instances ≡ length at.instances + length is
 instances-count rows at start [] = omega arith
 instances-count rows at start (i ∷ is) =
     let next = front_after rows at (rows_of rows start i) in

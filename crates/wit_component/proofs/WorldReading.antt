@@ -30,15 +30,15 @@ use Rattle.tables.specs.declared.tables.WorldItemKind.{WorldItemKind}
 use Rattle.tables.specs.declared.tables.WorldItemKind.TheVariants as item
 use Rattle.tables.proofs.Rows.{split, both}
 use Rattle.package_form.specs.Ends.{behind_item, behind_items}
-use Rattle.package_form.specs.Form.{is_named, function_at, is_own, is_owned, is_local, is_nameless, is_of_world, is_world_row}
+use Rattle.package_form.specs.Form.{is_named, functions_in_item, is_own, is_owned, is_local, is_nameless, is_of_world, is_world_row}
 use Rattle.package_form.specs.Ids.{function_id, places_where}
 use Rattle.package_form.specs.Postfix.{is_unnamed, is_inner, inner_row}
 use Rattle.package_form.specs.References.{row_references}
 use Rattle.package_form.specs.Unused.{inner_rows, can_use, closes, is_next, unused_after, are_used}
 use Rattle.package_form.proofs.Fronts.{row-before}
 use Rattle.package_form.proofs.Lists.{list-grows}
-use Rattle.component_reader.specs.Instance.{if_found, Nothing, AFunction, InstanceRead, settled, settled_as, awaiting, with_index, with_row, defined, decls_read}
-use Rattle.component_reader.specs.World.{WorldRead, with_inside, item_of, world_function, with_world_function, function_named, interface_at, awaiting_interface, interface_named, with_interface_item, named_read, item_read, items_read}
+use Rattle.component_reader.specs.Instance.{if_found, Nothing, AFunction, InstanceRead, settled, settled_as, awaiting, with_index, with_row, defined_read, decls_read}
+use Rattle.component_reader.specs.World.{WorldRead, with_inside, item_of, world_function, with_world_function, function_named, interface_index, awaiting_interface, interface_met, with_interface_item, named_read, item_read, items_read}
 use Rattle.wit_component.specs.Rows.{Place, row_declarations, place_after, declarations_of, places_after}
 use Rattle.wit_component.specs.ToComponent.{is_labelled}
 use Rattle.wit_component.specs.Worlds.{directed, rows_between, function_declared, Surroundings, item_declarations, item_place, items_declared, items_place}
@@ -71,7 +71,7 @@ module _ (instances : List (Option InterfaceId)) (w : ℕ) (around : List (Optio
   entries-read : (xs more : List Decl) → AreEntries xs → (s : WorldRead) (i : InstanceRead)
       → items_read instances w (decls_of (xs ++ more)) (with_inside s i) ≡ if_found (decls_read around k (decls_of xs) i) (λ j. items_read instances w (decls_of more) (with_inside s j))
   entries-read [] more h s i = refl
-  entries-read (Entry t ∷ xs) more h s i = by (if_found (settled i) (defined t)) (λ j. entries-read xs more h s j)
+  entries-read (Entry t ∷ xs) more h s i = by (if_found (settled i) (defined_read t)) (λ j. entries-read xs more h s j)
     where
       by : (o : Option InstanceRead)
           → ((j : InstanceRead) → items_read instances w (decls_of (xs ++ more)) (with_inside s j) ≡ if_found (decls_read around k (decls_of xs) j) (λ j. items_read instances w (decls_of more) (with_inside s j)))
@@ -336,9 +336,9 @@ module _ (table : List Definition) (start k w : ℕ) (lows : NameEarlier table s
         let s2 = awaiting_interface s s.inside i in
         let name = slice_index_or names i.0 [] in
         let rest = items_read instances w (decls_of (directed way name (described.Instance at.types) ∷ more)) in
-        ap (λ (o : Option InstanceRead). if_found (if_found o (λ (x : InstanceRead). option_map (awaiting_interface s x) (interface_at instances (slice_index indices i.0)))) rest) (ap (settled_as s.inside) rested)
+        ap (λ (o : Option InstanceRead). if_found (if_found o (λ (x : InstanceRead). option_map (awaiting_interface s x) (interface_index instances (slice_index indices i.0)))) rest) (ap (settled_as s.inside) rested)
         ∙ ap (λ (o : Option InterfaceId). if_found (option_map (awaiting_interface s s.inside) o) rest) (knows i.0 low)
-        ∙ ap (λ (o : Option WorldRead). if_found o (items_read instances w (decls_of more))) (directed-read way name (described.Instance at.types) s2 ∙ ap (λ (b : Bool). cond b None (interface_named way s2)) (full i.0 low))
+        ∙ ap (λ (o : Option WorldRead). if_found o (items_read instances w (decls_of more))) (directed-read way name (described.Instance at.types) s2 ∙ ap (λ (b : Bool). cond b None (interface_met way s2)) (full i.0 low))
 
     interface-kept : (at : Place) (s : InstanceRead) → HasRead table start k at s → HasRead table start k (record { indices = at.indices; types = at.types + 1; used = at.used }) (with_index s)
     interface-kept at s has = record {
@@ -526,7 +526,7 @@ module _ (table : List Definition) (start k w : ℕ) (lows : NameEarlier table s
       pub used : are_used table (n + length ds) [] es ≡ true
       pub later : drop (n + length ds) table ≡ es
 
-    pub items-reread : (is : List WorldItem) (n : ℕ) (ds es : List Definition) (at : Place) (s : WorldRead) → WorldRows n ds es → places_where is_named n ds ≡ flat_map function_at is
+    pub items-reread : (is : List WorldItem) (n : ℕ) (ds es : List Definition) (at : Place) (s : WorldRead) → WorldRows n ds es → places_where is_named n ds ≡ flat_map functions_in_item is
         → n + length ds ≡ behind_items n is → list_all (λ i. is_placed_item table count w i.kind) is ≡ true → length at.indices ≡ n → HasRead table start k at s.inside → ItemsRead n at is ds es s
     unfolding function-step first-named
     items-reread [] n [] es at s are places ends placed here has =
@@ -551,9 +551,9 @@ module _ (table : List Definition) (start k w : ℕ) (lows : NameEarlier table s
         others : list_all (λ i. is_placed_item table count w i.kind) is ≡ true
         others = (split (is_placed_item table count w i.kind) _ placed).1
 
-        by : (what : WorldItemKind) → places_where is_named n ds ≡ function_at (record { direction = i.direction; kind = what }) ++ flat_map function_at is
+        by : (what : WorldItemKind) → places_where is_named n ds ≡ functions_in_item (record { direction = i.direction; kind = what }) ++ flat_map functions_in_item is
             → n + length ds ≡ behind_items (behind_item n what) is → is_placed_item table count w what ≡ true
-            → ((n : ℕ) (ds : List Definition) (at : Place) (s : WorldRead) → WorldRows n ds es → places_where is_named n ds ≡ flat_map function_at is → n + length ds ≡ behind_items n is
+            → ((n : ℕ) (ds : List Definition) (at : Place) (s : WorldRead) → WorldRows n ds es → places_where is_named n ds ≡ flat_map functions_in_item is → n + length ds ≡ behind_items n is
             → length at.indices ≡ n → HasRead table start k at s.inside → ItemsRead n at is ds es s)
             → ItemsRead n at (record { direction = i.direction; kind = what } ∷ is) ds es s
         by (item.Interface x) places ends low again =
@@ -573,8 +573,8 @@ module _ (table : List Definition) (start k w : ℕ) (lows : NameEarlier table s
               later = more.later;
             }
         by (item.Function f) places ends is_function again =
-            let first = first-named n ds f.0 (flat_map function_at is) places in
-            let step = function-step n ds es at s are here has i.direction f.0 (flat_map function_at is) first is_function in
+            let first = first-named n ds f.0 (flat_map functions_in_item is) places in
+            let step = function-step n ds es at s are here has i.direction f.0 (flat_map functions_in_item is) first is_function in
             let after = item_place table at n (item.Function f) in
             let lengths : length ds ≡ length step.front + 1 + length step.rest = ap (λ (xs : List Definition). length xs) step.are ∙ length-append step.front (row.Function step.function ∷ step.rest) ∙ omega arith in
             let from : f.0 + 1 ≡ n + length (step.front ++ row.Function step.function ∷ []) = omega (arith, step.place, length-append step.front (row.Function step.function ∷ [])) in

@@ -2,7 +2,7 @@
 -- export of an instance under its full name, or an import where it is of another package; before them stands an alias of each type that the
 -- interface uses of another. Behind them each world is a component type and an export of a component under its full name.
 use Rattle.std.specs.Prelude.{ℕ, ◌+◌, List, [], ◌∷◌, ◌++◌, flat_map, length, if◌then◌else◌, Option, None, Some}
-use Rattle.ctype_format.specs.Raw.{Component, Instance, Decl, Entry, Alias, Export, File}
+use Rattle.ctype_format.specs.Raw.{Component, Instance, Decl, Entry, Alias, Export, BinaryFile}
 use Rattle.ctype_format.specs.View.{decls_of}
 use Rattle.ctype_format.specs.declared.raw.RawAlias.TheVariants as alias
 use Rattle.ctype_format.specs.declared.raw.RawDescription.TheVariants as described
@@ -45,12 +45,12 @@ aliases_of rows ds = flat_map (row_alias rows) ds
 
 -- Where an interface or a world stands: the type index of each row of the table before it, how many types the component type has before
 -- it, and which of them is the instance type of each interface before it.
-pub record Front : Type 0 where
+pub record ComponentFront : Type 0 where
   pub indices : List ℕ
   pub types : ℕ
   pub instances : List ℕ
 
-abbrev pub first_place : Front → Place
+abbrev pub first_place : ComponentFront → Place
 first_place at = record { indices = at.indices; types = 0; used = at.types }
 
 -- an interface of the own package is exported, one of another package imported
@@ -58,14 +58,14 @@ abbrev pub interface_direction : ℕ → Interface → Direction
 interface_direction own i = if is_interface_of own i then direction.Export else direction.Import
 
 -- an interface of these rows under this full name
-abbrev pub interface_declarations : List Definition → Front → List Definition → Direction → List ℕ → List Decl
+abbrev pub interface_declarations : List Definition → ComponentFront → List Definition → Direction → List ℕ → List Decl
 interface_declarations rows at ds way name =
     aliases_of rows ds
     ++ Entry (Instance (decls_of (declarations_of (first_place at) ds)))
     ∷ directed way name (described.Instance (at.types + length (aliases_of rows ds)))
     ∷ []
 
-abbrev pub front_after : List Definition → Front → List Definition → Front
+abbrev pub front_after : List Definition → ComponentFront → List Definition → ComponentFront
 front_after rows at ds = record {
   indices = (places_after (first_place at) ds).indices;
   types = at.types + length (aliases_of rows ds) + 1;
@@ -73,34 +73,34 @@ front_after rows at ds = record {
 }
 
 -- the declarations of these interfaces, the first of which stands at this front; its rows begin at start
-abbrev pub interfaces_declared : Resolve → Front → ℕ → List Interface → List Decl
+abbrev pub interfaces_declared : Resolve → ComponentFront → ℕ → List Interface → List Decl
 interfaces_declared r at start [] = []
 interfaces_declared r at start (i ∷ is) =
     interface_declarations r.definitions at (rows_of r.definitions start i) (interface_direction (own_package r.packages) i) (full_name r i)
     ++ interfaces_declared r (front_after r.definitions at (rows_of r.definitions start i)) (end_of start i) is
 
 -- nothing stands before the first interface
-abbrev pub no_front : Front
+abbrev pub no_front : ComponentFront
 no_front = record { indices = []; types = 0; instances = [] }
 
 -- where what follows these interfaces stands
-abbrev pub interfaces_front : List Definition → Front → ℕ → List Interface → Front
+abbrev pub interfaces_front : List Definition → ComponentFront → ℕ → List Interface → ComponentFront
 interfaces_front rows at start [] = at
 interfaces_front rows at start (i ∷ is) = interfaces_front rows (front_after rows at (rows_of rows start i)) (end_of start i) is
 
 -- ---- worlds
 
-abbrev pub surroundings : Resolve → Front → Surroundings
+abbrev pub surroundings : Resolve → ComponentFront → Surroundings
 surroundings r at = record { rows = r.definitions; names = interface_names r; instances = at.instances }
 
 -- a world, whose rows begin at start
-abbrev pub world_declarations : Resolve → Front → ℕ → World → List Decl
+abbrev pub world_declarations : Resolve → ComponentFront → ℕ → World → List Decl
 world_declarations r at start w =
     Entry (Component (decls_of (items_declared (surroundings r at) (first_place at) start w.items)))
     ∷ Export (world_name r w) (described.Component at.types)
     ∷ []
 
-abbrev pub world_front : List Definition → Front → ℕ → World → Front
+abbrev pub world_front : List Definition → ComponentFront → ℕ → World → ComponentFront
 world_front rows at start w = record {
   indices = (items_place rows (first_place at) start w.items).indices;
   types = at.types + 1;
@@ -108,7 +108,7 @@ world_front rows at start w = record {
 }
 
 -- the declarations of these worlds, the first of which stands at this front; its rows begin at start
-abbrev pub worlds_declared : Resolve → Front → ℕ → List World → List Decl
+abbrev pub worlds_declared : Resolve → ComponentFront → ℕ → List World → List Decl
 worlds_declared r at start [] = []
 worlds_declared r at start (w ∷ ws) =
     world_declarations r at start w ++ worlds_declared r (world_front r.definitions at start w) (world_end start w) ws
@@ -124,7 +124,7 @@ abbrev pub package_export : List ℕ
 package_export = 112 ∷ 97 ∷ 99 ∷ 107 ∷ 97 ∷ 103 ∷ 101 ∷ []
 
 -- a package as a file: one component type, exported under the name `package`
-abbrev pub component_of : Resolve → File
+abbrev pub component_of : Resolve → BinaryFile
 component_of r = record {
   types = Component (decls_of (package_declarations r)) ∷ [];
   exports = record { name = package_export; type = 0 } ∷ [];

@@ -1,7 +1,7 @@
 -- What is answered of a raw component.
 use Rattle.std.specs.Prelude.{◌≡◌, Bool, true, false, List, [], ◌∷◌}
 use Rattle.ctype_format.specs.Raw.{Definition, Define, Func, Component, Instance, Decls, none, then}
-use Rattle.ctype_bin.specs.FileView.{file_view}
+use Rattle.ctype_bin.specs.FileView.{raw_component_view}
 use Rattle.ctype_bin.specs.declared.component.RawComponent.{RawComponent}
 use Rattle.tables.specs.declared.error.ResolveError.{ResolveError}
 use Rattle.tables.specs.declared.error.ResolveError.TheVariants as error
@@ -28,8 +28,8 @@ is_empty_package (t ∷ u ∷ ts) = false
 -- Why a component is refused as a closed table: 43 looks at its one type alone, 44 tells that it stands for no package, and 40 names one that
 -- stands twice in a scope of a package that it stands for.
 abbrev pub ClosedComponentRefuses : RawComponent → ResolveError → Type 0
-ClosedComponentRefuses raw error.EmptyPackage = is_empty_package (file_view raw).types ≡ true
-ClosedComponentRefuses raw error.NotThisShape = (is_empty_package (file_view raw).types ≡ false) × ((r : Resolve) → ComponentStands raw r → ⊥)
+ClosedComponentRefuses raw error.EmptyPackage = is_empty_package (raw_component_view raw).types ≡ true
+ClosedComponentRefuses raw error.NotThisShape = (is_empty_package (raw_component_view raw).types ≡ false) × ((r : Resolve) → ComponentStands raw r → ⊥)
 ClosedComponentRefuses raw error.NoMemory = Unit {0}
 ClosedComponentRefuses raw (error.Duplicate n) = ∥ ((r : Resolve) × ComponentStands raw r × Repeats r n) ∥₁
 ClosedComponentRefuses raw (error.Unknown n) = ⊥

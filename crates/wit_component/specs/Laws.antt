@@ -1,6 +1,6 @@
 -- What holds of every component that stands for a package.
 use Rattle.std.specs.Prelude.{All, Ok}
-use Rattle.ctype_bin.specs.FileView.{file_view}
+use Rattle.ctype_bin.specs.FileView.{raw_component_view}
 use Rattle.ctype_bin.specs.declared.component.RawComponent.{RawComponent}
 use Rattle.tables.specs.declared.tables.Resolve.{Resolve}
 use Rattle.package_form.specs.Scope.{AreDistinct}
@@ -10,5 +10,5 @@ use Rattle.wit_component.specs.ToComponent.{ComponentStands}
 
 -- each index followed to the declaration that took it, and each declaration to the name of its export, the component reads as the
 -- package that it stands for
-abbrev pub Follows : RawComponent → Type 0
-Follows raw = (r : Resolve) → ComponentStands raw r → All AreDistinct (package_scopes r) → Makes (candidate_of (file_view raw)) (Ok r)
+abbrev pub FollowsComponent : RawComponent → Type 0
+FollowsComponent raw = (r : Resolve) → ComponentStands raw r → All AreDistinct (package_scopes r) → Makes (candidate_of (raw_component_view raw)) (Ok r)

@@ -1,7 +1,7 @@
 -- Binary.md, "Type Definitions": the declarations of an instance type for the rows of an interface.
 use Rattle.std.specs.Prelude.{ℕ, ◌+◌, List, [], ◌∷◌, ◌++◌, map, slice_index, Option, None, Some, if◌then◌else◌}
 use Rattle.std.specs.Option.{option_map}
-use Rattle.ctype_format.specs.Raw.{Defined, Prim, Record, Variant, ListOf, Tuple, FlagSet, Enumeration, OptionOf, ResultOf, Function as Signature, Define, Func, Decl, Entry, Alias, Export}
+use Rattle.ctype_format.specs.Raw.{Defined, Prim, Record, Variant, ListOf, Tuple, FlagSet, Enumeration, OptionOf, ResultOf, BinaryFunction, Define, Func, Decl, Entry, Alias, Export}
 use Rattle.ctype_format.specs.declared.raw.Primitive.{Primitive as RawPrimitive}
 use Rattle.ctype_format.specs.declared.raw.Primitive.TheVariants as raw
 use Rattle.ctype_format.specs.declared.raw.RawValType.{RawValType}
@@ -53,7 +53,7 @@ parameter_of indices p = record { label = p.name; ty = valtype_of indices p.ty }
 abbrev pub case_of : List ℕ → Case → RawCase
 case_of indices c = record { label = c.name; payload = option_map (valtype_of indices) c.ty }
 
-abbrev pub signature_of : List ℕ → Function → Signature
+abbrev pub signature_of : List ℕ → Function → BinaryFunction
 signature_of indices f = record { params = map (parameter_of indices) f.params; outcome = option_map (valtype_of indices) f.result }
 
 -- ---- rows
@@ -89,8 +89,8 @@ definition_if None = []
 definition_if (Some d) = Entry (Define d) ∷ []
 
 -- what stands before a type's export: an outer alias of a used type, or its definition
-abbrev pub definition_of : Place → TypeDefKind → List Decl
-definition_of at k = if is_use k then outer_alias at.used ∷ [] else definition_if (defined_of at.indices k)
+abbrev pub definition_declared : Place → TypeDefKind → List Decl
+definition_declared at k = if is_use k then outer_alias at.used ∷ [] else definition_if (defined_of at.indices k)
 
 -- the index of what it is: of its definition, or of the type that it is a new name of
 abbrev pub definition_index : Place → TypeDefKind → ℕ
@@ -103,7 +103,7 @@ type_export None i = []
 type_export (Some n) i = Export n.name (described.TypeEqual i) ∷ []
 
 abbrev pub row_declarations : Place → Definition → List Decl
-row_declarations at (row.Type d) = definition_of at d.kind ++ type_export d.name (definition_index at d.kind)
+row_declarations at (row.Type d) = definition_declared at d.kind ++ type_export d.name (definition_index at d.kind)
 row_declarations at (row.Function f) = Entry (Func (signature_of at.indices f)) ∷ Export f.name (described.Function at.types) ∷ []
 
 -- A definition, an alias and an export each take a type index, and a function its definition's.

@@ -2,7 +2,7 @@
 use Rattle.std.specs.Prelude.{◌≡◌, ℕ, Bool, true, ◌&&◌, List, [], ◌∷◌, IsTrue, Option, None, Some}
 use Rattle.std.specs.List.{list_all}
 use Rattle.atoms.specs.Label.{is_label}
-use Rattle.ctype_bin.specs.FileView.{file_view}
+use Rattle.ctype_bin.specs.FileView.{raw_component_view}
 use Rattle.ctype_bin.specs.declared.component.RawComponent.{RawComponent}
 use Rattle.tables.specs.declared.tables.TypeName.{TypeName}
 use Rattle.tables.specs.declared.tables.Definition.{Definition}
@@ -36,7 +36,7 @@ are_worlds_labelled rows start (w ∷ ws) =
 
 -- the component is the package's, in the layout of packages
 pub record ComponentStands (raw : RawComponent) (r : Resolve) : Type 0 where
-  pub component : file_view raw ≡ component_of r
+  pub component : raw_component_view raw ≡ component_of r
   pub form : IsInPackageForm r
   pub labels : IsTrue (are_labelled r.definitions 0 r.interfaces)
   pub world_labels : IsTrue (are_worlds_labelled r.definitions (interfaces_end 0 r.interfaces) r.worlds)

@@ -1,7 +1,7 @@
 //! The package that a raw component stands for.
 ghost use Rattle.std.specs.Prelude.{◌≡◌, ◌⊎◌, All, IfOk, IfErr, MatchResult};
-ghost use Rattle.ctype_bin.specs.FileView.{file_view};
-ghost use Rattle.ctype_format.specs.File.{file};
+ghost use Rattle.ctype_bin.specs.FileView.{raw_component_view};
+ghost use Rattle.ctype_format.specs.File.{component_file};
 ghost use Rattle.tables.specs.Same.{IsSamePackage};
 ghost use Rattle.package_form.specs.Scope.{AreDistinct};
 ghost use Rattle.package_form.specs.Naming.{package_scopes};
@@ -19,7 +19,7 @@ use tables::{Resolve, ResolveError};
 
 /// The package that a component stands for, whose names may stand twice in a scope.
 fn standing(alloc: Global, raw: &RawComponent, bytes: &[u8]) -> Result<Resolve, ResolveError>
-    requires { ∥ file.spells bytes.now (file_view raw.now) ∥₁ }
+    requires { ∥ component_file.spells bytes.now (raw_component_view raw.now) ∥₁ }
     ensures ok { IfOk result (λ r. ∥ ComponentStands raw.now r ∥₁) }
     ensures form { IfOk result (λ r. IsInPackageForm r) }
     ensures same { IfOk result (λ p. (r : Resolve) → ComponentStands raw.now r → All AreDistinct (package_scopes r) → IsSamePackage p r) }
@@ -50,7 +50,7 @@ pub fn closed_from_component(
     raw: &RawComponent,
     bytes: &[u8],
 ) -> Result<Resolve, ResolveError>
-    requires { ∥ file.spells bytes.now (file_view raw.now) ∥₁ }
+    requires { ∥ component_file.spells bytes.now (raw_component_view raw.now) ∥₁ }
     ensures ok { IfOk result (λ r. ∥ ComponentStands raw.now r ∥₁) }
     ensures form { IfOk result (λ r. IsInPackageForm r) }
     ensures distinct { IfOk result (λ r. All AreDistinct (package_scopes r)) }

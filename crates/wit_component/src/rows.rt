@@ -7,7 +7,7 @@ ghost use Rattle.ctype_format.specs.Names.{name_view};
 ghost use Rattle.ctype_format.specs.Raw.{Define, Func, Entry};
 ghost use Rattle.tables.specs.Tables.{function_of, is_there};
 ghost use Rattle.package_form.specs.Ids.{is_use};
-ghost use Rattle.wit_component.specs.Rows.{Place, signature_of, defined_of, definition_of, definition_index, type_export, row_declarations, outer_alias, defined_types, row_types, row_offset, place_after, declarations_of, places_after};
+ghost use Rattle.wit_component.specs.Rows.{Place, signature_of, defined_of, definition_declared, definition_index, type_export, row_declarations, outer_alias, defined_types, row_types, row_offset, place_after, declarations_of, places_after};
 ghost use Rattle.wit_component.specs.Worlds.{directed, function_declared};
 ghost use Rattle.wit_component.specs.ToComponent.{is_labelled};
 
@@ -202,7 +202,7 @@ impl RowPlace {
         decls: &mut Vec<RawDecl>,
         kind: &TypeDefKind,
     ) -> Result<(), AllocError>
-        ensures { OnOk result (map decl_view decls.new.items ≡ map decl_view decls.old.items ++ definition_of self.now kind.now) }
+        ensures { OnOk result (map decl_view decls.new.items ≡ map decl_view decls.old.items ++ definition_declared self.now kind.now) }
     {
         if is_use(kind) {
             decls.push(outer_alias(self.used))?;

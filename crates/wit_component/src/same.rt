@@ -2,9 +2,9 @@
 ghost use Rattle.std.specs.Prelude.{◌≡◌, [], true, IfOk, map};
 ghost use Rattle.std.specs.Bool.{OnTrue};
 ghost use Rattle.ctype_format.specs.View.{type_view};
-ghost use Rattle.ctype_bin.specs.FileView.{file_view};
+ghost use Rattle.ctype_bin.specs.FileView.{raw_component_view};
 ghost use Rattle.ctype_bin.specs.Encoding.{AppendsSpelling};
-ghost use Rattle.ctype_format.specs.File.{file};
+ghost use Rattle.ctype_format.specs.File.{component_file};
 ghost use Rattle.ctype_format.specs.Writing.{file_bytes};
 ghost use Rattle.wit_component.specs.FromComponent.{has_no_decls, is_empty_package};
 
@@ -13,8 +13,8 @@ use std::alloc::{AllocError, Global};
 
 /// The shortest bytes that spell a component.
 pub fn spelling(alloc: Global, raw: &RawComponent) -> Result<Vec<u8>, AllocError>
-    ensures spelt { IfOk result (λ v. ∥ file.spells v.items (file_view raw.now) ∥₁) }
-    ensures exact { IfOk result (λ v. v.items ≡ file_bytes (file_view raw.now)) }
+    ensures spelt { IfOk result (λ v. ∥ component_file.spells v.items (raw_component_view raw.now) ∥₁) }
+    ensures exact { IfOk result (λ v. v.items ≡ file_bytes (raw_component_view raw.now)) }
 {
     let mut bytes = Vec::new(alloc);
     match encode(alloc, raw, &mut bytes) {
@@ -31,11 +31,11 @@ pub fn is_same(
     b: &RawComponent,
     bytes: &[u8],
 ) -> Result<bool, AllocError>
-    requires given { ∥ file.spells given.now (file_view a.now) ∥₁ }
-    requires spelt { ∥ AppendsSpelling [] bytes.now (file_view b.now) ∥₁ }
-    requires exact { bytes.now ≡ file_bytes (file_view b.now) }
-    ensures same { IfOk result (λ s. OnTrue s ∥ file_view a.now ≡ file_view b.now ∥₁) }
-    ensures all { IfOk result (λ s. file_view a.now ≡ file_view b.now → s ≡ true) }
+    requires given { ∥ component_file.spells given.now (raw_component_view a.now) ∥₁ }
+    requires spelt { ∥ AppendsSpelling [] bytes.now (raw_component_view b.now) ∥₁ }
+    requires exact { bytes.now ≡ file_bytes (raw_component_view b.now) }
+    ensures same { IfOk result (λ s. OnTrue s ∥ raw_component_view a.now ≡ raw_component_view b.now ∥₁) }
+    ensures all { IfOk result (λ s. raw_component_view a.now ≡ raw_component_view b.now → s ≡ true) }
 {
     files_are_read_exactly();
     if given == bytes {
@@ -57,7 +57,7 @@ fn has_no_decls(ty: &RawType) -> bool
 
 /// Whether the one type of the component is a component type without declarations.
 pub fn is_empty_package(raw: &RawComponent) -> bool
-    ensures { result ≡ is_empty_package (file_view raw.now).types }
+    ensures { result ≡ is_empty_package (raw_component_view raw.now).types }
 {
     match raw.types() {
         [ty] => has_no_decls(ty),

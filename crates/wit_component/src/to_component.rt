@@ -1,7 +1,7 @@
 //! A package as a raw component.
 ghost use Rattle.std.specs.Prelude.{◌≡◌, ◌⊎◌, [], ◌∷◌, IsTrue, true, IfOk, OnOk, IfErr};
-ghost use Rattle.ctype_format.specs.View.{file_of, export_view};
-ghost use Rattle.ctype_bin.specs.FileView.{file_view};
+ghost use Rattle.ctype_format.specs.View.{parts_file, export_view};
+ghost use Rattle.ctype_bin.specs.FileView.{raw_component_view};
 ghost use Rattle.ctype_bin.specs.Encoding.{AppendsSpelling};
 ghost use Rattle.ctype_format.specs.Writing.{file_bytes};
 ghost use Rattle.wit_component.specs.Component.{component_of, package_export};
@@ -31,7 +31,7 @@ fn package_export(alloc: Global) -> Result<RawExport, AllocError>
 #[tactic(auto, using(ctype_format::proofs::Views::views))]
 fn parts_of(alloc: Global, resolve: &Resolve) -> Result<(Vec<RawType>, Vec<RawExport>), AllocError>
     requires { IsInPackageForm resolve.now }
-    ensures file { IfOk result (λ x. file_of x.0 x.1 ≡ component_of resolve.now) }
+    ensures file { IfOk result (λ x. parts_file x.0 x.1 ≡ component_of resolve.now) }
     ensures labelled { OnOk result (IsTrue (are_labelled resolve.now.definitions 0 resolve.now.interfaces)) }
     ensures world_labels { OnOk result (IsTrue (are_worlds_labelled resolve.now.definitions (interfaces_end 0 resolve.now.interfaces) resolve.now.worlds)) }
 {
@@ -50,7 +50,7 @@ pub fn component_with_bytes(
 ) -> Result<(RawComponent, Vec<u8>), AllocError>
     requires { IsInPackageForm resolve.now }
     ensures ok { IfOk result (λ x. ComponentStands x.0 resolve.now) }
-    ensures spelling { IfOk result (λ x. ∥ AppendsSpelling [] x.1.items (file_view x.0) ∥₁) }
+    ensures spelling { IfOk result (λ x. ∥ AppendsSpelling [] x.1.items (raw_component_view x.0) ∥₁) }
     ensures exact { IfOk result (λ x. x.1.items ≡ file_bytes (component_of resolve.now)) }
 {
     let (types, exports) = parts_of(alloc, resolve)?;
@@ -61,7 +61,7 @@ pub fn component_with_bytes(
 /// that packages have, unless memory is wanting before that is known. (Binary.md)
 pub fn to_written(alloc: Global, resolve: &Resolve) -> Result<(RawComponent, Vec<u8>), ResolveError>
     ensures ok { IfOk result (λ x. ComponentStands x.0 resolve.now) }
-    ensures spelling { IfOk result (λ x. ∥ AppendsSpelling [] x.1.items (file_view x.0) ∥₁) }
+    ensures spelling { IfOk result (λ x. ∥ AppendsSpelling [] x.1.items (raw_component_view x.0) ∥₁) }
     ensures exact { IfOk result (λ x. x.1.items ≡ file_bytes (component_of resolve.now)) }
     ensures err { IfErr result (λ e. (e ≡ ResolveError.NoMemory)
         ⊎ ((e ≡ ResolveError.NotThisShape) × (IsInPackageForm resolve.now → ⊥))) }

@@ -1,7 +1,7 @@
 //! Packages whose files were read.
 ghost use Rattle.std.specs.Prelude.{◌≡◌, ◌+◌, ◌≤◌, length, IsTrue, IfOk, OnOk};
 ghost use Rattle.std.specs.List.{sum_by};
-ghost use Rattle.wit_syntax.specs.FullNames.{has_full_names};
+ghost use Rattle.wit_syntax.specs.FullNames.{file_has_full_names};
 ghost use Rattle.wit_syntax.specs.View.{file_view};
 
 use crate::sources::Source;
@@ -20,7 +20,7 @@ pub struct Member<'a> {
     pub files: Vec<Lexed<'a>>,
     pub is_dependency: bool,
     pub tree: Ast,
-    pub ghost full: { IsTrue (has_full_names (file_view tree)) },
+    pub ghost full: { IsTrue (file_has_full_names (file_view tree)) },
 }
 
 impl Member<'_> {

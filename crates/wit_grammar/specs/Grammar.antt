@@ -66,15 +66,15 @@ underscore = kind.Punctuation mark.Underscore
 abbrev pub arrow : TokenKind
 arrow = kind.Punctuation mark.Arrow
 
-abbrev pub token : ℕ → TokenKind → Expected → Phrase Lexeme
-token end k e = one (is k) (wanted end e)
+abbrev pub token_of_kind : ℕ → TokenKind → Expected → Phrase Lexeme
+token_of_kind end k e = one (is k) (wanted end e)
 
 -- a token of this kind, or nothing
 abbrev pub peek : TokenKind → Phrase (Option Lexeme)
 peek k = optional (is k) give
 
 unfoldable pub punctuation : ℕ → Punctuation → Phrase Lexeme
-punctuation end p = token end (kind.Punctuation p) (want.Punctuation p)
+punctuation end p = token_of_kind end (kind.Punctuation p) (want.Punctuation p)
 
 -- a word that is no keyword
 unfoldable pub is_name : Lexeme → Bool
@@ -307,15 +307,15 @@ unfoldable pub type_behind : ℕ → Phrase Ty → Lexeme → Phrase Ty
 type_behind end inner t = when (is_name t) (give (Named t.text)) (begun end inner (kind_start t.token.kind))
 
 -- a type, and how the types in it are read
-unfoldable pub type_of : ℕ → Phrase Ty → Phrase Ty
-type_of end inner = do
+unfoldable pub type_phrase : ℕ → Phrase Ty → Phrase Ty
+type_phrase end inner = do
   t ← one begins_type (type_fault end)
   type_behind end inner t
 
 -- a type with at most so many levels of nesting
 unfoldable pub ty : ℕ → ℕ → Phrase Ty
 ty end zero = never (type_fault end)
-ty end (suc n) = type_of end (ty end n)
+ty end (suc n) = type_phrase end (ty end n)
 
 -- the levels that are read
 abbrev pub nesting : ℕ
@@ -422,13 +422,13 @@ path_end end x p = one (is (kind.Punctuation p)) (path_fault end x p)
 -- ---- uses
 
 -- `as` and a name, or nothing
-unfoldable pub local_name : ℕ → Phrase (Option (List ℕ))
-local_name end = optional (is (kind.Keyword kw.As)) (λ t. id end)
+unfoldable pub local_alias : ℕ → Phrase (Option (List ℕ))
+local_alias end = optional (is (kind.Keyword kw.As)) (λ t. id end)
 
 unfoldable pub used : ℕ → Phrase UsedAs
 used end = do
   name ← id end
-  local ← local_name end
+  local ← local_alias end
   give (record { name = name; local = local })
 
 abbrev pub after_used : UsedAs → Expected
@@ -463,8 +463,8 @@ alias end n = do
 abbrev pub field_list : ℕ → ℕ → ℕ → Phrase (List Member)
 field_list end n = listed (is comma) (is close_brace) (comma_wanted end) (member end n)
 
-unfoldable pub record_fields : ℕ → ℕ → Phrase Definition
-record_fields end n = do
+unfoldable pub record_body : ℕ → ℕ → Phrase Definition
+record_body end n = do
   a ← punctuation end mark.OpenBrace
   ms ← field_list end n limit
   give (Record ms)
@@ -497,8 +497,8 @@ variant_case end n = do
 abbrev pub case_list : ℕ → ℕ → ℕ → Phrase (List CaseOf)
 case_list end n = listed (is comma) (is close_brace) (comma_wanted end) (variant_case end n)
 
-unfoldable pub variant_cases : ℕ → ℕ → Phrase Definition
-variant_cases end n = do
+unfoldable pub variant_body : ℕ → ℕ → Phrase Definition
+variant_body end n = do
   a ← punctuation end mark.OpenBrace
   cs ← case_list end n limit
   give (Variant cs)
@@ -568,8 +568,8 @@ entry_fault end = unless_feature end (λ t. item_feature (item_kind t.token.kind
 -- a definition of a type, behind its name
 unfoldable pub definition : ℕ → ℕ → ItemStart → Phrase Definition
 definition end n begin.Alias = alias end n
-definition end n begin.Record = record_fields end n
-definition end n begin.Variant = variant_cases end n
+definition end n begin.Record = record_body end n
+definition end n begin.Variant = variant_body end n
 definition end n begin.Enum = enum_cases end
 definition end n begin.Flags = flag_names end
 definition end n begin.Use = never (entry_fault end)
@@ -626,13 +626,13 @@ interface end n = do
 
 -- ---- worlds
 
-abbrev pub direction_keyword : Keyword → Option Direction
-direction_keyword kw.Import = Some direction.Import
-direction_keyword kw.Export = Some direction.Export
-direction_keyword _ = None
+abbrev pub keyword_direction : Keyword → Option Direction
+keyword_direction kw.Import = Some direction.Import
+keyword_direction kw.Export = Some direction.Export
+keyword_direction _ = None
 
 abbrev pub direction_of : TokenKind → Option Direction
-direction_of (kind.Keyword k) = direction_keyword k
+direction_of (kind.Keyword k) = keyword_direction k
 direction_of _ = None
 
 abbrev pub begins_world_entry : Lexeme → Bool
@@ -707,14 +707,14 @@ world_entry_behind end n d at = do
   s ← peek semicolon
   unless_some s (give (Whole d (Local name))) (world_colon end n d at name)
 
-abbrev pub directed : ℕ → ℕ → Option Direction → Span → Phrase WorldEntry
-directed end n (Some d) at = world_entry_behind end n d at
-directed end n None at = never (world_fault end)
+abbrev pub directed_entry : ℕ → ℕ → Option Direction → Span → Phrase WorldEntry
+directed_entry end n (Some d) at = world_entry_behind end n d at
+directed_entry end n None at = never (world_fault end)
 
 unfoldable pub world_entry : ℕ → ℕ → Phrase WorldEntry
 world_entry end n = do
   t ← one begins_world_entry (world_fault end)
-  directed end n (direction_of t.token.kind) (span_of t.token)
+  directed_entry end n (direction_of t.token.kind) (span_of t.token)
 
 abbrev pub world_list : ℕ → ℕ → ℕ → Phrase (List WorldEntry)
 world_list end n = many (is close_brace) (wanted end (want.Keyword kw.Export)) (world_entry end n)

@@ -1,12 +1,12 @@
 //! Small readers: each takes a front of the tokens, and answers the rest.
 ghost use Rattle.std.specs.Prelude.{◌≡◌, ◌<◌, ◌≤◌, length, IsTrue, IfOk, Ok};
-ghost use Rattle.wit_tokens.specs.Tokens.{same_kind, lexeme, optional_lexeme, lexemes, bytes_of, word_of, name_of};
+ghost use Rattle.wit_tokens.specs.Tokens.{same_kind, lexeme, optional_lexeme, lexemes, bytes_of, word_of, token_name};
 ghost use Rattle.wit_grammar.specs.Faults.{AnswersRead, feature_or, met, is, wanted};
 ghost use Rattle.wit_tokens.specs.declared.token.TokenKind.TheVariants as kind;
 ghost use Rattle.wit_tokens.specs.declared.error.Expected.TheVariants as want;
 ghost use Rattle.wit_tokens.specs.declared.token.Punctuation.TheVariants.{Comma};
 ghost use Rattle.productions.specs.Production.{comma_or, separator};
-ghost use Rattle.wit_grammar.specs.Grammar.{comma, peek, token, punctuation, is_name, id};
+ghost use Rattle.wit_grammar.specs.Grammar.{comma, peek, token_of_kind, punctuation, is_name, id};
 
 use atoms::{Label, is_label};
 use std::alloc::Global;
@@ -47,7 +47,7 @@ fn word_of(bytes: &[u8]) -> &[u8]
 
 /// The word that a token spells, without the `%` of an escaped word and the `@` of a version.
 pub fn name_of<'a>(source: &'a [u8], token: Token) -> &'a [u8]
-    ensures { result.now ≡ name_of source.now token }
+    ensures { result.now ≡ token_name source.now token }
 {
     word_of(bytes_of(source, token))
 }
@@ -98,7 +98,7 @@ pub fn token<'a>(
     kind: TokenKind,
     wanted: Expected,
 ) -> Result<(Token, &'a [Token]), TextError>
-    ensures gives { AnswersRead (λ x. (lexeme source.now x.0, lexemes source.now x.1.now)) result ((token (length source.now) kind wanted).read (lexemes source.now tokens.now)) }
+    ensures gives { AnswersRead (λ x. (lexeme source.now x.0, lexemes source.now x.1.now)) result ((token_of_kind (length source.now) kind wanted).read (lexemes source.now tokens.now)) }
     ensures shorter { IfOk result (λ x. length x.1.now < length tokens.now) }
 {
     match tokens {
@@ -131,7 +131,7 @@ pub fn is_name(source: &[u8], token: Token) -> bool
 #[tactic(auto, unfolding(crate::specs::Grammar::is_name))]
 pub fn label_of(alloc: Global, source: &[u8], token: Token) -> Result<Label, TextError>
     requires { IsTrue (is_name (lexeme source.now token)) }
-    ensures { AnswersRead (λ l. l) result (Ok (name_of source.now token)) }
+    ensures { AnswersRead (λ l. l) result (Ok (token_name source.now token)) }
 {
     Ok(Label::from_bytes(alloc, name_of(source, token))?)
 }

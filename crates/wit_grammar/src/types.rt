@@ -5,7 +5,7 @@ ghost use Rattle.wit_tokens.specs.Tokens.{lexeme, lexemes};
 ghost use Rattle.wit_syntax.specs.View.{ty_view, boxed_view};
 ghost use Rattle.wit_syntax.specs.Syntax.{ResultOf};
 ghost use Rattle.wit_grammar.specs.Faults.{AnswersRead};
-ghost use Rattle.wit_grammar.specs.Grammar.{keyword_start, kind_start, is_start, begins_type, type_fault, begun, type_behind, type_of, is_bare, greater_wanted, close_list, close_angle, list, option, members, tuple, error_type, result_error, result_ok, result_parts, result_type, ty};
+ghost use Rattle.wit_grammar.specs.Grammar.{keyword_start, kind_start, is_start, begins_type, type_fault, begun, type_behind, type_phrase, is_bare, greater_wanted, close_list, close_angle, list, option, members, tuple, error_type, result_error, result_ok, result_parts, result_type, ty};
 
 use crate::parser::{is_name, label_of, met, punctuation, same, separator};
 use std::alloc::Global;
@@ -186,7 +186,7 @@ pub fn type_at<'a>(
 
 /// A type that may hold types of `nesting` levels.
 #[cycle(types)]
-#[tactic(auto, unfolding(crate::specs::Grammar::type_of))]
+#[tactic(auto, unfolding(crate::specs::Grammar::type_phrase))]
 fn type_of<'a>(
     alloc: Global,
     source: &[u8],
@@ -194,7 +194,7 @@ fn type_of<'a>(
     tokens: &'a [Token],
 ) -> Result<(TypeExpression, &'a [Token]), TextError>
     requires { length tokens.now ≤ limit }
-    ensures gives { AnswersRead (λ x. (ty_view x.0, lexemes source.now x.1.now)) result ((type_of (length source.now) (ty (length source.now) nesting)).read (lexemes source.now tokens.now)) }
+    ensures gives { AnswersRead (λ x. (ty_view x.0, lexemes source.now x.1.now)) result ((type_phrase (length source.now) (ty (length source.now) nesting)).read (lexemes source.now tokens.now)) }
     ensures shorter { IfOk result (λ x. length x.1.now < length tokens.now) }
 {
     match tokens {

@@ -15,10 +15,11 @@ use Rattle.wit_grammar.specs.declared.starts.ItemStart.{ItemStart}
 use Rattle.wit_grammar.specs.declared.starts.ItemStart.TheVariants as begin
 use Rattle.wit_grammar.specs.Faults.{is}
 use Rattle.wit_grammar.specs.Lookahead.{Phrase}
-use Rattle.wit_grammar.specs.Grammar.{punctuation, nesting, member, comma, close_brace, comma_wanted, alias, record_fields, payload, optional_payload, case_id, variant_case, variant_cases, name_of_case, enum_cases, flag_names, definition, defined, open_parenthesis, is_name}
-use Rattle.wit_print.specs.Words.{Word, text_of, mark_word, keyword_word, name_word}
+use Rattle.wit_grammar.specs.Grammar.{punctuation, nesting, member, comma, close_brace, comma_wanted, alias, record_body, payload, optional_payload, case_id, variant_case, variant_body, name_of_case, enum_cases, flag_names, definition, defined, open_parenthesis, is_name}
+use Rattle.wit_print.specs.Words.{Word, words_text, mark_word, keyword_word, name_word}
 use Rattle.wit_print.specs.Canonical.{blank, member_line, item_line, ty_words, field_words, case_words, label_words, payload_words, lined_words}
-use Rattle.wit_print.specs.Printable.{IsLabel, IsPrintableType, IsPrintableOption, IsPrintableMember, IsPrintableCase, ArePrintable, IsPrintableDefinition}
+use Rattle.atoms.specs.Label.{IsLabel}
+use Rattle.wit_print.specs.Printable.{IsPrintableType, IsPrintableOption, IsPrintableMember, IsPrintableCase, ArePrintable, IsPrintableDefinition}
 use Rattle.wit_print.specs.Unplaced.{nowhere, unplaced_entry}
 use Rattle.wit_print.proofs.Fronts.{breaks}
 use Rattle.wit_print.proofs.Standing.{AllStand, StandEverywhere, followed, mark-stands, keyword-stands, name-stands}
@@ -75,7 +76,7 @@ payload-stands (Some t) h rest b = (
   followed (ty_words [] t) (mark_word [] mark.CloseParenthesis ∷ []) rest (ty-stands [] t refl h.spelt) refl (mark-stands [] mark.CloseParenthesis rest refl refl, tt),
 )
 
-payload-breaks : (o : Option Ty) (rest : List ℕ) → breaks rest ≡ true → breaks (text_of (payload_words o) rest) ≡ true
+payload-breaks : (o : Option Ty) (rest : List ℕ) → breaks rest ≡ true → breaks (words_text (payload_words o) rest) ≡ true
 payload-breaks None rest b = b
 payload-breaks (Some t) rest b = refl
 
@@ -101,15 +102,15 @@ alias-writes end t h =
     (λ a. bind_writes (ty_words blank t) (mark_word [] mark.Semicolon ∷ []) (λ x. x ≡ t) (λ d. d ≡ Alias t) (ty-writes end nesting blank t h.nested h.spelt)
     (λ x ex. mark-then [] mark.Semicolon [] (λ d. d ≡ Alias t) (λ b. give_writes (Alias x) (λ d. d ≡ Alias t) (ap Alias ex))))
 
-record-writes : (end : ℕ) (ms : List Member) → ArePrintable IsPrintableMember ms → Writes (record_fields end nesting).spells (mark_word blank mark.OpenBrace ∷ lined_words field_words ms) (λ d. d ≡ Record ms)
-unfolding record_fields punctuation
+record-writes : (end : ℕ) (ms : List Member) → ArePrintable IsPrintableMember ms → Writes (record_body end nesting).spells (mark_word blank mark.OpenBrace ∷ lined_words field_words ms) (λ d. d ≡ Record ms)
+unfolding record_body punctuation
 record-writes end ms h =
     mark-then blank mark.OpenBrace _ (λ d. d ≡ Record ms)
     (λ a. made_writes Record (lined_words field_words ms) (λ xs. xs ≡ ms) (λ d. d ≡ Record ms)
     (all-lined field_words IsPrintableMember (comma_wanted end) (member end nesting) ms (λ m hm. member-writes end member_line m hm) h) (λ xs e. ap Record e))
 
-variant-writes : (end : ℕ) (cs : List CaseOf) → ArePrintable IsPrintableCase cs → Writes (variant_cases end nesting).spells (mark_word blank mark.OpenBrace ∷ lined_words case_words cs) (λ d. d ≡ Variant cs)
-unfolding variant_cases punctuation
+variant-writes : (end : ℕ) (cs : List CaseOf) → ArePrintable IsPrintableCase cs → Writes (variant_body end nesting).spells (mark_word blank mark.OpenBrace ∷ lined_words case_words cs) (λ d. d ≡ Variant cs)
+unfolding variant_body punctuation
 variant-writes end cs h =
     mark-then blank mark.OpenBrace _ (λ d. d ≡ Variant cs)
     (λ a. made_writes Variant (lined_words case_words cs) (λ xs. xs ≡ cs) (λ d. d ≡ Variant cs)
@@ -177,7 +178,7 @@ behind-stands (Variant cs) h rest = (mark-stands blank mark.OpenBrace _ refl ref
 behind-stands (Enumeration ns) h rest = (mark-stands blank mark.OpenBrace _ refl refl, lined-stand label_words IsLabel ns label-stands h.each rest)
 behind-stands (FlagSet ns) h rest = (mark-stands blank mark.OpenBrace _ refl refl, lined-stand label_words IsLabel ns label-stands h.each rest)
 
-behind-breaks : (d : Definition) (rest : List ℕ) → breaks (text_of (definition_behind d) rest) ≡ true
+behind-breaks : (d : Definition) (rest : List ℕ) → breaks (words_text (definition_behind d) rest) ≡ true
 behind-breaks (Alias t) rest = refl
 behind-breaks (Record ms) rest = refl
 behind-breaks (Variant cs) rest = refl

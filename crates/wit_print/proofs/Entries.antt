@@ -19,10 +19,11 @@ use Rattle.wit_grammar.specs.declared.starts.ItemStart.{ItemStart}
 use Rattle.wit_grammar.specs.declared.starts.ItemStart.TheVariants as begin
 use Rattle.wit_grammar.specs.Faults.{is}
 use Rattle.wit_grammar.specs.Lookahead.{Phrase}
-use Rattle.wit_grammar.specs.Grammar.{punctuation, id, is_name, nesting, comma, close_brace, semicolon, local_name, used, used_list, used_fault, path, path_end, use_item, func_word, declared, keyword_entry, item_kind, is_item_start, begins_entry, entry_behind, entry, direction_of, begins_world_entry, begins_behind_colon, whole_foreign, single, colon_behind, world_colon, world_entry_behind, directed, world_entry}
-use Rattle.wit_print.specs.Words.{Word, text_of, mark_word, keyword_word, name_word}
+use Rattle.wit_grammar.specs.Grammar.{punctuation, id, is_name, nesting, comma, close_brace, semicolon, local_alias, used, used_list, used_fault, path, path_end, use_item, func_word, declared, keyword_entry, item_kind, is_item_start, begins_entry, entry_behind, entry, direction_of, begins_world_entry, begins_behind_colon, whole_foreign, single, colon_behind, world_colon, world_entry_behind, directed_entry, world_entry}
+use Rattle.wit_print.specs.Words.{Word, words_text, mark_word, keyword_word, name_word}
 use Rattle.wit_print.specs.Canonical.{blank, line, item_line, local_words, used_words, uses_words, path_words, function_words, entry_words, direction_keyword, world_entry_words, braced_words}
-use Rattle.wit_print.specs.Printable.{IsLabel, IsLabelOrNone, IsPrintableUse, ArePrintable, IsPrintableFunction, IsPrintableVersionOrNone, IsPrintablePath, IsPrintableEntry, IsPrintableWorldEntry}
+use Rattle.atoms.specs.Label.{IsLabel}
+use Rattle.wit_print.specs.Printable.{IsLabelOrNone, IsPrintableUse, ArePrintable, IsPrintableFunction, IsPrintableVersionOrNone, IsPrintablePath, IsPrintableEntry, IsPrintableWorldEntry}
 use Rattle.wit_print.specs.Unplaced.{nowhere, unplaced_entry, unplaced_world_entry}
 use Rattle.wit_print.proofs.Fronts.{breaks}
 use Rattle.wit_print.proofs.Standing.{IsSpace, AllStand, StandEverywhere, followed, followed-by, mark-stands, keyword-stands, name-stands}
@@ -34,8 +35,8 @@ use Rattle.wit_print.proofs.Written.{Writes, IsThe, IsSome, loosen, give_writes,
 
 -- ---- uses
 
-local-writes : (end : ℕ) (o : Option (List ℕ)) → IsLabelOrNone o → Writes (local_name end).spells (local_words o) (λ x. x ≡ o)
-unfolding local_name
+local-writes : (end : ℕ) (o : Option (List ℕ)) → IsLabelOrNone o → Writes (local_alias end).spells (local_words o) (λ x. x ≡ o)
+unfolding local_alias
 local-writes end None h = none_writes (is (kind.Keyword kw.As)) (λ t. id end)
 local-writes end (Some n) h =
     loosen (λ o e. e.1 ∙ ap Some e.2)
@@ -77,7 +78,7 @@ local-stands : (o : Option (List ℕ)) → IsLabelOrNone o → StandEverywhere (
 local-stands None h rest b = tt
 local-stands (Some n) h rest b = (keyword-stands blank kw.As _ refl refl, (name-stands blank n rest refl h b, tt))
 
-local-breaks : (o : Option (List ℕ)) (rest : List ℕ) → breaks rest ≡ true → breaks (text_of (local_words o) rest) ≡ true
+local-breaks : (o : Option (List ℕ)) (rest : List ℕ) → breaks rest ≡ true → breaks (words_text (local_words o) rest) ≡ true
 local-breaks None rest b = b
 local-breaks (Some n) rest b = refl
 
@@ -208,7 +209,7 @@ directed-writes : (end : ℕ) (d : Direction) (ws : List Word) (Q : WorldEntry �
 unfolding world_entry
 directed-writes end d ws Q behind =
     then_writes begins_world_entry (keyword_word item_line (direction_keyword d)) ws Q (λ l e. ap is_some (begins l e))
-    (λ l e. subst (λ o. Writes (directed end nesting o (span_of l.token)).spells ws Q) (sym (begins l e)) (behind (span_of l.token)))
+    (λ l e. subst (λ o. Writes (directed_entry end nesting o (span_of l.token)).spells ws Q) (sym (begins l e)) (behind (span_of l.token)))
   where
     keyword-directs : (d : Direction) → direction_of (kind.Keyword (direction_keyword d)) ≡ Some d
     keyword-directs direction.Import = refl

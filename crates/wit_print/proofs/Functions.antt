@@ -9,7 +9,7 @@ use Rattle.wit_tokens.specs.declared.error.Expected.TheVariants as want
 use Rattle.wit_tokens.specs.Lexing.{limit}
 use Rattle.wit_syntax.specs.Syntax.{Ty, Member, Function}
 use Rattle.wit_grammar.specs.Faults.{is, wanted}
-use Rattle.wit_grammar.specs.Grammar.{punctuation, nesting, ty, type_of, member, after_member, param_list, parameters, function_result, optional_result, function, function_end, whole_function, comma, close_parenthesis, comma_wanted, arrow}
+use Rattle.wit_grammar.specs.Grammar.{punctuation, nesting, ty, type_phrase, member, after_member, param_list, parameters, function_result, optional_result, function, function_end, whole_function, comma, close_parenthesis, comma_wanted, arrow}
 use Rattle.wit_print.specs.Words.{Word, mark_word, name_word}
 use Rattle.wit_print.specs.Canonical.{blank, ty_words, member_words, parameter_words, result_words, function_words}
 use Rattle.wit_print.specs.Printable.{IsPrintableType, IsPrintableOption, IsPrintableMember, IsPrintableFunction}
@@ -68,7 +68,7 @@ parameters-stand space (m ∷ p ∷ ms) s h rest =
 -- ---- results
 
 as-type : (end : ℕ) (t : Ty) → Writes (ty end nesting).spells (ty_words blank t) (λ x. x ≡ t) → Writes (function_result end nesting).spells (ty_words blank t) (λ x. x ≡ t)
-unfolding ty type_of function_result
+unfolding ty type_phrase function_result
 as-type end t w = w
 
 result-type-writes : (end : ℕ) (t : Ty) → IsPrintableType t → Writes (function_result end nesting).spells (ty_words blank t) (λ x. x ≡ t)

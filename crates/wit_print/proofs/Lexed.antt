@@ -10,7 +10,7 @@ use Rattle.wit_tokens.specs.declared.token.TokenKind.{TokenKind}
 use Rattle.wit_tokens.specs.Lexing.{Upto, begin, blank, next, Lexes, front_of, token_from, is_blank}
 use Rattle.wit_tokens.specs.Tokens.{bytes_of, word_of, lexeme, lexemes}
 use Rattle.wit_tokens.proofs.Blanks.{one_blank}
-use Rattle.wit_print.specs.Words.{Word, text_of}
+use Rattle.wit_print.specs.Words.{Word, words_text}
 use Rattle.wit_print.proofs.Standing.{IsSpace, AllStand}
 use Rattle.wit_print.proofs.Written.{plain_of, read_of}
 
@@ -35,29 +35,29 @@ abbrev words_length : List Word → ℕ
 words_length [] = 0
 words_length (w ∷ ws) = length w.space + (length w.bytes + words_length ws)
 
-lexed-from : (text : List ℕ) (at : ℕ) (ws : List Word) (rest : List ℕ) (ts : List Token) → drop at text ≡ text_of ws rest → AllStand ws rest → Upto text at ts
+lexed-from : (text : List ℕ) (at : ℕ) (ws : List Word) (rest : List ℕ) (ts : List Token) → drop at text ≡ words_text ws rest → AllStand ws rest → Upto text at ts
     → Upto text (at + words_length ws) (ts ++ tokens_from at ws) × (drop (at + words_length ws) text ≡ rest)
 lexed-from text at [] rest ts e h u = (subst (Upto text (at + 0)) (sym (append-nil ts)) (subst (λ n. Upto text n ts) (omega arith) u), subst (λ n. drop n text ≡ rest) (omega arith) e)
 lexed-from text at (w ∷ ws) rest ts e h u =
-    let behind : List ℕ = w.bytes ++ text_of ws rest in
+    let behind : List ℕ = w.bytes ++ words_text ws rest in
     let here : ℕ = at + length w.space in
     let met : drop here text ≡ behind = passed text w.space behind at e in
     let blanks : Upto text here ts = passes-blanks text w.space behind at ts e h.0.blank u in
     let past : Upto text (here + length w.bytes) (ts ++ token_from w.kind here (length w.bytes) ∷ []) = next here (length w.bytes) w.kind ts blanks (ap front_of met ∙ h.0.token) in
-    let others = lexed-from text (here + length w.bytes) ws rest (ts ++ token_from w.kind here (length w.bytes) ∷ []) (passed text w.bytes (text_of ws rest) here met) h.1 past in
+    let others = lexed-from text (here + length w.bytes) ws rest (ts ++ token_from w.kind here (length w.bytes) ∷ []) (passed text w.bytes (words_text ws rest) here met) h.1 past in
     let long : here + length w.bytes + words_length ws ≡ at + words_length (w ∷ ws) = omega arith in (
       subst (λ n. Upto text n (ts ++ tokens_from at (w ∷ ws))) long (subst (Upto text (here + length w.bytes + words_length ws)) (append_assoc ts (token_from w.kind here (length w.bytes) ∷ []) (tokens_from (here + length w.bytes) ws)) others.0),
       subst (λ n. drop n text ≡ rest) long others.1,
     )
 
-text-length : (ws : List Word) (rest : List ℕ) → length (text_of ws rest) ≡ words_length ws + length rest
+text-length : (ws : List Word) (rest : List ℕ) → length (words_text ws rest) ≡ words_length ws + length rest
 text-length [] rest = omega arith
-text-length (w ∷ ws) rest = omega (arith, length-append w.space (w.bytes ++ text_of ws rest), length-append w.bytes (text_of ws rest), text-length ws rest)
+text-length (w ∷ ws) rest = omega (arith, length-append w.space (w.bytes ++ words_text ws rest), length-append w.bytes (words_text ws rest), text-length ws rest)
 
 -- words and the blanks behind them
-pub words-are-lexed : (ws : List Word) (space : List ℕ) → AllStand ws space → IsSpace space → Lexes (text_of ws space) (tokens_from 0 ws)
+pub words-are-lexed : (ws : List Word) (space : List ℕ) → AllStand ws space → IsSpace space → Lexes (words_text ws space) (tokens_from 0 ws)
 words-are-lexed ws space h s =
-    let text : List ℕ = text_of ws space in
+    let text : List ℕ = words_text ws space in
     let found = lexed-from text 0 ws space [] refl h begin in
     let all : Upto text (0 + words_length ws + length space) (tokens_from 0 ws) = passes-blanks text space [] (0 + words_length ws) (tokens_from 0 ws) (found.1 ∙ sym (append-nil space)) s found.0 in
     subst (λ n. Upto text n (tokens_from 0 ws)) (omega (arith, text-length ws space)) all
@@ -74,11 +74,11 @@ bytes-there text bytes rest at k e some =
 plain-there : (text rest : List ℕ) (at : ℕ) (w : Word) → drop at text ≡ w.bytes ++ rest → 0 < length w.bytes → plain_of (lexeme text (token_from w.kind at (length w.bytes))) ≡ read_of w
 plain-there text rest at w e some = ap (λ b. record { kind = w.kind; text = word_of b }) (bytes-there text w.bytes rest at w.kind e some)
 
-pub words-are-read : (text : List ℕ) (at : ℕ) (ws : List Word) (rest : List ℕ) → drop at text ≡ text_of ws rest → AllStand ws rest → map plain_of (lexemes text (tokens_from at ws)) ≡ map read_of ws
+pub words-are-read : (text : List ℕ) (at : ℕ) (ws : List Word) (rest : List ℕ) → drop at text ≡ words_text ws rest → AllStand ws rest → map plain_of (lexemes text (tokens_from at ws)) ≡ map read_of ws
 words-are-read text at [] rest e h = refl
 words-are-read text at (w ∷ ws) rest e h =
     let here : ℕ = at + length w.space in
-    let met : drop here text ≡ w.bytes ++ text_of ws rest = passed text w.space (w.bytes ++ text_of ws rest) at e in
-    let first = plain-there text (text_of ws rest) here w met h.0.some in
-    let others = words-are-read text (here + length w.bytes) ws rest (passed text w.bytes (text_of ws rest) here met) h.1 in
+    let met : drop here text ≡ w.bytes ++ words_text ws rest = passed text w.space (w.bytes ++ words_text ws rest) at e in
+    let first = plain-there text (words_text ws rest) here w met h.0.some in
+    let others = words-are-read text (here + length w.bytes) ws rest (passed text w.bytes (words_text ws rest) here met) h.1 in
     ap (λ p. p ∷ map plain_of (lexemes text (tokens_from (here + length w.bytes) ws))) first ∙ ap (λ ps. read_of w ∷ ps) others

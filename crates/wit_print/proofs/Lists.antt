@@ -8,19 +8,19 @@ use Rattle.wit_tokens.specs.declared.token.Punctuation.TheVariants as mark
 use Rattle.wit_print.specs.Words.{Word, mark_word}
 use Rattle.wit_print.specs.Canonical.{blank, listed_words, ty_words, tys_words}
 use Rattle.wit_print.specs.Pieces.{comma_at, space_at}
-use Rattle.wit_print.specs.Adding.{Adds, Leaves}
+use Rattle.wit_print.specs.Adding.{AddsWords, LeavesWords}
 use Rattle.wit_print.proofs.Texts.{leaves_then}
 
 -- ---- the entries from a place on, as words
 
 pub left-next : {A : Type 0} (words : List A → List Word) (xs : List A) (i : ℕ) (x : A) {whole : List Word} {a b : String Global} → i < length xs → x ≡ get_or xs i x
-    → Leaves whole (words (drop i xs)) a b → Leaves whole (words (x ∷ drop (i + 1) xs)) a b
+    → LeavesWords whole (words (drop i xs)) a b → LeavesWords whole (words (x ∷ drop (i + 1) xs)) a b
 left-next words xs i x {whole = whole} {a = a} {b = b} l e h =
-    subst (λ ws. Leaves whole ws a b) (at_drop_more words xs i x l ∙ ap (λ y. words (y ∷ drop (i + 1) xs)) (sym e)) h
+    subst (λ ws. LeavesWords whole ws a b) (at_drop_more words xs i x l ∙ ap (λ y. words (y ∷ drop (i + 1) xs)) (sym e)) h
 
 pub left-end : {A : Type 0} (words : List A → List Word) (xs : List A) (i : ℕ) {whole : List Word} {a b : String Global} → length xs ≤ i
-    → Leaves whole (words (drop i xs)) a b → Leaves whole (words []) a b
-left-end words xs i {whole = whole} {a = a} {b = b} l h = subst (λ ws. Leaves whole ws a b) (at_drop_all words xs i l) h
+    → LeavesWords whole (words (drop i xs)) a b → LeavesWords whole (words []) a b
+left-end words xs i {whole = whole} {a = a} {b = b} l h = subst (λ ws. LeavesWords whole ws a b) (at_drop_all words xs i l) h
 
 -- ---- with commas between them
 
@@ -49,16 +49,16 @@ module _ {X : Type 0} (words : List ℕ → X → List Word) (end : Word) where
 
   -- an entry with its comma
   pub listed-next : {A : Type 0} (view : A → X) (xs : List A) (i : ℕ) (x : A) (space : List ℕ) {whole : List Word} {a b c d : String Global} → i < length xs → x ≡ get_or xs i x → space ≡ space_at i
-      → Leaves whole (pending i (map view (drop i xs))) a b → Adds (comma_at i) b c → Adds (words space (view x)) c d → Leaves whole (pending (i + 1) (map view (drop (i + 1) xs))) a d
+      → LeavesWords whole (pending i (map view (drop i xs))) a b → AddsWords (comma_at i) b c → AddsWords (words space (view x)) c d → LeavesWords whole (pending (i + 1) (map view (drop (i + 1) xs))) a d
   listed-next view xs i x space {whole = whole} {a = a} {b = b} {c = c} {d = d} l e s h comma entry =
       let first = left-next (λ ys. pending i (map view ys)) xs i x l e h in
-      let parts : Leaves whole (comma_at i ++ (words (space_at i) (view x) ++ pending (suc i) (map view (drop (i + 1) xs)))) a b =
-      subst (λ ws. Leaves whole ws a b) (pending-first i (view x) (map view (drop (i + 1) xs))) first in
-      let here : Adds (words (space_at i) (view x)) c d = subst (λ t. Adds (words t (view x)) c d) s entry in
-      subst (λ n. Leaves whole (pending n (map view (drop (i + 1) xs))) a d) (sym (add-one i)) (leaves_then (leaves_then parts comma) here)
+      let parts : LeavesWords whole (comma_at i ++ (words (space_at i) (view x) ++ pending (suc i) (map view (drop (i + 1) xs)))) a b =
+      subst (λ ws. LeavesWords whole ws a b) (pending-first i (view x) (map view (drop (i + 1) xs))) first in
+      let here : AddsWords (words (space_at i) (view x)) c d = subst (λ t. AddsWords (words t (view x)) c d) s entry in
+      subst (λ n. LeavesWords whole (pending n (map view (drop (i + 1) xs))) a d) (sym (add-one i)) (leaves_then (leaves_then parts comma) here)
 
-  pub listed-end : {A : Type 0} (view : A → X) (xs : List A) (i : ℕ) {whole : List Word} {a b : String Global} → length xs ≤ i → Leaves whole (pending i (map view (drop i xs))) a b → Leaves whole (end ∷ []) a b
-  listed-end view xs i {whole = whole} {a = a} {b = b} l h = subst (λ ws. Leaves whole ws a b) (pending-none i) (left-end (λ ys. pending i (map view ys)) xs i l h)
+  pub listed-end : {A : Type 0} (view : A → X) (xs : List A) (i : ℕ) {whole : List Word} {a b : String Global} → length xs ≤ i → LeavesWords whole (pending i (map view (drop i xs))) a b → LeavesWords whole (end ∷ []) a b
+  listed-end view xs i {whole = whole} {a = a} {b = b} l h = subst (λ ws. LeavesWords whole ws a b) (pending-none i) (left-end (λ ys. pending i (map view ys)) xs i l h)
 
 -- the types of a tuple are such a list
 pub tys-listed : (space : List ℕ) (ts : List Ty) → tys_words space (tys_of ts) ≡ listed_words ty_words (mark_word [] mark.Greater) space ts

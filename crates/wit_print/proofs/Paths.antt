@@ -7,9 +7,10 @@ use Rattle.wit_tokens.specs.Lexing.{version_run}
 use Rattle.wit_syntax.specs.Syntax.{PathTo, Local, Foreign}
 use Rattle.wit_grammar.specs.Faults.{is}
 use Rattle.wit_grammar.specs.Grammar.{punctuation, colon, is_version_token, version, foreign, behind_namespace, path_or, path}
-use Rattle.wit_print.specs.Words.{Word, text_of, mark_word, name_word, version_word}
+use Rattle.wit_print.specs.Words.{Word, words_text, mark_word, name_word, version_word}
 use Rattle.wit_print.specs.Canonical.{blank, version_words, path_words}
-use Rattle.wit_print.specs.Printable.{IsLabel, IsPrintableVersionOrNone, IsPrintablePath}
+use Rattle.atoms.specs.Label.{IsLabel}
+use Rattle.wit_print.specs.Printable.{IsPrintableVersionOrNone, IsPrintablePath}
 use Rattle.wit_print.proofs.Fronts.{breaks}
 use Rattle.wit_print.proofs.Standing.{AllStand, mark-stands, slash-stands, name-stands, version-stands}
 use Rattle.wit_print.proofs.Tokens.{is-mark, mark-then, id-writes, version-text, is-the-version}
@@ -24,11 +25,11 @@ version-writes (Some v) h =
     loosen (λ o e. e.1 ∙ ap Some e.2)
     (some_writes is_version_token (λ t. give t.text) (version_word v) [] (λ x. x ≡ v) (is-the-version v h.version) (λ l e. give_writes l.text (λ x. x ≡ v) (version-text v l e)))
 
-pub version-stand : (v : Option (List ℕ)) (vs : List Word) (rest : List ℕ) → version_run (text_of vs rest) ≡ 0 → IsPrintableVersionOrNone v → AllStand vs rest → AllStand (version_words v ++ vs) rest
+pub version-stand : (v : Option (List ℕ)) (vs : List Word) (rest : List ℕ) → version_run (words_text vs rest) ≡ 0 → IsPrintableVersionOrNone v → AllStand vs rest → AllStand (version_words v ++ vs) rest
 version-stand None vs rest ends h k = k
-version-stand (Some v) vs rest ends h k = (version-stands v (text_of vs rest) ends h, k)
+version-stand (Some v) vs rest ends h k = (version-stands v (words_text vs rest) ends h, k)
 
-pub version-breaks : (v : Option (List ℕ)) (vs : List Word) (rest : List ℕ) → breaks (text_of vs rest) ≡ true → breaks (text_of (version_words v ++ vs) rest) ≡ true
+pub version-breaks : (v : Option (List ℕ)) (vs : List Word) (rest : List ℕ) → breaks (words_text vs rest) ≡ true → breaks (words_text (version_words v ++ vs) rest) ≡ true
 version-breaks None vs rest b = b
 version-breaks (Some v) vs rest b = refl
 
@@ -79,12 +80,12 @@ path-writes end (Foreign namespace name v i) h =
     (λ o e. ap (path_or namespace) e.1 ∙ e.2)
 
 -- a blank stands before it
-pub path-breaks : (x : PathTo) (vs : List Word) (rest : List ℕ) → breaks (text_of (path_words blank x ++ vs) rest) ≡ true
+pub path-breaks : (x : PathTo) (vs : List Word) (rest : List ℕ) → breaks (words_text (path_words blank x ++ vs) rest) ≡ true
 path-breaks (Local n) vs rest = refl
 path-breaks (Foreign namespace name v i) vs rest = refl
 
 -- where no word and no version goes on behind it
-pub path-stands : (x : PathTo) (vs : List Word) (rest : List ℕ) → IsPrintablePath x → breaks (text_of vs rest) ≡ true → version_run (text_of vs rest) ≡ 0 → AllStand vs rest → AllStand (path_words blank x ++ vs) rest
+pub path-stands : (x : PathTo) (vs : List Word) (rest : List ℕ) → IsPrintablePath x → breaks (words_text vs rest) ≡ true → version_run (words_text vs rest) ≡ 0 → AllStand vs rest → AllStand (path_words blank x ++ vs) rest
 path-stands (Local n) vs rest h b ends k = (name-stands blank n _ refl h b, k)
 path-stands (Foreign namespace name v i) vs rest h b ends k = (
   name-stands blank namespace _ refl h.0 refl,

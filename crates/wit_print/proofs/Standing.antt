@@ -14,7 +14,7 @@ use Rattle.wit_tokens.specs.declared.lexer.Front.TheVariants as front
 use Rattle.wit_tokens.specs.Keywords.{spelling, keywords, keyword_of}
 use Rattle.wit_tokens.specs.Lexing.{front_of, slash_front, punctuation_front, at_front, version_run, dotted, is_in_version, begins_digit, begins_letter, word_kind, keyword_kind, is_blank}
 use Rattle.wit_tokens.specs.Marks.{mark_text}
-use Rattle.wit_print.specs.Words.{Word, text_of, escaped, mark_word, keyword_word, name_word, version_word}
+use Rattle.wit_print.specs.Words.{Word, words_text, escaped, mark_word, keyword_word, name_word, version_word}
 use Rattle.wit_print.specs.Printable.{IsPrintableVersion}
 use Rattle.wit_print.proofs.Fronts.{breaks, from-start, letter-first, word_stands, escaped_stands}
 use Rattle.wit_print.proofs.Texts.{text-append}
@@ -31,22 +31,22 @@ pub record WordStands (w : Word) (rest : List ℕ) : Type 0 where
 -- each stands where the others follow it, and then these bytes
 abbrev pub AllStand : List Word → List ℕ → Type 0
 AllStand [] rest = Unit {0}
-AllStand (w ∷ ws) rest = WordStands w (text_of ws rest) × AllStand ws rest
+AllStand (w ∷ ws) rest = WordStands w (words_text ws rest) × AllStand ws rest
 
 -- wherever the text breaks behind them
 abbrev pub StandEverywhere : List Word → Type 0
 StandEverywhere ws = (rest : List ℕ) → breaks rest ≡ true → AllStand ws rest
 
-stand-append : (ws vs : List Word) (rest : List ℕ) → AllStand ws (text_of vs rest) → AllStand vs rest → AllStand (ws ++ vs) rest
+stand-append : (ws vs : List Word) (rest : List ℕ) → AllStand ws (words_text vs rest) → AllStand vs rest → AllStand (ws ++ vs) rest
 stand-append [] vs rest h k = k
 stand-append (w ∷ ws) vs rest h k = (subst (WordStands w) (sym (text-append ws vs rest)) h.0, stand-append ws vs rest h.1 k)
 
-pub followed : (ws vs : List Word) (rest : List ℕ) → StandEverywhere ws → breaks (text_of vs rest) ≡ true → AllStand vs rest → AllStand (ws ++ vs) rest
-followed ws vs rest h b k = stand-append ws vs rest (h (text_of vs rest) b) k
+pub followed : (ws vs : List Word) (rest : List ℕ) → StandEverywhere ws → breaks (words_text vs rest) ≡ true → AllStand vs rest → AllStand (ws ++ vs) rest
+followed ws vs rest h b k = stand-append ws vs rest (h (words_text vs rest) b) k
 
 -- words that stand whatever is behind them
 pub followed-by : (ws vs : List Word) (rest : List ℕ) → ((more : List ℕ) → AllStand ws more) → AllStand vs rest → AllStand (ws ++ vs) rest
-followed-by ws vs rest h k = stand-append ws vs rest (h (text_of vs rest)) k
+followed-by ws vs rest h k = stand-append ws vs rest (h (words_text vs rest)) k
 
 -- ---- marks
 

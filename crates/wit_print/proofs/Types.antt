@@ -15,7 +15,7 @@ use Rattle.wit_syntax.specs.Syntax.{Ty, Prim, Named, ListOf, OptionOf, TupleOf, 
 use Rattle.wit_grammar.specs.declared.types.Start.TheVariants as start
 use Rattle.wit_grammar.specs.Faults.{is}
 use Rattle.wit_grammar.specs.Lookahead.{Phrase}
-use Rattle.wit_grammar.specs.Grammar.{punctuation, is_name, kind_start, is_start, begins_type, type_behind, type_of, ty, begun, list, option, close_list, close_angle, greater, less, comma, underscore, tuple, members, comma_wanted, error_type, result_error, result_rest, result_ok, result_parts, result_type, or_bare}
+use Rattle.wit_grammar.specs.Grammar.{punctuation, is_name, kind_start, is_start, begins_type, type_behind, type_phrase, ty, begun, list, option, close_list, close_angle, greater, less, comma, underscore, tuple, members, comma_wanted, error_type, result_error, result_rest, result_ok, result_parts, result_type, or_bare}
 use Rattle.productions.specs.Production.{give}
 use Rattle.wit_print.specs.Words.{Word, mark_word, keyword_word, name_word}
 use Rattle.wit_print.specs.Canonical.{blank, primitive_keyword, ty_words, tys_words}
@@ -31,8 +31,8 @@ unfolding begins_type
 keyword-begins space k l h e = or_right (is_name l) (is_start (kind_start l.token.kind)) (ap (λ w. is_start (kind_start w.kind)) e ∙ h)
 
 begun-writes : (end : ℕ) (inner : Phrase Ty) (space : List ℕ) (k : Keyword) (ws : List Word) (Q : Ty → Type 0) → is_start (kind_start (kind.Keyword k)) ≡ true
-    → Writes (begun end inner (kind_start (kind.Keyword k))).spells ws Q → Writes (type_of end inner).spells (keyword_word space k ∷ ws) Q
-unfolding type_of type_behind
+    → Writes (begun end inner (kind_start (kind.Keyword k))).spells ws Q → Writes (type_phrase end inner).spells (keyword_word space k ∷ ws) Q
+unfolding type_phrase type_behind
 begun-writes end inner space k ws Q h w =
     then_writes begins_type (keyword_word space k) ws Q (λ l e. keyword-begins space k l h e)
     (λ l e. else_writes _ _ (is_name l) ws Q (no-name space k l e)
@@ -51,14 +51,14 @@ plain-begins primitive.U16 = refl
 plain-begins primitive.U32 = refl
 plain-begins primitive.U64 = refl
 
-primitive-writes : (end : ℕ) (inner : Phrase Ty) (space : List ℕ) (p : Primitive) → Writes (type_of end inner).spells (ty_words space (Prim p)) (λ x. x ≡ Prim p)
+primitive-writes : (end : ℕ) (inner : Phrase Ty) (space : List ℕ) (p : Primitive) → Writes (type_phrase end inner).spells (ty_words space (Prim p)) (λ x. x ≡ Prim p)
 unfolding begun
 primitive-writes end inner space p =
     begun-writes end inner space (primitive_keyword p) [] (λ x. x ≡ Prim p) (ap is_start (plain-begins p))
     (subst (λ s. Writes (begun end inner s).spells [] (λ x. x ≡ Prim p)) (sym (plain-begins p)) (give_writes (Prim p) (λ x. x ≡ Prim p) refl))
 
-name-writes : (end : ℕ) (inner : Phrase Ty) (space n : List ℕ) → is_label n ≡ true → Writes (type_of end inner).spells (ty_words space (Named n)) (λ x. x ≡ Named n)
-unfolding type_of type_behind begins_type
+name-writes : (end : ℕ) (inner : Phrase Ty) (space n : List ℕ) → is_label n ≡ true → Writes (type_phrase end inner).spells (ty_words space (Named n)) (λ x. x ≡ Named n)
+unfolding type_phrase type_behind begins_type
 name-writes end inner space n h =
     then_writes begins_type (name_word space n) [] (λ x. x ≡ Named n) (λ l e. or_left (is_name l) (is_start (kind_start l.token.kind)) (is-the-name space n h l e))
     (λ l e. when_writes _ _ (is_name l) [] (λ x. x ≡ Named n) (is-the-name space n h l e)
@@ -66,7 +66,7 @@ name-writes end inner space n h =
 
 -- ---- lists, options, tuples
 
-list-writes : (end : ℕ) (inner : Phrase Ty) (space : List ℕ) (t : Ty) → Writes inner.spells (ty_words [] t) (λ x. x ≡ t) → Writes (type_of end inner).spells (ty_words space (ListOf t)) (λ x. x ≡ ListOf t)
+list-writes : (end : ℕ) (inner : Phrase Ty) (space : List ℕ) (t : Ty) → Writes inner.spells (ty_words [] t) (λ x. x ≡ t) → Writes (type_phrase end inner).spells (ty_words space (ListOf t)) (λ x. x ≡ ListOf t)
 unfolding begun list close_list punctuation
 list-writes end inner space t w =
     begun-writes end inner space kw.List _ (λ x. x ≡ ListOf t) refl
@@ -74,7 +74,7 @@ list-writes end inner space t w =
     (λ a. bind_writes (ty_words [] t) (mark_word [] mark.Greater ∷ []) (λ x. x ≡ t) (λ x. x ≡ ListOf t) w
     (λ x ex. mark-then [] mark.Greater [] (λ y. y ≡ ListOf t) (λ b. give_writes (ListOf x) (λ y. y ≡ ListOf t) (ap ListOf ex)))))
 
-option-writes : (end : ℕ) (inner : Phrase Ty) (space : List ℕ) (t : Ty) → Writes inner.spells (ty_words [] t) (λ x. x ≡ t) → Writes (type_of end inner).spells (ty_words space (OptionOf t)) (λ x. x ≡ OptionOf t)
+option-writes : (end : ℕ) (inner : Phrase Ty) (space : List ℕ) (t : Ty) → Writes inner.spells (ty_words [] t) (λ x. x ≡ t) → Writes (type_phrase end inner).spells (ty_words space (OptionOf t)) (λ x. x ≡ OptionOf t)
 unfolding begun option close_angle punctuation
 option-writes end inner space t w =
     begun-writes end inner space kw.Option _ (λ x. x ≡ OptionOf t) refl
@@ -83,7 +83,7 @@ option-writes end inner space t w =
     (λ x ex. mark-then [] mark.Greater [] (λ y. y ≡ OptionOf t) (λ b. give_writes (OptionOf x) (λ y. y ≡ OptionOf t) (ap OptionOf ex)))))
 
 tuple-writes : (end : ℕ) (inner : Phrase Ty) (space : List ℕ) (ts : Tys) → Writes (members end inner limit).spells (tys_words [] ts) (λ xs. tys_of xs ≡ ts)
-    → Writes (type_of end inner).spells (ty_words space (TupleOf ts)) (λ x. x ≡ TupleOf ts)
+    → Writes (type_phrase end inner).spells (ty_words space (TupleOf ts)) (λ x. x ≡ TupleOf ts)
 unfolding begun tuple punctuation
 tuple-writes end inner space ts w =
     begun-writes end inner space kw.Tuple _ (λ x. x ≡ TupleOf ts) refl
@@ -92,7 +92,7 @@ tuple-writes end inner space ts w =
 
 -- ---- results
 
-bare-writes : (end : ℕ) (inner : Phrase Ty) (space : List ℕ) → Writes (type_of end inner).spells (ty_words space (ResultOf Absent Absent)) (λ x. x ≡ ResultOf Absent Absent)
+bare-writes : (end : ℕ) (inner : Phrase Ty) (space : List ℕ) → Writes (type_phrase end inner).spells (ty_words space (ResultOf Absent Absent)) (λ x. x ≡ ResultOf Absent Absent)
 unfolding begun result_type
 bare-writes end inner space =
     begun-writes end inner space kw.Result [] (λ x. x ≡ ResultOf Absent Absent) refl
@@ -100,7 +100,7 @@ bare-writes end inner space =
 
 -- behind `result`, with something between `<` and `>`
 parts-writes : (end : ℕ) (inner : Phrase Ty) (space : List ℕ) (ws : List Word) (r : Ty) → Writes (result_parts end inner).spells ws (λ x. x ≡ r)
-    → Writes (type_of end inner).spells (keyword_word space kw.Result ∷ mark_word [] mark.Less ∷ ws) (λ x. x ≡ r)
+    → Writes (type_phrase end inner).spells (keyword_word space kw.Result ∷ mark_word [] mark.Less ∷ ws) (λ x. x ≡ r)
 unfolding begun result_type
 parts-writes end inner space ws r w =
     begun-writes end inner space kw.Result (mark_word [] mark.Less ∷ ws) (λ x. x ≡ r) refl
@@ -115,7 +115,7 @@ error-type-writes end inner e w =
     (λ x ex. mark-then [] mark.Greater [] (λ y. y ≡ e) (λ b. give_writes x (λ y. y ≡ e) ex))
 
 error-writes : (end : ℕ) (inner : Phrase Ty) (space : List ℕ) (e : Ty) → Writes inner.spells (ty_words blank e) (λ x. x ≡ e)
-    → Writes (type_of end inner).spells (ty_words space (ResultOf Absent (Present e))) (λ x. x ≡ ResultOf Absent (Present e))
+    → Writes (type_phrase end inner).spells (ty_words space (ResultOf Absent (Present e))) (λ x. x ≡ ResultOf Absent (Present e))
 unfolding result_parts result_error punctuation
 error-writes end inner space e w =
     let behind = ty_words blank e ++ mark_word [] mark.Greater ∷ [] in
@@ -137,7 +137,7 @@ ok-parts end inner t vs r w behind =
     (bind_writes (ty_words [] t) vs (λ x. x ≡ t) (λ y. y ≡ r) w behind))
 
 ok-writes : (end : ℕ) (inner : Phrase Ty) (space : List ℕ) (t : Ty) → Writes inner.spells (ty_words [] t) (λ x. x ≡ t)
-    → Writes (type_of end inner).spells (ty_words space (ResultOf (Present t) Absent)) (λ x. x ≡ ResultOf (Present t) Absent)
+    → Writes (type_phrase end inner).spells (ty_words space (ResultOf (Present t) Absent)) (λ x. x ≡ ResultOf (Present t) Absent)
 unfolding result_rest
 ok-writes end inner space t w =
     let r = ResultOf (Present t) Absent in
@@ -147,7 +147,7 @@ ok-writes end inner space t w =
     (λ l f. when_writes _ _ (is greater l) [] (λ y. y ≡ r) (is-mark [] mark.Greater l f) (give_writes (ResultOf (Present x) Absent) (λ y. y ≡ r) (ap (λ y. ResultOf (Present y) Absent) ex)))))
 
 both-writes : (end : ℕ) (inner : Phrase Ty) (space : List ℕ) (t e : Ty) → Writes inner.spells (ty_words [] t) (λ x. x ≡ t) → Writes inner.spells (ty_words blank e) (λ x. x ≡ e)
-    → Writes (type_of end inner).spells (ty_words space (ResultOf (Present t) (Present e))) (λ x. x ≡ ResultOf (Present t) (Present e))
+    → Writes (type_phrase end inner).spells (ty_words space (ResultOf (Present t) (Present e))) (λ x. x ≡ ResultOf (Present t) (Present e))
 unfolding result_rest
 both-writes end inner space t e w v =
     let r = ResultOf (Present t) (Present e) in

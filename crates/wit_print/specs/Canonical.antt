@@ -9,7 +9,7 @@ use Rattle.wit_syntax.specs.declared.ast.Primitive.TheVariants as primitive
 use Rattle.wit_syntax.specs.declared.ast.Direction.{Direction}
 use Rattle.wit_syntax.specs.declared.ast.Direction.TheVariants as direction
 use Rattle.wit_syntax.specs.Syntax.{Ty, Prim, Named, ListOf, OptionOf, TupleOf, ResultOf, Tys, none, more, Absent, Present, Member, CaseOf, UsedAs, Definition, Alias, Record, Variant, Enumeration, FlagSet, Function, PathTo, Local, Foreign, Entry, Uses, Defines, Declares, WorldEntry, Whole, Single, FileEntry, AnInterface, AWorld, File}
-use Rattle.wit_print.specs.Words.{Word, text_of, mark_word, keyword_word, name_word, version_word}
+use Rattle.wit_print.specs.Words.{Word, words_text, mark_word, keyword_word, name_word, version_word}
 
 -- ---- blanks: one, a new line, one with two blanks or with four, and an empty line
 
@@ -173,4 +173,4 @@ file_words f =
 
 -- the text: its words, and the end of its last line
 abbrev pub canonical_text : File → List ℕ
-canonical_text f = text_of (file_words f) line
+canonical_text f = words_text (file_words f) line

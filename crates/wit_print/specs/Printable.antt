@@ -1,7 +1,7 @@
 -- Which files have a text: their names are labels, their types nest within the limit, and no list that the grammar wants an entry of is empty.
 use Rattle.std.specs.Prelude.{◌≡◌, ◌≤◌, ◌<◌, ℕ, suc, true, false, Bool, ◌&&◌, nat_le, List, Option, Some, None, length}
 use Rattle.std.specs.List.{AllByRecursion}
-use Rattle.atoms.specs.Label.{is_label}
+use Rattle.atoms.specs.Label.{IsLabel, is_label}
 use Rattle.atoms.specs.FullName.{is_package_label}
 use Rattle.wit_tokens.specs.Lexing.{limit, begins_digit, version_run}
 use Rattle.wit_syntax.specs.Syntax.{Ty, Prim, Named, ListOf, OptionOf, TupleOf, ResultOf, Tys, none, more, MaybeTy, Absent, Present, depth, Member, CaseOf, UsedAs, Definition, Alias, Record, Variant, Enumeration, FlagSet, Function, PathTo, Local, Foreign, Entry, Uses, Defines, Declares, WorldEntry, Whole, Single, FileEntry, AnInterface, AWorld, File}
@@ -37,9 +37,6 @@ pub record IsPrintableType (t : Ty) : Type 0 where
 abbrev pub IsPrintableOption : Option Ty → Type 0
 IsPrintableOption None = Unit {0}
 IsPrintableOption (Some t) = IsPrintableType t
-
-abbrev pub IsLabel : List ℕ → Type 0
-IsLabel n = is_label n ≡ true
 
 pub record IsPrintableMember (m : Member) : Type 0 where
   pub label : IsLabel m.name

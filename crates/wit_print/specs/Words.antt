@@ -13,9 +13,9 @@ pub record Word : Type 0 where
   pub bytes : List ℕ
 
 -- the text of these words, with these bytes behind them
-abbrev pub text_of : List Word → List ℕ → List ℕ
-text_of [] rest = rest
-text_of (w ∷ ws) rest = w.space ++ (w.bytes ++ text_of ws rest)
+abbrev pub words_text : List Word → List ℕ → List ℕ
+words_text [] rest = rest
+words_text (w ∷ ws) rest = w.space ++ (w.bytes ++ words_text ws rest)
 
 -- a name that is spelled as a keyword has `%` before it
 abbrev pub escaped : List ℕ → List ℕ

@@ -5,7 +5,7 @@ ghost use Rattle.wit_syntax.specs.View.{ty_view, field_view, case_view, optional
 ghost use Rattle.wit_tokens.specs.declared.token.Punctuation.TheVariants as mark;
 ghost use Rattle.wit_print.specs.Words.{mark_word, keyword_word, name_word};
 ghost use Rattle.wit_print.specs.Canonical.{blank, item_line, payload_words, case_words, field_words, label_words, lined_words, definition_words};
-ghost use Rattle.wit_print.specs.Adding.{Adds};
+ghost use Rattle.wit_print.specs.Adding.{AddsWords};
 
 use crate::function::write_member;
 use crate::ty::write_type;
@@ -22,7 +22,7 @@ const MEMBER_LINE: &str = "\n    ";
 pub(crate) const ITEM_LINE: &str = "\n  ";
 
 fn write_payload(out: &mut String, ty: &Option<TypeExpression>) -> Result<(), AllocError>
-    ensures { OnOk result (Adds (payload_words (optional_view ty.now)) out.old out.new) }
+    ensures { OnOk result (AddsWords (payload_words (optional_view ty.now)) out.old out.new) }
 {
     let Some(ty) = ty else {
         return Ok(());
@@ -33,7 +33,7 @@ fn write_payload(out: &mut String, ty: &Option<TypeExpression>) -> Result<(), Al
 }
 
 fn write_case(out: &mut String, case: &Case) -> Result<(), AllocError>
-    ensures { OnOk result (Adds (case_words (case_view case.now)) out.old out.new) }
+    ensures { OnOk result (AddsWords (case_words (case_view case.now)) out.old out.new) }
 {
     write_name(out, MEMBER_LINE, &case.name)?;
     write_payload(out, &case.payload)
@@ -41,7 +41,7 @@ fn write_case(out: &mut String, case: &Case) -> Result<(), AllocError>
 
 /// Puts fields behind the text, each on a line of its own that a comma ends, and the `}`.
 fn write_fields(out: &mut String, fields: &[Field]) -> Result<(), AllocError>
-    ensures { OnOk result (Adds (lined_words field_words (map field_view fields.now)) out.old out.new) }
+    ensures { OnOk result (AddsWords (lined_words field_words (map field_view fields.now)) out.old out.new) }
 {
     for field in fields {
         write_member(out, MEMBER_LINE, field)?;
@@ -52,7 +52,7 @@ fn write_fields(out: &mut String, fields: &[Field]) -> Result<(), AllocError>
 
 /// The same of cases.
 fn write_cases(out: &mut String, cases: &[Case]) -> Result<(), AllocError>
-    ensures { OnOk result (Adds (lined_words case_words (map case_view cases.now)) out.old out.new) }
+    ensures { OnOk result (AddsWords (lined_words case_words (map case_view cases.now)) out.old out.new) }
 {
     for case in cases {
         write_case(out, case)?;
@@ -63,7 +63,7 @@ fn write_cases(out: &mut String, cases: &[Case]) -> Result<(), AllocError>
 
 /// The same of labels.
 fn write_labels(out: &mut String, labels: &[Label]) -> Result<(), AllocError>
-    ensures { OnOk result (Adds (lined_words label_words labels.now) out.old out.new) }
+    ensures { OnOk result (AddsWords (lined_words label_words labels.now) out.old out.new) }
 {
     for label in labels {
         write_name(out, MEMBER_LINE, label)?;
@@ -74,7 +74,7 @@ fn write_labels(out: &mut String, labels: &[Label]) -> Result<(), AllocError>
 
 /// Puts the head of a definition with braces behind the text.
 fn write_head(out: &mut String, keyword: Keyword, name: &Label) -> Result<(), AllocError>
-    ensures { OnOk result (Adds (keyword_word item_line keyword ∷ name_word blank name.now ∷ mark_word blank mark.OpenBrace ∷ []) out.old out.new) }
+    ensures { OnOk result (AddsWords (keyword_word item_line keyword ∷ name_word blank name.now ∷ mark_word blank mark.OpenBrace ∷ []) out.old out.new) }
 {
     write_keyword(out, ITEM_LINE, keyword)?;
     write_name(out, " ", name)?;
@@ -82,7 +82,7 @@ fn write_head(out: &mut String, keyword: Keyword, name: &Label) -> Result<(), Al
 }
 
 fn write_alias(out: &mut String, name: &Label, ty: &TypeExpression) -> Result<(), AllocError>
-    ensures { OnOk result (Adds (definition_words name.now (Alias (ty_view ty.now))) out.old out.new) }
+    ensures { OnOk result (AddsWords (definition_words name.now (Alias (ty_view ty.now))) out.old out.new) }
 {
     write_keyword(out, ITEM_LINE, Keyword::Type)?;
     write_name(out, " ", name)?;
@@ -97,7 +97,7 @@ pub(crate) fn write_definition(
     name: &Label,
     kind: &TypeDefKind,
 ) -> Result<(), AllocError>
-    ensures { OnOk result (Adds (definition_words name.now (definition_view kind.now)) out.old out.new) }
+    ensures { OnOk result (AddsWords (definition_words name.now (definition_view kind.now)) out.old out.new) }
 {
     match kind {
         TypeDefKind::Alias(ty) => write_alias(out, name, ty),

@@ -3,7 +3,7 @@ ghost use Rattle.std.specs.Prelude.{◌≡◌, [], ◌++◌, map, OnOk};
 ghost use Rattle.wit_syntax.specs.Syntax.{Uses};
 ghost use Rattle.wit_syntax.specs.View.{used_view, version_view, path_view, entry_view, world_entry_view};
 ghost use Rattle.wit_print.specs.Canonical.{local_words, used_words, uses_words, version_words, path_words, direction_keyword, entry_words, world_entry_words, braced_words};
-ghost use Rattle.wit_print.specs.Adding.{Adds};
+ghost use Rattle.wit_print.specs.Adding.{AddsWords};
 
 use crate::definition::{ITEM_LINE, write_definition};
 use crate::function::write_function;
@@ -15,7 +15,7 @@ use wit_syntax::{Direction, InterfaceItem, Path, Use, UsedName, WorldItem, World
 use wit_tokens::{Keyword, Punctuation};
 
 fn write_local(out: &mut String, local: &Option<Label>) -> Result<(), AllocError>
-    ensures { OnOk result (Adds (local_words local.now) out.old out.new) }
+    ensures { OnOk result (AddsWords (local_words local.now) out.old out.new) }
 {
     let Some(local) = local else {
         return Ok(());
@@ -25,7 +25,7 @@ fn write_local(out: &mut String, local: &Option<Label>) -> Result<(), AllocError
 }
 
 fn write_used(out: &mut String, space: &str, used: &UsedName) -> Result<(), AllocError>
-    ensures { OnOk result (Adds (used_words space.now (used_view used.now)) out.old out.new) }
+    ensures { OnOk result (AddsWords (used_words space.now (used_view used.now)) out.old out.new) }
 {
     write_name(out, space, &used.name)?;
     write_local(out, &used.local)
@@ -33,7 +33,7 @@ fn write_used(out: &mut String, space: &str, used: &UsedName) -> Result<(), Allo
 
 /// Puts used names behind the text, and the `}`.
 fn write_names(out: &mut String, names: &[UsedName]) -> Result<(), AllocError>
-    ensures { OnOk result (Adds (uses_words [] (map used_view names.now)) out.old out.new) }
+    ensures { OnOk result (AddsWords (uses_words [] (map used_view names.now)) out.old out.new) }
 {
     for (index, name) in names.iter().enumerate() {
         let space = write_comma(out, index)?;
@@ -47,7 +47,7 @@ pub(crate) fn write_optional_version(
     out: &mut String,
     version: &Option<String>,
 ) -> Result<(), AllocError>
-    ensures { OnOk result (Adds (version_words (version_view version.now)) out.old out.new) }
+    ensures { OnOk result (AddsWords (version_words (version_view version.now)) out.old out.new) }
 {
     match version {
         Some(version) => write_version(out, version.as_str()),
@@ -57,7 +57,7 @@ pub(crate) fn write_optional_version(
 
 /// Puts the name of an interface behind the text, of another package's in full.
 fn write_path(out: &mut String, space: &str, path: &Path) -> Result<(), AllocError>
-    ensures { OnOk result (Adds (path_words space.now (path_view path.now)) out.old out.new) }
+    ensures { OnOk result (AddsWords (path_words space.now (path_view path.now)) out.old out.new) }
 {
     match path {
         Path::Local(name) => write_name(out, space, name),
@@ -73,7 +73,7 @@ fn write_path(out: &mut String, space: &str, path: &Path) -> Result<(), AllocErr
 }
 
 fn write_use(out: &mut String, item: &Use) -> Result<(), AllocError>
-    ensures { OnOk result (Adds (entry_words (Uses item.now.span (path_view item.now.interface) (map used_view item.now.names.items))) out.old out.new) }
+    ensures { OnOk result (AddsWords (entry_words (Uses item.now.span (path_view item.now.interface) (map used_view item.now.names.items))) out.old out.new) }
 {
     write_keyword(out, ITEM_LINE, Keyword::Use)?;
     write_path(out, " ", &item.interface)?;
@@ -84,7 +84,7 @@ fn write_use(out: &mut String, item: &Use) -> Result<(), AllocError>
 }
 
 fn write_entry(out: &mut String, item: &InterfaceItem) -> Result<(), AllocError>
-    ensures { OnOk result (Adds (entry_words (entry_view item.now)) out.old out.new) }
+    ensures { OnOk result (AddsWords (entry_words (entry_view item.now)) out.old out.new) }
 {
     match item {
         InterfaceItem::Use(item) => write_use(out, item),
@@ -102,7 +102,7 @@ fn write_entry(out: &mut String, item: &InterfaceItem) -> Result<(), AllocError>
 
 /// Puts the items of an interface behind the text, and the `}`.
 pub(crate) fn write_entries(out: &mut String, items: &[InterfaceItem]) -> Result<(), AllocError>
-    ensures { OnOk result (Adds (braced_words entry_words (map entry_view items.now)) out.old out.new) }
+    ensures { OnOk result (AddsWords (braced_words entry_words (map entry_view items.now)) out.old out.new) }
 {
     for item in items {
         write_entry(out, item)?;
@@ -120,7 +120,7 @@ fn direction_keyword(direction: Direction) -> Keyword
 }
 
 fn write_world_entry(out: &mut String, item: &WorldItem) -> Result<(), AllocError>
-    ensures { OnOk result (Adds (world_entry_words (world_entry_view item.now)) out.old out.new) }
+    ensures { OnOk result (AddsWords (world_entry_words (world_entry_view item.now)) out.old out.new) }
 {
     write_keyword(out, ITEM_LINE, direction_keyword(item.direction))?;
     match &item.kind {
@@ -137,7 +137,7 @@ fn write_world_entry(out: &mut String, item: &WorldItem) -> Result<(), AllocErro
 
 /// Puts the items of a world behind the text, and the `}`.
 pub(crate) fn write_world_entries(out: &mut String, items: &[WorldItem]) -> Result<(), AllocError>
-    ensures { OnOk result (Adds (braced_words world_entry_words (map world_entry_view items.now)) out.old out.new) }
+    ensures { OnOk result (AddsWords (braced_words world_entry_words (map world_entry_view items.now)) out.old out.new) }
 {
     for item in items {
         write_world_entry(out, item)?;

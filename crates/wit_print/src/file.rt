@@ -3,7 +3,7 @@ ghost use Rattle.std.specs.Prelude.{◌≡◌, [], ◌++◌, map, OnOk, OnErr};
 ghost use Rattle.std.specs.String.{string_bytes};
 ghost use Rattle.wit_syntax.specs.View.{item_view, file_view};
 ghost use Rattle.wit_print.specs.Canonical.{file_entry_words, items_words, file_words, canonical_text};
-ghost use Rattle.wit_print.specs.Adding.{Adds};
+ghost use Rattle.wit_print.specs.Adding.{AddsWords};
 
 use crate::entry::{write_entries, write_optional_version, write_world_entries};
 use crate::word::{write_keyword, write_mark, write_name};
@@ -12,7 +12,7 @@ use wit_syntax::{Ast, Item};
 use wit_tokens::{Keyword, Punctuation};
 
 fn write_item(out: &mut String, item: &Item) -> Result<(), AllocError>
-    ensures { OnOk result (Adds (file_entry_words (item_view item.now)) out.old out.new) }
+    ensures { OnOk result (AddsWords (file_entry_words (item_view item.now)) out.old out.new) }
 {
     match item {
         Item::Interface(interface) => {
@@ -31,7 +31,7 @@ fn write_item(out: &mut String, item: &Item) -> Result<(), AllocError>
 }
 
 fn write_items(out: &mut String, items: &[Item]) -> Result<(), AllocError>
-    ensures { OnOk result (Adds (items_words (map item_view items.now)) out.old out.new) }
+    ensures { OnOk result (AddsWords (items_words (map item_view items.now)) out.old out.new) }
 {
     for item in items {
         write_item(out, item)?;
@@ -40,7 +40,7 @@ fn write_items(out: &mut String, items: &[Item]) -> Result<(), AllocError>
 }
 
 fn write_file(out: &mut String, ast: &Ast) -> Result<(), AllocError>
-    ensures { OnOk result (Adds (file_words (file_view ast.now)) out.old out.new) }
+    ensures { OnOk result (AddsWords (file_words (file_view ast.now)) out.old out.new) }
 {
     write_keyword(out, "", Keyword::Package)?;
     write_name(out, " ", &ast.package.namespace)?;

@@ -2,7 +2,7 @@
 ghost use Rattle.std.specs.Prelude.{◌≡◌, [], ◌++◌, map, OnOk};
 ghost use Rattle.wit_syntax.specs.View.{field_view, function_view, optional_view};
 ghost use Rattle.wit_print.specs.Canonical.{member_words, parameter_words, result_words, function_words};
-ghost use Rattle.wit_print.specs.Adding.{Adds};
+ghost use Rattle.wit_print.specs.Adding.{AddsWords};
 
 use crate::list::write_comma;
 use crate::ty::write_type;
@@ -13,7 +13,7 @@ use wit_tokens::{Keyword, Punctuation};
 
 /// Puts a name with its type behind the text.
 pub(crate) fn write_member(out: &mut String, space: &str, member: &Field) -> Result<(), AllocError>
-    ensures { OnOk result (Adds (member_words space.now (field_view member.now)) out.old out.new) }
+    ensures { OnOk result (AddsWords (member_words space.now (field_view member.now)) out.old out.new) }
 {
     write_name(out, space, &member.name)?;
     write_mark(out, "", Punctuation::Colon)?;
@@ -22,7 +22,7 @@ pub(crate) fn write_member(out: &mut String, space: &str, member: &Field) -> Res
 
 /// Puts parameters behind the text, and the `)`.
 fn write_parameters(out: &mut String, params: &[Field]) -> Result<(), AllocError>
-    ensures { OnOk result (Adds (parameter_words [] (map field_view params.now)) out.old out.new) }
+    ensures { OnOk result (AddsWords (parameter_words [] (map field_view params.now)) out.old out.new) }
 {
     for (index, param) in params.iter().enumerate() {
         let space = write_comma(out, index)?;
@@ -32,7 +32,7 @@ fn write_parameters(out: &mut String, params: &[Field]) -> Result<(), AllocError
 }
 
 fn write_outcome(out: &mut String, ty: &Option<TypeExpression>) -> Result<(), AllocError>
-    ensures { OnOk result (Adds (result_words (optional_view ty.now)) out.old out.new) }
+    ensures { OnOk result (AddsWords (result_words (optional_view ty.now)) out.old out.new) }
 {
     let Some(ty) = ty else {
         return Ok(());
@@ -43,7 +43,7 @@ fn write_outcome(out: &mut String, ty: &Option<TypeExpression>) -> Result<(), Al
 
 /// Puts what stands behind a function's name behind the text.
 pub(crate) fn write_function(out: &mut String, function: &FuncType) -> Result<(), AllocError>
-    ensures { OnOk result (Adds (function_words (function_view function.now)) out.old out.new) }
+    ensures { OnOk result (AddsWords (function_words (function_view function.now)) out.old out.new) }
 {
     write_mark(out, "", Punctuation::Colon)?;
     write_keyword(out, " ", Keyword::Func)?;

@@ -6,7 +6,7 @@ ghost use Rattle.wit_tokens.specs.declared.token.Punctuation.TheVariants as mark
 ghost use Rattle.wit_print.specs.Words.{mark_word};
 ghost use Rattle.wit_print.specs.Canonical.{blank, primitive_keyword, ty_words, tys_words};
 ghost use Rattle.wit_print.specs.Pieces.{ok_alone, ok_before};
-ghost use Rattle.wit_print.specs.Adding.{Adds};
+ghost use Rattle.wit_print.specs.Adding.{AddsWords};
 
 use crate::list::write_comma;
 use crate::word::{write_keyword, write_mark, write_name};
@@ -39,7 +39,7 @@ pub(crate) fn write_type(
     space: &str,
     ty: &TypeExpression,
 ) -> Result<(), AllocError>
-    ensures { OnOk result (Adds (ty_words space.now (ty_view ty.now)) out.old out.new) }
+    ensures { OnOk result (AddsWords (ty_words space.now (ty_view ty.now)) out.old out.new) }
 {
     match ty {
         TypeExpression::Primitive(primitive) => write_keyword(
@@ -77,7 +77,7 @@ pub(crate) fn write_type(
 /// Puts the type that a list or an option is made of behind the text, in `<` and `>`.
 #[cycle(ty)]
 fn write_inner(out: &mut String, ty: &TypeExpression) -> Result<(), AllocError>
-    ensures { OnOk result (Adds (mark_word [] mark.Less ∷ (ty_words [] (ty_view ty.now) ++ mark_word [] mark.Greater ∷ [])) out.old out.new) }
+    ensures { OnOk result (AddsWords (mark_word [] mark.Less ∷ (ty_words [] (ty_view ty.now) ++ mark_word [] mark.Greater ∷ [])) out.old out.new) }
 {
     write_mark(out, "", Punctuation::Less)?;
     write_type(out, "", ty)?;
@@ -87,7 +87,7 @@ fn write_inner(out: &mut String, ty: &TypeExpression) -> Result<(), AllocError>
 /// Puts the types of a tuple behind the text, and the `>`.
 #[cycle(ty)]
 fn write_members(out: &mut String, members: &Vec<TypeExpression>) -> Result<(), AllocError>
-    ensures { OnOk result (Adds (tys_words [] (tys_of (map ty_view members.now.items))) out.old out.new) }
+    ensures { OnOk result (AddsWords (tys_words [] (tys_of (map ty_view members.now.items))) out.old out.new) }
 {
     for (index, member) in members.iter().enumerate() {
         let space = write_comma(out, index)?;
@@ -99,7 +99,7 @@ fn write_members(out: &mut String, members: &Vec<TypeExpression>) -> Result<(), 
 /// Puts what a result has in `<` and `>` behind the text, where it has no type of an error.
 #[cycle(ty)]
 fn write_ok_alone(out: &mut String, ok: &Option<Box<TypeExpression>>) -> Result<(), AllocError>
-    ensures { OnOk result (Adds (ok_alone (boxed_view ok.now)) out.old out.new) }
+    ensures { OnOk result (AddsWords (ok_alone (boxed_view ok.now)) out.old out.new) }
 {
     match ok {
         Some(ok) => write_inner(out, ok),
@@ -110,7 +110,7 @@ fn write_ok_alone(out: &mut String, ok: &Option<Box<TypeExpression>>) -> Result<
 /// Puts what a result has before the comma behind the text, with the `<`.
 #[cycle(ty)]
 fn write_ok_before(out: &mut String, ok: &Option<Box<TypeExpression>>) -> Result<(), AllocError>
-    ensures { OnOk result (Adds (ok_before (boxed_view ok.now)) out.old out.new) }
+    ensures { OnOk result (AddsWords (ok_before (boxed_view ok.now)) out.old out.new) }
 {
     write_mark(out, "", Punctuation::Less)?;
     match ok {
@@ -122,7 +122,7 @@ fn write_ok_before(out: &mut String, ok: &Option<Box<TypeExpression>>) -> Result
 /// Puts the error's type of a result behind the text, behind its comma, and the `>`.
 #[cycle(ty)]
 fn write_error(out: &mut String, ty: &TypeExpression) -> Result<(), AllocError>
-    ensures { OnOk result (Adds (mark_word [] mark.Comma ∷ (ty_words blank (ty_view ty.now) ++ mark_word [] mark.Greater ∷ [])) out.old out.new) }
+    ensures { OnOk result (AddsWords (mark_word [] mark.Comma ∷ (ty_words blank (ty_view ty.now) ++ mark_word [] mark.Greater ∷ [])) out.old out.new) }
 {
     write_mark(out, "", Punctuation::Comma)?;
     write_type(out, " ", ty)?;

@@ -10,5 +10,5 @@ has_label (AnInterface n es) = is_label n
 has_label (AWorld at n es) = true
 
 -- the namespace and the package are labels in lower case, the version is one of SemVer, and interfaces have labels
-abbrev pub has_full_names : File → Bool
-has_full_names f = is_package_label f.namespace && (is_package_label f.name && (is_version_or_none f.version && list_all has_label f.entries))
+abbrev pub file_has_full_names : File → Bool
+file_has_full_names f = is_package_label f.namespace && (is_package_label f.name && (is_version_or_none f.version && list_all has_label f.entries))

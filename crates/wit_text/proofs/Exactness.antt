@@ -198,7 +198,7 @@ exact-result_ok end inner ei = exact-before (lookahead end) inner _ _ _ ei (λ t
 
 -- a type begins with a token that begins types
 opens-type : (p : Punctuation) (end n : ℕ) → Opens (lookahead end) (is (kind.Punctuation p)) (g.ty end n)
-unfolding g.ty g.type_of g.begins_type
+unfolding g.ty g.type_phrase g.begins_type
 opens-type p end zero = λ x text rest s. absurd s
 opens-type p end (suc n) = opens-bind (lookahead end) (is (kind.Punctuation p)) (one g.begins_type (g.type_fault end)) (g.type_behind end (g.ty end n)) (opens-one (lookahead end) (is (kind.Punctuation p)) g.begins_type (g.type_fault end) (by_kind (kind.Punctuation p) g.begins_type off))
   where
@@ -232,7 +232,7 @@ unfolding g.type_behind
 exact-type_behind end inner ei opens t = exact-when (lookahead end) (g.is_name t) (give _) (g.begun end inner (g.kind_start t.token.kind)) (exact-give (lookahead end) _) (exact-begun end inner ei opens (g.kind_start t.token.kind))
 
 exact-ty : (end n : ℕ) → Types end (g.ty end n)
-unfolding g.ty g.type_of
+unfolding g.ty g.type_phrase
 exact-ty end zero = exact-fault end (g.type_fault end) (next-type end)
 exact-ty end (suc n) = exact-then (lookahead end) (one g.begins_type (g.type_fault end)) _ (exact-token end _ (next-type end) g.begins_type) (exact-type_behind end (g.ty end n) (exact-ty end n) (λ p. opens-type p end n))
 
@@ -346,12 +346,12 @@ abbrev NotAs : Option (List ℕ) → Option Lexeme → Type 0
 NotAs = Unless (is (kind.Keyword kw.As)) Anything
 
 exact-used : (end : ℕ) → Exact (lookahead end) (λ u. NotAs u.local) (g.used end)
-unfolding g.used g.local_name
+unfolding g.used g.local_alias
 exact-used end = exact-then (lookahead end) (g.id end) _ (exact-id end) (λ name. exact-last (lookahead end) (optional (is (kind.Keyword kw.As)) (λ t. g.id end)) (λ l. record { name = name; local = l }) (exact-optional (lookahead end) (is (kind.Keyword kw.As)) (λ t. g.id end) (λ t. exact-id end)) (λ x n h. h))
 
 opens-used : (p : Punctuation) (end : ℕ) → Opens (lookahead end) (is (kind.Punctuation p)) (g.used end)
 unfolding g.used
-opens-used p end = opens-bind (lookahead end) (is (kind.Punctuation p)) (g.id end) (λ name. g.local_name end >>= λ l. give (record { name = name; local = l })) (opens-id p end)
+opens-used p end = opens-bind (lookahead end) (is (kind.Punctuation p)) (g.id end) (λ name. g.local_alias end >>= λ l. give (record { name = name; local = l })) (opens-id p end)
 
 -- a mark isn't `as`
 not_as : (p : Punctuation) (l : Option (List ℕ)) (s : Lexeme) → is (kind.Punctuation p) s ≡ true → NotAs l (Some s)
@@ -385,8 +385,8 @@ exact-alias end n = exact-then (lookahead end) (g.punctuation end _) _ (exact-pu
 exact-field_list : (end n k : ℕ) → look end (g.field_list end n k)
 exact-field_list end n k = exact-listed (lookahead end) (g.member end n) (exact-member end n) (is g.close_brace) (opens-member mark.CloseBrace end n) (is g.comma) _ (λ x. owed end _ (next-wanted end _) _) (λ x. owed end _ (next-wanted end _) _) (λ m. either_ends g.close_brace brace_ends m.ty) (λ m. brace_ends m.ty) k
 
-exact-record : (end n : ℕ) → look end (g.record_fields end n)
-unfolding g.record_fields
+exact-record : (end n : ℕ) → look end (g.record_body end n)
+unfolding g.record_body
 exact-record end n = exact-then (lookahead end) (g.punctuation end _) _ (exact-punctuation end _) (λ a. exact-then (lookahead end) (g.field_list end n limit) _ (exact-field_list end n limit) (λ ms. exact-give (lookahead end) _))
 
 exact-payload : (end n : ℕ) → look end (g.payload end n)
@@ -429,8 +429,8 @@ exact-case_list : (end n k : ℕ) → look end (g.case_list end n k)
 exact-case_list end n k = exact-listed (lookahead end) (g.variant_case end n) (exact-case end n) (is g.close_brace) (opens-case mark.CloseBrace end n) (is g.comma) _ (λ x. owed end _ (next-wanted end _) _) (λ x. owed end _ (next-wanted end _) _)
     (λ c s h. either (is g.close_brace s) (is g.comma s) h (NoPayload c.payload (Some s)) (brace_ends_case c.payload s) (comma_ends_case c.payload s)) (λ c. brace_ends_case c.payload) k
 
-exact-variant : (end n : ℕ) → look end (g.variant_cases end n)
-unfolding g.variant_cases
+exact-variant : (end n : ℕ) → look end (g.variant_body end n)
+unfolding g.variant_body
 exact-variant end n = exact-then (lookahead end) (g.punctuation end _) _ (exact-punctuation end _) (λ a. exact-then (lookahead end) (g.case_list end n limit) _ (exact-case_list end n limit) (λ ms. exact-give (lookahead end) _))
 
 exact-name_of_case : (end : ℕ) (gated : Bool) → look end (g.name_of_case end gated)
@@ -544,13 +544,13 @@ exact-world_colon end n d at name = exact-then (lookahead end) (g.punctuation en
 
 opens-world_colon : (end n : ℕ) (d : Direction) (at : Span) (name : List ℕ) → Opens (lookahead end) (is g.semicolon) (g.world_colon end n d at name)
 unfolding g.world_colon g.punctuation
-opens-world_colon end n d at name = opens-bind (lookahead end) (is g.semicolon) (g.token end g.colon (want.Punctuation mark.Colon)) (λ a. one g.begins_behind_colon (g.single_fault end) >>= λ t. g.colon_behind end n d at name t) (opens-one (lookahead end) (is g.semicolon) (is g.colon) (wanted end (want.Punctuation mark.Colon)) (apart g.colon g.semicolon))
+opens-world_colon end n d at name = opens-bind (lookahead end) (is g.semicolon) (g.token_of_kind end g.colon (want.Punctuation mark.Colon)) (λ a. one g.begins_behind_colon (g.single_fault end) >>= λ t. g.colon_behind end n d at name t) (opens-one (lookahead end) (is g.semicolon) (is g.colon) (wanted end (want.Punctuation mark.Colon)) (apart g.colon g.semicolon))
 
 exact-world_entry_behind : (end n : ℕ) (d : Direction) (at : Span) → look end (g.world_entry_behind end n d at)
 unfolding g.world_entry_behind
 exact-world_entry_behind end n d at = exact-then (lookahead end) (g.id end) _ (exact-id end) (λ name. exact-peek (lookahead end) (is g.semicolon) (give _) (g.world_colon end n d at name) (exact-give (lookahead end) _) (exact-world_colon end n d at name) (opens-world_colon end n d at name))
 
-exact-directed : (end n : ℕ) (o : Option Direction) (at : Span) → look end (g.directed end n o at)
+exact-directed : (end n : ℕ) (o : Option Direction) (at : Span) → look end (g.directed_entry end n o at)
 exact-directed end n (Some d) at = exact-world_entry_behind end n d at
 exact-directed end n None at = exact-fault end (g.world_fault end) (next-world end)
 
@@ -560,7 +560,7 @@ exact-world_entry end n = exact-then (lookahead end) (one g.begins_world_entry (
 
 opens-world_entry : (end n : ℕ) → Opens (lookahead end) (is g.close_brace) (g.world_entry end n)
 unfolding g.world_entry
-opens-world_entry end n = opens-bind (lookahead end) (is g.close_brace) (one g.begins_world_entry (g.world_fault end)) (λ t. g.directed end n (g.direction_of t.token.kind) (span_of t.token)) (opens-one (lookahead end) (is g.close_brace) g.begins_world_entry (g.world_fault end) (by_kind g.close_brace g.begins_world_entry (λ t e. rw e refl)))
+opens-world_entry end n = opens-bind (lookahead end) (is g.close_brace) (one g.begins_world_entry (g.world_fault end)) (λ t. g.directed_entry end n (g.direction_of t.token.kind) (span_of t.token)) (opens-one (lookahead end) (is g.close_brace) g.begins_world_entry (g.world_fault end) (by_kind g.close_brace g.begins_world_entry (λ t e. rw e refl)))
 
 exact-world_list : (end n k : ℕ) → look end (g.world_list end n k)
 exact-world_list end n k = exact-many (lookahead end) (g.world_entry end n) (exact-world_entry end n) (is g.close_brace) (opens-world_entry end n) _ (owed end _ (next-wanted end _) _) (λ x m. tt) k

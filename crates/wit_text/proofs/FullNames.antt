@@ -11,7 +11,7 @@ use Rattle.productions.specs.Production.{give, ◌>>=◌, when, all, at_end, by_
 use Rattle.wit_tokens.specs.declared.token.Span.{Span}
 use Rattle.wit_tokens.specs.Lexing.{limit}
 use Rattle.wit_syntax.specs.Syntax.{FileEntry, File}
-use Rattle.wit_syntax.specs.FullNames.{has_label, has_full_names}
+use Rattle.wit_syntax.specs.FullNames.{has_label, file_has_full_names}
 use Rattle.wit_grammar.specs.Faults.{is as is-kind}
 use Rattle.wit_grammar.specs.Grammar as g
 use Rattle.wit_text.specs.Laws.{HasFullNames}
@@ -84,11 +84,11 @@ pub full-names : (text : List ℕ) → HasFullNames text
 unfolding g.file
 full-names text f r = by r.spelt
   where
-    by : (g.file (length text) g.nesting).spells (lexemes text r.tokens) f → IsTrue (has_full_names f)
+    by : (g.file (length text) g.nesting).spells (lexemes text r.tokens) f → IsTrue (file_has_full_names f)
     by (f0, b0, h, e0, header-is, (f1, b1, es, e1, items-are, given)) =
         let names = header-names (length text) f0 h header-is in
         let version = second (is_package_label h.0) (is_package_label h.1 && is_version_or_none h.2) names in
-        subst (λ (y : File). IsTrue (has_full_names y)) (sym given.1)
+        subst (λ (y : File). IsTrue (file_has_full_names y)) (sym given.1)
         (both (is_package_label h.0) (is_package_label h.1 && (is_version_or_none h.2 && list_all has_label es)) (first (is_package_label h.0) (is_package_label h.1 && is_version_or_none h.2) names)
         (both (is_package_label h.1) (is_version_or_none h.2 && list_all has_label es) (first (is_package_label h.1) (is_version_or_none h.2) version)
         (both (is_version_or_none h.2) (list_all has_label es) (second (is_package_label h.1) (is_version_or_none h.2) version)

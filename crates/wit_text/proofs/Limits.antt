@@ -71,7 +71,7 @@ module _ (end : ℕ) (p q : Phrase Ty) (pq : Alike p q) where
   agrees-type_behind t = agrees-when IsDepth (g.is_name t) _ _ _ _ (same _) (agrees-begun (g.kind_start t.token.kind))
 
 agrees-step : (end n m : ℕ) → Alike (g.ty end n) (g.ty end m) → Alike (g.ty end (suc n)) (g.ty end (suc m))
-unfolding g.ty g.type_of
+unfolding g.ty g.type_phrase
 agrees-step end n m nm = agrees-bind IsDepth (one g.begins_type (g.type_fault end)) (one g.begins_type (g.type_fault end)) _ _ (same _) (agrees-type_behind end (g.ty end n) (g.ty end m) nm)
 
 start_depth : (s : Start) (at : Span) → g.is_start s ≡ true → g.start_fault s at ≡ error.Depth at
@@ -138,8 +138,8 @@ module _ (end n m : ℕ) (nm : Alike (g.ty end n) (g.ty end m)) where
   unfolding g.alias
   agrees-alias = agrees-bind IsDepth (g.punctuation end _) (g.punctuation end _) _ _ (same _) (λ a. agrees-bind IsDepth (g.ty end (suc n)) (g.ty end (suc m)) _ _ types (λ t. same _))
 
-  agrees-record : Alike (g.record_fields end (suc n)) (g.record_fields end (suc m))
-  unfolding g.record_fields
+  agrees-record : Alike (g.record_body end (suc n)) (g.record_body end (suc m))
+  unfolding g.record_body
   agrees-record = agrees-bind IsDepth (g.punctuation end _) (g.punctuation end _) _ _ (same _) (λ a. agrees-bind IsDepth (g.field_list end (suc n) limit) (g.field_list end (suc m) limit) _ _ (agrees-listed IsDepth _ _ _ (g.member end (suc n)) (g.member end (suc m)) agrees-member limit) (λ ms. same _))
 
   agrees-payload : Alike (g.payload end (suc n)) (g.payload end (suc m))
@@ -151,8 +151,8 @@ module _ (end n m : ℕ) (nm : Alike (g.ty end n) (g.ty end m)) where
   agrees-case = agrees-bind IsDepth (g.case_id end) (g.case_id end) _ _ (same _) (λ name. agrees-bind IsDepth (optional (is g.open_parenthesis) (λ t. g.payload end (suc n))) (optional (is g.open_parenthesis) (λ t. g.payload end (suc m))) _ _
       (agrees-optional IsDepth (is g.open_parenthesis) (λ t. g.payload end (suc n)) (λ t. g.payload end (suc m)) (λ t. agrees-payload)) (λ p. same _))
 
-  agrees-variant : Alike (g.variant_cases end (suc n)) (g.variant_cases end (suc m))
-  unfolding g.variant_cases
+  agrees-variant : Alike (g.variant_body end (suc n)) (g.variant_body end (suc m))
+  unfolding g.variant_body
   agrees-variant = agrees-bind IsDepth (g.punctuation end _) (g.punctuation end _) _ _ (same _) (λ a. agrees-bind IsDepth (g.case_list end (suc n) limit) (g.case_list end (suc m) limit) _ _ (agrees-listed IsDepth _ _ _ (g.variant_case end (suc n)) (g.variant_case end (suc m)) agrees-case limit) (λ cs. same _))
 
   agrees-definition : (s : ItemStart) → Alike (g.definition end (suc n) s) (g.definition end (suc m) s)
@@ -214,7 +214,7 @@ module _ (end n m : ℕ) (nm : Alike (g.ty end n) (g.ty end m)) where
   unfolding g.world_entry_behind
   agrees-world_entry_behind d at = agrees-bind IsDepth (g.id end) (g.id end) _ _ (same _) (λ name. agrees-bind IsDepth (g.peek g.semicolon) (g.peek g.semicolon) _ _ (same _) (λ s. agrees-unless IsDepth s _ _ _ _ (same _) (agrees-world_colon d at name)))
 
-  agrees-directed : (o : Option Direction) (at : Span) → Alike (g.directed end (suc n) o at) (g.directed end (suc m) o at)
+  agrees-directed : (o : Option Direction) (at : Span) → Alike (g.directed_entry end (suc n) o at) (g.directed_entry end (suc m) o at)
   agrees-directed (Some d) at = agrees-world_entry_behind d at
   agrees-directed None at = same _
 

@@ -13,7 +13,7 @@ use Rattle.wit_grammar.specs.Faults.{StandsAt, Fails, AnswersRead}
 use Rattle.wit_syntax.specs.View.{file_view}
 use Rattle.wit_syntax.specs.declared.ast.Ast.{Ast}
 use Rattle.wit_grammar.specs.Lookahead.{NoneBegins}
-use Rattle.wit_text.specs.Reading.{IsRead, IsFile, IsDepth, GrammarFault, Faulty}
+use Rattle.wit_text.specs.Reading.{IsRead, IsFile, IsDepth, GrammarFault, FaultyText}
 use Rattle.wit_grammar.specs.Grammar.{nesting, file}
 use Rattle.wit_tokens.specs.Laws.{OneLexing, BadIsRefused, OpenIsRefused}
 use Rattle.wit_text.proofs.FaultLemmas.{none-begins}
@@ -21,7 +21,7 @@ use Rattle.wit_text.proofs.Exactness.{exact-file}
 use Rattle.wit_text.proofs.Limits.{none-at-any-nesting}
 use Rattle.wit_grammar.proofs.Handed.{Fails-on}
 
-pub lex_faulty : (text : List ℕ) (e : TextError) → LexFault text e → Faulty text e
+pub lex_faulty : (text : List ℕ) (e : TextError) → LexFault text e → FaultyText text e
 lex_faulty text (error.BadChar s) h = h
 lex_faulty text (error.OpenComment s) h = h
 lex_faulty text error.Limit h = h
@@ -74,7 +74,7 @@ module _ (text : List ℕ) (ts : List Token) (short : length text ≤ limit) (le
   misplaced : (e : TextError) → ((met : List Lexeme) → StandsAt (length text) met e → ⊥) → answer ≡ Err e → ⊥
   misplaced e off h = let n = within e h in off n.met n.place
 
-  pub is_faulty : (e : TextError) → Fails e answer → Faulty text e
+  pub is_faulty : (e : TextError) → Fails e answer → FaultyText text e
   is_faulty (error.BadChar s) h = absurd (misplaced (error.BadChar s) (λ met p. p) h)
   is_faulty (error.OpenComment s) h = absurd (misplaced (error.OpenComment s) (λ met p. p) h)
   is_faulty error.Limit h = absurd (misplaced error.Limit (λ met p. p) h)
@@ -94,6 +94,6 @@ module _ (text : List ℕ) (ts : List Token) (short : length text ≤ limit) (le
   only_those (Ok a) h f i = only_that (file_view a) f h i
   only_those (Err e) h f i = none_read e f h i
 
-  pub all_faulty : (r : Result Ast TextError) → Answered r → IfErr r (λ e. Faulty text e)
+  pub all_faulty : (r : Result Ast TextError) → Answered r → IfErr r (λ e. FaultyText text e)
   all_faulty (Ok a) h = tt
   all_faulty (Err e) h = is_faulty e h

@@ -4,7 +4,7 @@ use Rattle.productions.specs.Exactness.{Exact, AtEnd}
 use Rattle.wit_tokens.specs.declared.error.TextError.{TextError}
 use Rattle.wit_tokens.specs.Tokens.{Lexeme}
 use Rattle.wit_syntax.specs.Syntax.{File}
-use Rattle.wit_syntax.specs.FullNames.{has_full_names}
+use Rattle.wit_syntax.specs.FullNames.{file_has_full_names}
 use Rattle.wit_grammar.specs.Lookahead.{lookahead, NoneBegins}
 use Rattle.wit_grammar.specs.Grammar.{nesting, file}
 use Rattle.wit_text.specs.Reading.{IsRead, IsFile, IsDepth}
@@ -27,4 +27,4 @@ OneFile end = (ts : List Lexeme) (f g : File) → IsFile end ts f → IsFile end
 
 -- what a text's package and its interfaces are named makes full names
 abbrev pub HasFullNames : List ℕ → Type 0
-HasFullNames text = (f : File) → IsRead text f → IsTrue (has_full_names f)
+HasFullNames text = (f : File) → IsRead text f → IsTrue (file_has_full_names f)

@@ -34,11 +34,11 @@ pub record GrammarFault (text : List ℕ) (spells : List Lexeme → File → Typ
   pub none : NoneBegins (length text) spells (lexemes text tokens) e
 
 -- Why a text is refused. With 32 and 33 no file begins so, however deep its types nest; with 34 none within the limit.
-abbrev pub Faulty : List ℕ → TextError → Type 0
-Faulty text (error.BadChar s) = LexFault text (error.BadChar s)
-Faulty text (error.OpenComment s) = LexFault text (error.OpenComment s)
-Faulty text error.Limit = LexFault text error.Limit
-Faulty text error.NoMemory = Unit {0}
-Faulty text (error.Expected e s) = GrammarFault text (IsFile (length text)) (error.Expected e s)
-Faulty text (error.Unsupported f s) = GrammarFault text (IsFile (length text)) (error.Unsupported f s)
-Faulty text (error.Depth s) = GrammarFault text (file (length text) nesting).spells (error.Depth s)
+abbrev pub FaultyText : List ℕ → TextError → Type 0
+FaultyText text (error.BadChar s) = LexFault text (error.BadChar s)
+FaultyText text (error.OpenComment s) = LexFault text (error.OpenComment s)
+FaultyText text error.Limit = LexFault text error.Limit
+FaultyText text error.NoMemory = Unit {0}
+FaultyText text (error.Expected e s) = GrammarFault text (IsFile (length text)) (error.Expected e s)
+FaultyText text (error.Unsupported f s) = GrammarFault text (IsFile (length text)) (error.Unsupported f s)
+FaultyText text (error.Depth s) = GrammarFault text (file (length text) nesting).spells (error.Depth s)

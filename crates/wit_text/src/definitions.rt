@@ -4,7 +4,7 @@ ghost use Rattle.wit_tokens.specs.Lexing.{limit};
 ghost use Rattle.wit_tokens.specs.Tokens.{lexemes};
 ghost use Rattle.wit_syntax.specs.View.{ty_view, optional_view, case_view, definition_view};
 ghost use Rattle.wit_grammar.specs.Faults.{AnswersRead};
-ghost use Rattle.wit_grammar.specs.Grammar.{nesting, alias, record_fields, payload, optional_payload, case_fault, case_id, variant_case, variant_cases, enum_cases, flag_names};
+ghost use Rattle.wit_grammar.specs.Grammar.{nesting, alias, record_body, payload, optional_payload, case_fault, case_id, variant_case, variant_body, enum_cases, flag_names};
 
 use crate::functions::{NESTING, field};
 use atoms::Label;
@@ -68,14 +68,14 @@ impl EntryReader for Fields {
 }
 
 /// The fields of a record in their braces.
-#[tactic(auto, unfolding(wit_grammar::specs::Grammar::record_fields))]
+#[tactic(auto, unfolding(wit_grammar::specs::Grammar::record_body))]
 pub fn record_fields<'a>(
     alloc: Global,
     source: &[u8],
     tokens: &'a [Token],
 ) -> Result<(TypeDefKind, &'a [Token]), TextError>
     requires { length tokens.now ≤ limit }
-    ensures gives { AnswersRead (λ x. (definition_view x.0, lexemes source.now x.1.now)) result ((record_fields (length source.now) nesting).read (lexemes source.now tokens.now)) }
+    ensures gives { AnswersRead (λ x. (definition_view x.0, lexemes source.now x.1.now)) result ((record_body (length source.now) nesting).read (lexemes source.now tokens.now)) }
     ensures shorter { IfOk result (λ x. length x.1.now < length tokens.now) }
 {
     let (_, tokens) = punctuation(source, tokens, Punctuation::OpenBrace)?;
@@ -201,14 +201,14 @@ impl EntryReader for Cases {
 }
 
 /// The cases of a variant in their braces.
-#[tactic(auto, unfolding(wit_grammar::specs::Grammar::variant_cases))]
+#[tactic(auto, unfolding(wit_grammar::specs::Grammar::variant_body))]
 pub fn variant_cases<'a>(
     alloc: Global,
     source: &[u8],
     tokens: &'a [Token],
 ) -> Result<(TypeDefKind, &'a [Token]), TextError>
     requires { length tokens.now ≤ limit }
-    ensures gives { AnswersRead (λ x. (definition_view x.0, lexemes source.now x.1.now)) result ((variant_cases (length source.now) nesting).read (lexemes source.now tokens.now)) }
+    ensures gives { AnswersRead (λ x. (definition_view x.0, lexemes source.now x.1.now)) result ((variant_body (length source.now) nesting).read (lexemes source.now tokens.now)) }
     ensures shorter { IfOk result (λ x. length x.1.now < length tokens.now) }
 {
     let (_, tokens) = punctuation(source, tokens, Punctuation::OpenBrace)?;

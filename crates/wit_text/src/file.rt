@@ -8,7 +8,7 @@ ghost use Rattle.wit_syntax.specs.Syntax.{File};
 ghost use Rattle.wit_syntax.specs.View.{item_view, file_view};
 ghost use Rattle.wit_grammar.specs.Faults.{AnswersRead};
 ghost use Rattle.wit_grammar.specs.Grammar.{nesting, file_keyword, file_feature, file_fault, begins_item, item, optional_item, items, file};
-ghost use Rattle.wit_text.specs.Reading.{IsRead, Faulty};
+ghost use Rattle.wit_text.specs.Reading.{IsRead, FaultyText};
 
 use crate::interfaces::interface;
 use crate::worlds::world;
@@ -145,7 +145,7 @@ fn file(alloc: Global, source: &[u8], tokens: &[Token]) -> Result<Ast, TextError
 pub fn parse(alloc: Global, text: &str) -> Result<Ast, TextError>
     ensures found { IfOk result (λ a. IsRead text.now (file_view a)) }
     ensures only { (f : File) → IsRead text.now f → AnswersRead file_view result (Ok f) }
-    ensures fault { IfErr result (λ e. Faulty text.now e) }
+    ensures fault { IfErr result (λ e. FaultyText text.now e) }
 {
     texts_have_one_lexing();
     let tokens = lex(alloc, text)?;

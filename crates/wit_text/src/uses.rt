@@ -4,7 +4,7 @@ ghost use Rattle.wit_tokens.specs.Lexing.{limit};
 ghost use Rattle.wit_tokens.specs.Tokens.{lexemes};
 ghost use Rattle.wit_syntax.specs.View.{used_view, entry_view};
 ghost use Rattle.wit_grammar.specs.Faults.{AnswersRead};
-ghost use Rattle.wit_grammar.specs.Grammar.{local_name, used, use_item};
+ghost use Rattle.wit_grammar.specs.Grammar.{local_alias, used, use_item};
 
 use atoms::Label;
 use std::alloc::Global;
@@ -13,13 +13,13 @@ use wit_syntax::{InterfaceItem, Use, UsedName};
 use wit_tokens::{Expected, Keyword, Punctuation, Span, TextError, Token, TokenKind};
 
 /// `as` and a name, or nothing.
-#[tactic(auto, unfolding(wit_grammar::specs::Grammar::local_name))]
+#[tactic(auto, unfolding(wit_grammar::specs::Grammar::local_alias))]
 fn local_name<'a>(
     alloc: Global,
     source: &[u8],
     tokens: &'a [Token],
 ) -> Result<(Option<Label>, &'a [Token]), TextError>
-    ensures gives { AnswersRead (λ x. (x.0, lexemes source.now x.1.now)) result ((local_name (length source.now)).read (lexemes source.now tokens.now)) }
+    ensures gives { AnswersRead (λ x. (x.0, lexemes source.now x.1.now)) result ((local_alias (length source.now)).read (lexemes source.now tokens.now)) }
     ensures shorter { IfOk result (λ x. length x.1.now ≤ length tokens.now) }
 {
     let word = TokenKind::Keyword(Keyword::As);

@@ -4,7 +4,7 @@ ghost use Rattle.wit_tokens.specs.Lexing.{limit};
 ghost use Rattle.wit_tokens.specs.Tokens.{lexeme, lexemes};
 ghost use Rattle.wit_syntax.specs.View.{world_entry_view, item_view};
 ghost use Rattle.wit_grammar.specs.Faults.{AnswersRead};
-ghost use Rattle.wit_grammar.specs.Grammar.{nesting, direction_keyword, direction_of, world_keyword, world_feature, world_fault, single_keyword, single_kind, single_fault, begins_behind_colon, whole_foreign, single, colon_behind, world_colon, world_entry_behind, world_entry, world_list, world};
+ghost use Rattle.wit_grammar.specs.Grammar.{nesting, keyword_direction, direction_of, world_keyword, world_feature, world_fault, single_keyword, single_kind, single_fault, begins_behind_colon, whole_foreign, single, colon_behind, world_colon, world_entry_behind, world_entry, world_list, world};
 
 use crate::functions::whole_function;
 use atoms::Label;
@@ -16,7 +16,7 @@ use wit_syntax::{Direction, Func, Item, Path, World, WorldItem, WorldItemKind};
 use wit_tokens::{Expected, Feature, Keyword, Punctuation, Span, TextError, Token, TokenKind};
 
 fn direction_keyword(keyword: Keyword) -> Option<Direction>
-    ensures { result ≡ direction_keyword keyword }
+    ensures { result ≡ keyword_direction keyword }
 {
     match keyword {
         Keyword::Import => Some(Direction::Import),

@@ -68,13 +68,13 @@ last_from c [] = c
 last_from c (d ∷ ds) = last_from d ds
 
 -- A word's place, by its first and last byte and its length. No two keywords have the same.
-abbrev pub place_of : List ℕ → ℕ
-place_of [] = 0
-place_of (c ∷ cs) = (23 * c + 29 * last_from c cs + length (c ∷ cs)) % 128
+abbrev pub word_place : List ℕ → ℕ
+word_place [] = 0
+word_place (c ∷ cs) = (23 * c + 29 * last_from c cs + length (c ∷ cs)) % 128
 
 abbrev pub placed_in : List Keyword → ℕ → Option Keyword
 placed_in [] place = None
-placed_in (k ∷ ks) place = if place_of (spelling k) == place then Some k else placed_in ks place
+placed_in (k ∷ ks) place = if word_place (spelling k) == place then Some k else placed_in ks place
 
 -- the keyword that has this place
 abbrev pub keyword_at : ℕ → Option Keyword

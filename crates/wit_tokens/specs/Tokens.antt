@@ -28,11 +28,11 @@ word_of [] = []
 word_of (c ∷ cs) = if c == 37 || c == 64 then cs else c ∷ cs
 
 -- the word that a token spells
-abbrev pub name_of : List ℕ → Token → List ℕ
-name_of text t = word_of (bytes_of text t)
+abbrev pub token_name : List ℕ → Token → List ℕ
+token_name text t = word_of (bytes_of text t)
 
 abbrev pub lexeme : List ℕ → Token → Lexeme
-lexeme text t = record { token = t; text = name_of text t }
+lexeme text t = record { token = t; text = token_name text t }
 
 abbrev pub optional_lexeme : List ℕ → Option Token → Option Lexeme
 optional_lexeme text None = None

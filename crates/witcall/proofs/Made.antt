@@ -3,7 +3,7 @@ use Rattle.std.proofs.Common.{◌≡◌, ◌++◌, ◌∷◌, [], ℕ, List, Opt
 use Rattle.atoms.specs.Streams.{ReadsUpTo}
 use Rattle.tables.specs.declared.tables.Resolve.{Resolve}
 use Rattle.words.specs.declared.asked.Job.{Job}
-use Rattle.witcall.specs.Running.{IsMadeOf, Reads, Makes, MakesNothing, MakingRefuses, RunRefuses}
+use Rattle.witcall.specs.Running.{IsOutputOfJob, ReadsInput, MakesOutput, MakesNothing, MakingRefuses, RunRefuses}
 use Rattle.opening.specs.Opening.{IsOpened, OpenRefuses}
 use Rattle.opening.specs.declared.package.OpenError.{OpenError}
 use Rattle.witcall.specs.declared.refused.Refused.{Refused}
@@ -15,11 +15,11 @@ module _ (earlier : List (List ℕ)) (known : Option (List ℕ)) (job : Job) (by
   refuses-opening e refused = inr (bytes, read, subst (λ xs. OpenRefuses (earlier ++ xs ∷ []) e) same refused)
 
   module _ (r : Resolve) (opened : IsOpened (earlier ++ given ∷ []) r) where
-    reads : Reads earlier known r
+    reads : ReadsInput earlier known r
     reads = record { bytes = bytes; read = read; opened = subst (λ xs. IsOpened (earlier ++ xs ∷ []) r) same opened }
 
-    pub makes : (output written : List ℕ) → IsMadeOf job r output → written ≡ output → Makes earlier known job written
-    makes output written made same_output = (r, reads, subst (λ xs. IsMadeOf job r xs) (sym same_output) made)
+    pub makes : (output written : List ℕ) → IsOutputOfJob job r output → written ≡ output → MakesOutput earlier known job written
+    makes output written made same_output = (r, reads, subst (λ xs. IsOutputOfJob job r xs) (sym same_output) made)
 
     makes-nothing : (e : Refused) → MakingRefuses job r e → MakesNothing earlier known job e
     makes-nothing e cause = (r, reads, cause)

@@ -13,16 +13,16 @@ use Rattle.tables.specs.Names.{IsNamed}
 use Rattle.tables.specs.declared.tables.FunctionId.{FunctionId}
 use Rattle.tables.specs.declared.tables.Resolve.{Resolve}
 use Rattle.memory.specs.Space.{spaces}
-use Rattle.witcall.specs.Calling.{Asks, CallAnswers, CallRefuses, fresh}
+use Rattle.witcall.specs.Calling.{NamesCall, CallAnswers, CallRefuses, fresh}
 use Rattle.witcall.specs.Json.{IsArrayTextOf}
-use Rattle.witcall.specs.Signature.{signature_of}
+use Rattle.witcall.specs.Signature.{function_signature}
 use Rattle.witcall.specs.Status.{refusal_of}
 
 -- the words ask for the call of this function with the values that were read and handed on
 pub asks : (r : Resolve) (iface func args : List ℕ) (f : FunctionId) (values handed : List Val) → IsNamed r iface func f
-    → IsArrayTextOf r (signature_of (function_at r f)).params args (map value_of values) → handed ≡ values → Asks r iface func args f (map value_of handed)
+    → IsArrayTextOf r (function_signature (function_at r f)).params args (map value_of values) → handed ≡ values → NamesCall r iface func args f (map value_of handed)
 asks r iface func args f values handed named read same =
-    record { named = named; are_read = subst (λ vs. IsArrayTextOf r (signature_of (function_at r f)).params args (map value_of vs)) (sym same) read }
+    record { named = named; are_read = subst (λ vs. IsArrayTextOf r (function_signature (function_at r f)).params args (map value_of vs)) (sym same) read }
 
 -- a typed call over memories that are fresh, on a body that was put into a box
 pub answers : (B : Type 0) (runs : B → Run) (posts : B → PostRun) (state : B → List ℕ) (b boxed : B) (r own : Resolve) (f : FunctionId)

@@ -17,22 +17,22 @@ use Rattle.values.specs.Val.{value_of}
 use Rattle.lift_lower.specs.NoValue.{AnswerStands}
 use Rattle.lift_lower.specs.Placing.{area_at}
 use Rattle.witcall.specs.Session.{typed_answer, IsReady, IsNotReady}
-use Rattle.canonical_abi.specs.Halves.{world}
+use Rattle.canonical_abi.specs.Halves.{as_world}
 
 module _ (parties : Parties) (f : FunctionType) (arguments : List Value) where
   pub placed : (caller caller' callee : Memory) (body : List ℕ) (flats : List Flat) (area : Option ℕ)
       → IsReady parties.caller_allocates f arguments caller flats area caller'
-      → Placed parties f arguments (world caller callee body) flats (area_at area) (world caller' callee body)
+      → Placed parties f arguments (as_world caller callee body) flats (area_at area) (as_world caller' callee body)
   placed caller caller' callee body flats area h = record { puts = h; same_callee = refl; same_body = refl }
 
   pub place_fails : (caller caller' callee : Memory) (body : List ℕ) (fault : Fault)
       → IsNotReady parties.caller_allocates f arguments caller fault caller'
-      → TypedCall parties exact f arguments (world caller callee body) (Err fault) (world caller' callee body)
+      → TypedCall parties exact f arguments (as_world caller callee body) (Err fault) (as_world caller' callee body)
   place_fails caller caller' callee body ended.NoMemory h = absurd h
   place_fails caller caller' callee body (ended.Trap t) h =
-      let fails : PlaceFails parties f arguments (world caller callee body) t.kind (world caller' callee body) =
+      let fails : PlaceFails parties f arguments (as_world caller callee body) t.kind (as_world caller' callee body) =
       record { fails = h.1; same_callee = refl; same_body = refl } in
-      subst (λ s. TypedTraps parties exact f arguments (world caller callee body) s t.kind (world caller' callee body)) (sym h.0) fails
+      subst (λ s. TypedTraps parties exact f arguments (as_world caller callee body) s t.kind (as_world caller' callee body)) (sym h.0) fails
 
   module _ (area : ℕ) where
     traps : (old place new : World) (flats : List Flat) (s : Step) (k : TrapKind) (ways : Ways) → Placed parties f arguments old flats area place

@@ -17,7 +17,7 @@ use Rattle.memory.specs.declared.error.MemoryError.TheVariants as memory
 use Rattle.witcall.specs.declared.refused.Refused.{Refused}
 use Rattle.witcall.specs.declared.refused.Refused.TheVariants as refused
 use Rattle.witcall.specs.Json.{IsCompactTextOf, IsArrayTextOf, RefusesArray}
-use Rattle.witcall.specs.Signature.{signature_of, IsMissing}
+use Rattle.witcall.specs.Signature.{function_signature, IsMissing}
 
 -- a memory of so many zeros that may grow to so many, and takes blocks back; all that is usable is one hole
 unfoldable pub fresh : ℕ → ℕ → Memory
@@ -37,9 +37,9 @@ abbrev pub program_world : List ℕ → World
 program_world state = record { caller = fresh 65536 1048576; callee = fresh 65536 1048576; body = state }
 
 -- the words name this function of the package, and give it these arguments
-pub record Asks (r : Resolve) (iface func args : List ℕ) (f : FunctionId) (vs : List Value) : Type 0 where
+pub record NamesCall (r : Resolve) (iface func args : List ℕ) (f : FunctionId) (vs : List Value) : Type 0 where
   pub named : IsNamed r iface func f
-  pub are_read : IsArrayTextOf r (signature_of (function_at r f)).params args vs
+  pub are_read : IsArrayTextOf r (function_signature (function_at r f)).params args vs
 
 -- a call of the function over two fresh memories, on a body that may make these runs, has this answer
 abbrev pub CallAnswers : Resolve → FunctionId → List Value → Run → PostRun → List ℕ → Result (Option Value) Fault → Type 0
@@ -50,10 +50,10 @@ CallAnswers r f vs runs posts state answer =
 pub record Prints (r : Resolve) (iface func args : List ℕ) (runs : Run) (posts : PostRun) (state output : List ℕ) : Type 0 where
   pub function : FunctionId
   pub arguments : List Value
-  pub asked : Asks r iface func args function arguments
+  pub asked : NamesCall r iface func args function arguments
   pub answer : Option Value
   pub called : CallAnswers r function arguments runs posts state (Ok answer)
-  pub printed : IsOutputOf r (signature_of (function_at r function)).result answer output
+  pub printed : IsOutputOf r (function_signature (function_at r function)).result answer output
 
 -- the call came to its end, or memory of the host was wanting in it: it did not trap
 abbrev pub IsNoTrap : Result (Option Value) Fault → Type 0
@@ -73,7 +73,7 @@ CallRefuses r f vs runs posts state _ = ⊥
 abbrev pub RunCallRefuses : Resolve → (iface func args : List ℕ) → Run → PostRun → (state : List ℕ) → Refused → Type 0
 RunCallRefuses r iface func args runs posts state refused.NoFunction = IsMissing r iface func
 RunCallRefuses r iface func args runs posts state (refused.Json e) =
-    (f : FunctionId) × IsNamed r iface func f × RefusesArray r (signature_of (function_at r f)).params args e
+    (f : FunctionId) × IsNamed r iface func f × RefusesArray r (function_signature (function_at r f)).params args e
 RunCallRefuses r iface func args runs posts state refused.Write = (output : List ℕ) × Prints r iface func args runs posts state output
 RunCallRefuses r iface func args runs posts state e =
-    (f : FunctionId) × (vs : List Value) × Asks r iface func args f vs × CallRefuses r f vs runs posts state e
+    (f : FunctionId) × (vs : List Value) × NamesCall r iface func args f vs × CallRefuses r f vs runs posts state e

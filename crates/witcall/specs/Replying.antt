@@ -16,7 +16,7 @@ use Rattle.tables.specs.Same.{IsSamePackage}
 use Rattle.tables.specs.declared.tables.FunctionId.{FunctionId}
 use Rattle.tables.specs.declared.tables.Resolve.{Resolve}
 use Rattle.witcall.specs.Json.{IsArrayTextOf, RefusesArray}
-use Rattle.witcall.specs.Signature.{signature_of, IsMissing}
+use Rattle.witcall.specs.Signature.{function_signature, IsMissing}
 use Rattle.witcall.specs.declared.refused.Refused.{Refused}
 use Rattle.witcall.specs.declared.refused.Refused.TheVariants as refused
 use Rattle.witcall.specs.declared.reply.Reply.{Reply}
@@ -50,12 +50,12 @@ WantsMemory r f old answer new = (IsScalarFunction r f → ⊥) × (answer ≡ N
 pub record IsReplyOf (r : Resolve) (iface func text : List ℕ) (reply : Reply) : Type 0 where
   pub own : IsSamePackage reply.«package».resolve r
   pub named : IsNamed r iface func reply.func
-  pub are_read : IsArrayTextOf r (option_to_list (signature_of (function_at r reply.func)).result) text (map value_of (option_to_list reply.value))
+  pub are_read : IsArrayTextOf r (option_to_list (function_signature (function_at r reply.func)).result) text (map value_of (option_to_list reply.value))
 
 -- why no body is made for these names and this text
 abbrev pub ReplyRefuses : Resolve → (iface func text : List ℕ) → Refused → Type 0
 ReplyRefuses r iface func text refused.NoFunction = IsMissing r iface func
 ReplyRefuses r iface func text (refused.Json e) =
-    (f : FunctionId) × IsNamed r iface func f × RefusesArray r (option_to_list (signature_of (function_at r f)).result) text e
+    (f : FunctionId) × IsNamed r iface func f × RefusesArray r (option_to_list (function_signature (function_at r f)).result) text e
 ReplyRefuses r iface func text refused.NoMemory = Unit {0}
 ReplyRefuses r iface func text _ = ⊥

@@ -16,21 +16,21 @@ use Rattle.words.specs.declared.asked.Job.{Job}
 use Rattle.words.specs.declared.asked.Job.TheVariants.{Show, Bin, Text, Layout}
 
 -- What a job makes of a set: the last package's overview, its binary, the shortest, its canonical text, or its layouts.
-abbrev pub IsMadeOf : Job → Resolve → List ℕ → Type 0
-IsMadeOf Show r output = output ≡ shown r
-IsMadeOf Bin r output = ∥ IsWrittenAs output r ∥₁ × AreBytesOf r output
-IsMadeOf Text r output = IsCanonicalText r output
-IsMadeOf Layout r output = output ≡ laid_out r
+abbrev pub IsOutputOfJob : Job → Resolve → List ℕ → Type 0
+IsOutputOfJob Show r output = output ≡ shown r
+IsOutputOfJob Bin r output = ∥ IsWrittenAs output r ∥₁ × AreBytesOf r output
+IsOutputOfJob Text r output = IsCanonicalText r output
+IsOutputOfJob Layout r output = output ≡ laid_out r
 
 -- the first bytes of a reader, up to the limit and one more, are opened behind these packages
-pub record Reads (earlier : List (List ℕ)) (known : Option (List ℕ)) (r : Resolve) : Type 0 where
+pub record ReadsInput (earlier : List (List ℕ)) (known : Option (List ℕ)) (r : Resolve) : Type 0 where
   pub bytes : List ℕ
   pub read : ReadsUpTo 1048576 known bytes
   pub opened : IsOpened (earlier ++ bytes ∷ []) r
 
 -- .. and the job makes this
-abbrev pub Makes : List (List ℕ) → Option (List ℕ) → Job → List ℕ → Type 0
-Makes earlier known job output = (r : Resolve) × Reads earlier known r × IsMadeOf job r output
+abbrev pub MakesOutput : List (List ℕ) → Option (List ℕ) → Job → List ℕ → Type 0
+MakesOutput earlier known job output = (r : Resolve) × ReadsInput earlier known r × IsOutputOfJob job r output
 
 -- the reader failed, or memory was wanting for what it gave
 abbrev pub IsReadFault : OpenError → Type 0
@@ -45,7 +45,7 @@ MakingRefuses job r _ = ⊥
 
 -- .. that is opened behind these
 abbrev pub MakesNothing : List (List ℕ) → Option (List ℕ) → Job → Refused → Type 0
-MakesNothing earlier known job e = (r : Resolve) × Reads earlier known r × MakingRefuses job r e
+MakesNothing earlier known job e = (r : Resolve) × ReadsInput earlier known r × MakingRefuses job r e
 
 -- why a job is not done with the bytes of a reader, behind these packages
 abbrev pub RunRefuses : List (List ℕ) → Option (List ℕ) → Job → Refused → Type 0
@@ -53,7 +53,7 @@ RunRefuses earlier known job (refused.Open e) = IsReadFault e ⊎ ((bytes : List
 RunRefuses earlier known job (refused.Binary e) = MakesNothing earlier known job (refused.Binary e)
 RunRefuses earlier known job (refused.Text e) = MakesNothing earlier known job (refused.Text e)
 RunRefuses earlier known job refused.NoMemory = MakesNothing earlier known job refused.NoMemory
-RunRefuses earlier known job refused.Write = (output : List ℕ) × Makes earlier known job output
+RunRefuses earlier known job refused.Write = (output : List ℕ) × MakesOutput earlier known job output
 RunRefuses earlier known job _ = ⊥
 
 -- ---- earlier packages

@@ -10,9 +10,9 @@ pub record Signature : Type 0 where
   pub params : List ValType
   pub result : Option ValType
 
-abbrev pub signature_of : Option Function → Signature
-signature_of None = record { params = []; result = None }
-signature_of (Some f) = record { params = map (λ p. p.ty) f.params; result = f.result }
+abbrev pub function_signature : Option Function → Signature
+function_signature None = record { params = []; result = None }
+function_signature (Some f) = record { params = map (λ p. p.ty) f.params; result = f.result }
 
 -- no function has this name
 abbrev pub IsMissing : Resolve → List ℕ → List ℕ → Type 0

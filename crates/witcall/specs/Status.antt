@@ -7,10 +7,10 @@ use Rattle.canonical_abi.specs.declared.trap.Fault.TheVariants as fault
 use Rattle.words.specs.declared.parsing.WordsError.TheVariants.{Usage}
 
 -- 2 for wrong words, 3 for a trap, 1 for any other refusal
-abbrev pub status_of : Refused → ℕ
-status_of (Words Usage) = 2
-status_of (Trap trap) = 3
-status_of _ = 1
+abbrev pub exit_status : Refused → ℕ
+exit_status (Words Usage) = 2
+exit_status (Trap trap) = 3
+exit_status _ = 1
 
 -- a fault of the call as a refusal
 abbrev pub refusal_of : Fault → Refused

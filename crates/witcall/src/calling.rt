@@ -9,7 +9,7 @@ ghost use Rattle.canonical_abi.specs.Session.{as_list};
 ghost use Rattle.tables.specs.Closed.{IsFunction, function_at, function_type};
 ghost use Rattle.values.specs.Val.{value_of};
 ghost use Rattle.memory.specs.Growth.{ArePages};
-ghost use Rattle.witcall.specs.Signature.{signature_of};
+ghost use Rattle.witcall.specs.Signature.{function_signature};
 ghost use Rattle.witcall.specs.Calling.{IsOutputOf, Prints, RunCallRefuses, CallAnswers, CallRefuses, fresh};
 
 use crate::json::{arguments_from_json, to_json};
@@ -108,7 +108,7 @@ fn output_of(
     requires function { IsFunction «package».now.resolve func }
     requires typed { HaveTypes (as_list (option_map value_of answer))
         (result_fields (function_type «package».now.resolve func).result) }
-    ensures { IfOk result (λ output. IsOutputOf «package».now.resolve (signature_of (function_at «package».now.resolve func)).result
+    ensures { IfOk result (λ output. IsOutputOf «package».now.resolve (function_signature (function_at «package».now.resolve func)).result
         (option_map value_of answer) (string_bytes output)) }
 {
     let ty = result_type(package.resolve(), func);

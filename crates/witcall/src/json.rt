@@ -8,7 +8,7 @@ ghost use Rattle.tables.specs.Closed.{IsFunction, closed_type, function_at, func
 ghost use Rattle.tables.specs.Standard.{IsTypeOf};
 ghost use Rattle.values.specs.Members.{fields_of_types, AreTypesOf};
 ghost use Rattle.values.specs.Val.{value_of};
-ghost use Rattle.witcall.specs.Signature.{signature_of};
+ghost use Rattle.witcall.specs.Signature.{function_signature};
 ghost use Rattle.witcall.specs.Json.{IsTextOf, IsTextOfNone, IsTextOfOnly, IsCompactTextOf, IsArrayTextOf, RefusesArray};
 
 use crate::laws::has_labels_apart;
@@ -109,10 +109,10 @@ pub fn arguments_from_json(
     text: &str,
 ) -> Result<Vec<Val>, JsonError>
     requires { IsFunction «package».now.resolve func }
-    ensures ok { IfOk result (λ vs. IsArrayTextOf «package».now.resolve (signature_of (function_at «package».now.resolve func)).params
+    ensures ok { IfOk result (λ vs. IsArrayTextOf «package».now.resolve (function_signature (function_at «package».now.resolve func)).params
         text.now (map value_of vs.items)) }
     ensures typed { IfOk result (λ vs. HaveTypes (map value_of vs.items) (function_type «package».now.resolve func).params) }
-    ensures err { IfErr result (RefusesArray «package».now.resolve (signature_of (function_at «package».now.resolve func)).params text.now) }
+    ensures err { IfErr result (RefusesArray «package».now.resolve (function_signature (function_at «package».now.resolve func)).params text.now) }
 {
     let types = parameter_types(alloc, &package.types(), func)?;
     values_from_json(alloc, package, types.as_slice(), text)

@@ -1,7 +1,7 @@
 //! Why the program did not do what it was asked for, and how it says so.
 
 ghost use Rattle.std.specs.Prelude.{◌≡◌, false};
-ghost use Rattle.witcall.specs.Status.{status_of};
+ghost use Rattle.witcall.specs.Status.{exit_status};
 
 use crate::json::JsonError;
 use crate::line::Line;
@@ -129,7 +129,7 @@ impl From<Fault> for Refused {
 impl Refused {
     /// The exit status: 2 for wrong words, 3 for a trap, 1 for any other refusal.
     pub fn status(&self) -> u8
-        ensures { result ≡ status_of self.now }
+        ensures { result ≡ exit_status self.now }
     {
         match self {
             Refused::Words(WordsError::Usage) => 2,
@@ -142,7 +142,7 @@ impl Refused {
 /// Writes the line of a refusal, and answers its exit status. It takes no memory of the host.
 pub fn report<W: Sink>(refused: &Refused, writer: &mut W) -> u8
     requires { W.has_failed writer.old ≡ false }
-    ensures { result ≡ status_of refused.now }
+    ensures { result ≡ exit_status refused.now }
 {
     let mut line = Line::new(writer);
     let _written = writeln!(line, "{refused}");

@@ -8,7 +8,7 @@ ghost use Rattle.canonical_abi.specs.Values.{HaveTypes, Value};
 ghost use Rattle.values.specs.Val.{value_of};
 ghost use Rattle.memory.specs.SpaceView.{space_memory};
 ghost use Rattle.tables.specs.Closed.{IsFunction, function_at, function_type};
-ghost use Rattle.witcall.specs.Signature.{signature_of};
+ghost use Rattle.witcall.specs.Signature.{function_signature};
 
 use crate::json::values_from_json;
 use crate::refused::Refused;
@@ -34,7 +34,7 @@ pub struct Reply {
     /// The value of the result, if it has one.
     value: Option<Val>,
     ghost function: { IsFunction «package».resolve func },
-    ghost named: { params.items ≡ (signature_of (function_at «package».resolve func)).params },
+    ghost named: { params.items ≡ (function_signature (function_at «package».resolve func)).params },
     ghost typed: { ∥ HaveTypes (map value_of (option_to_list value)) (result_fields (function_type «package».resolve func).result) ∥₁ },
 }
 

@@ -5,7 +5,7 @@ ghost use Rattle.std.specs.Io.KnownBytes.{Appends, Consumes, Keeps};
 ghost use Rattle.atoms.specs.Streams.{ReadsUpTo, ConsumesMany};
 ghost use Rattle.opening.specs.Opening.{IsOpened, OpenRefuses};
 ghost use Rattle.opening.specs.Sets.{all_bytes};
-ghost use Rattle.witcall.specs.Running.{all_items, IsMadeOf, Makes, MakingRefuses, RunRefuses};
+ghost use Rattle.witcall.specs.Running.{all_items, IsOutputOfJob, MakesOutput, MakingRefuses, RunRefuses};
 
 use crate::output::write_bytes;
 use crate::reading::read_all;
@@ -18,7 +18,7 @@ use words::asked::Job;
 
 /// What a job makes of a package, whole.
 fn made(alloc: Global, job: Job, package: &Package) -> Result<Vec<u8>, Refused>
-    ensures ok { IfOk result (λ v. IsMadeOf job «package».now.resolve v.items) }
+    ensures ok { IfOk result (λ v. IsOutputOfJob job «package».now.resolve v.items) }
     ensures err { IfErr result (MakingRefuses job «package».now.resolve) }
 {
     match job {
@@ -40,9 +40,9 @@ pub fn run<R: Source, W: Sink>(
 ) -> Result<(), Refused>
     requires reader { R.has_failed reader.old ≡ false }
     requires writer { W.has_failed writer.old ≡ false }
-    ensures ok { OnOk result ((output : List ℕ) × Makes [] (R.remaining reader.old) job output
+    ensures ok { OnOk result ((output : List ℕ) × MakesOutput [] (R.remaining reader.old) job output
         × Appends (W.contents writer.old) (W.contents writer.new) output) }
-    ensures begun { IsErrOf result Refused.Write → (output : List ℕ) × (count : ℕ) × Makes [] (R.remaining reader.old) job output
+    ensures begun { IsErrOf result Refused.Write → (output : List ℕ) × (count : ℕ) × MakesOutput [] (R.remaining reader.old) job output
         × (count ≤ length output) × Appends (W.contents writer.old) (W.contents writer.new) (take count output) }
     ensures err { IfErr result (RunRefuses [] (R.remaining reader.old) job) }
     ensures memory { result ≡ Err (Refused.Open OpenError.NoMemory) → R.has_failed reader.new ≡ false }
@@ -93,9 +93,9 @@ pub fn run_set<R: Source, W: Sink>(
 ) -> Result<(), Refused>
     requires reader { R.has_failed reader.old ≡ false }
     requires writer { W.has_failed writer.old ≡ false }
-    ensures ok { OnOk result ((output : List ℕ) × Makes (all_items earlier.now) (R.remaining reader.old) job output
+    ensures ok { OnOk result ((output : List ℕ) × MakesOutput (all_items earlier.now) (R.remaining reader.old) job output
         × Appends (W.contents writer.old) (W.contents writer.new) output) }
-    ensures begun { IsErrOf result Refused.Write → (output : List ℕ) × (count : ℕ) × Makes (all_items earlier.now) (R.remaining reader.old) job output
+    ensures begun { IsErrOf result Refused.Write → (output : List ℕ) × (count : ℕ) × MakesOutput (all_items earlier.now) (R.remaining reader.old) job output
         × (count ≤ length output) × Appends (W.contents writer.old) (W.contents writer.new) (take count output) }
     ensures err { IfErr result (RunRefuses (all_items earlier.now) (R.remaining reader.old) job) }
     ensures memory { result ≡ Err (Refused.Open OpenError.NoMemory) → R.has_failed reader.new ≡ false }

@@ -6,7 +6,7 @@ ghost use Rattle.values.specs.Members.{fields_of_types, AreTypesOf};
 ghost use Rattle.tables.specs.Closed.{IsFunction, function_at, function_type};
 ghost use Rattle.tables.specs.Names.{IsNamed};
 ghost use Rattle.tables.specs.Standard.{IsTypeOf};
-ghost use Rattle.witcall.specs.Signature.{signature_of, IsMissing};
+ghost use Rattle.witcall.specs.Signature.{function_signature, IsMissing};
 
 use crate::refused::Refused;
 use opening::Package;
@@ -28,7 +28,7 @@ pub fn function_named(package: &Package, iface: &str, func: &str) -> Result<Func
 /// The type of a function's result, if it has one.
 pub fn result_type(resolve: &Resolve, func: FunctionId) -> Option<ValType>
     requires { IsFunction resolve.now func }
-    ensures ty { result ≡ (signature_of (function_at resolve.now func)).result }
+    ensures ty { result ≡ (function_signature (function_at resolve.now func)).result }
     ensures known { IfSome result (IsTypeOf resolve.now) }
     ensures all_known { AreTypesOf resolve.now (option_to_list result) }
     ensures fields { fields_of_types resolve.now (option_to_list result) ≡ result_fields (function_type resolve.now func).result }

@@ -14,11 +14,11 @@ abbrev pub flats_of : Call → List Value
 flats_of call = take call.count call.flats
 
 -- it keeps these core values, of the function of this number
-abbrev pub Keeps : ℕ → List Value → Call → Type 0
-Keeps func flats call = (call.func ≡ func) × (flats_of call ≡ flats)
+abbrev pub KeepsValues : ℕ → List Value → Call → Type 0
+KeepsValues func flats call = (call.func ≡ func) × (flats_of call ≡ flats)
 
 -- a call that begins keeps its core values; one that doesn't is as it was
-abbrev pub Begins : FunctionType → ℕ → List Value → Call → Result ℕ CallError → Call → Type 0
-Begins f func flats old done new = MatchResult done
-    (λ count. (count ≡ 0) × KindsFit f (map flat_of flats) × Keeps func flats new)
+abbrev pub BeginsCall : FunctionType → ℕ → List Value → Call → Result ℕ CallError → Call → Type 0
+BeginsCall f func flats old done new = MatchResult done
+    (λ count. (count ≡ 0) × KindsFit f (map flat_of flats) × KeepsValues func flats new)
     (λ e. (AreTooMany flats LiftArgs e ⊎ AreOtherKinds f (map flat_of flats) LiftArgs e) × (new ≡ old))

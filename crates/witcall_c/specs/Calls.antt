@@ -39,18 +39,18 @@ numbered n = record { 0 = n }
 abbrev pub stands_for : Handle → Option Held
 stands_for h = h.kept.held
 
-abbrev pub package_in : Opening → Option Package
-package_in (Ok p) = Some p
-package_in (Err e) = None
+abbrev pub opened_package : Opening → Option Package
+opened_package (Ok p) = Some p
+opened_package (Err e) = None
 
 -- the package of a handle, if one is open
-abbrev pub package_of : Option Held → Option Package
-package_of None = None
-package_of (Some held) = package_in held.opened
+abbrev pub held_package : Option Held → Option Package
+held_package None = None
+held_package (Some held) = opened_package held.opened
 
 -- its table
-abbrev pub table_of : Option Held → Option Resolve
-table_of held = option_map (λ p. p.resolve) (package_of held)
+abbrev pub held_table : Option Held → Option Resolve
+held_table held = option_map (λ p. p.resolve) (held_package held)
 
 -- the package has a function of this number
 abbrev pub HasFunction : Option Package → ℕ → Resolve → FunctionId → Type 0
@@ -95,7 +95,7 @@ TellsOf old new status Comes = (held : Option Held) × (old ≡ held) × (new �
 
 -- the same of a call of the function of this number
 abbrev pub CallsOf : Option Held → Option Held → ℕ → Status → (FunctionType → Result ℕ CallError → Type 0) → Type 0 → Type 0
-CallsOf old new number status Tells unchanged = TellsOf old new status (λ held done. CallsFunction (package_of held) number Tells unchanged done)
+CallsOf old new number status Tells unchanged = TellsOf old new status (λ held done. CallsFunction (held_package held) number Tells unchanged done)
 
 -- a handle stands for what the inputs are opened as, and the status tells which; or for nothing, where there was no memory for it
 abbrev pub Opens : List (List ℕ) → Option Held → Status → Type 0

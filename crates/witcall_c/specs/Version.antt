@@ -2,8 +2,8 @@
 use Rattle.std.specs.Prelude.{ℕ, List, [], ◌∷◌}
 
 -- 0.1.0
-abbrev pub version : List ℕ
-version = 0x30 ∷ 0x2e ∷ 0x31 ∷ 0x2e ∷ 0x30 ∷ []
+abbrev pub library_version : List ℕ
+library_version = 0x30 ∷ 0x2e ∷ 0x31 ∷ 0x2e ∷ 0x30 ∷ []
 
 abbrev pub abi : ℕ
 abi = 1

@@ -27,9 +27,9 @@ WritesBinary (Some p) old done new = Writes (IsBinary p) (IsLongBinary p) old do
 abbrev pub IsText : Package → List ℕ → Type 0
 IsText p bytes = IsCanonicalText p.resolve bytes × ∥ IsPrintedAs bytes p.resolve ∥₁
 
-abbrev pub IsLongText : Package → CallError → Type 0
-IsLongText p e = (e ≡ error.LongText) × HasLongText p.resolve
+abbrev pub AnswersLongText : Package → CallError → Type 0
+AnswersLongText p e = (e ≡ error.LongText) × HasLongText p.resolve
 
 abbrev pub WritesText : Option Package → List ℕ → Result ℕ CallError → List ℕ → Type 0
 WritesText None old done new = (done ≡ Err error.NotOpen) × (new ≡ old)
-WritesText (Some p) old done new = Writes (IsText p) (IsLongText p) old done new
+WritesText (Some p) old done new = Writes (IsText p) (AnswersLongText p) old done new

@@ -1,6 +1,6 @@
 //! A call between its halves, as a host in C keeps it.
 ghost use Rattle.std.specs.Prelude.{◌≡◌, ◌≤◌, length};
-ghost use Rattle.witcall_c.specs.CallObject.{Keeps, flats_of};
+ghost use Rattle.witcall_c.specs.CallObject.{KeepsValues, flats_of};
 
 use host_calls::{MAX_VALUES, Value};
 
@@ -17,7 +17,7 @@ impl Call {
     /// Keeps the core values of a call.
     pub fn keep(&mut self, func: u32, flats: &[Value])
         requires { length flats.now ≤ 17 }
-        ensures { Keeps func flats.now self.new }
+        ensures { KeepsValues func flats.now self.new }
     {
         self.func = func;
         self.count = flats.len() as u32;

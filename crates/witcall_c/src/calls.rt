@@ -6,8 +6,8 @@ ghost use Rattle.canonical_abi.specs.Types.{result_fields};
 ghost use Rattle.host_calls.specs.Calling.{EnterDone, LeaveDone, EnterAsks, LeaveAsks};
 ghost use Rattle.host_calls.specs.Parts.{PartsDone};
 ghost use Rattle.host_calls.specs.Signatures.{KindsDone};
-ghost use Rattle.witcall_c.specs.CallObject.{Begins};
-ghost use Rattle.witcall_c.specs.Calls.{CallsFunction, package_of};
+ghost use Rattle.witcall_c.specs.CallObject.{BeginsCall};
+ghost use Rattle.witcall_c.specs.Calls.{CallsFunction, held_package};
 
 use crate::call::Call;
 use crate::held::{Target, function};
@@ -23,8 +23,8 @@ pub fn begin(
     flats: &[Value],
     call: &mut Call,
 ) -> Result<usize, CallError>
-    ensures { CallsFunction (package_of (option_map (λ held. held.value) held.now)) number
-        (λ f done. Begins f number flats.now call.old done call.new) (call.new ≡ call.old) result }
+    ensures { CallsFunction (held_package (option_map (λ held. held.value) held.now)) number
+        (λ f done. BeginsCall f number flats.now call.old done call.new) (call.new ≡ call.old) result }
 {
     let (types, func) = function(held, number)?;
     host_calls::begin(&types, func, flats)?;
@@ -51,7 +51,7 @@ impl NumberedHalf<'_> {
         callee: &mut [u8],
         handed: &mut [Value],
     ) -> Result<usize, CallError>
-        ensures done { CallsFunction (package_of (option_map (λ held. held.value) held.now)) self.now.number
+        ensures done { CallsFunction (held_package (option_map (λ held. held.value) held.now)) self.now.number
             (λ f done. EnterDone f self.now.flats.now caller.old callee.old self.now.blocks.now handed.old done callee.new handed.new)
             ((callee.new ≡ callee.old) × (handed.new ≡ handed.old)) result }
         ensures same_caller { caller.new ≡ caller.old }
@@ -75,7 +75,7 @@ impl NumberedHalf<'_> {
         caller: &mut [u8],
         back: &mut [Value],
     ) -> Result<usize, CallError>
-        ensures done { CallsFunction (package_of (option_map (λ held. held.value) held.now)) self.now.number
+        ensures done { CallsFunction (held_package (option_map (λ held. held.value) held.now)) self.now.number
             (λ f done. LeaveDone f self.now.flats.now callee.old answer.now caller.old self.now.blocks.now back.old done caller.new back.new)
             ((caller.new ≡ caller.old) × (back.new ≡ back.old)) result }
         ensures same_callee { callee.new ≡ callee.old }
@@ -99,7 +99,7 @@ pub fn enter_requests(
     caller: &mut [u8],
     requests: &mut [Request],
 ) -> Result<usize, CallError>
-    ensures done { CallsFunction (package_of (option_map (λ held. held.value) held.now)) number
+    ensures done { CallsFunction (held_package (option_map (λ held. held.value) held.now)) number
         (λ f done. EnterAsks f flats.now caller.old requests.old done requests.new) (requests.new ≡ requests.old) result }
     ensures same_caller { caller.new ≡ caller.old }
 {
@@ -115,7 +115,7 @@ pub fn leave_requests(
     callee: &mut [u8],
     requests: &mut [Request],
 ) -> Result<usize, CallError>
-    ensures done { CallsFunction (package_of (option_map (λ held. held.value) held.now)) number
+    ensures done { CallsFunction (held_package (option_map (λ held. held.value) held.now)) number
         (λ f done. LeaveAsks f answer.now callee.old requests.old done requests.new) (requests.new ≡ requests.old) result }
     ensures same_callee { callee.new ≡ callee.old }
 {
@@ -125,7 +125,7 @@ pub fn leave_requests(
 
 /// How the parameters lie in memory.
 pub fn parameter_parts(held: &Target, number: u32, out: &mut [Part]) -> Result<usize, CallError>
-    ensures { CallsFunction (package_of (option_map (λ held. held.value) held.now)) number (λ f done. PartsDone f.params out.old done out.new) (out.new ≡ out.old) result }
+    ensures { CallsFunction (held_package (option_map (λ held. held.value) held.now)) number (λ f done. PartsDone f.params out.old done out.new) (out.new ≡ out.old) result }
 {
     let (types, func) = function(held, number)?;
     host_calls::parameter_parts(&types, func, out)
@@ -133,7 +133,7 @@ pub fn parameter_parts(held: &Target, number: u32, out: &mut [Part]) -> Result<u
 
 /// How the result lies in memory.
 pub fn result_part(held: &Target, number: u32, out: &mut [Part]) -> Result<usize, CallError>
-    ensures { CallsFunction (package_of (option_map (λ held. held.value) held.now)) number (λ f done. PartsDone (result_fields f.result) out.old done out.new) (out.new ≡ out.old) result }
+    ensures { CallsFunction (held_package (option_map (λ held. held.value) held.now)) number (λ f done. PartsDone (result_fields f.result) out.old done out.new) (out.new ≡ out.old) result }
 {
     let (types, func) = function(held, number)?;
     host_calls::result_part(&types, func, out)
@@ -141,7 +141,7 @@ pub fn result_part(held: &Target, number: u32, out: &mut [Part]) -> Result<usize
 
 /// The kinds of the parameters of the callee's core function.
 pub fn lifted_params(held: &Target, number: u32, out: &mut [u32]) -> Result<usize, CallError>
-    ensures { CallsFunction (package_of (option_map (λ held. held.value) held.now)) number (λ f done. KindsDone (lifted_signature f).params out.old done out.new) (out.new ≡ out.old) result }
+    ensures { CallsFunction (held_package (option_map (λ held. held.value) held.now)) number (λ f done. KindsDone (lifted_signature f).params out.old done out.new) (out.new ≡ out.old) result }
 {
     let (types, func) = function(held, number)?;
     host_calls::lifted_params(&types, func, out)
@@ -149,7 +149,7 @@ pub fn lifted_params(held: &Target, number: u32, out: &mut [u32]) -> Result<usiz
 
 /// The kind of its result, if it has one.
 pub fn lifted_result(held: &Target, number: u32, out: &mut [u32]) -> Result<usize, CallError>
-    ensures { CallsFunction (package_of (option_map (λ held. held.value) held.now)) number (λ f done. KindsDone (lifted_signature f).results out.old done out.new) (out.new ≡ out.old) result }
+    ensures { CallsFunction (held_package (option_map (λ held. held.value) held.now)) number (λ f done. KindsDone (lifted_signature f).results out.old done out.new) (out.new ≡ out.old) result }
 {
     let (types, func) = function(held, number)?;
     host_calls::lifted_result(&types, func, out)
@@ -157,7 +157,7 @@ pub fn lifted_result(held: &Target, number: u32, out: &mut [u32]) -> Result<usiz
 
 /// The kinds of the parameters of the caller's import.
 pub fn lowered_params(held: &Target, number: u32, out: &mut [u32]) -> Result<usize, CallError>
-    ensures { CallsFunction (package_of (option_map (λ held. held.value) held.now)) number (λ f done. KindsDone (lowered_signature f).params out.old done out.new) (out.new ≡ out.old) result }
+    ensures { CallsFunction (held_package (option_map (λ held. held.value) held.now)) number (λ f done. KindsDone (lowered_signature f).params out.old done out.new) (out.new ≡ out.old) result }
 {
     let (types, func) = function(held, number)?;
     host_calls::lowered_params(&types, func, out)
@@ -165,7 +165,7 @@ pub fn lowered_params(held: &Target, number: u32, out: &mut [u32]) -> Result<usi
 
 /// The kind of its result, if it has one.
 pub fn lowered_result(held: &Target, number: u32, out: &mut [u32]) -> Result<usize, CallError>
-    ensures { CallsFunction (package_of (option_map (λ held. held.value) held.now)) number (λ f done. KindsDone (lowered_signature f).results out.old done out.new) (out.new ≡ out.old) result }
+    ensures { CallsFunction (held_package (option_map (λ held. held.value) held.now)) number (λ f done. KindsDone (lowered_signature f).results out.old done out.new) (out.new ≡ out.old) result }
 {
     let (types, func) = function(held, number)?;
     host_calls::lowered_result(&types, func, out)

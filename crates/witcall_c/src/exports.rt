@@ -10,12 +10,12 @@ ghost use Rattle.host_calls.specs.declared.error.CallError.{CallError};
 ghost use Rattle.host_lists.specs.Members.{member_at};
 ghost use Rattle.host_lists.specs.Names.{member_name_at, row_name_at};
 ghost use Rattle.host_lists.specs.Owners.{owner_name_at};
-ghost use Rattle.host_lists.specs.Rows.{row_at};
+ghost use Rattle.host_lists.specs.Rows.{row_info_at};
 ghost use Rattle.host_lists.specs.Told.{BytesDone, TellsName, TellsNewName, TellsOfTable};
 ghost use Rattle.opening.specs.Sets.{all_bytes};
-ghost use Rattle.witcall_c.specs.CallObject.{Begins, flats_of};
-ghost use Rattle.witcall_c.specs.Calls.{FindsFunction, LineDone, LineOf, Opens, OpensPieces, CallsOf, TellsOf, package_of, stands_for, table_of};
-ghost use Rattle.witcall_c.specs.Version.{abi, version};
+ghost use Rattle.witcall_c.specs.CallObject.{BeginsCall, flats_of};
+ghost use Rattle.witcall_c.specs.Calls.{FindsFunction, LineDone, LineOf, Opens, OpensPieces, CallsOf, TellsOf, held_package, stands_for, held_table};
+ghost use Rattle.witcall_c.specs.Version.{abi, library_version};
 ghost use Rattle.witcall_c.specs.Written.{WritesBinary, WritesText};
 
 use crate::call::Call;
@@ -48,7 +48,7 @@ pub extern "C" fn witcall_abi() -> u32
 /// The version's bytes, with no end.
 #[unsafe(no_mangle)]
 pub extern "C" fn witcall_version(bytes: &mut [u8]) -> Status
-    ensures { (done : Result ℕ CallError) × (result ≡ status_of done) × BytesDone version bytes.old done bytes.new }
+    ensures { (done : Result ℕ CallError) × (result ≡ status_of done) × BytesDone library_version bytes.old done bytes.new }
 {
     Status::of(tell_bytes(VERSION, bytes))
 }
@@ -134,7 +134,7 @@ pub extern "C" fn witcall_find(
     interface: &[u8],
     function: &[u8],
 ) -> Status
-    ensures { TellsOf (stands_for handle.old) (stands_for handle.new) result (λ held done. FindsFunction (package_of held) interface.now function.now done) }
+    ensures { TellsOf (stands_for handle.old) (stands_for handle.new) result (λ held done. FindsFunction (held_package held) interface.now function.now done) }
 {
     let held = handle.take(alloc);
     let done = find(&held, interface, function);
@@ -209,7 +209,7 @@ pub extern "C" fn witcall_begin(
     call: &mut Call,
 ) -> Status
     ensures { CallsOf (stands_for handle.old) (stands_for handle.new) func result
-        (λ f d. Begins f func flats.now call.old d call.new) (call.new ≡ call.old) }
+        (λ f d. BeginsCall f func flats.now call.old d call.new) (call.new ≡ call.old) }
 {
     let held = handle.take(alloc);
     let done = calls::begin(&held, func, flats, call);
@@ -461,7 +461,7 @@ pub extern "C" fn witcall_row(
     row: &mut RowInfo,
 ) -> Status
     ensures { TellsOf (stands_for handle.old) (stands_for handle.new) result
-        (λ held done. TellsOfTable (table_of held) (λ r. row_at r number) row.old done row.new) }
+        (λ held done. TellsOfTable (held_table held) (λ r. row_info_at r number) row.old done row.new) }
 {
     let held = handle.take(alloc);
     let done = host_lists::row(&types(&held), number, row);
@@ -478,7 +478,7 @@ pub extern "C" fn witcall_row_name(
     name: &mut [u8],
 ) -> Status
     ensures { TellsOf (stands_for handle.old) (stands_for handle.new) result
-        (λ held done. TellsName (table_of held) (λ r. row_name_at r row) name.old done name.new) }
+        (λ held done. TellsName (held_table held) (λ r. row_name_at r row) name.old done name.new) }
 {
     let held = handle.take(alloc);
     let done = host_lists::row_name(&types(&held), row, name);
@@ -496,7 +496,7 @@ pub extern "C" fn witcall_member(
     member: &mut MemberInfo,
 ) -> Status
     ensures { TellsOf (stands_for handle.old) (stands_for handle.new) result
-        (λ held done. TellsOfTable (table_of held) (λ r. member_at r row index) member.old done member.new) }
+        (λ held done. TellsOfTable (held_table held) (λ r. member_at r row index) member.old done member.new) }
 {
     let held = handle.take(alloc);
     let done = host_lists::member(&types(&held), row, index, member);
@@ -514,7 +514,7 @@ pub extern "C" fn witcall_member_name(
     name: &mut [u8],
 ) -> Status
     ensures { TellsOf (stands_for handle.old) (stands_for handle.new) result
-        (λ held done. TellsName (table_of held) (λ r. member_name_at r row index) name.old done name.new) }
+        (λ held done. TellsName (held_table held) (λ r. member_name_at r row index) name.old done name.new) }
 {
     let held = handle.take(alloc);
     let done = host_lists::member_name(&types(&held), row, index, name);
@@ -532,7 +532,7 @@ pub extern "C" fn witcall_owner_name(
     name: &mut [u8],
 ) -> Status
     ensures { TellsOf (stands_for handle.old) (stands_for handle.new) result
-        (λ held done. TellsNewName (table_of held) (λ r. owner_name_at r kind number) name.old done name.new) }
+        (λ held done. TellsNewName (held_table held) (λ r. owner_name_at r kind number) name.old done name.new) }
 {
     let held = handle.take(alloc);
     let done = host_lists::owner_name(&types(&held), alloc, kind, number, name);
@@ -543,7 +543,7 @@ pub extern "C" fn witcall_owner_name(
 /// The package as a binary.
 #[unsafe(no_mangle)]
 pub extern "C" fn witcall_to_binary(alloc: Global, handle: &mut Handle, bytes: &mut [u8]) -> Status
-    ensures { TellsOf (stands_for handle.old) (stands_for handle.new) result (λ held done. WritesBinary (package_of held) bytes.old done bytes.new) }
+    ensures { TellsOf (stands_for handle.old) (stands_for handle.new) result (λ held done. WritesBinary (held_package held) bytes.old done bytes.new) }
 {
     let held = handle.take(alloc);
     let done = writing::to_binary(&held, alloc, bytes);
@@ -554,7 +554,7 @@ pub extern "C" fn witcall_to_binary(alloc: Global, handle: &mut Handle, bytes: &
 /// The package as a text.
 #[unsafe(no_mangle)]
 pub extern "C" fn witcall_to_text(alloc: Global, handle: &mut Handle, text: &mut [u8]) -> Status
-    ensures { TellsOf (stands_for handle.old) (stands_for handle.new) result (λ held done. WritesText (package_of held) text.old done text.new) }
+    ensures { TellsOf (stands_for handle.old) (stands_for handle.new) result (λ held done. WritesText (held_package held) text.old done text.new) }
 {
     let held = handle.take(alloc);
     let done = writing::to_text(&held, alloc, text);

@@ -2,7 +2,7 @@
 ghost use Rattle.std.specs.Prelude.{◌≡◌, ◌<◌, IfOk, IfErr, length};
 ghost use Rattle.std.specs.Option.{option_map};
 ghost use Rattle.opening.specs.Sets.{all_bytes};
-ghost use Rattle.witcall_c.specs.Calls.{IsOpening, opening_status, FindsFunction, HasFunction, HasNoFunction, LineOf, package_of, table_of};
+ghost use Rattle.witcall_c.specs.Calls.{IsOpening, opening_status, FindsFunction, HasFunction, HasNoFunction, LineOf, held_package, held_table};
 
 use crate::line::tell_line;
 use crate::refusal::{is_out_of_memory, open_number};
@@ -62,7 +62,7 @@ pub fn line_of(held: &Target, line: &mut [u8]) -> Result<usize, CallError>
 
 /// The number of a function by the full name of its interface and its own: 70 where nothing is open, 63 where no function is called so.
 pub fn find(held: &Target, interface: &[u8], name: &[u8]) -> Result<usize, CallError>
-    ensures { FindsFunction (package_of (option_map (λ held. held.value) held.now)) interface.now name.now result }
+    ensures { FindsFunction (held_package (option_map (λ held. held.value) held.now)) interface.now name.now result }
 {
     let Some(package) = package(held) else {
         return Err(CallError::NotOpen);
@@ -78,7 +78,7 @@ pub fn find(held: &Target, interface: &[u8], name: &[u8]) -> Result<usize, CallE
 
 /// The package, if one is open.
 pub fn package(held: &Target) -> Option<&Package>
-    ensures { option_map (λ p. p.now) result ≡ package_of (option_map (λ held. held.value) held.now) }
+    ensures { option_map (λ p. p.now) result ≡ held_package (option_map (λ held. held.value) held.now) }
 {
     match held {
         Some(held) => match &held.opened {
@@ -91,7 +91,7 @@ pub fn package(held: &Target) -> Option<&Package>
 
 /// The types of the package, if one is open.
 pub fn types(held: &Target) -> Option<Types<'_>>
-    ensures { result ≡ table_of (option_map (λ held. held.value) held.now) }
+    ensures { result ≡ held_table (option_map (λ held. held.value) held.now) }
 {
     match package(held) {
         Some(package) => Some(package.types()),
@@ -101,8 +101,8 @@ pub fn types(held: &Target) -> Option<Types<'_>>
 
 /// The function of this number, with the types of its package: 70 where nothing is open, 63 where no function has this number.
 pub fn function(held: &Target, number: u32) -> Result<(Types<'_>, FunctionId), CallError>
-    ensures ok { IfOk result (λ x. HasFunction (package_of (option_map (λ held. held.value) held.now)) number x.0 x.1) }
-    ensures err { IfErr result (HasNoFunction (package_of (option_map (λ held. held.value) held.now)) number) }
+    ensures ok { IfOk result (λ x. HasFunction (held_package (option_map (λ held. held.value) held.now)) number x.0 x.1) }
+    ensures err { IfErr result (HasNoFunction (held_package (option_map (λ held. held.value) held.now)) number) }
 {
     let Some(package) = package(held) else {
         return Err(CallError::NotOpen);

@@ -1,6 +1,6 @@
 //! The package of a handle, written.
 ghost use Rattle.std.specs.Option.{option_map};
-ghost use Rattle.witcall_c.specs.Calls.{package_of};
+ghost use Rattle.witcall_c.specs.Calls.{held_package};
 ghost use Rattle.witcall_c.specs.Written.{WritesBinary, WritesText};
 
 use crate::held::{Target, package};
@@ -12,7 +12,7 @@ use wit_tokens::TextError;
 
 /// Tells the package's binary: 70 where nothing is open, 17 where it would be too long.
 pub fn to_binary(held: &Target, alloc: Global, out: &mut [u8]) -> Result<usize, CallError>
-    ensures { WritesBinary (package_of (option_map (λ held. held.value) held.now)) out.old result out.new }
+    ensures { WritesBinary (held_package (option_map (λ held. held.value) held.now)) out.old result out.new }
 {
     let Some(package) = package(held) else {
         return Err(CallError::NotOpen);
@@ -26,7 +26,7 @@ pub fn to_binary(held: &Target, alloc: Global, out: &mut [u8]) -> Result<usize, 
 
 /// Tells the package's canonical text: 70 where nothing is open, 36 where it would be too long.
 pub fn to_text(held: &Target, alloc: Global, out: &mut [u8]) -> Result<usize, CallError>
-    ensures { WritesText (package_of (option_map (λ held. held.value) held.now)) out.old result out.new }
+    ensures { WritesText (held_package (option_map (λ held. held.value) held.now)) out.old result out.new }
 {
     let Some(package) = package(held) else {
         return Err(CallError::NotOpen);

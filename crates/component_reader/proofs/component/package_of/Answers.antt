@@ -1,7 +1,7 @@
 use Rattle.std.proofs.Common.{◌≡◌, ◌-◌, Bool, cond, List, [], ◌∷◌, ◌++◌, length, slice_get, ap, sym, ◌∙◌}
 use Rattle.atoms.specs.FullName.{full_name_text}
 use Rattle.tables.specs.PackageNames.{PackageParts}
-use Rattle.component_reader.specs.Component.{package_named, has_name}
+use Rattle.component_reader.specs.Component.{package_in_name, has_name}
 use Rattle.component_reader.specs.Names.{parts_view, package_parts}
 use Rattle.component_reader.proofs.Cutting.{package-cut}
 use Rattle.package_form.proofs.Meeting.{on-ok}
@@ -12,7 +12,7 @@ pub returns-clause-packages : goal.returns-clause-packages
 returns-clause-packages c =
     let items = c.args.packages.now.items in
     let parts = parts_view c.args.name in
-    let p = package_named (full_name_text parts) in
+    let p = package_in_name (full_name_text parts) in
     let told : has_name (slice_get items (length items - 1)) p ≡ c.is_of_last.result =
     ap (has_name (slice_get items (length items - 1))) (package-cut (full_name_text parts) parts c.requires)
     ∙ ap (λ (ps : List PackageParts). has_name (slice_get ps (length ps - 1)) (package_parts parts)) (sym c.deref.ensures.value) ∙ sym c.is_of_last.ensures in

@@ -2,10 +2,10 @@ use Rattle.std.proofs.Common.{◌≡◌, ℕ, ◌+◌, ◌-◌, ◌<◌, ◌^◌
 use Rattle.std.specs.Prelude.{slice_range}
 use Rattle.std.proofs.lemmas.List.{length-take}
 use Rattle.canonical_abi.specs.Reading.{number_of}
-use Rattle.canonical_abi.specs.Requests.{text_of}
+use Rattle.canonical_abi.specs.Requests.{text_of_value}
 use Rattle.canonical_abi.specs.Trace.{write, EventLeads}
 use Rattle.canonical_abi.specs.declared.flat.Flat.{Flat}
-use Rattle.crossing.specs.Outcome.{IsDone}
+use Rattle.crossing.specs.Outcome.{IsCrossed}
 use Rattle.crossing.proofs.Nodes.{granted-led}
 use Rattle.crossing.proofs.Flats.{header_behind, TextFlat, text-flat-refused, text-flat-done}
 use Rattle.crossing.proofs.flat.carry_text.Goals as goal
@@ -20,7 +20,7 @@ returns-in-Err-ask_block g c =
     let held = c.in-Ok.ensures.text in
     let start = c.low_word-start.result in
     let len = c.low_word-len.result in
-    let same : length text ≡ length (slice_range m start (start + len)) = ap (λ w. length (text_of w)) held.2 in
+    let same : length text ≡ length (slice_range m start (start + len)) = ap (λ w. length (text_of_value w)) held.2 in
     let long = length-take (start + len - start) (drop start m) in
     let few : length text < 2 ^ 32 = omega (arith, same, long, c.low_word-len.type_inv) in
     let old = g.G.Guest.memory c.args.guest.now in
@@ -48,5 +48,5 @@ returns g c =
     let P : ℕ → Type 0 = λ p. EventLeads A mid (write p text) new in
     let ends : c.push_header.new.flats.items ≡ header_behind front gr.0.at (length text) = c.push_header.ensures ∙ ap (λ p. header_behind front p (length text)) (sym gr.2) in
     λ n.
-    let Q : List Flat → Type 0 = λ f. IsDone A (TextFlat A m ns front start len text c.low_word-start.ensures c.low_word-len.ensures held f) old n new n in
+    let Q : List Flat → Type 0 = λ f. IsCrossed A (TextFlat A m ns front start len text c.low_word-start.ensures c.low_word-len.ensures held f) old n new n in
     subst Q (sym ends) (text-flat-done A m ns front start len text c.low_word-start.ensures c.low_word-len.ensures held gr.0 gr.1 old mid new n gr.3 ok.no_shorter (subst P (sym gr.2) led) c.write_bytes.ensures.same_length)

@@ -1,14 +1,14 @@
 use Rattle.std.proofs.Common.{◌≡◌, ℕ, ◌*◌, ◌^◌, ◌<◌, Ok, sym, subst, arith}
 use Rattle.canonical_abi.specs.Types.{prim_type}
 use Rattle.canonical_abi.specs.Layout.{size, align}
-use Rattle.canonical_abi.specs.Storing.{header}
+use Rattle.canonical_abi.specs.Storing.{pointer_pair}
 use Rattle.canonical_abi.specs.Trace.{write, EventLeads}
 use Rattle.canonical_abi.proofs.Sizes.{is-alignment}
 use Rattle.values.specs.Bytes.{AreBytes}
 use Rattle.lift_lower.proofs.Unlimited.{request-fails}
 use Rattle.tables.specs.Closed.{prim_of}
 use Rattle.ranges.proofs.Appends.{prims-visited}
-use Rattle.crossing.specs.Outcome.{IsDone, EachWalks}
+use Rattle.crossing.specs.Outcome.{IsCrossed, EachWalks}
 use Rattle.crossing.proofs.Ahead.{crossed-done}
 use Rattle.crossing.proofs.Nodes.{granted-led, list-refused, list-ends}
 use Rattle.crossing.proofs.lists.cross_listed.Goals as goal
@@ -51,7 +51,7 @@ returns g c =
     let gr = granted-led 4294967295 A (align u) (n * size u) c.in-Ok.place old mid ok in
     let crossed = crossed-done A u m start c.in-Ok.place n n next new c.cross_numbers.ensures.same_length (c.cross_numbers.ensures.crosses p c.requires.number is) (prims-visited p m start n)
     c.args.nodes.now c.saturating_add.result (omega (arith, c.saturating_add.ensures)) in
-    let P : ℕ → Type 0 = λ q. EventLeads A mid (write c.args.at.to (header q n)) next in
-    let Q : ℕ → Type 0 = λ q. IsDone A (EachWalks u m start q n) next c.args.nodes.now new c.saturating_add.result in
+    let P : ℕ → Type 0 = λ q. EventLeads A mid (write c.args.at.to (pointer_pair q n)) next in
+    let Q : ℕ → Type 0 = λ q. IsCrossed A (EachWalks u m start q n) next c.args.nodes.now new c.saturating_add.result in
     list-ends A u m c.args.at.from c.args.at.to start n c.u32_at-start.ensures c.u32_at-count.ensures stands gr.0 gr.1 old mid next (Ok tt) new c.args.nodes.now c.saturating_add.result gr.3 ok.no_shorter
     (subst P (sym gr.2) c.write_header.ensures.led) c.write_header.ensures.same_length (subst Q (sym gr.2) crossed)

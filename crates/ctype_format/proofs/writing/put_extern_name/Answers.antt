@@ -3,7 +3,7 @@ use Rattle.std.specs.Prelude.{string_bytes}
 use Rattle.std.proofs.lemmas.Str.{IsUtf8-string_bytes}
 use Rattle.std.proofs.lemmas.Result.{on_ok_weaker}
 use Rattle.atoms.specs.FullName.{full_name_text}
-use Rattle.atoms.specs.FullNameView.{parts_of}
+use Rattle.atoms.specs.FullNameView.{name_parts_of}
 use Rattle.ctype_format.specs.Names.{name_view}
 use Rattle.ctype_format.specs.declared.name.ExternName.{ExternName}
 use Rattle.ctype_format.specs.Formed.{FormedName}
@@ -17,6 +17,6 @@ returns-in-Label-clause-formed c =
 pub returns-in_ok-text-in-FullName-clause-formed : goal.returns-in_ok-text-in-FullName-clause-formed
 returns-in_ok-text-in-FullName-clause-formed c =
     let text = string_bytes c.in_ok-text-in-FullName.text in
-    let spelt : text ≡ full_name_text (parts_of c.in-FullName.name) = c.in_ok-text-in-FullName.ensures.spelt in
-    let passes = extern_passes text (IsUtf8-string_bytes c.in_ok-text-in-FullName.text) (full_name_passes text (parts_of c.in-FullName.name) c.in_ok-text-in-FullName.ensures.named) in
+    let spelt : text ≡ full_name_text (name_parts_of c.in-FullName.name) = c.in_ok-text-in-FullName.ensures.spelt in
+    let passes = extern_passes text (IsUtf8-string_bytes c.in_ok-text-in-FullName.text) (full_name_passes text (name_parts_of c.in-FullName.name) c.in_ok-text-in-FullName.ensures.named) in
     on_ok_weaker c.put_name-in-FullName.result (λ h. subst (λ (n : ExternName). FormedName (name_view n)) (sym c.in-FullName.is) (subst FormedName spelt (rw c.as_bytes-in-FullName.ensures.value at h, passes))) c.put_name-in-FullName.ensures.formed

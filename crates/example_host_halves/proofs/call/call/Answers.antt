@@ -4,7 +4,7 @@ use Rattle.std.proofs.lemmas.Result.{err_from_is_err_and}
 use Rattle.canonical_abi.specs.declared.flat.Flat.{Flat}
 use Rattle.tables.specs.Closed.{function_type}
 use Rattle.tables.specs.Standard.{HasStandardTypes}
-use Rattle.example_host_halves.specs.Promise.{Leaves, RunsOnBytes, PostsOnBytes}
+use Rattle.example_host_halves.specs.Promise.{LeavesCall, RunsOnBytes, PostsOnBytes}
 use Rattle.example_host_halves.proofs.Promises.{not-entered, not-run, not-returned, not-finished, finished}
 use Rattle.example_host_halves.proofs.call.call.Goals as goal
 
@@ -41,7 +41,7 @@ returns-in_err-given g c =
     let run =
     subst (λ (a : List Flat). RunsOnBytes runs c.enter.new.callee c.in_ok-handed.handed.items left (Some a)) (sym c.as_slice-answer.ensures.value)
     (subst (λ (xs : List Flat). RunsOnBytes runs c.enter.new.callee xs left (Some c.in-Ok.answer.items)) c.as_slice-arguments.ensures.value c.in-Ok.ensures) in
-    let leaves = subst (λ (m : List ℕ). Leaves f c.args.invocation.now.flats.now left answer m (Err c.in_err-given.field-0.0) c.leave.new.caller) c.enter.ensures.same_caller c.in_err-given.ensures.left in
+    let leaves = subst (λ (m : List ℕ). LeavesCall f c.args.invocation.now.flats.now left answer m (Err c.in_err-given.field-0.0) c.leave.new.caller) c.enter.ensures.same_caller c.in_err-given.ensures.left in
     let p = err_from_is_err_and c.from_residual-in_err-given.result c.from_residual-in_err-given.ensures.1 in
     rw (p.1, p.2) (record {
       promise =
@@ -60,7 +60,7 @@ returns-in_default-post_return g c =
     let run =
     subst (λ (a : List Flat). RunsOnBytes runs c.enter.new.callee c.in_ok-handed.handed.items left (Some a)) (sym c.as_slice-answer.ensures.value)
     (subst (λ (xs : List Flat). RunsOnBytes runs c.enter.new.callee xs left (Some c.in-Ok.answer.items)) c.as_slice-arguments.ensures.value c.in-Ok.ensures) in
-    let leaves = subst (λ (m : List ℕ). Leaves f c.args.invocation.now.flats.now left answer m (Ok c.in_ok-given.given) c.leave.new.caller) c.enter.ensures.same_caller c.in_ok-given.ensures.left in
+    let leaves = subst (λ (m : List ℕ). LeavesCall f c.args.invocation.now.flats.now left answer m (Ok c.in_ok-given.given) c.leave.new.caller) c.enter.ensures.same_caller c.in_ok-given.ensures.left in
     let post = subst (λ (m : List ℕ). PostsOnBytes posts m answer c.post_return.new.memory None) c.leave.ensures.same_callee c.in_default-post_return.ensures in
     rw c.stopped-in_default-post_return.ensures (record {
       promise =
@@ -79,7 +79,7 @@ returns g c =
     let run =
     subst (λ (a : List Flat). RunsOnBytes runs c.enter.new.callee c.in_ok-handed.handed.items left (Some a)) (sym c.as_slice-answer.ensures.value)
     (subst (λ (xs : List Flat). RunsOnBytes runs c.enter.new.callee xs left (Some c.in-Ok.answer.items)) c.as_slice-arguments.ensures.value c.in-Ok.ensures) in
-    let leaves = subst (λ (m : List ℕ). Leaves f c.args.invocation.now.flats.now left answer m (Ok c.in_ok-given.given) c.leave.new.caller) c.enter.ensures.same_caller c.in_ok-given.ensures.left in
+    let leaves = subst (λ (m : List ℕ). LeavesCall f c.args.invocation.now.flats.now left answer m (Ok c.in_ok-given.given) c.leave.new.caller) c.enter.ensures.same_caller c.in_ok-given.ensures.left in
     let post = subst (λ (m : List ℕ). PostsOnBytes posts m answer c.post_return.new.memory (Some tt)) c.leave.ensures.same_callee c.in-Ok-post_return.ensures in
     record {
       promise =

@@ -2,7 +2,7 @@
 use Rattle.std.proofs.Common.{sym, subst}
 use Rattle.std.proofs.lemmas.Result.{err_from_is_err_and}
 use Rattle.wit_syntax.specs.View.{file_view}
-use Rattle.wit_text.specs.Reading.{IsRead, Faulty}
+use Rattle.wit_text.specs.Reading.{IsRead, FaultyText}
 use Rattle.opening.proofs.Members.{adds-text, of-member, tree-added, text-refuses, no-text, not-read, not-long, wants}
 use Rattle.opening.proofs.PrintedTexts.{read-tree, only-memory}
 use Rattle.opening.proofs.set.add_text.Goals as goal
@@ -22,7 +22,7 @@ pub returns-in_err-ast-clause-err : goal.returns-in_err-ast-clause-err
 returns-in_err-ast-clause-err c =
     let p = err_from_is_err_and c.from_residual-in_err-ast.result c.from_residual-in_err-ast.ensures.1 in
     let e = c.in_err-ast.field-0.0 in
-    rw (p.1, p.2) (not-read c.args.set.now.resolve c.args.bytes.now c.requires.text c.requires.room c.in_ok-text.ensures.utf8 e (subst (λ t. Faulty t e) c.in_ok-text.ensures.ok c.in_err-ast.ensures.fault))
+    rw (p.1, p.2) (not-read c.args.set.now.resolve c.args.bytes.now c.requires.text c.requires.room c.in_ok-text.ensures.utf8 e (subst (λ t. FaultyText t e) c.in_ok-text.ensures.ok c.in_err-ast.ensures.fault))
 
 pub returns-in_err-ast-clause-only : goal.returns-in_err-ast-clause-only
 returns-in_err-ast-clause-only c = λ closed r h.

@@ -1,6 +1,6 @@
 use Rattle.std.proofs.Common.{◌+◌, ◌++◌, List, flat_map, take, ap, sym, subst, ◌∙◌}
 use Rattle.tables.specs.declared.tables.Definition.{Definition}
-use Rattle.package_form.specs.Reached.{interface_of, reached_by_row}
+use Rattle.package_form.specs.Reached.{named_interface, reached_by_row}
 use Rattle.package_form.specs.Marks.{AreMarked}
 use Rattle.package_form.proofs.Marks.{marked-one, marked-none}
 use Rattle.package_form.proofs.Meeting.{all-taken}
@@ -16,10 +16,10 @@ loop-row-preserved c = λ n places m.
     elim c.match-used_name.branch [
       | in-Some w ↦
           marked-one (reached_by_row table) rows k c.row-item.result c.loop-row-test.true c.row-item.is n w.in-Some.name.now.interface.0 places c.loop-row.marks.items c.match-used_name.marks.items
-          (ap interface_of w.in-Some.ensures) (ap (λ v. v.items) w.marks-is ∙ w.mark.ensures) before
+          (ap named_interface w.in-Some.ensures) (ap (λ v. v.items) w.marks-is ∙ w.mark.ensures) before
       | in_default w ↦
           subst (λ ms. AreMarked n (places ++ flat_map (reached_by_row table) (take (k + 1) rows)) ms) (sym (ap (λ v. v.items) w.marks-is))
-          (marked-none (reached_by_row table) rows k c.row-item.result c.loop-row-test.true c.row-item.is n places c.loop-row.marks.items (ap interface_of w.in_default.ensures) before)
+          (marked-none (reached_by_row table) rows k c.row-item.result c.loop-row-test.true c.row-item.is n places c.loop-row.marks.items (ap named_interface w.in_default.ensures) before)
     ]
 
 pub returns : goal.returns

@@ -2,7 +2,7 @@ use Rattle.std.proofs.Common.{List, map, take}
 use Rattle.wit_syntax.specs.View.{entry_view}
 use Rattle.wit_syntax.specs.declared.ast.InterfaceItem.{InterfaceItem}
 use Rattle.package_form.proofs.Meeting.{all-taken}
-use Rattle.package_adding.specs.Named.{entry_names, any_names}
+use Rattle.package_adding.specs.Named.{entry_names_interface, any_names}
 use Rattle.package_adding.specs.Noted.{also, AreNoted}
 use Rattle.package_adding.proofs.Noting.{noted-none, noted-more}
 use Rattle.package_adding.proofs.named.mark_items.Goals as goal
@@ -14,9 +14,9 @@ pub loop-item-preserved : goal.loop-item-preserved
 loop-item-preserved c = λ names noted.
     let items = c.args.items.now in
     let k = c.loop-item.item-index in
-    let so_far = also names (any_names entry_names (map entry_view (take k items))) in
-    noted-more c.args.set.now names entry_names entry_view items k c.item-item.result _ c.loop-item-test.true c.item-item.is (c.mark_item.ensures so_far (c.loop-item.invariant names noted))
+    let so_far = also names (any_names entry_names_interface (map entry_view (take k items))) in
+    noted-more c.args.set.now names entry_names_interface entry_view items k c.item-item.result _ c.loop-item-test.true c.item-item.is (c.mark_item.ensures so_far (c.loop-item.invariant names noted))
 
 pub returns : goal.returns
 returns c = λ names noted.
-    all-taken (λ (is : List InterfaceItem). AreNoted c.args.set.now (also names (any_names entry_names (map entry_view is))) c.loop-item.marks) c.args.items.now c.loop-item.item-index c.loop-item-test.false (c.loop-item.invariant names noted)
+    all-taken (λ (is : List InterfaceItem). AreNoted c.args.set.now (also names (any_names entry_names_interface (map entry_view is))) c.loop-item.marks) c.args.items.now c.loop-item.item-index c.loop-item-test.false (c.loop-item.invariant names noted)

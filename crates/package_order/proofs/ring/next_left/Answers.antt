@@ -1,6 +1,6 @@
 use Rattle.std.proofs.Common.{◌≡◌, ◌<◌, ℕ, Bool, true, false, not, [], get_or, length, ap, subst, ◌∙◌, arith}
 use Rattle.std.proofs.lemmas.List.{get_or_default}
-use Rattle.package_order.specs.Arranged.{is_marked}
+use Rattle.package_order.specs.Arranged.{is_marked_package}
 use Rattle.package_order.proofs.ring.next_left.Goals as goal
 
 not_both : (b : Bool) → b ≡ true → not b ≡ true → ⊥
@@ -16,5 +16,5 @@ unreachable-requires c =
     let there : get_or c.as_slice-used.result.now found.1.0 0 ≡ found.0 =
     ap (λ xs. get_or xs found.1.0 0) used ∙ get_or_default (get_or uses c.args.place []) found.1.0 0 found.0 found.1.1 ∙ found.1.2 in
     let inside : found.1.0 < c.loop-other.other-index = omega (arith, ap length used, found.1.1, c.loop-other-test.false) in
-    let P : ℕ → Type 0 = λ v. is_marked c.args.placed.now v ≡ true in
-    not_both (is_marked c.args.placed.now found.0) (subst P there (c.loop-other.invariant found.1.0 inside)) found.3
+    let P : ℕ → Type 0 = λ v. is_marked_package c.args.placed.now v ≡ true in
+    not_both (is_marked_package c.args.placed.now found.0) (subst P there (c.loop-other.invariant found.1.0 inside)) found.3

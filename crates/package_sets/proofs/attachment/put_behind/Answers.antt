@@ -1,6 +1,6 @@
 -- The lists that are given back are the set's; else they are the set's with the own part behind them.
 use Rattle.std.proofs.Common.{◌∙◌}
-use Rattle.package_sets.specs.Joined.{listed}
+use Rattle.package_sets.specs.Joined.{joined_places}
 use Rattle.package_sets.proofs.Accepting.{attaches}
 use Rattle.package_sets.proofs.Behind as table
 use Rattle.package_sets.proofs.Putting.{put-behind}
@@ -36,7 +36,7 @@ pub invariant_of-resolve : goal.invariant_of-resolve
 invariant_of-resolve c =
     let s = c.args.set in
     let closed = c.args.closed.now in
-    let j = listed c.args.to.now in
+    let j = joined_places c.args.to.now in
     let own = c.in-Ok.ensures.packages.0 in
     let packages = put-behind c.joined.ensures (c.reserve.ensures.same.0 ∙ c.of-lists.ensures.0) c.in-Ok.ensures.packages.2 in
     let interfaces = put-behind c.joined-2.ensures (c.reserve.ensures.same.1 ∙ c.of-lists.ensures.1) c.in-Ok.ensures.interfaces in
@@ -55,7 +55,7 @@ invariant_of-resolve c =
 pub returns-clause-ok : goal.returns-clause-ok
 returns-clause-ok c =
     let r = c.requires in
-    attaches c.args.set c.args.closed.now (listed c.args.to.now) r.joined c.in-Ok.ensures.packages.0 c.in-Ok.ensures.packages.1 _ (record {
+    attaches c.args.set c.args.closed.now (joined_places c.args.to.now) r.joined c.in-Ok.ensures.packages.0 c.in-Ok.ensures.packages.1 _ (record {
       packages = put-behind c.joined.ensures (c.reserve.ensures.same.0 ∙ c.of-lists.ensures.0) c.in-Ok.ensures.packages.2;
       interfaces = put-behind c.joined-2.ensures (c.reserve.ensures.same.1 ∙ c.of-lists.ensures.1) c.in-Ok.ensures.interfaces;
       worlds = put-behind c.joined-3.ensures (c.reserve.ensures.same.2 ∙ c.of-lists.ensures.2) c.in-Ok.ensures.worlds;

@@ -9,7 +9,7 @@ use Rattle.package_form.specs.Closed.{own_package}
 use Rattle.package_form.specs.Reached.{is_interface_of}
 use Rattle.package_form.proofs.OwnPackage.{some-package}
 use Rattle.tree_meaning.specs.Imports.{nameless}
-use Rattle.package_text.specs.Tree.{interface_entry, world_entry, own_interfaces, own_parts}
+use Rattle.package_text.specs.Tree.{interface_entry, world_written, interfaces_of_package, own_parts}
 use Rattle.package_text.proofs.file.tree.Goals as goal
 
 own-parts : (ps qs : List PackageParts) (k : ℕ) (p : PackageParts) → qs ≡ ps → k ≡ own_package qs → k < length qs → p ≡ get_or qs k p → own_parts ps ≡ p
@@ -27,12 +27,12 @@ returns c =
     let some = some-package r c.requires.closed in
     let within : c.own_package-own.result < length c.as_slice-packages.result.now = omega (arith, some, c.own_package-own.ensures, ap length c.as_slice-packages.ensures) in
     let p = own-parts r.packages c.as_slice-packages.result.now c.own_package-own.result c.index-packages-own.result c.as_slice-packages.ensures c.own_package-own.ensures within c.index-packages-own.is in
-    let first : map item_view c.push_interfaces.new.items.items ≡ map (interface_entry r) (own_interfaces r) =
+    let first : map item_view c.push_interfaces.new.items.items ≡ map (interface_entry r) (interfaces_of_package r) =
     c.in_ok-push_interfaces.ensures
     ∙ (ap (λ (xs : List Item). map item_view xs ++ map (interface_entry r) (filter (is_interface_of c.own_package-own.result) r.interfaces)) c.new-items.ensures.items
     ∙ ap (λ n. map (interface_entry r) (filter (is_interface_of n) r.interfaces)) own) in
-    let entries : map item_view c.push_worlds.new.items.items ≡ map (interface_entry r) (own_interfaces r) ++ map (world_entry r) r.worlds =
-    c.in_ok-push_worlds.ensures ∙ ap (λ (es : List FileEntry). es ++ map (world_entry r) r.worlds) first in
+    let entries : map item_view c.push_worlds.new.items.items ≡ map (interface_entry r) (interfaces_of_package r) ++ map (world_written r) r.worlds =
+    c.in_ok-push_worlds.ensures ∙ ap (λ (es : List FileEntry). es ++ map (world_written r) r.worlds) first in
     let namespace = c.in_ok-package.ensures.namespace ∙ sym (ap (λ (q : PackageParts). q.namespace) p) in
     let name = c.in_ok-package.ensures.name ∙ sym (ap (λ (q : PackageParts). q.name) p) in
     let version = c.in_ok-package.ensures.version ∙ sym (ap (λ (q : PackageParts). q.version) p) in

@@ -1,7 +1,7 @@
 use Rattle.std.proofs.Common.{◌≡◌, take}
 use Rattle.tree_meaning.specs.Resolves.{places}
-use Rattle.tree_scopes.specs.Lent.{lent}
+use Rattle.tree_scopes.specs.Lent.{lent_names}
 use Rattle.tree_names.proofs.graphs.places.Given as goal
 
 abbrev pub invariant-loop-name : goal.invariant-loop-name
-invariant-loop-name l = l.found.items ≡ places l.names (lent (take l.name-index l.wanted))
+invariant-loop-name l = l.found.items ≡ places l.names (lent_names (take l.name-index l.wanted))

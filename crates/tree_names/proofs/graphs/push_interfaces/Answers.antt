@@ -4,7 +4,7 @@ use Rattle.std.proofs.lemmas.List.{map-append}
 use Rattle.wit_syntax.specs.View.{path_view}
 use Rattle.wit_syntax.specs.declared.ast.Path.{Path}
 use Rattle.tree_meaning.specs.Declarations.{own_use, own_interface, path_package, path_interface}
-use Rattle.tree_scopes.specs.Lent.{lent, lent_name, used_item_of}
+use Rattle.tree_scopes.specs.Lent.{lent_names, lent_name, used_item_of}
 use Rattle.tree_meaning.proofs.FileEntries.{given-next}
 use Rattle.tree_meaning.proofs.Uses.{not-local}
 use Rattle.tree_names.proofs.graphs.push_interfaces.Goals as goal
@@ -21,11 +21,11 @@ loop-used-preserved c =
     elim c.match-used.branch [
       | in-Local+in_ok-push w ↦
           let is : own_use (used_item_of x) ≡ Some w.in-Local.interface = ap own w.in-Local.is in
-          ap (λ v. lent v.items) w.names-is ∙ ap lent w.in_ok-push.ensures.items ∙ map-append lent_name c.loop-used.names.items _
-          ∙ ap (λ (ns : List (List ℕ)). ns ++ w.in-Local.interface ∷ []) c.loop-used.invariant ∙ append_assoc (lent c.args.names.now.items) before (w.in-Local.interface ∷ [])
-          ∙ ap (λ (ns : List (List ℕ)). lent c.args.names.now.items ++ ns) (sym (next ∙ ap (λ (o : Option (List ℕ)). before ++ cons_option o []) is))
+          ap (λ v. lent_names v.items) w.names-is ∙ ap lent_names w.in_ok-push.ensures.items ∙ map-append lent_name c.loop-used.names.items _
+          ∙ ap (λ (ns : List (List ℕ)). ns ++ w.in-Local.interface ∷ []) c.loop-used.invariant ∙ append_assoc (lent_names c.args.names.now.items) before (w.in-Local.interface ∷ [])
+          ∙ ap (λ (ns : List (List ℕ)). lent_names c.args.names.now.items ++ ns) (sym (next ∙ ap (λ (o : Option (List ℕ)). before ++ cons_option o []) is))
       | in_default w ↦
           let is : own_use (used_item_of x) ≡ None = not-local x.path.now (λ n e. w.in_default.not-Local n e) in
-          ap (λ v. lent v.items) w.names-is ∙ c.loop-used.invariant
-          ∙ ap (λ (ns : List (List ℕ)). lent c.args.names.now.items ++ ns) (sym (next ∙ ap (λ (o : Option (List ℕ)). before ++ cons_option o []) is ∙ append-nil before))
+          ap (λ v. lent_names v.items) w.names-is ∙ c.loop-used.invariant
+          ∙ ap (λ (ns : List (List ℕ)). lent_names c.args.names.now.items ++ ns) (sym (next ∙ ap (λ (o : Option (List ℕ)). before ++ cons_option o []) is ∙ append-nil before))
     ]

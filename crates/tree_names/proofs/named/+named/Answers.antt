@@ -2,7 +2,7 @@ use Rattle.std.proofs.Common.{◌++◌, List, ℕ, map, take, ap, sym, ◌∙◌
 use Rattle.wit_syntax.specs.Syntax.{tys_of}
 use Rattle.wit_syntax.specs.View.{ty_view}
 use Rattle.tree_meaning.specs.Declarations.{named, named_all}
-use Rattle.tree_scopes.specs.Lent.{lent}
+use Rattle.tree_scopes.specs.Lent.{lent_names}
 use Rattle.tree_names.proofs.Nesting.{named_all-more}
 use Rattle.tree_names.proofs.named.+named.Goals as goal
 
@@ -11,7 +11,7 @@ push_named_all-loop-ty-preserved t c =
     let xs = c.deref-ty-items.result.now in
     let k = c.loop-ty.ty-index in
     let x = c.ty-item.result in
-    let front = lent c.args.names.now.items in
+    let front = lent_names c.args.names.now.items in
     c.in_ok-push_named.ensures
     ∙ ap (λ (ns : List (List ℕ)). ns ++ named (ty_view x)) c.loop-ty.invariant
     ∙ append_assoc front (named_all (tys_of (map ty_view (take k xs)))) (named (ty_view x))

@@ -4,7 +4,7 @@ use Rattle.wit_syntax.specs.declared.ast.Item.{Item}
 use Rattle.wit_syntax.specs.declared.ast.InterfaceItem.{InterfaceItem}
 use Rattle.wit_syntax.specs.declared.ast.WorldItem.{WorldItem}
 use Rattle.tree_meaning.specs.Declarations.{entry_packages, world_entry_packages, file_entry_packages}
-use Rattle.tree_meaning.specs.Finished.{header}
+use Rattle.tree_meaning.specs.Finished.{header_name}
 use Rattle.tree_meaning.specs.Knowing.{IsLacking}
 use Rattle.tree_names.proofs.packages.lacking_in_entry.Goals as goal
 
@@ -19,8 +19,8 @@ pub returns-in-Interface-clause-some : goal.returns-in-Interface-clause-some
 returns-in-Interface-clause-some c =
     let ps = c.args.packages.now in
     let r = c.lacking_in_items.result in
-    subst (λ (i : Item). IfSome r (λ p. IsLacking ps (file_entry_packages (item_view i)) (header p.now))) (sym c.in-Interface.is)
-    (subst (λ (is : List InterfaceItem). IfSome r (λ p. IsLacking ps (flat_map entry_packages (map entry_view is)) (header p.now))) c.deref.ensures.value c.lacking_in_items.ensures.some)
+    subst (λ (i : Item). IfSome r (λ p. IsLacking ps (file_entry_packages (item_view i)) (header_name p.now))) (sym c.in-Interface.is)
+    (subst (λ (is : List InterfaceItem). IfSome r (λ p. IsLacking ps (flat_map entry_packages (map entry_view is)) (header_name p.now))) c.deref.ensures.value c.lacking_in_items.ensures.some)
 
 pub returns-in-World-clause-none : goal.returns-in-World-clause-none
 returns-in-World-clause-none c =
@@ -33,5 +33,5 @@ pub returns-in-World-clause-some : goal.returns-in-World-clause-some
 returns-in-World-clause-some c =
     let ps = c.args.packages.now in
     let r = c.lacking_in_world.result in
-    subst (λ (i : Item). IfSome r (λ p. IsLacking ps (file_entry_packages (item_view i)) (header p.now))) (sym c.in-World.is)
-    (subst (λ (is : List WorldItem). IfSome r (λ p. IsLacking ps (flat_map world_entry_packages (map world_entry_view is)) (header p.now))) c.deref-in-World.ensures.value c.lacking_in_world.ensures.some)
+    subst (λ (i : Item). IfSome r (λ p. IsLacking ps (file_entry_packages (item_view i)) (header_name p.now))) (sym c.in-World.is)
+    (subst (λ (is : List WorldItem). IfSome r (λ p. IsLacking ps (flat_map world_entry_packages (map world_entry_view is)) (header_name p.now))) c.deref-in-World.ensures.value c.lacking_in_world.ensures.some)

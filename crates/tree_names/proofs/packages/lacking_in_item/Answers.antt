@@ -3,7 +3,7 @@ use Rattle.wit_syntax.specs.View.{entry_view, path_view}
 use Rattle.wit_syntax.specs.declared.ast.InterfaceItem.{InterfaceItem}
 use Rattle.wit_syntax.specs.declared.ast.Use.{Use}
 use Rattle.tree_meaning.specs.Declarations.{entry_packages, path_packages}
-use Rattle.tree_meaning.specs.Finished.{header}
+use Rattle.tree_meaning.specs.Finished.{header_name}
 use Rattle.tree_meaning.specs.Knowing.{IsLacking}
 use Rattle.tree_names.proofs.packages.lacking_in_item.Goals as goal
 
@@ -14,5 +14,5 @@ returns-in-Use-clause-none c =
 
 pub returns-in-Use-clause-some : goal.returns-in-Use-clause-some
 returns-in-Use-clause-some c =
-    subst (λ (i : InterfaceItem). IfSome c.lacking.result (λ p. IsLacking c.args.packages.now (entry_packages (entry_view i)) (header p.now))) (sym c.in-Use.is)
-    (subst (λ (u : Use). IfSome c.lacking.result (λ p. IsLacking c.args.packages.now (path_packages (path_view u.interface)) (header p.now))) c.deref.ensures c.lacking.ensures.some)
+    subst (λ (i : InterfaceItem). IfSome c.lacking.result (λ p. IsLacking c.args.packages.now (entry_packages (entry_view i)) (header_name p.now))) (sym c.in-Use.is)
+    (subst (λ (u : Use). IfSome c.lacking.result (λ p. IsLacking c.args.packages.now (path_packages (path_view u.interface)) (header_name p.now))) c.deref.ensures c.lacking.ensures.some)

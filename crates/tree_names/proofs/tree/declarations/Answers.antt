@@ -9,7 +9,7 @@ use Rattle.wit_syntax.specs.View.{item_view, file_view}
 use Rattle.wit_syntax.specs.declared.ast.Item.{Item}
 use Rattle.package_form.specs.Scope.{AreDistinct}
 use Rattle.package_form.specs.Distinct.{RefusesScopes}
-use Rattle.tree_meaning.specs.Declarations.{InterfaceTree, WorldTree, file_entry_packages, interface_of, world_of, interfaces, worlds, interface_names, package_named}
+use Rattle.tree_meaning.specs.Declarations.{InterfaceTree, WorldTree, file_entry_packages, interface_of, world_of, interfaces, file_worlds, names_of_trees, package_named}
 use Rattle.tree_meaning.specs.Knowing.{RefusesPackage, RefusesUnknown}
 use Rattle.tree_meaning.specs.Imports.{imports_of}
 use Rattle.tree_meaning.specs.Resolves.{HasKnownNamesOf, IsKnownWorldOf, interface_fits}
@@ -76,7 +76,7 @@ returns-clause-faults c =
     let some : 0 < length items = grind (arith, nat_tests, c.is_empty.ensures, c.if-is_empty.false) in
     let same : map declared_tree c.deref-5.result.now ≡ interfaces f = ap (map declared_tree) c.deref-5.ensures.value ∙ c.in_ok-all.ensures
     ∙ ap (λ (is : List Item). filter_map interface_of (map item_view is)) c.deref-4.ensures.value in
-    let there : filter_map world_of (map item_view c.deref-6.result.now) ≡ worlds f = ap (λ (is : List Item). filter_map world_of (map item_view is)) c.deref-6.ensures.value in
+    let there : filter_map world_of (map item_view c.deref-6.result.now) ≡ file_worlds f = ap (λ (is : List Item). filter_map world_of (map item_view is)) c.deref-6.ensures.value in
     record {
       some = has-entries item_view items some;
       distinct = subst (λ (is : List Item). All AreDistinct (scopes_in (package_named f) (map item_view is))) c.deref-2.ensures.value
@@ -84,8 +84,8 @@ returns-clause-faults c =
       packages = subst (λ (is : List Item). All (Contains c.args.imports.now.table.packages) (flat_map file_entry_packages (map item_view is))) c.deref-3.ensures.value (subst (λ (ps : List PackageParts). All (Contains ps) (flat_map file_entry_packages (map item_view c.deref-3.result.now))) (c.as_slice.ensures ∙ ap (λ (r : Resolve). r.packages) c.table.ensures) c.in_ok-known_packages.ensures.ok);
       known = record {
         in_interfaces = subst (λ (is : List InterfaceTree). All (HasKnownNamesOf (imports_of c.args.imports.now.table) is) is) same c.in_ok-known_names.ensures.ok;
-        in_worlds = subst (λ (is : List InterfaceTree). All (IsKnownWorldOf (imports_of c.args.imports.now.table) (interface_names is)) (worlds f)) same
-            (subst (λ (ws : List WorldTree). All (IsKnownWorldOf (imports_of c.args.imports.now.table) (interface_names (map declared_tree c.deref-5.result.now))) ws) there c.in_ok-known_names.ensures.worlds);
+        in_worlds = subst (λ (is : List InterfaceTree). All (IsKnownWorldOf (imports_of c.args.imports.now.table) (names_of_trees is)) (file_worlds f)) same
+            (subst (λ (ws : List WorldTree). All (IsKnownWorldOf (imports_of c.args.imports.now.table) (names_of_trees (map declared_tree c.deref-5.result.now))) ws) there c.in_ok-known_names.ensures.worlds);
       };
     }
 
@@ -94,7 +94,7 @@ returns-clause-labels c =
     let f = file_view c.args.ast.now in
     let same : map declared_tree c.deref-5.result.now ≡ interfaces f = ap (map declared_tree) c.deref-5.ensures.value ∙ c.in_ok-all.ensures
     ∙ ap (λ (is : List Item). filter_map interface_of (map item_view is)) c.deref-4.ensures.value in
-    subst (λ (is : List InterfaceTree). All IsLabel (interface_names is)) same c.in_ok-known_names.ensures.labels
+    subst (λ (is : List InterfaceTree). All IsLabel (names_of_trees is)) same c.in_ok-known_names.ensures.labels
 
 pub returns-clause-fits : goal.returns-clause-fits
 returns-clause-fits c =

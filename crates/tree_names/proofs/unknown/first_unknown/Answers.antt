@@ -1,5 +1,5 @@
 use Rattle.std.proofs.Common.{List, ℕ, [], Bor, All, Contains, sym, ◌∙◌, subst, arith}
-use Rattle.tree_scopes.specs.Lent.{lent, lent_name}
+use Rattle.tree_scopes.specs.Lent.{lent_names, lent_name}
 use Rattle.package_form.proofs.Lists.{map-more, all-append, all-cons, all-none, contains-map, contains-at}
 use Rattle.tree_meaning.proofs.Finding.{none-of, place-lacks, place-has}
 use Rattle.package_form.proofs.Meeting.{all-taken}
@@ -20,4 +20,4 @@ returns-in_default-clause-some c =
     )
 
 pub returns-clause-none : goal.returns-clause-none
-returns-clause-none c = all-taken (λ (ns : List (Bor (List ℕ))). All (Contains c.args.known.now) (lent ns)) c.args.names.now c.loop-name.name-index (omega arith) c.loop-name.invariant
+returns-clause-none c = all-taken (λ (ns : List (Bor (List ℕ))). All (Contains c.args.known.now) (lent_names ns)) c.args.names.now c.loop-name.name-index (omega arith) c.loop-name.invariant

@@ -1,5 +1,5 @@
 use Rattle.std.proofs.Common.{◌≡◌, ◌∙◌, List, length, take, set, get_or, ap, sym, arith}
-use Rattle.tree_meaning.specs.Finished.{with_row}
+use Rattle.tree_meaning.specs.Finished.{with_definition}
 use Rattle.tree_meaning.specs.Resolves.{interfaces_behind}
 use Rattle.tables.specs.declared.tables.Interface.{Interface}
 use Rattle.tree_meaning.proofs.Finding.{if-none}
@@ -24,10 +24,10 @@ loop-place-preserved c =
           let i = w.in-Some.index in
           let x = w.index_mut.result.now in
           let more = rows-there-in n rows k d (omega arith) c.index-rows-place.is first i names x (omega (arith, count, c.len.ensures, w.in-Some.ensures.some.0)) w.in-Some.ensures.some.1 in
-          let put : set old i w.push_id.new.interface ≡ set old i (with_row k d (get_or old i x)) =
-          ap (λ (y : Interface). set old i y) (w.in_ok-push_id.ensures ∙ ap (with_row k d) w.index_mut.ensures.value) in
+          let put : set old i w.push_id.new.interface ≡ set old i (with_definition k d (get_or old i x)) =
+          ap (λ (y : Interface). set old i y) (w.in_ok-push_id.ensures ∙ ap (with_definition k d) w.index_mut.ensures.value) in
           ap (λ v. v.items) w.interfaces-is ∙ put
-          ∙ ap (λ (is : List Interface). set is i (with_row k d (get_or is i x))) so_far ∙ sym more
+          ∙ ap (λ (is : List Interface). set is i (with_definition k d (get_or is i x))) so_far ∙ sym more
       | in_default w ↦
           let none = if-none c.own_place.result _ (λ j e. w.in_default.not-Some j e) c.own_place.ensures.none in
           let same = rows-elsewhere-in n rows k d (omega arith) c.index-rows-place.is first names (λ j l g. none j (omega (arith, l, count, c.len.ensures)) g) in

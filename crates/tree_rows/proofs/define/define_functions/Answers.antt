@@ -1,5 +1,5 @@
 use Rattle.std.proofs.Common.{arith}
-use Rattle.tree_meaning.specs.Declarations.{FunctionItem, named_function}
+use Rattle.tree_meaning.specs.Declarations.{FunctionItem, names_in_function}
 use Rattle.tree_scopes.specs.Sources.{declared_function}
 use Rattle.tree_scopes.specs.KnownScopes.{KnowsNames}
 use Rattle.package_form.proofs.Lists.{all_map-at}
@@ -11,5 +11,5 @@ define_function-requires-clause-scoped c = scope-later c.args.builder.now c.loop
 
 pub define_function-requires-clause-known : goal.define_function-requires-clause-known
 define_function-requires-clause-known c =
-    all_map-at (λ (f : FunctionItem). KnowsNames c.args.scope.now (named_function f.function)) declared_function c.args.functions.now c.loop-function.function-index c.function-item.result
+    all_map-at (λ (f : FunctionItem). KnowsNames c.args.scope.now (names_in_function f.function)) declared_function c.args.functions.now c.loop-function.function-index c.function-item.result
     c.requires.known (omega arith) c.function-item.is

@@ -1,7 +1,7 @@
 use Rattle.std.proofs.Common.{◌≡◌, ◌++◌, List, ℕ, All, Contains, Bor, map, ap, sym, subst, refl}
 use Rattle.wit_syntax.specs.declared.ast.TypeDef.{TypeDef}
 use Rattle.wit_syntax.specs.declared.ast.Func.{Func}
-use Rattle.tree_meaning.specs.Declarations.{FunctionItem, used_names, named_function}
+use Rattle.tree_meaning.specs.Declarations.{FunctionItem, used_names, names_in_function}
 use Rattle.tree_scopes.specs.Lent.{used_item_of, declared_type}
 use Rattle.tree_scopes.specs.Sources.{declared_tree, declared_function}
 use Rattle.tree_meaning.specs.Imports.{interfaces_of}
@@ -40,8 +40,8 @@ define_functions-requires-clause-known c =
     both_names c.define_uses.new.builder c.define_types.new.builder c.define_uses.new.scope c.define_types.new.scope _ (used_names i) (map declared_type c.deref-2.result.now) i.types c.args.own.now.types.now
     (ap (map declared_type) c.deref-2.ensures.value) names c.in_ok-define_types.ensures in
     let placed = functions-placed i c.args.own.now.types.now c.requires.placed c.requires.functions in
-    subst (λ (ns : List (List ℕ)). All (λ (f : FunctionItem). All (Contains ns) (named_function f.function)) (map declared_function c.deref-3.result.now)) (sym all)
-    (subst (λ (fs : List (Bor Func)). All (λ (f : FunctionItem). All (Contains (used_names i ++ ordered_names i.types c.args.own.now.types.now)) (named_function f.function)) (map declared_function fs)) (sym c.deref-3.ensures.value) placed)
+    subst (λ (ns : List (List ℕ)). All (λ (f : FunctionItem). All (Contains ns) (names_in_function f.function)) (map declared_function c.deref-3.result.now)) (sym all)
+    (subst (λ (fs : List (Bor Func)). All (λ (f : FunctionItem). All (Contains (used_names i ++ ordered_names i.types c.args.own.now.types.now)) (names_in_function f.function)) (map declared_function fs)) (sym c.deref-3.ensures.value) placed)
 
 pub returns : goal.returns
 returns c =

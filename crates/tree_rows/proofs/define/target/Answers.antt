@@ -2,7 +2,7 @@ use Rattle.std.proofs.Common.{◌≡◌, Option, Some, slice_index_or, ap, sym, 
 use Rattle.std.proofs.lemmas.List.Elements.{All-contains, All-get_or}
 use Rattle.std.proofs.lemmas.Option.{same_Some}
 use Rattle.tree_scopes.specs.KnownScopes.{IsScope, scope_name}
-use Rattle.tree_meaning.specs.Building.{IsEntry, name_at}
+use Rattle.tree_meaning.specs.Building.{IsEntry, label_at}
 use Rattle.tree_scopes.specs.declared.known.KnownTypes.{KnownTypes}
 use Rattle.tree_rows.proofs.define.target.Goals as goal
 
@@ -36,7 +36,7 @@ returns c =
     let s : KnownTypes = c.index-scopes-place.result in
     let at = here _ c.requires.known.place j c.requires.known.found (sym c.in_ok-place.ensures ∙ c.in-Some.is) in
     let within = rw at at c.requires.known.within in
-    let named : scope_name t (slice_index_or c.args.scopes.now j s) ≡ name_at t j = ap (name_at t) (c.requires.placed j s within) in
+    let named : scope_name t (slice_index_or c.args.scopes.now j s) ≡ label_at t j = ap (label_at t) (c.requires.placed j s within) in
     let scope = All-get_or (IsScope t) c.args.scopes.now j s within c.requires.scoped in
     let entry = All-contains (IsEntry t (scope_name t (slice_index_or c.args.scopes.now j s))) _ _ scope.each c.get.ensures in
     let name = rw at at c.requires.known.named in

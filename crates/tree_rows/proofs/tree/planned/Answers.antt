@@ -4,13 +4,13 @@ use Rattle.wit_syntax.specs.View.{item_view}
 use Rattle.wit_syntax.specs.declared.ast.Item.{Item}
 use Rattle.tree_meaning.specs.Declarations.{InterfaceTree, world_of, package_named}
 use Rattle.tree_meaning.specs.Imports.{imports_of}
-use Rattle.tree_meaning.specs.Resolved.{world_meaning}
+use Rattle.tree_meaning.specs.Resolved.{meaning_of_world}
 use Rattle.tree_meaning.specs.Resolves.{IsKnownWorldOf}
 use Rattle.tree_meaning.specs.Building.{DefinesPackage, start_table}
 use Rattle.tree_meaning.specs.WorldRows.{DefinesWorlds}
 use Rattle.tree_meaning.proofs.Trees.{ok-map, err-map}
 use Rattle.tree_forms.proofs.Defined.{finished, refused}
-use Rattle.tree_rows.specs.Planning.{imported, file}
+use Rattle.tree_rows.specs.Planning.{imported, planned_file}
 use Rattle.tree_rows.proofs.Planned.{known-worlds, placed, types-placed, ordered}
 use Rattle.tree_rows.proofs.tree.planned.Goals as goal
 
@@ -27,8 +27,8 @@ returns-clause-ok c =
     let new = c.define_worlds.new.builder in
     let ws = c.in_ok-worlds.worlds.items in
     let made = subst (λ (is : List InterfaceTree). DefinesPackage (start_table (imported p) p.names.now) is p.order.now p.types.now old) h.declared c.in_ok-define_package.ensures in
-    let worlds_made = subst (λ (xs : List Item). DefinesWorlds old new (length (imported p).packages) ws (map world_meaning (filter_map world_of (map item_view xs)))) c.deref.ensures.value c.in_ok-worlds.ensures in
-    ok-map c.finish.result _ _ (λ r f. finished (imported p) h.imports (file p) p.order.now p.types.now p.names.now p.labels.now old new ws _ (placed p h) (types-placed p h) (ordered p h)
+    let worlds_made = subst (λ (xs : List Item). DefinesWorlds old new (length (imported p).packages) ws (map meaning_of_world (filter_map world_of (map item_view xs)))) c.deref.ensures.value c.in_ok-worlds.ensures in
+    ok-map c.finish.result _ _ (λ r f. finished (imported p) h.imports (planned_file p) p.order.now p.types.now p.names.now p.labels.now old new ws _ (placed p h) (types-placed p h) (ordered p h)
     (h.labels ∙ sym h.names) made h.labelled h.faults worlds_made refl r f) c.finish.ensures.ok
 
 pub returns-clause-err : goal.returns-clause-err
@@ -39,6 +39,6 @@ returns-clause-err c =
     let new = c.define_worlds.new.builder in
     let ws = c.in_ok-worlds.worlds.items in
     let made = subst (λ (is : List InterfaceTree). DefinesPackage (start_table (imported p) p.names.now) is p.order.now p.types.now old) h.declared c.in_ok-define_package.ensures in
-    let worlds_made = subst (λ (xs : List Item). DefinesWorlds old new (length (imported p).packages) ws (map world_meaning (filter_map world_of (map item_view xs)))) c.deref.ensures.value c.in_ok-worlds.ensures in
-    err-map c.finish.result _ _ (λ e f. refused (imported p) h.imports (file p) p.order.now p.types.now p.names.now p.labels.now old new ws (package_named (file p)) (placed p h) (types-placed p h) (ordered p h)
+    let worlds_made = subst (λ (xs : List Item). DefinesWorlds old new (length (imported p).packages) ws (map meaning_of_world (filter_map world_of (map item_view xs)))) c.deref.ensures.value c.in_ok-worlds.ensures in
+    err-map c.finish.result _ _ (λ e f. refused (imported p) h.imports (planned_file p) p.order.now p.types.now p.names.now p.labels.now old new ws (package_named (planned_file p)) (placed p h) (types-placed p h) (ordered p h)
     (h.labels ∙ sym h.names) made h.labelled h.faults worlds_made refl e f) c.finish.ensures.err

@@ -3,7 +3,7 @@ use Rattle.wit_syntax.specs.View.{path_view, world_kind_view}
 use Rattle.wit_syntax.specs.declared.ast.WorldItemKind.{WorldItemKind}
 use Rattle.tables.specs.declared.tables.WorldItemKind.TheVariants as table
 use Rattle.tree_meaning.specs.Declarations.{item_tree}
-use Rattle.tree_meaning.specs.Resolved.{item_meaning}
+use Rattle.tree_meaning.specs.Resolved.{tree_item_meaning}
 use Rattle.tree_meaning.specs.Resolves.{IsKnownItemOf, path_place}
 use Rattle.tree_meaning.specs.WorldRows.{DefinesItem}
 use Rattle.tree_rows.proofs.PathRows.{item-there, path-defined}
@@ -24,5 +24,5 @@ returns-in_ok-interface_id-in-Some c =
     let id = c.in_ok-interface_id-in-Some.field-0 in
     let found : path_place (interfaces_of c.args.plan.now.imports.now) c.args.plan.now.names.now p ≡ Some c.in-Some.place = sym c.in_ok-place-in-Interface.ensures ∙ c.in-Some.is in
     let made = path-defined c.args.plan.now.imports.now c.args.plan.now.names.now old c.args.world.0 way c.side_of-direction.result p id c.in-Some.place c.requires.names c.side_of-direction.ensures c.in_ok-interface_id-in-Some.ensures found in
-    subst (λ (k : WorldItemKind). DefinesItem old old c.args.world.0 (record { direction = c.side_of-direction.result; kind = table.Interface id }) (item_meaning (item_tree (world_kind_view way k))))
+    subst (λ (k : WorldItemKind). DefinesItem old old c.args.world.0 (record { direction = c.side_of-direction.result; kind = table.Interface id }) (tree_item_meaning (item_tree (world_kind_view way k))))
     (sym c.in-Interface.is) made

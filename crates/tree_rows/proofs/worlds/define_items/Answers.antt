@@ -1,5 +1,5 @@
 use Rattle.std.proofs.Common.{◌∙◌, arith}
-use Rattle.tree_meaning.specs.Resolved.{item_meaning}
+use Rattle.tree_meaning.specs.Resolved.{tree_item_meaning}
 use Rattle.tree_meaning.specs.Resolves.{IsKnownItemOf}
 use Rattle.tree_scopes.specs.Sources.{declared_item}
 use Rattle.package_form.proofs.Lists.{all_map-at, map_map-more}
@@ -21,4 +21,4 @@ pub loop-item-preserved : goal.loop-item-preserved
 loop-item-preserved c =
     let x = c.item-item.result in
     let more = items-more c.args.builder.now c.loop-item.builder c.define_item.new.builder c.args.world.0 c.loop-item.defined.items _ c.in_ok-item.item _ c.loop-item.invariant c.in_ok-item.ensures in
-    rw (c.in_ok-push.ensures.items, map_map-more item_meaning declared_item c.args.items.now c.loop-item.item-index x (omega arith) c.item-item.is) more
+    rw (c.in_ok-push.ensures.items, map_map-more tree_item_meaning declared_item c.args.items.now c.loop-item.item-index x (omega arith) c.item-item.is) more

@@ -4,7 +4,7 @@ use Rattle.std.proofs.lemmas.List.{map-append}
 use Rattle.wit_syntax.specs.View.{item_view}
 use Rattle.wit_syntax.specs.declared.ast.Item.{Item}
 use Rattle.tree_meaning.specs.Declarations.{WorldTree, world_of}
-use Rattle.tree_meaning.specs.Resolved.{world_meaning}
+use Rattle.tree_meaning.specs.Resolved.{meaning_of_world}
 use Rattle.tree_meaning.specs.Resolves.{IsKnownWorldOf}
 use Rattle.tree_scopes.specs.Sources.{declared_world}
 use Rattle.package_form.proofs.Lists.{all-contained, contains-map, contains-at}
@@ -37,9 +37,9 @@ loop-item-preserved c =
       | in-World+in_ok-id+in_ok-world+in_ok-push w ↦
           let tree = declared_world w.in-World.world in
           let is : world_of (item_view x) ≡ Some tree = ap (λ (y : Item). world_of (item_view y)) w.in-World.is in
-          let named : map world_meaning (filter_map world_of (map item_view (take (k + 1) xs))) ≡ map world_meaning before ++ world_meaning tree ∷ [] =
-          ap (map world_meaning) (next ∙ ap (λ (o : Option WorldTree). before ++ cons_option o []) is) ∙ map-append world_meaning before (tree ∷ []) in
-          let more = worlds-more (length c.args.plan.now.imports.now.packages) c.args.builder.now c.loop-item.builder w.define_world.new.builder c.loop-item.worlds.items (map world_meaning before) w.in_ok-id.id.0 w.in_ok-world.world (world_meaning tree)
+          let named : map meaning_of_world (filter_map world_of (map item_view (take (k + 1) xs))) ≡ map meaning_of_world before ++ meaning_of_world tree ∷ [] =
+          ap (map meaning_of_world) (next ∙ ap (λ (o : Option WorldTree). before ++ cons_option o []) is) ∙ map-append meaning_of_world before (tree ∷ []) in
+          let more = worlds-more (length c.args.plan.now.imports.now.packages) c.args.builder.now c.loop-item.builder w.define_world.new.builder c.loop-item.worlds.items (map meaning_of_world before) w.in_ok-id.id.0 w.in_ok-world.world (meaning_of_world tree)
           (omega (arith, w.in_ok-id.ensures, w.len.ensures, c.loop-item.worlds.ok.0)) c.loop-item.invariant w.in_ok-world.ensures in
           rw (w.builder-is, w.worlds-is, w.in_ok-push.ensures.items, named) more
       | in_default w ↦

@@ -2,7 +2,7 @@ use Rattle.std.proofs.Common.{◌≡◌, ◌+◌, ◌++◌, ◌∷◌, [], ◌�
 use Rattle.std.specs.List.{cons_option, filter_map}
 use Rattle.std.proofs.lemmas.List.{map-append}
 use Rattle.std.proofs.lemmas.List.Elements.{filter_map-append}
-use Rattle.package_form.specs.Scoped.{Entry}
+use Rattle.package_form.specs.Scoped.{NameEntry}
 use Rattle.tables.specs.declared.tables.InterfaceId.{InterfaceId}
 use Rattle.tables.specs.declared.tables.TypeId.{TypeId}
 use Rattle.tree_meaning.specs.Imports.{type_within}
@@ -30,9 +30,9 @@ loop-id-preserved c =
           let n = w.in-Some.name.now in
           let is : type_within rows now.interface.0 id ≡ Some n = match-some c.type_within.result _ _ c.type_within.ensures w.in-Some.name w.in-Some.is in
           let after : c.match-type_within.scope ≡ record { interface = now.interface; entries = now.entries ++ record { name = n; id = id } ∷ [] } =
-          w.scope-is ∙ ap (λ (es : List Entry). record { interface = now.interface; entries = es }) w.in_ok-push.ensures in
+          w.scope-is ∙ ap (λ (es : List NameEntry). record { interface = now.interface; entries = es }) w.in_ok-push.ensures in
           record {
-            names = ap scope_names after ∙ map-append (λ (e : Entry). e.name) now.entries (record { name = n; id = id } ∷ [])
+            names = ap scope_names after ∙ map-append (λ (e : NameEntry). e.name) now.entries (record { name = n; id = id } ∷ [])
                 ∙ ap (λ (ns : List (List ℕ)). ns ++ n ∷ []) c.loop-id.invariant.names ∙ append_assoc (scope_names first) before (n ∷ [])
                 ∙ ap (λ (ns : List (List ℕ)). scope_names first ++ ns) (sym (next ∙ ap (λ (o : Option (List ℕ)). before ++ cons_option o []) (here ∙ is)));
             interface = ap (λ (s : KnownTypes). s.interface) after ∙ c.loop-id.invariant.interface;

@@ -1,6 +1,6 @@
 use Rattle.std.proofs.Common.{◌≡◌, ◌∙◌, List, ℕ, None, true, false, take, ap, sym, arith, Bor}
 use Rattle.std.specs.Str.{bytes_eq}
-use Rattle.tree_scopes.specs.Lent.{lent, lent_name}
+use Rattle.tree_scopes.specs.Lent.{lent_names, lent_name}
 use Rattle.tree_meaning.specs.Resolves.{place_of}
 use Rattle.package_form.proofs.Lists.{map-more}
 use Rattle.package_form.proofs.Meeting.{all-taken}
@@ -15,7 +15,7 @@ loop-place-preserved c =
     let n = c.args.name.now in
     let other : bytes_eq x.now n ≡ false = (let e = rw (c.as_bytes.ensures.is, c.as_bytes-in-loop-place.ensures.is) at c.eq.ensures in sym e ∙ c.if-eq.false) in
     ap (λ (ns : List (List ℕ)). place_of ns n) (map-more lent_name names k x (omega arith) c.index-names-place.is)
-    ∙ not-yet (lent (take k names)) x.now n c.loop-place.invariant other
+    ∙ not-yet (lent_names (take k names)) x.now n c.loop-place.invariant other
 
 pub returns-then-eq : goal.returns-then-eq
 returns-then-eq c =
@@ -26,4 +26,4 @@ returns-then-eq c =
 
 pub returns : goal.returns
 returns c =
-    sym (all-taken (λ (ns : List (Bor (List ℕ))). place_of (lent ns) c.args.name.now ≡ None) c.args.names.now c.loop-place.place (omega arith) c.loop-place.invariant)
+    sym (all-taken (λ (ns : List (Bor (List ℕ))). place_of (lent_names ns) c.args.name.now ≡ None) c.args.names.now c.loop-place.place (omega arith) c.loop-place.invariant)

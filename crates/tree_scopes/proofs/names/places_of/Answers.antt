@@ -3,7 +3,7 @@ use Rattle.std.specs.Map.{lookup}
 use Rattle.std.specs.Str.{bytes_eq}
 use Rattle.std.proofs.lemmas.List.{length-map, length-take}
 use Rattle.indexmap.proofs.CallerLemmas.{insert_entry-new}
-use Rattle.tree_scopes.specs.Lent.{lent, lent_name}
+use Rattle.tree_scopes.specs.Lent.{lent_names, lent_name}
 use Rattle.tree_meaning.specs.Knowing.{TellsPlaces}
 use Rattle.package_form.proofs.Lists.{map-more}
 use Rattle.package_form.proofs.Meeting.{all-taken}
@@ -19,9 +19,9 @@ loop-place-preserved c =
     let names = c.args.names.now in
     let k = c.loop-place.place in
     let x = c.index-names-place.result.now in
-    let so_far = lent (take k names) in
+    let so_far = lent_names (take k names) in
     let same : c.as_str-name.result.now ≡ x = c.as_str-name.ensures.is in
-    let more : lent (take (k + 1) names) ≡ so_far ++ x ∷ [] = map-more lent_name names k c.index-names-place.result (omega arith) c.index-names-place.is in
+    let more : lent_names (take (k + 1) names) ≡ so_far ++ x ∷ [] = map-more lent_name names k c.index-names-place.result (omega arith) c.index-names-place.is in
     let at : k ≡ length so_far = omega (arith, length-map (take k names) lent_name, length-take k names) in
     let es = c.loop-place.places.entries in
     elim c.if-not-contains_key.branch [
@@ -41,5 +41,5 @@ loop-place-preserved c =
 
 pub returns : goal.returns
 returns c =
-    let P : List (Bor (List ℕ)) → Type 0 = λ ns. TellsPlaces (λ s. s.now) c.loop-place.places.entries (lent ns) in
+    let P : List (Bor (List ℕ)) → Type 0 = λ ns. TellsPlaces (λ s. s.now) c.loop-place.places.entries (lent_names ns) in
     all-taken P c.args.names.now c.loop-place.place (omega arith) c.loop-place.invariant

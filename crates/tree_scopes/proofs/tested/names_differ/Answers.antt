@@ -1,6 +1,6 @@
 use Rattle.std.proofs.Common.{◌<◌, length, refl, ap, sym, subst, arith}
 use Rattle.tables.specs.declared.tables.Resolve.{Resolve}
-use Rattle.tree_scopes.specs.Tested.{IsFirst}
+use Rattle.tree_scopes.specs.Tested.{IsFirstOfName}
 use Rattle.tree_scopes.proofs.ImportTests.{all-first, first-at}
 use Rattle.tree_scopes.proofs.tested.names_differ.Goals as goal
 
@@ -10,7 +10,7 @@ returns-then-not-is_first c = (
   λ apart.
       let k = c.loop-place.place in
       let below : k < length c.args.imports.now.interfaces = omega (arith, ap length c.as_slice-interface-items.ensures) in
-      let first = subst (λ (r : Resolve). IsFirst r k) (sym c.in_ok-table.ensures) (first-at c.args.imports.now apart k below) in
+      let first = subst (λ (r : Resolve). IsFirstOfName r k) (sym c.in_ok-table.ensures) (first-at c.args.imports.now apart k below) in
       let found = c.is_first.ensures.1 first in
       absurd (cc (found, c.if-not-is_first.true)),
 )

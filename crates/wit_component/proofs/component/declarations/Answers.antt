@@ -6,7 +6,7 @@ use Rattle.tables.proofs.Rows.{both}
 use Rattle.package_form.specs.Ends.{interfaces_end, world_end, world_rows}
 use Rattle.package_form.proofs.Forms.{rows-few}
 use Rattle.atoms.specs.Label.{is_label}
-use Rattle.wit_component.specs.Component.{Front, no_front, worlds_declared}
+use Rattle.wit_component.specs.Component.{ComponentFront, no_front, worlds_declared}
 use Rattle.wit_component.specs.ToComponent.{is_labelled, are_worlds_labelled}
 use Rattle.wit_component.proofs.WorldItems.{AreWorlds, world-first, worlds-later, world-grouped, items-stand, package-worlds, end-within, worlds-few, world-items-few, instances-count}
 use Rattle.wit_component.proofs.WorldsWritten.{next-of}
@@ -23,7 +23,7 @@ loop-world-init c =
     record {
       declared = λ j. (told.declared j) ++ worlds_declared r (told.place j) (start j) r.worlds;
       are = subst (λ (n : ℕ). AreWorlds r.definitions (length r.interfaces) 0 n r.worlds) (sym start) (package-worlds r c.requires);
-      instances = ap (λ (p : Front). length p.instances) told.place ∙ instances-count r.definitions no_front 0 r.interfaces ∙ omega arith;
+      instances = ap (λ (p : ComponentFront). length p.instances) told.place ∙ instances-count r.definitions no_front 0 r.interfaces ∙ omega arith;
       start = omega (arith, start, end-within r c.requires);
       types = omega (arith, told.few);
       labelled = ap (λ (n : ℕ). are_worlds_labelled r.definitions n r.worlds) start;
@@ -90,13 +90,13 @@ loop-world-preserved c =
     let first = world-first rows count k start w rest are in
     let end : c.world_end-start.result ≡ world_end start w = c.world_end-start.ensures in
     let decls = map decl_view c.loop-world.decls.items in
-    let types = ap (λ (p : Front). p.types) told.place in
+    let types = ap (λ (p : ComponentFront). p.types) told.place in
     record {
       declared =
           (λ j. (told.declarations j) ++ worlds_declared r (told.place j) (end j) rest) ∙ append_assoc decls _ _
           ∙ sym (ap (λ ws. decls ++ worlds_declared r c.loop-world.place start ws) next) ∙ inv.declared;
       are = subst (λ (n : ℕ). AreWorlds rows count (k + 1) n rest) (sym end) (worlds-later rows count k start w rest are);
-      instances = ap (λ (p : Front). length p.instances) told.place ∙ inv.instances;
+      instances = ap (λ (p : ComponentFront). length p.instances) told.place ∙ inv.instances;
       start = omega (arith, end, first.high);
       types = omega (arith, types, inv.types);
       labelled =

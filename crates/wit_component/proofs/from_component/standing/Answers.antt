@@ -2,7 +2,7 @@ use Rattle.std.proofs.Common.{◌≡◌, ◌⊎◌, inl, inr, Err, refl, sym, su
 use Rattle.std.proofs.Math.Logic.{∥∥₁_map}
 use Rattle.std.proofs.lemmas.Bool.{OnTrue_at}
 use Rattle.std.proofs.lemmas.Result.{err_from_is_err_and}
-use Rattle.ctype_bin.specs.FileView.{file_view}
+use Rattle.ctype_bin.specs.FileView.{raw_component_view}
 use Rattle.tables.specs.declared.tables.Resolve.{Resolve}
 use Rattle.tables.specs.declared.error.ResolveError.{ResolveError}
 use Rattle.tables.specs.declared.error.ResolveError.TheVariants as error
@@ -15,7 +15,7 @@ use Rattle.wit_component.proofs.from_component.standing.Goals as goal
 
 pub returns-in-Err-NotThisShape-clause-err : goal.returns-in-Err-NotThisShape-clause-err
 returns-in-Err-NotThisShape-clause-err c =
-    let found = candidate_of (file_view c.args.raw.now) in
+    let found = candidate_of (raw_component_view c.args.raw.now) in
     inr (refl, λ r s. no-other-shape c.args.raw.now r s (subst (λ (e : Unread). Makes found (Err e)) c.in-Err-NotThisShape.field-0-is c.in-Err-NotThisShape.ensures))
 
 pub returns-in_err-written-clause-err : goal.returns-in_err-written-clause-err

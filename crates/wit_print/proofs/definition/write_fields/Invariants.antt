@@ -1,8 +1,8 @@
 use Rattle.std.proofs.Common.{drop, map}
 use Rattle.wit_syntax.specs.View.{field_view}
 use Rattle.wit_print.specs.Canonical.{lined_words, field_words}
-use Rattle.wit_print.specs.Adding.{Leaves}
+use Rattle.wit_print.specs.Adding.{LeavesWords}
 use Rattle.wit_print.proofs.definition.write_fields.Given as goal
 
 abbrev pub invariant-loop-field : goal.invariant-loop-field
-invariant-loop-field l = Leaves (lined_words field_words (map field_view l.fields)) (lined_words field_words (map field_view (drop l.field-index l.fields))) l.initial.out l.out
+invariant-loop-field l = LeavesWords (lined_words field_words (map field_view l.fields)) (lined_words field_words (map field_view (drop l.field-index l.fields))) l.initial.out l.out

@@ -3,11 +3,11 @@ use Rattle.wit_syntax.specs.View.{field_view}
 use Rattle.wit_tokens.specs.declared.token.Punctuation.TheVariants as mark
 use Rattle.wit_print.specs.Words.{mark_word}
 use Rattle.wit_print.specs.Canonical.{listed_words, member_words}
-use Rattle.wit_print.specs.Adding.{Leaves}
+use Rattle.wit_print.specs.Adding.{LeavesWords}
 use Rattle.wit_print.proofs.Lists.{pending}
 use Rattle.wit_print.proofs.function.write_parameters.Given as goal
 
 abbrev pub invariant-loop-index : goal.invariant-loop-index
 invariant-loop-index l =
     let end = mark_word [] mark.CloseParenthesis in
-    Leaves (listed_words member_words end [] (map field_view l.params)) (pending member_words end l.index (map field_view (drop l.index l.params))) l.initial.out l.out
+    LeavesWords (listed_words member_words end [] (map field_view l.params)) (pending member_words end l.index (map field_view (drop l.index l.params))) l.initial.out l.out

@@ -1,11 +1,11 @@
 use Rattle.std.proofs.Common.{sym, ap}
 use Rattle.adapter.proofs.Signatures.{result-known}
-use Rattle.witcall.specs.Signature.{signature_of}
+use Rattle.witcall.specs.Signature.{function_signature}
 use Rattle.witcall.proofs.Functions.{all_known, result_is_fields}
 use Rattle.witcall.proofs.signature.result_type.Goals as goal
 
 pub returns-clause-ty : goal.returns-clause-ty
-returns-clause-ty c = sym (ap (λ o. (signature_of o).result) c.signature.ensures)
+returns-clause-ty c = sym (ap (λ o. (function_signature o).result) c.signature.ensures)
 
 pub returns-clause-known : goal.returns-clause-known
 returns-clause-known c = result-known c.args.resolve.now c.args.func c.requires c.signature.result.now c.signature.ensures

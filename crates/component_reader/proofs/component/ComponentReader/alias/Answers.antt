@@ -6,7 +6,7 @@ use Rattle.std.proofs.lemmas.Option.{slice_get_read}
 use Rattle.ctype_format.specs.declared.raw.RawAlias.{RawAlias}
 use Rattle.tables.specs.declared.tables.TypeId.{TypeId}
 use Rattle.tables.specs.declared.tables.InterfaceId.{InterfaceId}
-use Rattle.component_reader.specs.Component.{ComponentRead, alias_read, with_type}
+use Rattle.component_reader.specs.Component.{ComponentRead, alias_read, with_read_type}
 use Rattle.component_reader.specs.Readers.{component_view}
 use Rattle.component_reader.proofs.Instances.{type-found}
 use Rattle.component_reader.proofs.component.ComponentReader.alias.Goals as goal
@@ -21,7 +21,7 @@ returns-in_default-get-2 c =
     let there = ap (λ ms. slice_get ms i) (sym c.deref.ensures.value) ∙ slice_get_read c.deref.result.now _ i types refl at.3.0 at.1 in
     let found = type-found (λ m. m.entries) c.args.self.now.exports.items i types name there in
     let none = ap (λ (n : List ℕ). lookup (λ v. bytes_eq n v.items) types.entries) (sym c.as_bytes.ensures.is) ∙ sym c.in_default-get-2.ensures.value in
-    inr (refl, ap (λ (a : RawAlias). alias_read a s) c.in-InstanceExport.is ∙ ap (option_map (with_type s)) (found ∙ none))
+    inr (refl, ap (λ (a : RawAlias). alias_read a s) c.in-InstanceExport.is ∙ ap (option_map (with_read_type s)) (found ∙ none))
 
 pub returns : goal.returns
 returns c =
@@ -46,4 +46,4 @@ returns c =
       awaited = s.awaited;
       awaited_world = s.awaited_world;
     }) in
-    ap (λ (a : RawAlias). alias_read a s) c.in-InstanceExport.is ∙ ap (option_map (with_type s)) (found ∙ some) ∙ (λ j. with_indices (sym c.in_ok-push.ensures.items j) (sym c.in_ok-push-2.ensures.items j))
+    ap (λ (a : RawAlias). alias_read a s) c.in-InstanceExport.is ∙ ap (option_map (with_read_type s)) (found ∙ some) ∙ (λ j. with_indices (sym c.in_ok-push.ensures.items j) (sym c.in_ok-push-2.ensures.items j))

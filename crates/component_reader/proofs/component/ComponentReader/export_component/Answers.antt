@@ -2,7 +2,7 @@ use Rattle.std.proofs.Common.{◌≡◌, [], ◌∷◌, ◌++◌, None, Some, ap
 use Rattle.std.specs.Option.{option_map}
 use Rattle.atoms.specs.FullName.{full_name_text}
 use Rattle.tables.specs.declared.tables.World.{World}
-use Rattle.component_reader.specs.Component.{ComponentRead, package_named, with_package, last_package, world_named, with_world}
+use Rattle.component_reader.specs.Component.{ComponentRead, package_in_name, with_package, last_package, world_named, with_world}
 use Rattle.component_reader.specs.Names.{parts_view}
 use Rattle.component_reader.specs.Readers.{world_with, component_view}
 use Rattle.component_reader.proofs.Cutting.{parts-cut}
@@ -19,7 +19,7 @@ returns c =
     let named = c.in_ok-label.ensures ∙ sym (parts-cut text parts c.requires).2 in
     let packages = c.in_ok-package.ensures.packages in
     let last_ = c.in_ok-package.ensures.last ∙ ap last_package packages in
-    let world : c.into_world.result ≡ world_named (last_package (with_package s.packages (package_named text))) text w =
+    let world : c.into_world.result ≡ world_named (last_package (with_package s.packages (package_in_name text))) text w =
     c.into_world.ensures ∙ (λ j. record { «package» = last_ j; name = named j; items = w.items }) in
     let worlds = c.in_ok-push.ensures.items ∙ ap (λ (x : World). own.worlds.items ++ x ∷ []) world in
     let last : option_map (world_with own.rows.items) c.take.new.self ≡ None = ap (option_map (world_with own.rows.items)) c.in-Some.ensures.after in

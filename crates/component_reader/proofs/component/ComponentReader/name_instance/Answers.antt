@@ -3,7 +3,7 @@ use Rattle.std.specs.Option.{option_map}
 use Rattle.std.proofs.lemmas.List.{map-append}
 use Rattle.atoms.specs.FullName.{full_name_text}
 use Rattle.tables.specs.declared.tables.Interface.{Interface}
-use Rattle.component_reader.specs.Component.{ComponentRead, package_named, with_package, last_package, interface_named, with_interface}
+use Rattle.component_reader.specs.Component.{ComponentRead, package_in_name, with_package, last_package, interface_named, with_interface}
 use Rattle.component_reader.specs.Names.{parts_view}
 use Rattle.component_reader.specs.Readers.{names_view, read_with, component_view}
 use Rattle.component_reader.proofs.Cutting.{parts-cut}
@@ -20,7 +20,7 @@ returns c =
     let named = c.in_ok-label.ensures ∙ sym (parts-cut text parts c.requires).2 in
     let packages = c.in_ok-package.ensures.packages in
     let last_ = c.in_ok-package.ensures.last ∙ ap last_package packages in
-    let interface : c.into_interface-interface.result.0 ≡ interface_named (last_package (with_package s.packages (package_named text))) text i =
+    let interface : c.into_interface-interface.result.0 ≡ interface_named (last_package (with_package s.packages (package_in_name text))) text i =
     c.into_interface-interface.ensures.interface ∙ (λ j. record { «package» = last_ j; name = named j; uses = i.uses; types = i.types; functions = i.functions }) in
     let interfaces = c.in_ok-push.ensures.items ∙ ap (λ (x : Interface). own.interfaces.items ++ x ∷ []) interface in
     let exports = ap (map (λ m. names_view m.entries)) c.in_ok-push-2.ensures.items

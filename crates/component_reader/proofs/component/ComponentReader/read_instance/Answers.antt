@@ -2,7 +2,7 @@ use Rattle.std.proofs.Common.{◌≡◌, ℕ, [], ◌∷◌, ◌++◌, map, leng
 use Rattle.std.specs.Option.{option_map}
 use Rattle.ctype_format.specs.View.{decl_view, decls_of}
 use Rattle.component_reader.specs.Instance.{instance_read}
-use Rattle.component_reader.specs.Component.{ComponentRead, with_instance}
+use Rattle.component_reader.specs.Component.{ComponentRead, with_read_instance}
 use Rattle.component_reader.specs.Readers.{read_with, component_view}
 use Rattle.component_reader.proofs.component.ComponentReader.read_instance.Goals as goal
 
@@ -16,7 +16,7 @@ returns c =
     let again : instance_read own.indices.items (length own.interfaces.items) ds own.rows.items ≡ Some i =
     (λ j. instance_read (sym c.deref-2.ensures.value j) (sym id j) ds own.rows.items) ∙ c.in_ok-reader.ensures in
     let instances = ap (λ (n : ℕ). s.instances ++ Some (record { 0 = n }) ∷ []) (sym id) ∙ sym c.in_ok-push-2.ensures.items in
-    let made : with_instance s i ≡ component_view (record { packages = own.packages; rows = c.read.new.rows; interfaces = own.interfaces; exports = own.exports; worlds = own.worlds; indices = c.push.new.self; instances = c.push-2.new.self; awaited = Some c.in_ok-reader.reader; awaited_world = None; keyed = own.keyed }) =
+    let made : with_read_instance s i ≡ component_view (record { packages = own.packages; rows = c.read.new.rows; interfaces = own.interfaces; exports = own.exports; worlds = own.worlds; indices = c.push.new.self; instances = c.push-2.new.self; awaited = Some c.in_ok-reader.reader; awaited_world = None; keyed = own.keyed }) =
     λ j. record {
       packages = s.packages;
       rows = i.rows;
@@ -28,4 +28,4 @@ returns c =
       awaited = Some i;
       awaited_world = None;
     } in
-    ap (option_map (with_instance s)) again ∙ ap (λ (x : ComponentRead). Some x) made
+    ap (option_map (with_read_instance s)) again ∙ ap (λ (x : ComponentRead). Some x) made

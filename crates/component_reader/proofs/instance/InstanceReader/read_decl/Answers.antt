@@ -2,7 +2,7 @@ use Rattle.std.proofs.Common.{sym, subst}
 use Rattle.ctype_format.specs.View.{decl_view, type_view}
 use Rattle.ctype_format.specs.declared.raw.RawDecl.{RawDecl}
 use Rattle.component_reader.specs.Types.{Becomes}
-use Rattle.component_reader.specs.Instance.{use_read, defined, decl_read}
+use Rattle.component_reader.specs.Instance.{use_read, defined_read, decl_read}
 use Rattle.component_reader.specs.Readers.{read_with}
 use Rattle.component_reader.proofs.Instances.{becomes-behind}
 use Rattle.component_reader.proofs.instance.InstanceReader.read_decl.Goals as goal
@@ -23,5 +23,5 @@ returns-in_ok-settle-in-Type c =
     let rows = c.settle-in-Type.new.rows.items in
     let new = read_with rows c.define.new.self in
     subst (λ (d : RawDecl). Becomes (decl_read c.args.around.now c.args.place.0 (decl_view d) s) new c.define.result) (sym c.in-Type.is)
-    (becomes-behind _ (defined (type_view c.in-Type.ty)) (read_with rows c.settle-in-Type.new.self) new c.define.result
+    (becomes-behind _ (defined_read (type_view c.in-Type.ty)) (read_with rows c.settle-in-Type.new.self) new c.define.result
     c.in_ok-settle-in-Type.ensures (c.define.ensures rows))

@@ -1,5 +1,5 @@
 use Rattle.ctype_format.specs.View.{type_view}
-use Rattle.component_reader.specs.Instance.{settled, defined}
+use Rattle.component_reader.specs.Instance.{settled, defined_read}
 use Rattle.component_reader.specs.World.{with_inside}
 use Rattle.component_reader.specs.Readers.{read_with, world_with}
 use Rattle.component_reader.proofs.Found.{becomes-within}
@@ -12,4 +12,4 @@ returns c =
     let rows = c.settle.new.rows.items in
     let new = read_with rows c.define.new.self in
     becomes-within (with_inside s) _ new c.define.result
-    (becomes-behind (settled s.inside) (defined (type_view c.args.ty.now)) (read_with rows c.settle.new.self) new c.define.result c.in_ok-settle.ensures (c.define.ensures rows))
+    (becomes-behind (settled s.inside) (defined_read (type_view c.args.ty.now)) (read_with rows c.settle.new.self) new c.define.result c.in_ok-settle.ensures (c.define.ensures rows))

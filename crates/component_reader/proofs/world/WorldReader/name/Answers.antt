@@ -2,7 +2,7 @@ use Rattle.std.proofs.Common.{Bool, cond, None, sym, subst}
 use Rattle.ctype_format.specs.Names.{name_view}
 use Rattle.ctype_format.specs.declared.raw.RawDescription.{RawDescription}
 use Rattle.component_reader.specs.Types.{Becomes}
-use Rattle.component_reader.specs.World.{interface_named, named_read}
+use Rattle.component_reader.specs.World.{interface_met, named_read}
 use Rattle.component_reader.specs.Readers.{world_with}
 use Rattle.component_reader.proofs.world.WorldReader.name.Goals as goal
 
@@ -14,4 +14,4 @@ returns-in-FullName-Instance c =
     let read = named_read c.args.world.0 c.args.external.now.direction (name_view c.args.external.now.name.now) in
     let full = c.in-FullName-Instance.ensures in
     subst (λ (d : RawDescription). Becomes (read d s) new c.name_interface.result) (sym c.in-FullName-Instance.is-1)
-    (subst (λ (b : Bool). Becomes (cond b None (interface_named c.args.external.now.direction s)) new c.name_interface.result) (sym full.0) (c.name_interface.ensures rows))
+    (subst (λ (b : Bool). Becomes (cond b None (interface_met c.args.external.now.direction s)) new c.name_interface.result) (sym full.0) (c.name_interface.ensures rows))

@@ -4,7 +4,7 @@ use Rattle.std.specs.Int.{next_multiple_of}
 use Rattle.canonical_abi.specs.Types.{ClosedType, record_type, variant_type, record_fields, variant_cases, nth_case, case_count}
 use Rattle.canonical_abi.specs.Layout.{size, align, discriminant_size, payload_place}
 use Rattle.canonical_abi.specs.Reading.{number_at, byte_width, case_number}
-use Rattle.canonical_abi.specs.Storing.{header}
+use Rattle.canonical_abi.specs.Storing.{pointer_pair}
 use Rattle.canonical_abi.specs.Trace.{write, EventLeads}
 use Rattle.canonical_abi.proofs.Sizes.{is-alignment}
 use Rattle.tables.specs.Closed.{closed_type}
@@ -216,7 +216,7 @@ cross_list-returns g t c =
     let next = g.G.Guest.memory c.write_header.new.guest in
     let new = g.G.Guest.memory c.cross_elements.new.guest in
     let gr = granted-led 4294967295 A (align u) (n * size u) c.in-Ok.place old mid ok in
-    let P : ℕ → Type 0 = λ p. EventLeads A mid (write c.args.at.to (header p n)) next in
+    let P : ℕ → Type 0 = λ p. EventLeads A mid (write c.args.at.to (pointer_pair p n)) next in
     let Q : ℕ → Type 0 = λ p. Ends A (EachWalks u m start p n) next c.args.nodes.now c.cross_elements.result new c.cross_elements.new.nodes in
     list-ends A u m c.args.at.from c.args.at.to start n c.u32_at-start.ensures c.u32_at-count.ensures stands gr.0 gr.1 old mid next c.cross_elements.result new c.args.nodes.now c.cross_elements.new.nodes gr.3 ok.no_shorter
     (subst P (sym gr.2) c.write_header.ensures.led) c.write_header.ensures.same_length (subst Q (sym gr.2) c.cross_elements.ensures)

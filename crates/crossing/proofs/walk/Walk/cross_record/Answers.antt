@@ -8,7 +8,7 @@ use Rattle.canonical_abi.proofs.Sizes.{is-alignment}
 use Rattle.tables.specs.Closed.{closed_type}
 use Rattle.values.specs.Bytes.{AreBytes}
 use Rattle.lift_lower.proofs.Unlimited.{request-fails}
-use Rattle.crossing.specs.Outcome.{FieldsWalk, IsDone, HasStopped}
+use Rattle.crossing.specs.Outcome.{FieldsWalk, IsCrossed, HasStopped}
 use Rattle.crossing.proofs.Nodes.{granted-led}
 use Rattle.crossing.proofs.Passing.{record-refused, record-done, record-stopped}
 use Rattle.crossing.proofs.walk.Walk.cross_record.Goals as goal
@@ -65,7 +65,7 @@ returns g c =
     let mid = g.G.Guest.memory c.ask_block.new.guest in
     let new = g.G.Guest.memory c.cross_fields.new.guest in
     let gr = granted-led 4294967295 A (align (record_type fs)) (size (record_type fs)) c.in-Ok.place old mid ok in
-    let Q : ℕ → Type 0 = λ p. IsDone A (FieldsWalk fs m c.low_word-from.result p 0) mid c.args.nodes.now new c.cross_fields.new.nodes in
+    let Q : ℕ → Type 0 = λ p. IsCrossed A (FieldsWalk fs m c.low_word-from.result p 0) mid c.args.nodes.now new c.cross_fields.new.nodes in
     let told : c.push.new.self.items ≡ I32 gr.0.at ∷ [] = c.push.ensures.items ∙ ap (λ l. l ++ (I32 c.in-Ok.place ∷ [])) c.requires.empty ∙ ap (λ p. I32 p ∷ []) (sym gr.2) in
     record-done A max_flat_params fs m c.args.flats.now c.requires.kinds c.requires.spilled c.low_word-from.result c.low_word-from.ensures stands gr.0 gr.1 c.push.new.self.items told
     old mid c.args.nodes.now new c.cross_fields.new.nodes gr.3 ok.no_shorter (subst Q (sym gr.2) (rw c.fields_of-fields.ensures.members at c.in_ok-cross_fields.ensures))

@@ -1,6 +1,6 @@
 use Rattle.std.proofs.Common.{◌≡◌, ◌≤◌, ◌+◌, ◌-◌, ◌*◌, map}
 use Rattle.productions.specs.Production.{run}
-use Rattle.ctype_format.specs.Grammar.{decl, type, IsWithin, new_scope}
+use Rattle.ctype_format.specs.Grammar.{decl, type, IsScopeWithin, new_scope}
 use Rattle.ctype_format.specs.View.{decl_view}
 use Rattle.ctype_bin.proofs.Runs.{with_front}
 use Rattle.ctype_bin.proofs.types.Nesting.+types.Given as goal
@@ -19,7 +19,7 @@ decreases-type_of l = 4 * l.self.now.depth
 
 abbrev pub invariant-decls_of-loop : goal.invariant-decls_of-loop
 invariant-decls_of-loop l = record {
-  within : IsWithin l.scope;
+  within : IsScopeWithin l.scope;
   more : l.entries ≤ l.scope.entries;
   few : l.scope.instances ≤ l.counter;
   so_far : with_front (map decl_view l.decls.items) ((run (decl (type l.self.depth) l.component l.self.around.now) (l.count - l.counter) l.scope).read l.rest) ≡ (run (decl (type l.self.depth) l.component l.self.around.now) l.count (new_scope l.entries)).read l.bytes;

@@ -1,6 +1,6 @@
 use Rattle.std.proofs.Common.{◌≡◌, ap}
-use Rattle.layout.specs.Layout.{Table}
-use Rattle.layout.specs.Parts.{end_of}
+use Rattle.layout.specs.Layout.{LayoutTable}
+use Rattle.layout.specs.Parts.{final_type}
 use Rattle.layout.proofs.Told.{end-told}
 use Rattle.layout.proofs.layouts.Layouts.end.Goals as goal
 
@@ -8,7 +8,7 @@ pub returns : goal.returns
 returns c =
     let t = c.args.self.now in
     let ps = c.self.inside.parts.items in
-    let is : c.end_of.result ≡ end_of ps c.args.ty = rw c.as_slice.ensures.value at c.end_of.ensures in
-    let told = end-told t c.self.inside.rows.items ps c.args.ty c.end_of.result (ap (λ (u : Table). u.rows) c.self.view_is) (ap (λ (u : Table). u.parts) c.self.view_is)
+    let is : c.end_of.result ≡ final_type ps c.args.ty = rw c.as_slice.ensures.value at c.end_of.ensures in
+    let told = end-told t c.self.inside.rows.items ps c.args.ty c.end_of.result (ap (λ (u : LayoutTable). u.rows) c.self.view_is) (ap (λ (u : LayoutTable). u.parts) c.self.view_is)
     c.self.invariant.2 c.self.invariant.3 is c.requires in
-    record { value = rw (ap (λ (u : Table). u.parts) c.self.view_is) at is; below = told.0; end = told.1 }
+    record { value = rw (ap (λ (u : LayoutTable). u.parts) c.self.view_is) at is; below = told.0; end = told.1 }

@@ -1,5 +1,5 @@
 use Rattle.std.proofs.Common.{◌∙◌, ap}
-use Rattle.layout.specs.Layout.{Table}
+use Rattle.layout.specs.Layout.{LayoutTable}
 use Rattle.layout.proofs.Signatures.{are-kinds, lifted-is}
 use Rattle.layout.proofs.layouts.Layouts.lifted.Goals as goal
 
@@ -7,5 +7,5 @@ pub returns : goal.returns
 returns c = λ r e h.
     let same = c.self.view_is ∙ e in
     let kinds = are-kinds c.self.inside.rows.items c.self.inside.results.items r c.args.func c.index.result.now c.index-2.result.now
-    (ap (λ (t : Table). t.rows) same) (ap (λ (t : Table). t.results) same) c.index.ensures c.index-2.ensures h in
+    (ap (λ (t : LayoutTable). t.rows) same) (ap (λ (t : LayoutTable). t.results) same) c.index.ensures c.index-2.ensures h in
     c.lifted_of.ensures ∙ lifted-is r c.args.func _ _ kinds

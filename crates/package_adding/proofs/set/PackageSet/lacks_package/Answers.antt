@@ -3,7 +3,7 @@ use Rattle.std.proofs.Common.{◌≡◌, ◌∙◌, true, List, ap, sym, subst, 
 use Rattle.std.specs.List.{list_any}
 use Rattle.package_form.specs.Closed.{is_same_package}
 use Rattle.package_sets.specs.declared.error.AttachError.TheVariants.{SamePackage}
-use Rattle.tree_meaning.specs.Finished.{header}
+use Rattle.tree_meaning.specs.Finished.{header_name}
 use Rattle.tree_meaning.proofs.PathNames.{parts-are}
 use Rattle.tables.specs.PackageNames.{PackageParts}
 use Rattle.package_adding.proofs.Naming.{same-there}
@@ -13,8 +13,8 @@ pub returns-then-has_package-clause-err : goal.returns-then-has_package-clause-e
 returns-then-has_package-clause-err c =
     let ps = c.args.self.now.resolve.packages in
     let id = c.args.ast.now.«package» in
-    let there = ap (λ (qs : List PackageParts). list_any (λ p. is_same_package p (header id)) qs) (sym c.as_slice.ensures) ∙ sym c.has_package.ensures ∙ c.if-has_package.true in
+    let there = ap (λ (qs : List PackageParts). list_any (λ p. is_same_package p (header_name id)) qs) (sym c.as_slice.ensures) ∙ sym c.has_package.ensures ∙ c.if-has_package.true in
     inr (
       ap (λ (p : PackageParts). SamePackage p) (c.in_ok-name.ensures ∙ sym (parts-are id)),
-      subst (λ (p : PackageParts). list_any (is_same_package p) ps ≡ true) (sym (parts-are id)) (same-there ps (header id) there),
+      subst (λ (p : PackageParts). list_any (is_same_package p) ps ≡ true) (sym (parts-are id)) (same-there ps (header_name id) there),
     )

@@ -8,7 +8,7 @@ use Rattle.tables.specs.declared.tables.Function.{Function}
 use Rattle.values.specs.Members.{fields_of_types}
 use Rattle.values.specs.Val.{value_of}
 use Rattle.witcall.specs.Json.{IsArrayTextOf}
-use Rattle.witcall.specs.Signature.{signature_of}
+use Rattle.witcall.specs.Signature.{function_signature}
 use Rattle.witcall.proofs.Functions.{own_params, same_function, same_is_function}
 use Rattle.witcall.proofs.Replied.{lent}
 use Rattle.witcall.proofs.Results.{popped, at_most_one}
@@ -49,10 +49,10 @@ returns-clause-ok c =
     let few : length items ≤ 1 = omega (arith, at_most_one (closed_types r) o vs typed, length-map items value_of) in
     let some = subst (λ n. IsSome c.pop.result ↔ (0 < n)) c.in_ok-values.values.ok.0 c.pop.ensures.variant in
     let all = popped c.pop.result items _ few c.pop.ensures.items some in
-    let results = lists ∙ ap option_to_list (c.result_type-ty.ensures.ty ∙ ap (λ x. (signature_of (function_at x f)).result) c.resolve.ensures) in
+    let results = lists ∙ ap option_to_list (c.result_type-ty.ensures.ty ∙ ap (λ x. (function_signature (function_at x f)).result) c.resolve.ensures) in
     let read = subst (λ ts. IsArrayTextOf r ts c.args.reply.now vs) results c.in_ok-values.ensures.ok in
     record {
       own = c.in_ok-package.ensures;
       named = c.in_ok-func.ensures.named;
-      are_read = subst (λ xs. IsArrayTextOf r (option_to_list (signature_of (function_at r f)).result) c.args.reply.now (map value_of xs)) (sym all) read;
+      are_read = subst (λ xs. IsArrayTextOf r (option_to_list (function_signature (function_at r f)).result) c.args.reply.now (map value_of xs)) (sym all) read;
     }
