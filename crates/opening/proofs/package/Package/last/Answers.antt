@@ -6,5 +6,5 @@ use Rattle.opening.proofs.package.Package.last.Goals as goal
 pub returns-clause-form : goal.returns-clause-form
 returns-clause-form c =
     let p = c.args.self.now in
-    let own : c.in-Ok.own ≡ length p.resolve.packages - 1 = c.in-Ok.ensures.1 ∙ c.own_package.ensures ∙ ap own_package c.as_slice.ensures in
+    let own : c.in-Ok.own ≡ length p.resolve.packages - 1 = c.in-Ok.ensures.1 ∙ c.own_package.ensures ∙ ap own_package c.as_slice-packages.ensures in
     ∥∥₁_map p.tower (λ tower. c.in_ok-table.ensures.form tower (omega (arith, own, p.some)))
