@@ -4,10 +4,10 @@
 usage: tools/believed.py [--names] [FUNCTION..]
 
 A FUNCTION is CRATE/FILE:NAME, as opening/set.rt:open_set. Left out, they are `open_set` and `Session::call`, which the program's answer rests on.
-From their clauses it follows every name: definitions of specs/, and the structs and enums of src/ that these cite. It counts their lines without
-comments and blank lines, and prints the sums by file; with --names also each name. The toolchain's own definitions are left out, and of a
-struct or an enum its attributes and its invariants: a clause speaks of its fields, and what holds of them besides is proved, not believed.
-It reads text alone: a local name that is also a definition's counts as one.
+From their clauses it follows every name: definitions of specs/, those of blocks (`mutual`, `module`) too, and the structs and enums of src/ that
+these cite. It counts their lines without comments and blank lines, and prints the sums by file; with --names also each name. The toolchain's own
+definitions are left out, and of a struct or an enum its attributes and its invariants: a clause speaks of its fields, and what holds of them
+besides is proved, not believed. It reads text alone: a local name that is also a definition's counts as one.
 """
 import argparse
 import collections
@@ -19,7 +19,8 @@ TOP = pathlib.Path(__file__).resolve().parent.parent
 CALLS = ["opening/set.rt:open_set", "witcall/session.rt:call"]
 WORD = re.compile(r"[^\s(){}\[\],;:→λ×⊎∥₁\"|¬?«»&<>=*#!+/]+")
 IMPORT = re.compile(r"^(?:ghost )?(?:pub )?use (Rattle\.[\w.+]+?)(?:\.\{(.*)\})?(?: as (\S+?))?;?$")
-HEAD = re.compile(r"^(?:(?:abbrev|unfoldable|opaque|instance|pub|record|data|mutual)\s+)*(\S+)")
+HEAD = re.compile(r"^(?:(?:abbrev|unfoldable|opaque|instance|pub|record|data)\s+)*(\S+)")
+BLOCK = re.compile(r"^(?:(?:abbrev|unfoldable|opaque|pub)\s+)*(?:mutual$|module )")
 DECLARED = re.compile(r"^pub (?:struct|enum) (\w+)")
 
 
@@ -52,15 +53,16 @@ class File:
             self.names[other or own] = module, own
 
     def keep_specs(self, lines):
-        name = None
+        name, margin = None, 0
         for line in lines:
-            if line.startswith(("use ", "pub use ", "mod ", "pub mod ")):
-                name = None
+            margin = margin if line.startswith(" ") else 0
+            if line.startswith(("use ", "pub use ", "mod ", "pub mod ")) or BLOCK.match(line):
+                name, margin = None, 2 * bool(BLOCK.match(line))
                 continue
-            if not line.startswith(" "):
-                name = HEAD.match(line).group(1)
+            if not line[margin:].startswith(" "):
+                name = HEAD.match(line[margin:]).group(1)
             if name:
-                self.definitions[name].append(line)
+                self.definitions[name].append(line[margin:])
 
     def keep_types(self, lines):
         name = None
@@ -110,6 +112,8 @@ def meant(all_files, types, file, word):
     first, _, rest = word.partition(".")
     if rest and first in file.modules:
         return place_of(all_files, file.modules[first], rest.partition(".")[0])
+    if rest and (first in file.definitions or first in file.names):
+        return meant(all_files, types, file, first)
     if file.path.suffix == ".rt":
         crate = file.module.split(".")[1]
         return types.get((crate, word)) or (types.get(word) if word in file.imported else None)
