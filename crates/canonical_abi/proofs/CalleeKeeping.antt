@@ -137,7 +137,7 @@ all-second P (x ∷ xs) ys all = all-second P xs ys all.1
 module _ (parties : Parties) (caller_releases callee_releases : Release) (order : Order) (honest : AreHonest parties caller_releases callee_releases) (F : Footprint) where
   at-step : (s : SessionStep) (before : List SessionAnswer) (old : World) (answer : SessionAnswer) (new : World) (taken : TakesStep parties caller_releases order before old s answer new)
       → AllByRecursion (LeavesAlone F) (runs_of_step parties caller_releases order s before old answer new taken) → KeepsAt F old.callee new.callee
-  at-step (call f arguments) before old answer new taken leaves = at-called parties caller_releases callee_releases order honest F f arguments old taken.0 new taken.2 leaves
+  at-step (call f arguments) before old answer new (result, is, calls) leaves = at-called parties caller_releases callee_releases order honest F f arguments old result new calls leaves
   at-step (place t v) before old answer new (result, is, places, callee, body) leaves = at-same F old.callee new.callee callee
   at-step (read k) before old answer new (same, reads) leaves = at-same F old.callee new.callee (ap (λ w. w.callee) same)
   at-step (release at n) before old answer new (took, is, releases, callee, body) leaves = at-same F old.callee new.callee callee
@@ -146,9 +146,9 @@ module _ (parties : Parties) (caller_releases callee_releases : Release) (order 
       → AllByRecursion (LeavesAlone F) (runs_of_session parties caller_releases order before old steps answers new run) → KeepsAt F old.callee new.callee
   at-steps before old [] answers new run leaves = at-same F old.callee new.callee (ap (λ w. w.callee) run.1)
   at-steps before old (s ∷ steps) answers new run leaves =
-      at-then F old.callee run.2.callee new.callee
-      (at-step s before old run.0 run.2 run.4 (all-first (LeavesAlone F) (runs_of_step parties caller_releases order s before old run.0 run.2 run.4) _ leaves))
-      (at-steps (before ++ run.0 ∷ []) run.2 steps run.1 new run.5 (all-second (LeavesAlone F) (runs_of_step parties caller_releases order s before old run.0 run.2 run.4) _ leaves))
+      at-then F old.callee run.between.callee new.callee
+      (at-step s before old run.answer run.between run.takes (all-first (LeavesAlone F) (runs_of_step parties caller_releases order s before old run.answer run.between run.takes) _ leaves))
+      (at-steps (before ++ run.answer ∷ []) run.between steps run.rest new run.others (all-second (LeavesAlone F) (runs_of_step parties caller_releases order s before old run.answer run.between run.takes) _ leaves))
 
 pub callee-keeps-held : (parties : Parties) (caller_releases callee_releases : Release) (order : Order) → CalleeKeepsHeld parties caller_releases order callee_releases
 callee-keeps-held parties caller_releases callee_releases order t a v before old steps answers new run honest holds live leaves =

@@ -164,7 +164,7 @@ module _ (parties : Parties) (caller_releases callee_releases : Release) (order 
   as-well : (P Q : World → Type 0) → ((w : World) → P w → Q w) → (before : List SessionAnswer) (old : World) (steps : List SessionStep) (answers : List SessionAnswer) (new : World) (run : RunsSession parties caller_releases order before old steps answers new)
       → Throughout parties caller_releases order P before old steps answers new run → Throughout parties caller_releases order Q before old steps answers new run
   as-well P Q more before old [] answers new run p = more old p
-  as-well P Q more before old (s ∷ steps) answers new run p = (more old p.0, as-well P Q more (before ++ run.0 ∷ []) run.2 steps run.1 new run.5 p.1)
+  as-well P Q more before old (s ∷ steps) answers new run p = (more old p.0, as-well P Q more (before ++ run.answer ∷ []) run.between steps run.rest new run.others p.1)
 
   kept-by : (t : ClosedType) (a : ℕ) (v : Value) (old new : Memory) → HoldsInBlock t old.bytes a v → IsLive (Reads t old.bytes a) old → KeepsBelow old new → IsKept t a v old new
   kept-by t a v old new holds live kept =
@@ -187,11 +187,11 @@ module _ (parties : Parties) (caller_releases callee_releases : Release) (order 
       }
   run-keeps t a v before old (s ∷ steps) answers new run few standard stay =
       let split = first-standard s steps standard in
-      let step = step-keeps s before old run.0 run.2 split.0 few run.4 in
-      let first = kept-by t a v old.caller run.2.caller stay.holds stay.live.0 step.kept in
-      let later = run-keeps t a v (before ++ run.0 ∷ []) run.2 steps run.1 new run.5 step.limited split.1 (record {
+      let step = step-keeps s before old run.answer run.between split.0 few run.takes in
+      let first = kept-by t a v old.caller run.between.caller stay.holds stay.live.0 step.kept in
+      let later = run-keeps t a v (before ++ run.answer ∷ []) run.between steps run.rest new run.others step.limited split.1 (record {
         holds = first.holds;
-        live = as-well (λ w. IsLive (Reads t old.caller.bytes a) w.caller) (λ w. IsLive (Reads t run.2.caller.bytes a) w.caller) (λ w l x r. l x ((first.footprint x).1 r)) (before ++ run.0 ∷ []) run.2 steps run.1 new run.5 stay.live.1;
+        live = as-well (λ w. IsLive (Reads t old.caller.bytes a) w.caller) (λ w. IsLive (Reads t run.between.caller.bytes a) w.caller) (λ w l x r. l x ((first.footprint x).1 r)) (before ++ run.answer ∷ []) run.between steps run.rest new run.others stay.live.1;
       }) in
       record {
         holds = later.holds;

@@ -197,8 +197,8 @@ module _ (parties : Parties) (caller_releases callee_releases : Release) (order 
   lives-throughout before old (s ∷ steps) answers new run few standard miss live =
       let split = first-standard parties caller_releases callee_releases order honest keeps s steps standard in
       let apart = first-miss s steps miss in
-      let step = step-keeps parties caller_releases callee_releases order honest keeps s before old run.0 run.2 split.0 few run.4 in
-      (live, lives-throughout (before ++ run.0 ∷ []) run.2 steps run.1 new run.5 step.limited split.1 apart.1 (step-lives s before old run.0 run.2 split.0 apart.0 few run.4 live))
+      let step = step-keeps parties caller_releases callee_releases order honest keeps s before old run.answer run.between split.0 few run.takes in
+      (live, lives-throughout (before ++ run.answer ∷ []) run.between steps run.rest new run.others step.limited split.1 apart.1 (step-lives s before old run.answer run.between split.0 apart.0 few run.takes live))
 
 pub placed-is-read : (parties : Parties) (caller_releases callee_releases : Release) (order : Order) → PlacedIsRead parties caller_releases order callee_releases
 placed-is-read parties caller_releases callee_releases order t v held before old placed steps answers new answer honest limited standard usual places run miss reads =

@@ -52,12 +52,12 @@ there = world (bytes 7 true)
 -- a value is placed and read; what step 1 placed is missing, as it placed nothing; and the block is given back
 placed-and-read : RunsSession parties takes_first either [] (world (bytes 0 false)) steps answers (world (bytes 7 false))
 unfolding number_at
-placed-and-read = (
-  placed (Ok held),
-  _,
-  there,
-  refl,
-  (
+placed-and-read = record {
+  answer = placed (Ok held);
+  rest = _;
+  answers_are = refl;
+  between = there;
+  takes = (
     Ok held,
     refl,
     (
@@ -71,21 +71,42 @@ placed-and-read = (
     ),
     refl,
     refl,
-  ),
-  (
-    was_read (Ok seven),
-    _,
-    there,
-    refl,
-    (refl, (Ok seven, refl, ((refl, omega arith), refl))),
-    (missing, _, there, refl, (refl, refl), (released true, _, world (bytes 7 false), refl, (true, refl, (refl, refl, refl), refl, refl), (refl, refl))),
-  ),
-)
+  );
+  others = record {
+    answer = was_read (Ok seven);
+    rest = _;
+    answers_are = refl;
+    between = there;
+    takes = (refl, (Ok seven, refl, ((refl, omega arith), refl)));
+    others = record {
+      answer = missing;
+      rest = _;
+      answers_are = refl;
+      between = there;
+      takes = (refl, refl);
+      others = record {
+        answer = released true;
+        rest = _;
+        answers_are = refl;
+        between = world (bytes 7 false);
+        takes = (true, refl, (refl, refl, refl), refl, refl);
+        others = (refl, refl);
+      };
+    };
+  };
+}
 
 -- the value stays live while it is read, and so it stays held
 read-once : RunsSession parties takes_first either (placed (Ok held) ∷ []) there (read 0 ∷ []) (was_read (Ok seven) ∷ []) there
 unfolding number_at
-read-once = (was_read (Ok seven), [], there, refl, (refl, (Ok seven, refl, ((refl, omega arith), refl))), (refl, refl))
+read-once = record {
+  answer = was_read (Ok seven);
+  rest = [];
+  answers_are = refl;
+  between = there;
+  takes = (refl, (Ok seven, refl, ((refl, omega arith), refl)));
+  others = (refl, refl);
+}
 
 still-live : (x : ℕ) → x < 1 → there.caller.live x ≡ true
 still-live zero below = refl
@@ -116,7 +137,9 @@ in-two-ways one_way =
 
 -- no step is left out: a run does not end before its last step
 one-answer-fewer : (answer : SessionAnswer) (new : World) → RunsSession parties takes_first either [] (world (bytes 0 false)) (place u8 seven ∷ read 0 ∷ []) (answer ∷ []) new → ⊥
-one-answer-fewer answer new (a, rest, between, is, took, (b, more, last, is_rest, taken, run)) = cc
+one-answer-fewer answer new run =
+    let first = run.answers_are in
+    let second = run.others.answers_are in cc
 
 -- what was placed is not read once its block was given back: the premise of held values fails there
 release-hits : ReleasesMiss (λ x. x ≡ 0) (release 0 1 ∷ []) → ⊥

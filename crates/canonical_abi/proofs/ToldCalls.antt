@@ -275,24 +275,24 @@ module _ (parties : Parties) (caller_releases callee_releases : Release) (honest
   chain-of : (before : List SessionAnswer) (old : World) (steps : List SessionStep) (answers : List SessionAnswer) (new : World) → AreStandardSteps steps → IsLimited old.caller
       → RunsSession parties caller_releases exact before old steps answers new → Calls (calls_of steps) (endings_of answers) old new
   chain-of before old [] answers new standard few run = (ap (λ w. w.callee) run.1, ap (λ w. w.body) run.1)
-  chain-of before old (place t v ∷ steps) answers new standard few (answer, rest, between, is, taken, run) =
-      let step = step-keeps parties caller_releases callee_releases exact honest keeps (place t v) before old answer between tt few taken in
-      let told_by : endings_of answers ≡ endings_of rest = ap endings_of is ∙ ap (λ a. endings_of (a ∷ rest)) taken.1 in
-      subst (λ es. Calls (calls_of steps) es old new) (sym told_by) (from-same (calls_of steps) (endings_of rest) old between new taken.3 taken.4 (chain-of (before ++ answer ∷ []) between steps rest new standard step.limited run))
-  chain-of before old (read k ∷ steps) answers new standard few (answer, rest, between, is, taken, run) =
-      let step = step-keeps parties caller_releases callee_releases exact honest keeps (read k) before old answer between tt few taken in
-      let told_by : endings_of answers ≡ endings_of rest = ap endings_of is ∙ not-called old.caller _ answer rest taken.1 in
+  chain-of before old (place t v ∷ steps) answers new standard few run =
+      let step = step-keeps parties caller_releases callee_releases exact honest keeps (place t v) before old run.answer run.between tt few run.takes in
+      let told_by : endings_of answers ≡ endings_of run.rest = ap endings_of run.answers_are ∙ ap (λ a. endings_of (a ∷ run.rest)) run.takes.1 in
+      subst (λ es. Calls (calls_of steps) es old new) (sym told_by) (from-same (calls_of steps) (endings_of run.rest) old run.between new run.takes.3 run.takes.4 (chain-of (before ++ run.answer ∷ []) run.between steps run.rest new standard step.limited run.others))
+  chain-of before old (read k ∷ steps) answers new standard few run =
+      let step = step-keeps parties caller_releases callee_releases exact honest keeps (read k) before old run.answer run.between tt few run.takes in
+      let told_by : endings_of answers ≡ endings_of run.rest = ap endings_of run.answers_are ∙ not-called old.caller _ run.answer run.rest run.takes.1 in
       subst (λ es. Calls (calls_of steps) es old new) (sym told_by)
-      (from-same (calls_of steps) (endings_of rest) old between new (ap (λ w. w.callee) taken.0) (ap (λ w. w.body) taken.0) (chain-of (before ++ answer ∷ []) between steps rest new standard step.limited run))
-  chain-of before old (release at n ∷ steps) answers new standard few (answer, rest, between, is, taken, run) =
-      let step = step-keeps parties caller_releases callee_releases exact honest keeps (release at n) before old answer between tt few taken in
-      let told_by : endings_of answers ≡ endings_of rest = ap endings_of is ∙ ap (λ a. endings_of (a ∷ rest)) taken.1 in
-      subst (λ es. Calls (calls_of steps) es old new) (sym told_by) (from-same (calls_of steps) (endings_of rest) old between new taken.3 taken.4 (chain-of (before ++ answer ∷ []) between steps rest new standard step.limited run))
-  chain-of before old (call f arguments ∷ steps) answers new standard few (answer, rest, between, is, (result, is_result, typed), run) =
-      let step = step-keeps parties caller_releases callee_releases exact honest keeps (call f arguments) before old answer between (standard.0, tt) few (result, is_result, typed) in
-      let told_by : endings_of answers ≡ ending_of result ∷ endings_of rest = ap endings_of is ∙ ap (λ a. endings_of (a ∷ rest)) is_result in
+      (from-same (calls_of steps) (endings_of run.rest) old run.between new (ap (λ w. w.callee) run.takes.0) (ap (λ w. w.body) run.takes.0) (chain-of (before ++ run.answer ∷ []) run.between steps run.rest new standard step.limited run.others))
+  chain-of before old (release at n ∷ steps) answers new standard few run =
+      let step = step-keeps parties caller_releases callee_releases exact honest keeps (release at n) before old run.answer run.between tt few run.takes in
+      let told_by : endings_of answers ≡ endings_of run.rest = ap endings_of run.answers_are ∙ ap (λ a. endings_of (a ∷ run.rest)) run.takes.1 in
+      subst (λ es. Calls (calls_of steps) es old new) (sym told_by) (from-same (calls_of steps) (endings_of run.rest) old run.between new run.takes.3 run.takes.4 (chain-of (before ++ run.answer ∷ []) run.between steps run.rest new standard step.limited run.others))
+  chain-of before old (call f arguments ∷ steps) answers new standard few run =
+      let step = step-keeps parties caller_releases callee_releases exact honest keeps (call f arguments) before old run.answer run.between (standard.0, tt) few run.takes in
+      let told_by : endings_of answers ≡ ending_of run.takes.0 ∷ endings_of run.rest = ap endings_of run.answers_are ∙ ap (λ a. endings_of (a ∷ run.rest)) run.takes.1 in
       subst (λ es. Calls (calls_of (call f arguments ∷ steps)) es old new) (sym told_by)
-      (between.callee, between.body, went-of f arguments old standard.0 few result between typed, chain-of (before ++ answer ∷ []) between steps rest new standard.1 step.limited run)
+      (run.between.callee, run.between.body, went-of f arguments old standard.0 few run.takes.0 run.between run.takes.2, chain-of (before ++ run.answer ∷ []) run.between steps run.rest new standard.1 step.limited run.others)
 
 pub callee-is-told : (parties : Parties) (other : Allocation) (caller_releases other_releases callee_releases : Release) → CalleeIsTold parties other caller_releases other_releases callee_releases
 callee-is-told parties other caller_releases other_releases callee_releases before earlier old past steps moves answers replies new last honest sincere limited bounded one_way in_one_way standard usual run walk calls ends same =

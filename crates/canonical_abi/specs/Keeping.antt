@@ -76,7 +76,7 @@ module _ (parties : Parties) (caller_releases : Release) (order : Order) where
       → RunsSession parties caller_releases order before old steps answers new → Type 0
   Throughout P before old [] answers new run = P old
   Throughout P before old (s ∷ steps) answers new run =
-      P old × Throughout P (before ++ run.0 ∷ []) run.2 steps run.1 new run.5
+      P old × Throughout P (before ++ run.answer ∷ []) run.between steps run.rest new run.others
 
   -- the value is held in a block of the caller, and its footprint is live throughout the run
   pub record StaysLive (t : ClosedType) (a : ℕ) (v : Value) (before : List SessionAnswer) (old : World) (steps : List SessionStep) (answers : List SessionAnswer) (new : World)
@@ -158,7 +158,7 @@ module _ (parties : Parties) (order : Order) (f : FunctionType) (arguments : Lis
 
 module _ (parties : Parties) (caller_releases : Release) (order : Order) where
   abbrev pub runs_of_step : (s : SessionStep) (before : List SessionAnswer) (old : World) (answer : SessionAnswer) (new : World) → TakesStep parties caller_releases order before old s answer new → List BodyRun
-  runs_of_step (call f arguments) before old answer new taken = runs_of_call parties order f arguments old taken.0 new taken.2
+  runs_of_step (call f arguments) before old answer new (result, is, calls) = runs_of_call parties order f arguments old result new calls
   runs_of_step (place t v) before old answer new taken = []
   runs_of_step (read k) before old answer new taken = []
   runs_of_step (release at size) before old answer new taken = []
@@ -167,7 +167,7 @@ module _ (parties : Parties) (caller_releases : Release) (order : Order) where
   abbrev pub runs_of_session : (before : List SessionAnswer) (old : World) (steps : List SessionStep) (answers : List SessionAnswer) (new : World) → RunsSession parties caller_releases order before old steps answers new → List BodyRun
   runs_of_session before old [] answers new run = []
   runs_of_session before old (s ∷ steps) answers new run =
-      runs_of_step s before old run.0 run.2 run.4 ++ runs_of_session (before ++ run.0 ∷ []) run.2 steps run.1 new run.5
+      runs_of_step s before old run.answer run.between run.takes ++ runs_of_session (before ++ run.answer ∷ []) run.between steps run.rest new run.others
 
   -- a value that the callee holds in live addresses is held in the end, if the body left them alone, and they are live still
   abbrev pub CalleeKeepsHeld : Release → Type 0

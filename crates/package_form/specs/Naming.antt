@@ -31,16 +31,11 @@ abbrev pub interface_name : Interface → List ℕ
 interface_name i = i.name
 
 abbrev pub kind_members : TypeDefKind → List (List ℕ)
-kind_members (kind.Use t) = []
-kind_members (kind.Alias v) = []
-kind_members (kind.List v) = []
-kind_members (kind.Option v) = []
-kind_members (kind.Result ok error) = []
-kind_members (kind.Tuple vs) = []
 kind_members (kind.Record fs) = map field_name fs
 kind_members (kind.Variant cs) = map case_name cs
 kind_members (kind.Enum names) = names
 kind_members (kind.Flags names) = names
+kind_members _ = []
 
 -- the fields, cases, labels or parameters of a row
 abbrev pub row_members : Definition → List (List ℕ)

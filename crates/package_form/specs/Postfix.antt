@@ -42,16 +42,13 @@ unnamed_parameter rows p = unnamed rows p.ty
 
 -- the rows without names that a kind is made of, from the left
 abbrev pub parts : List Definition → TypeDefKind → List ℕ
-parts rows (kind.Use t) = []
-parts rows (kind.Alias v) = []
 parts rows (kind.List v) = unnamed rows v
 parts rows (kind.Option v) = unnamed rows v
 parts rows (kind.Result ok error) = unnamed_if rows ok ++ unnamed_if rows error
 parts rows (kind.Tuple vs) = flat_map (unnamed rows) vs
 parts rows (kind.Record fs) = flat_map (unnamed_field rows) fs
 parts rows (kind.Variant cs) = flat_map (unnamed_case rows) cs
-parts rows (kind.Enum names) = []
-parts rows (kind.Flags names) = []
+parts rows _ = []
 
 abbrev pub parts_of : List Definition → Definition → List ℕ
 parts_of rows (row.Type d) = parts rows d.kind

@@ -31,7 +31,6 @@ parameter_references p = type_references p.ty
 
 -- the rows that a type is made of, from the left; a used name is made of none
 abbrev pub kind_references : TypeDefKind → List TypeId
-kind_references (kind.Use t) = []
 kind_references (kind.Alias v) = type_references v
 kind_references (kind.List v) = type_references v
 kind_references (kind.Option v) = type_references v
@@ -39,8 +38,7 @@ kind_references (kind.Result ok error) = references_if ok ++ references_if error
 kind_references (kind.Tuple vs) = flat_map type_references vs
 kind_references (kind.Record fs) = flat_map field_references fs
 kind_references (kind.Variant cs) = flat_map case_references cs
-kind_references (kind.Enum names) = []
-kind_references (kind.Flags names) = []
+kind_references _ = []
 
 abbrev pub row_references : Definition → List TypeId
 row_references (row.Type d) = kind_references d.kind

@@ -67,16 +67,12 @@ abbrev pub is_within : ℕ → ℕ → Bool
 is_within n limit = nat_lt 0 n && nat_le n limit
 
 abbrev pub is_standard_kind : TypeDefKind → Bool
-is_standard_kind (kind.Use t) = true
-is_standard_kind (kind.Alias v) = true
-is_standard_kind (kind.List v) = true
-is_standard_kind (kind.Option v) = true
-is_standard_kind (kind.Result ok error) = true
 is_standard_kind (kind.Tuple vs) = nat_lt 0 (length vs)
 is_standard_kind (kind.Record fs) = nat_lt 0 (length fs)
 is_standard_kind (kind.Variant cs) = is_within (length cs) 100000
 is_standard_kind (kind.Enum names) = is_within (length names) 100000
 is_standard_kind (kind.Flags names) = is_within (length names) 32
+is_standard_kind _ = true
 
 abbrev pub is_standard : Definition → Bool
 is_standard (row.Type d) = is_standard_kind d.kind

@@ -15,9 +15,7 @@ is_none (then d ds) = false
 
 abbrev pub has_no_decls : Definition → Bool
 has_no_decls (Component ds) = is_none ds
-has_no_decls (Define d) = false
-has_no_decls (Func f) = false
-has_no_decls (Instance ds) = false
+has_no_decls _ = false
 
 -- the one type of the component is a component type without declarations
 abbrev pub is_empty_package : List Definition → Bool
@@ -32,7 +30,4 @@ ClosedComponentRefuses raw error.EmptyPackage = is_empty_package (raw_component_
 ClosedComponentRefuses raw error.NotThisShape = (is_empty_package (raw_component_view raw).types ≡ false) × ((r : Resolve) → ComponentStands raw r → ⊥)
 ClosedComponentRefuses raw error.NoMemory = Unit {0}
 ClosedComponentRefuses raw (error.Duplicate n) = ∥ ((r : Resolve) × ComponentStands raw r × Repeats r n) ∥₁
-ClosedComponentRefuses raw (error.Unknown n) = ⊥
-ClosedComponentRefuses raw error.Cycle = ⊥
-ClosedComponentRefuses raw error.Limit = ⊥
-ClosedComponentRefuses raw (error.NoPackage p) = ⊥
+ClosedComponentRefuses raw _ = ⊥

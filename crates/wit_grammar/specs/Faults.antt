@@ -38,20 +38,12 @@ abbrev pub StandsAt : ℕ → List Lexeme → TextError → Type 0
 StandsAt end ts (error.Expected e s) = s ≡ met end ts
 StandsAt end ts (error.Unsupported f s) = s ≡ met end ts
 StandsAt end ts (error.Depth s) = s ≡ met end ts
-StandsAt end ts (error.BadChar s) = ⊥
-StandsAt end ts (error.OpenComment s) = ⊥
-StandsAt end ts error.NoMemory = ⊥
-StandsAt end ts error.Limit = ⊥
+StandsAt end ts _ = ⊥
 
 -- Reading gives this fault too, unless memory ran out.
 abbrev pub Fails : {Y : Type 0} → TextError → Result Y TextError → Type 0
 Fails error.NoMemory read = Unit {0}
-Fails (error.BadChar s) read = read ≡ Err (error.BadChar s)
-Fails (error.OpenComment s) read = read ≡ Err (error.OpenComment s)
-Fails (error.Expected e s) read = read ≡ Err (error.Expected e s)
-Fails (error.Unsupported f s) read = read ≡ Err (error.Unsupported f s)
-Fails (error.Depth s) read = read ≡ Err (error.Depth s)
-Fails error.Limit read = read ≡ Err error.Limit
+Fails e read = read ≡ Err e
 
 -- What a function answers, seen by view, is what reading gives, unless memory ran out.
 abbrev pub AnswersRead : {X Y : Type 0} → (X → Y) → Result X TextError → Result Y TextError → Type 0

@@ -29,7 +29,7 @@ use Rattle.wit_tokens.specs.Lexing.{limit}
 use Rattle.wit_tokens.specs.Tokens.{Lexeme, span_of}
 use Rattle.wit_grammar.specs.Faults.{wanted, is, feature_or, unless_feature}
 use Rattle.wit_grammar.specs.Lookahead.{Phrase}
-use Rattle.wit_syntax.specs.Syntax.{Ty, Prim, Named, ListOf, OptionOf, TupleOf, ResultOf, Absent, Present, tys_of, Member, CaseOf, UsedAs, Definition, Alias, Record, Variant, Enumeration, FlagSet, Function, PathTo, Local, Foreign, Entry, Uses, Defines, Declares, WorldEntry, Whole, Single, FileEntry, AnInterface, AWorld, File}
+use Rattle.wit_syntax.specs.Syntax.{Ty, Prim, Named, ListOf, OptionOf, TupleOf, ResultOf, Absent, Present, tys_of, Member, CaseOf, UsedAs, Definition, Alias, Record, Variant, Enumeration, FlagSet, Function, PathTo, Local, Foreign, Entry, Uses, Defines, Declares, WorldEntry, Whole, Single, FileEntry, AnInterface, AWorld, HeaderNames, File}
 
 -- ---- tokens
 
@@ -140,7 +140,7 @@ package_word end = one (is (kind.Keyword kw.Package)) (first_fault end)
 unfoldable pub header_end : ℕ → Option (List ℕ) → Phrase Lexeme
 header_end end v = one (is semicolon) (header_fault end v)
 
-unfoldable pub header : ℕ → Phrase (List ℕ × List ℕ × Option (List ℕ))
+unfoldable pub header : ℕ → Phrase HeaderNames
 header end = do
   a ← package_word end
   namespace ← lower_id end
@@ -148,7 +148,7 @@ header end = do
   name ← lower_id end
   v ← version
   c ← header_end end v
-  give (namespace, name, v)
+  give (record { namespace = namespace; name = name; version = v })
 
 -- ---- types
 
@@ -185,13 +185,9 @@ kind_start (kind.Keyword k) = keyword_start k
 kind_start _ = start.Nothing
 
 abbrev pub is_start : Start → Bool
-is_start (start.Plain p) = true
-is_start start.List = true
-is_start start.Option = true
-is_start start.Tuple = true
-is_start start.Result = true
 is_start (start.LeftOut f) = false
 is_start start.Nothing = false
+is_start _ = true
 
 unfoldable pub begins_type : Lexeme → Bool
 begins_type t = is_name t || is_start (kind_start t.token.kind)
@@ -199,11 +195,7 @@ begins_type t = is_name t || is_start (kind_start t.token.kind)
 abbrev pub start_fault : Start → Span → TextError
 start_fault (start.LeftOut f) at = error.Unsupported f at
 start_fault start.Nothing at = error.Expected want.Identifier at
-start_fault (start.Plain p) at = error.Depth at
-start_fault start.List at = error.Depth at
-start_fault start.Option at = error.Depth at
-start_fault start.Tuple at = error.Depth at
-start_fault start.Result at = error.Depth at
+start_fault _ at = error.Depth at
 
 abbrev pub fault_at : Lexeme → TextError
 fault_at t = if is_name t then error.Depth (span_of t.token) else start_fault (kind_start t.token.kind) (span_of t.token)
@@ -299,8 +291,7 @@ begun end inner start.List = list end inner
 begun end inner start.Option = option end inner
 begun end inner start.Tuple = tuple end inner
 begun end inner start.Result = result_type end inner
-begun end inner (start.LeftOut f) = never (type_fault end)
-begun end inner start.Nothing = never (type_fault end)
+begun end inner _ = never (type_fault end)
 
 -- behind the token that begins a type
 unfoldable pub type_behind : ℕ → Phrase Ty → Lexeme → Phrase Ty
@@ -546,14 +537,9 @@ item_kind (kind.Punctuation p) = item_mark p
 item_kind _ = begin.Nothing
 
 abbrev pub is_item_start : ItemStart → Bool
-is_item_start begin.Use = true
-is_item_start begin.Alias = true
-is_item_start begin.Record = true
-is_item_start begin.Variant = true
-is_item_start begin.Enum = true
-is_item_start begin.Flags = true
 is_item_start (begin.LeftOut f) = false
 is_item_start begin.Nothing = false
+is_item_start _ = true
 
 unfoldable pub begins_entry : Lexeme → Bool
 begins_entry t = is_name t || is_item_start (item_kind t.token.kind)
@@ -572,9 +558,7 @@ definition end n begin.Record = record_body end n
 definition end n begin.Variant = variant_body end n
 definition end n begin.Enum = enum_cases end
 definition end n begin.Flags = flag_names end
-definition end n begin.Use = never (entry_fault end)
-definition end n (begin.LeftOut f) = never (entry_fault end)
-definition end n begin.Nothing = never (entry_fault end)
+definition end n _ = never (entry_fault end)
 
 unfoldable pub defined : ℕ → ℕ → ItemStart → Span → Phrase Entry
 defined end n s at = do
@@ -596,13 +580,9 @@ declared end n at name = do
 -- an item behind its keyword, which stands at this span
 unfoldable pub keyword_entry : ℕ → ℕ → ItemStart → Span → Phrase Entry
 keyword_entry end n begin.Use at = use_item end at
-keyword_entry end n begin.Alias at = defined end n begin.Alias at
-keyword_entry end n begin.Record at = defined end n begin.Record at
-keyword_entry end n begin.Variant at = defined end n begin.Variant at
-keyword_entry end n begin.Enum at = defined end n begin.Enum at
-keyword_entry end n begin.Flags at = defined end n begin.Flags at
 keyword_entry end n (begin.LeftOut f) at = never (entry_fault end)
 keyword_entry end n begin.Nothing at = never (entry_fault end)
+keyword_entry end n s at = defined end n s at
 
 -- an item behind its first token
 unfoldable pub entry_behind : ℕ → ℕ → Lexeme → Phrase Entry
@@ -763,4 +743,4 @@ unfoldable pub file : ℕ → ℕ → Phrase File
 file end n = do
   h ← header end
   es ← items end n limit
-  give (record { namespace = h.0; name = h.1; version = h.2; entries = es })
+  give (record { namespace = h.namespace; name = h.name; version = h.version; entries = es })

@@ -2,7 +2,7 @@
 ghost use Rattle.std.specs.Prelude.{◌≡◌, ◌<◌, ◌≤◌, ℕ, List, length, is_some, IfOk, IfSome};
 ghost use Rattle.std.specs.String.{string_bytes};
 ghost use Rattle.wit_tokens.specs.Tokens.{lexeme, lexemes};
-ghost use Rattle.wit_syntax.specs.View.{version_view};
+ghost use Rattle.wit_syntax.specs.View.{version_view, header_view};
 ghost use Rattle.wit_grammar.specs.Faults.{AnswersRead};
 ghost use Rattle.wit_grammar.specs.Grammar.{is_version_text, is_version_token, version, is_lower_name, lower_id, gate, first_feature, first_fault, package_word, version_or, header_fault, header_end, header};
 
@@ -172,7 +172,7 @@ pub fn header<'a>(
     source: &[u8],
     tokens: &'a [Token],
 ) -> Result<(PackageId, &'a [Token]), TextError>
-    ensures gives { AnswersRead (λ x. ((x.0.namespace, x.0.name, version_view x.0.version), lexemes source.now x.1.now)) result ((header (length source.now)).read (lexemes source.now tokens.now)) }
+    ensures gives { AnswersRead (λ x. (header_view x.0, lexemes source.now x.1.now)) result ((header (length source.now)).read (lexemes source.now tokens.now)) }
     ensures shorter { IfOk result (λ x. length x.1.now < length tokens.now) }
 {
     let (_, tokens) = package_word(source, tokens)?;

@@ -10,7 +10,7 @@ use Rattle.wit_tokens.specs.declared.token.Span.{Span}
 use Rattle.wit_tokens.specs.declared.error.Expected.TheVariants as want
 use Rattle.wit_tokens.specs.Tokens.{Lexeme, lexemes, same_kind, span_of}
 use Rattle.wit_tokens.specs.Lexing.{limit}
-use Rattle.wit_syntax.specs.Syntax.{Entry, WorldEntry, FileEntry, AnInterface, AWorld, File}
+use Rattle.wit_syntax.specs.Syntax.{Entry, WorldEntry, FileEntry, AnInterface, AWorld, HeaderNames, File}
 use Rattle.wit_grammar.specs.Faults.{is, wanted}
 use Rattle.wit_grammar.specs.Grammar.{punctuation, nesting, package_word, header_end, header, entry, interface, world_entry, world, is_interface, begins_item, item, items, file, file_fault}
 use Rattle.wit_print.specs.Words.{Word, mark_word, keyword_word, name_word}
@@ -88,8 +88,8 @@ items-stand (e ∷ es) h rest = followed-by (file_entry_words e) (items_words es
 abbrev header_words : File → List Word
 header_words f = keyword_word [] kw.Package ∷ name_word blank f.namespace ∷ mark_word [] mark.Colon ∷ name_word [] f.name ∷ (version_words f.version ++ mark_word [] mark.Semicolon ∷ [])
 
-abbrev IsHeader : File → (List ℕ × List ℕ × Option (List ℕ)) → Type 0
-IsHeader f h = h ≡ (f.namespace, f.name, f.version)
+abbrev IsHeader : File → HeaderNames → Type 0
+IsHeader f h = h ≡ record { namespace = f.namespace; name = f.name; version = f.version }
 
 header-writes : (end : ℕ) (f : File) → IsPrintable f → Writes (header end).spells (header_words f) (IsHeader f)
 unfolding header package_word header_end punctuation
@@ -99,7 +99,7 @@ header-writes end f h =
     (λ n en. mark-then [] mark.Colon _ (IsHeader f)
     (λ b. bind_writes (name_word [] f.name ∷ []) _ (λ x. x ≡ f.name) (IsHeader f) (lower-id-writes end [] f.name h.name)
     (λ m em. bind_writes (version_words f.version) (mark_word [] mark.Semicolon ∷ []) (λ x. x ≡ f.version) (IsHeader f) (version-writes f.version h.version)
-    (λ v ev. mark-then [] mark.Semicolon [] (IsHeader f) (λ c. give_writes (n, m, v) (IsHeader f) (rw (en, em, ev) refl)))))))
+    (λ v ev. mark-then [] mark.Semicolon [] (IsHeader f) (λ c. give_writes (record { namespace = n; name = m; version = v }) (IsHeader f) (rw (en, em, ev) refl)))))))
 
 -- ---- files
 
@@ -110,7 +110,7 @@ file-writes end f h =
     subst (λ ws. Writes (file end nesting).spells (keyword_word [] kw.Package ∷ name_word blank f.namespace ∷ mark_word [] mark.Colon ∷ name_word [] f.name ∷ ws) Q)
     (append_assoc (version_words f.version) (mark_word [] mark.Semicolon ∷ []) (items_words f.entries))
     (bind_writes (header_words f) (items_words f.entries) (IsHeader f) Q (header-writes end f h)
-    (λ x ex. made_writes (λ es. record { namespace = x.0; name = x.1; version = x.2; entries = es }) (items_words f.entries) (AreAlike unplaced_file_entry f.entries) Q
+    (λ x ex. made_writes (λ es. record { namespace = x.namespace; name = x.name; version = x.version; entries = es }) (items_words f.entries) (AreAlike unplaced_file_entry f.entries) Q
     (items-writes end limit f.entries h.few h.entries) (λ es ees. rw (ex, ees) refl)))
 
 file-stands : (f : File) → IsPrintable f → (rest : List ℕ) → AllStand (file_words f) rest

@@ -85,6 +85,12 @@ pub data FileEntry : Type 0 where
   AnInterface : (name : List ℕ) → List Entry → FileEntry
   AWorld : (at : Span) → (name : List ℕ) → List WorldEntry → FileEntry
 
+-- the names of a package and its version, if it has one
+pub record HeaderNames : Type 0 where
+  pub namespace : List ℕ
+  pub name : List ℕ
+  pub version : Option (List ℕ)
+
 pub record File : Type 0 where
   pub namespace : List ℕ
   pub name : List ℕ

@@ -4,8 +4,9 @@ use Rattle.std.specs.declared.boxed.Box.{Box}
 use Rattle.std.specs.declared.alloc.Global.{Global}
 use Rattle.std.specs.String.{string_bytes}
 use Rattle.std.specs.declared.string.String.{String}
-use Rattle.wit_syntax.specs.Syntax.{Ty, MaybeTy, Prim, Named, ListOf, OptionOf, TupleOf, ResultOf, Absent, Present, tys_of, Member, CaseOf, UsedAs, Definition, Alias, Record, Variant, Enumeration, FlagSet, Function, PathTo, Local, Foreign, Entry, Uses, Defines, Declares, WorldEntry, Whole, Single, FileEntry, AnInterface, AWorld, File}
+use Rattle.wit_syntax.specs.Syntax.{Ty, MaybeTy, Prim, Named, ListOf, OptionOf, TupleOf, ResultOf, Absent, Present, tys_of, Member, CaseOf, UsedAs, Definition, Alias, Record, Variant, Enumeration, FlagSet, Function, PathTo, Local, Foreign, Entry, Uses, Defines, Declares, WorldEntry, Whole, Single, FileEntry, AnInterface, AWorld, HeaderNames, File}
 use Rattle.wit_syntax.specs.declared.ast.Ast.{Ast}
+use Rattle.wit_syntax.specs.declared.ast.PackageId.{PackageId}
 use Rattle.wit_syntax.specs.declared.ast.Item.{Item}
 use Rattle.wit_syntax.specs.declared.ast.Item.TheVariants as item
 use Rattle.wit_syntax.specs.declared.ast.InterfaceItem.{InterfaceItem}
@@ -92,6 +93,9 @@ world_entry_view w = world_kind_view w.direction w.kind
 abbrev pub item_view : Item → FileEntry
 item_view (item.Interface i) = AnInterface i.name (map entry_view i.items.items)
 item_view (item.World w) = AWorld w.span w.name (map world_entry_view w.items.items)
+
+abbrev pub header_view : PackageId → HeaderNames
+header_view p = record { namespace = p.namespace; name = p.name; version = version_view p.version }
 
 abbrev pub file_view : Ast → File
 file_view a = record { namespace = a.package.namespace; name = a.package.name; version = version_view a.package.version; entries = map item_view a.items.items }

@@ -10,7 +10,7 @@ use Rattle.wit_tokens.specs.Tokens.{Lexeme, lexemes, span_of}
 use Rattle.productions.specs.Production.{give, ◌>>=◌, when, all, at_end, by_option}
 use Rattle.wit_tokens.specs.declared.token.Span.{Span}
 use Rattle.wit_tokens.specs.Lexing.{limit}
-use Rattle.wit_syntax.specs.Syntax.{FileEntry, File}
+use Rattle.wit_syntax.specs.Syntax.{FileEntry, HeaderNames, File}
 use Rattle.wit_syntax.specs.FullNames.{has_label, file_has_full_names}
 use Rattle.wit_grammar.specs.Faults.{is as is-kind}
 use Rattle.wit_grammar.specs.Grammar as g
@@ -37,11 +37,11 @@ unfolding g.version
 read-version ts None h = refl
 read-version ts (Some v) (t, back, e, is, given) = subst (λ (y : List ℕ). IsTrue (is_version y)) (sym given.1) (version-token t is)
 
-header-names : (end : ℕ) (ts : List Lexeme) (x : List ℕ × List ℕ × Option (List ℕ)) → (g.header end).spells ts x
-    → IsTrue (is_package_label x.0 && (is_package_label x.1 && is_version_or_none x.2))
+header-names : (end : ℕ) (ts : List Lexeme) (x : HeaderNames) → (g.header end).spells ts x
+    → IsTrue (is_package_label x.namespace && (is_package_label x.name && is_version_or_none x.version))
 unfolding g.header
 header-names end ts x (f0, b0, word, e0, word-is, (f1, b1, namespace, e1, namespace-is, (f2, b2, colon, e2, colon-is, (f3, b3, name, e3, name-is, (f4, b4, version, e4, version-is, (f5, b5, close, e5, close-is, (none, given))))))) =
-    subst (λ (y : List ℕ × List ℕ × Option (List ℕ)). IsTrue (is_package_label y.0 && (is_package_label y.1 && is_version_or_none y.2))) (sym given)
+    subst (λ (y : HeaderNames). IsTrue (is_package_label y.namespace && (is_package_label y.name && is_version_or_none y.version))) (sym given)
     (both (is_package_label namespace) (is_package_label name && is_version_or_none version) (lower-id end f1 namespace namespace-is)
     (both (is_package_label name) (is_version_or_none version) (lower-id end f3 name name-is) (read-version f4 version version-is)))
 
@@ -87,9 +87,9 @@ full-names text f r = by r.spelt
     by : (g.file (length text) g.nesting).spells (lexemes text r.tokens) f → IsTrue (file_has_full_names f)
     by (f0, b0, h, e0, header-is, (f1, b1, es, e1, items-are, given)) =
         let names = header-names (length text) f0 h header-is in
-        let version = second (is_package_label h.0) (is_package_label h.1 && is_version_or_none h.2) names in
+        let version = second (is_package_label h.namespace) (is_package_label h.name && is_version_or_none h.version) names in
         subst (λ (y : File). IsTrue (file_has_full_names y)) (sym given.1)
-        (both (is_package_label h.0) (is_package_label h.1 && (is_version_or_none h.2 && list_all has_label es)) (first (is_package_label h.0) (is_package_label h.1 && is_version_or_none h.2) names)
-        (both (is_package_label h.1) (is_version_or_none h.2 && list_all has_label es) (first (is_package_label h.1) (is_version_or_none h.2) version)
-        (both (is_version_or_none h.2) (list_all has_label es) (second (is_package_label h.1) (is_version_or_none h.2) version)
+        (both (is_package_label h.namespace) (is_package_label h.name && (is_version_or_none h.version && list_all has_label es)) (first (is_package_label h.namespace) (is_package_label h.name && is_version_or_none h.version) names)
+        (both (is_package_label h.name) (is_version_or_none h.version && list_all has_label es) (first (is_package_label h.name) (is_version_or_none h.version) version)
+        (both (is_version_or_none h.version) (list_all has_label es) (second (is_package_label h.name) (is_version_or_none h.version) version)
         (items-labels (length text) g.nesting limit f1 es items-are))))
