@@ -3,7 +3,8 @@
 
 usage: tools/believed.py [--names] [FUNCTION..]
 
-A FUNCTION is CRATE/FILE:NAME, as opening/set.rt:open_set. Left out, they are `open_set` and `Session::call`, which the program's answer rests on.
+A FUNCTION is CRATE/FILE:NAME, as opening/set.rt:open_set; with :CLAUSE behind it, as opening/set.rt:open_set:ok, that clause alone is read. Left
+out, they are `open_set` and `Session::call`, which the program's answer rests on.
 From their clauses it follows every name: definitions of specs/, those of blocks (`mutual`, `module`) too, and the structs and enums of src/ that
 these cite. It counts their lines without comments and blank lines, and prints the sums by file; with --names also each name. The toolchain's own
 definitions are left out, and of a struct or an enum its attributes and its invariants: a clause speaks of its fields, and what holds of them
@@ -121,13 +122,18 @@ def meant(all_files, types, file, word):
 
 
 def clauses(call):
-    """Returns the file of a function, and the lines of its contract."""
-    path, _, name = call.partition(":")
+    """Returns the file of a function, and the lines of its contract, or of one clause of it."""
+    path, name, *only = call.split(":")
     crate, _, inside = path.partition("/")
     text = (TOP / "crates" / crate / "src" / inside).read_text()
     begin = re.search(rf"\bfn {name}\b", text).start()
     end = re.search(r"^\s*\{$", text[begin:], re.M).start()
-    return ".".join(["Rattle", crate, "specs", "declared", inside[: -len(".rt")].replace("/", ".")]), code_lines(text[begin : begin + end])
+    module = ".".join(["Rattle", crate, "specs", "declared", inside[: -len(".rt")].replace("/", ".")])
+    parts = re.split(r"^\s*(?:requires|ensures) (?=\w+ \{)", text[begin : begin + end], flags=re.M)
+    read = [part for part in parts if part.split()[0] in only] if only else parts
+    if not read:
+        sys.exit(f"tools/believed.py: {name} has no clause {only[0]}")
+    return module, code_lines("\n".join(read))
 
 
 def believed(all_files, calls):

@@ -4,7 +4,7 @@ use Rattle.std.specs.Prelude.{min}
 use Rattle.std.specs.Char.{IsScalar}
 use Rattle.std.proofs.lemmas.Bool.Decides.{nat_tests}
 use Rattle.std.proofs.lemmas.Option.{same_Some}
-use Rattle.canonical_abi.specs.Types.{Prim, scalar_value, ClosedType, Fields, no_field, field, Cases, no_case, plain_case, case_with, nth_field, nth_case, list_type, record_type, prim_type, flags_type}
+use Rattle.canonical_abi.specs.Types.{scalar_value, ClosedType, Fields, no_field, field, Cases, no_case, plain_case, case_with, nth_field, nth_case, list_type, record_type, prim_type, flags_type}
 use Rattle.canonical_abi.specs.Values.{Value, values_of, is_scalar, char_value, list_value, record_value}
 use Rattle.canonical_abi.specs.Layout.{align, size, prim_width}
 use Rattle.canonical_abi.specs.Reading.{reading, number_at, ◌>>=◌, each_at, read_prim, number_of}

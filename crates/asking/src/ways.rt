@@ -1,10 +1,10 @@
 //! What whole ways of a call ask for: its parameters, and its result.
-ghost use Rattle.std.specs.Prelude.{◌≡◌, ◌^◌, ◌<◌, ◌≤◌, length, map, false, IfOk, IfErr};
+ghost use Rattle.std.specs.Prelude.{◌≡◌, ◌^◌, ◌<◌, ◌≤◌, length, map, IfOk, IfErr};
 ghost use Rattle.canonical_abi.specs.Flat.{Denotes, DenotesFault};
-ghost use Rattle.canonical_abi.specs.Layout.{size, max_flat_params, max_flat_results, fits_flat, passed_kinds};
+ghost use Rattle.canonical_abi.specs.Layout.{size, max_flat_params, max_flat_results, passed_kinds};
 ghost use Rattle.canonical_abi.specs.Reading.{kind_of};
 ghost use Rattle.canonical_abi.specs.Requests.{params_requests, fields_requests};
-ghost use Rattle.canonical_abi.specs.Types.{field_count, record_type, record_fields};
+ghost use Rattle.canonical_abi.specs.Types.{record_type, record_fields};
 ghost use Rattle.values.specs.Members.{fields_of_types, AreAllInside};
 ghost use Rattle.values.specs.Types.{IsInside};
 ghost use Rattle.tables.specs.Closed.{closed_type};

@@ -1,5 +1,5 @@
 -- Keys of hashers, made of names.
-use Rattle.std.specs.Prelude.{ℕ, List}
+use Rattle.std.specs.Prelude.{ℕ}
 use Rattle.std.specs.List.{fold}
 use Rattle.std.specs.Hash.{u64}
 use Rattle.std.specs.Hash.DefaultHasher.{initial, write, finish}

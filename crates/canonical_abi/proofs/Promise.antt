@@ -1,6 +1,6 @@
 -- A typed call over honest guests keeps the promise: its words follow from those of the call of flat values in it.
 use Rattle.std.proofs.Common.{◌≡◌, ◌⊎◌, inl, inr, ℕ, zero, suc, ◌%◌, ◌^◌, ◌<◌, Bool, true, false, cond, List, [], ◌∷◌, ◌++◌, length, map, take, Option, Some, Result, Ok, Err, refl, sym, ap, ◌∙◌, subst, arith}
-use Rattle.std.specs.Prelude.{slice_index}
+use Rattle.std.specs.Prelude.{slice_index, option_to_list}
 use Rattle.std.proofs.Math.Nat.{mod-eq_of_lt}
 use Rattle.canonical_abi.specs.Types.{record_type, Fields, FunctionType, result_fields}
 use Rattle.canonical_abi.specs.Values.{Value}
@@ -13,7 +13,7 @@ use Rattle.canonical_abi.specs.Trace.{Event, grant, TraceLeads}
 use Rattle.canonical_abi.specs.Stands.{AreAligned, IsGranted, Carries}
 use Rattle.canonical_abi.specs.Laws.{IsOneOutcome}
 use Rattle.canonical_abi.specs.Call.{Parties, World, Order, either, exact, Ways, Traps, GivesUp, Calls, KindsFit, ReturnAreaFaulty, argument_flats, area_of}
-use Rattle.canonical_abi.specs.Session.{AsksArea, Prepares, HasResult, HasResultFault, as_list, Placed, PlaceFails, CameBack, TypedTraps, TypedCall}
+use Rattle.canonical_abi.specs.Session.{AsksArea, Prepares, HasResult, HasResultFault, Placed, PlaceFails, CameBack, TypedTraps, TypedCall}
 use Rattle.canonical_abi.specs.Headline.{AreHonest, IsStandardFunction, KeepsOutside, FindsAndRunsOnce, RunsOnce, LiftsExactly, CallerIsUnchanged, CalleeIsUnchanged, IsBeforeBody, EntersBody, WasEntered, IsPosted, AfterTrap, AfterRun, IsOwnTrap, KeepsPromise, CallKeepsPromise, LendsArea, AreArguments, IsArgumentFault, IsLinkTrap, LinksOnce}
 use Rattle.canonical_abi.specs.declared.flat.CoreKind.{CoreKind}
 use Rattle.canonical_abi.specs.declared.flat.CoreKind.TheVariants as kind
@@ -400,10 +400,10 @@ module _ (parties : Parties) (caller_releases callee_releases : Release) (order 
       told-result : (m : List ℕ) (back : List Flat) (area : ℕ) → IsOneOutcome (HasResult (result_fields f.result) m back area) (HasResultFault (result_fields f.result) m back area)
       told-result m back area = one_outcome _ _ _ (tells-if (fits_flat max_flat_results (result_fields f.result)) _ _ _ _ _ _ (denoting-tells max_flat_results (result_fields f.result) m back) (fields-tell (result_fields f.result) m area 0))
 
-      lifted : (back : List Flat) (area : ℕ) (new : World) (b : CameBack parties f arguments old back area new) (result : Option Value) → HasResult (result_fields f.result) new.caller.bytes back area (as_list result)
+      lifted : (back : List Flat) (area : ℕ) (new : World) (b : CameBack parties f arguments old back area new) (result : Option Value) → HasResult (result_fields f.result) new.caller.bytes back area (option_to_list result)
           → LiftsExactly parties f result b.completes.answer b.completes.returns.answered
       lifted back area new b result has =
-          let same = (told-result new.caller.bytes back area).one_value (as_list result) b.completes.returns.values has (result-held back area new b) in
+          let same = (told-result new.caller.bytes back area).one_value (option_to_list result) b.completes.returns.values has (result-held back area new b) in
           record { lifted = subst (λ vs. Denotes max_flat_results (result_fields f.result) b.completes.returns.answered.callee.bytes b.completes.answer vs) (sym same) b.completes.returns.returns.denoted }
 
       came-found : (back : List Flat) (area : ℕ) (new : World) (b : CameBack parties f arguments old back area new) → FindsAndRunsOnce parties f arguments old (Some b.completes.answer) b.completes.returns.answered

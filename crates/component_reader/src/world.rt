@@ -4,7 +4,6 @@ ghost use Rattle.atoms.specs.Label.{IsLabel};
 ghost use Rattle.ctype_format.specs.Names.{name_view};
 ghost use Rattle.ctype_format.specs.View.{decl_view, decls_of, type_view};
 ghost use Rattle.tables.specs.declared.tables.Definition.{Definition};
-ghost use Rattle.package_form.specs.Ids.{package_id};
 ghost use Rattle.component_reader.specs.Types.{ReadsAs, Becomes};
 ghost use Rattle.component_reader.specs.World.{no_world, function_named, aliased_interface, interface_met, named_read, entry_read, outer_read, item_read, world_read};
 ghost use Rattle.component_reader.specs.Readers.{awaited_view, world_with};

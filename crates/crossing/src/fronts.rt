@@ -2,7 +2,7 @@
 //!
 //! A front never looks for a fault. It crosses elements as long as they pass their tests, and may stop before any of them: who
 //! goes on behind it finds the first fault, and the nodes up to it.
-ghost use Rattle.std.specs.Prelude.{◌≡◌, ℕ, ◌+◌, ◌*◌, ◌^◌, ◌<◌, ◌≤◌, length};
+ghost use Rattle.std.specs.Prelude.{◌≡◌, ◌+◌, ◌*◌, ◌^◌, ◌<◌, ◌≤◌, length};
 ghost use Rattle.canonical_abi.specs.Layout.{size, flags_size};
 ghost use Rattle.canonical_abi.specs.Types.{prim_type, boolean, scalar_value, flags_type};
 ghost use Rattle.crossing.specs.Outcome.{EachWalks, IsCrossed};

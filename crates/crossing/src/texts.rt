@@ -1,5 +1,5 @@
 //! Texts of a list, one after another.
-ghost use Rattle.std.specs.Prelude.{ℕ, ◌+◌, ◌*◌, ◌^◌, ◌<◌, ◌≤◌, length};
+ghost use Rattle.std.specs.Prelude.{◌+◌, ◌*◌, ◌^◌, ◌<◌, ◌≤◌, length};
 ghost use Rattle.canonical_abi.specs.Types.{string_type};
 ghost use Rattle.crossing.specs.Outcome.{EachWalks, Ends};
 

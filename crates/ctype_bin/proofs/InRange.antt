@@ -20,7 +20,7 @@ use Rattle.ctype_format.specs.Grammar as g
 use Rattle.ctype_format.specs.File as f
 use Rattle.ctype_format.specs.View.{decls_of}
 use Rattle.ctype_format.specs.Raw as raw
-use Rattle.ctype_format.specs.Raw.{Definition, Define, Func, Component, Instance, Decl, Entry, Alias, Import, Export, Decls, Exported, BinaryFile}
+use Rattle.ctype_format.specs.Raw.{Definition, Define, Func, Component, Instance, Decl, Entry, Alias, Import, Export, Decls, BinaryFile}
 use Rattle.ctype_format.specs.Formed.{All}
 use Rattle.ctype_bin.specs.InRange.{ValTypeInRange, OptionInRange, FieldInRange, CaseInRange, DefinedInRange, DescriptionInRange, AliasInRange, described_types, instances_with, types_behind, instances_behind, TypeInRange, DeclInRange, DeclsInRange, TypesInRange, FileInRange}
 use Rattle.ctype_bin.proofs.Rewritten.{passes}

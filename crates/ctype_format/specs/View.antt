@@ -7,9 +7,9 @@ use Rattle.ctype_format.specs.declared.raw.RawExport.{RawExport}
 use Rattle.ctype_format.specs.declared.raw.RawFunction.{RawFunction}
 use Rattle.ctype_format.specs.declared.raw.RawDefinedType.{RawDefinedType}
 use Rattle.ctype_format.specs.declared.raw.RawDefinedType.TheVariants as v
-use Rattle.ctype_format.specs.declared.raw.RawType.{RawType, RawType-F, fold-RawType, fold-roll-RawType}
+use Rattle.ctype_format.specs.declared.raw.RawType.{RawType}
 use Rattle.ctype_format.specs.declared.raw.RawType as t
-use Rattle.ctype_format.specs.declared.raw.RawDecl.{RawDecl, RawDecl-F, fold-RawDecl, fold-roll-RawDecl}
+use Rattle.ctype_format.specs.declared.raw.RawDecl.{RawDecl}
 use Rattle.ctype_format.specs.declared.raw.RawDecl as d
 
 abbrev pub defined_view : RawDefinedType → Defined

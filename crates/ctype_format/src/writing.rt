@@ -2,7 +2,7 @@
 ghost use Rattle.std.specs.Prelude.{◌≡◌, ◌++◌, ◌∷◌, [], length, OnOk};
 ghost use Rattle.ctype_format.specs.View.{defined_view, raw_function_view, type_view, decl_view, export_view};
 ghost use Rattle.ctype_format.specs.Names.{name_view};
-ghost use Rattle.ctype_format.specs.Writing.{u32_bytes, s33_bytes, each, counted, name_bytes, extern_bytes, primitive_byte, valtype_bytes, optional_bytes, field_bytes, case_bytes, defined_bytes, outcome_bytes, function_bytes, alias_bytes, description_bytes, type_bytes, decl_bytes, exported_bytes, section_bytes};
+ghost use Rattle.ctype_format.specs.Writing.{u32_bytes, s33_bytes, counted, name_bytes, extern_bytes, primitive_byte, valtype_bytes, optional_bytes, field_bytes, case_bytes, defined_bytes, outcome_bytes, function_bytes, alias_bytes, description_bytes, type_bytes, decl_bytes, exported_bytes, section_bytes};
 ghost use Rattle.ctype_format.specs.Formed.{FitsU32, Counted, FormedLabel, FormedName, FormedValType, FormedOption, FormedField, FormedCase, FormedDefined, FormedFunction, FormedAlias, FormedDescription, FormedType, FormedDecl, FormedExport};
 
 use crate::name::ExternName;

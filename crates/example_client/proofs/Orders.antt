@@ -2,7 +2,7 @@
 use Rattle.std.proofs.Common.{◌≡◌, inl, inr, ℕ, zero, suc, ◌+◌, ◌-◌, ◌%◌, ◌^◌, ◌<◌, ◌≤◌, true, List, [], ◌∷◌, length, map, drop, get_or-drop, slice_range, Option, Some, Result, Ok, Err, String, Global, string_bytes, refl, sym, ap, ◌∙◌, subst, arith, rules}
 use Rattle.std.specs.Prelude.{OnOk}
 use Rattle.std.specs.Str.{is_utf8}
-use Rattle.canonical_abi.specs.Types.{int32, Prim, boolean, unsigned, signed, scalar_value, ClosedType, prim_type, string_type, list_type, record_type, variant_type, flags_type, Fields, no_field, field, Cases, no_case, plain_case, case_with, FunctionType}
+use Rattle.canonical_abi.specs.Types.{int32, boolean, unsigned, signed, scalar_value, ClosedType, prim_type, string_type, list_type, record_type, variant_type, flags_type, Fields, no_field, field, Cases, no_case, plain_case, case_with, FunctionType}
 use Rattle.canonical_abi.specs.Values.{string_value, unsigned_value, HasType, HaveTypes, IsOfCase}
 use Rattle.canonical_abi.specs.Layout.{max_flat_params}
 use Rattle.canonical_abi.specs.Reading.{kind_of, low_bits, number_of}

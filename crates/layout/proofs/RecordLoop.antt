@@ -10,7 +10,7 @@ use Rattle.canonical_abi.proofs.Places.{le-next_multiple_of}
 use Rattle.tables.specs.declared.tables.ValType.{ValType}
 use Rattle.layout.specs.Kinds.{kinds_of, passed, append_kinds}
 use Rattle.layout.specs.Layout.{IsSound}
-use Rattle.layout.specs.Rows.{row_in, rows_at, extent_in, extents, deepest, record_row}
+use Rattle.layout.specs.Rows.{row_in, rows_at, extent_in, extents, deepest}
 use Rattle.layout.specs.declared.rows.Row.{Row}
 use Rattle.layout.specs.declared.kinds.Kinds.{Kinds}
 use Rattle.layout.proofs.Cuts.{fits-append}
@@ -68,21 +68,3 @@ record_more {rows} {rows'} r {depth} {depth'} {end} {end'} {align} {align'} plac
           let same : end ≡ end_from 0 (extents rows) = omega (arith, so_far.end_is) in
           rw (split, places_from-push 0 (extents rows) (extent_in r), ← same, ← so_far.offsets_is within, ← place_is) offsets_are;
     }
-
--- a row whose fields end at most at the limit has that end; any other is larger than the limit
-pub record_size-is : (rows : List Row) (end : ℕ) → end ≡ min (end_from 0 (extents rows)) 16777217 → next_multiple_of end (greatest_align (extents rows)) ≤ 16777216
-    → end ≡ end_from 0 (extents rows)
-record_size-is rows end is within =
-    let up = le-next_multiple_of end (greatest_align (extents rows)) in
-    omega arith
-
-pub record_size-above : (rows : List Row) (end : ℕ) → end ≡ min (end_from 0 (extents rows)) 16777217 → 16777216 < next_multiple_of end (greatest_align (extents rows))
-    → 16777216 < (record_row rows).size
-record_size-above rows end is above = elim (cases_lt (end_from 0 (extents rows)) 16777217) [
-  | inl l ↦
-      let same : end ≡ end_from 0 (extents rows) = omega arith in
-      rw same at above
-  | inr g ↦
-      let up = le-next_multiple_of (end_from 0 (extents rows)) (greatest_align (extents rows)) in
-      omega arith
-]

@@ -1,7 +1,7 @@
 //! The flat kinds of types side by side.
-ghost use Rattle.std.specs.Prelude.{◌≡◌, ◌+◌, ◌≤◌, ◌∷◌, [], ◌++◌, length};
+ghost use Rattle.std.specs.Prelude.{◌≡◌, ◌+◌, ◌≤◌, ◌∷◌, [], ◌++◌};
 ghost use Rattle.canonical_abi.specs.Layout.{join_kind, join};
-ghost use Rattle.layout.specs.Kinds.{kinds_of, count_of, passed, append_kinds, join_kinds};
+ghost use Rattle.layout.specs.Kinds.{kinds_of, count_of, append_kinds, join_kinds};
 ghost use Rattle.arrayvec.specs.ArrayVec.{array_vec_len};
 
 use crate::kind_list::KindList;

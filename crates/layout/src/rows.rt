@@ -1,5 +1,5 @@
 //! The row of a definition, by the rows of the definitions before it.
-ghost use Rattle.std.specs.Prelude.{◌≡◌, ◌+◌, ◌≤◌, ◌<◌, ◌⊎◌, ℕ, map, length, All, IsTrue, IfOk, IfErr};
+ghost use Rattle.std.specs.Prelude.{◌≡◌, ◌+◌, ◌≤◌, ◌<◌, ◌⊎◌, map, length, All, IsTrue, IfOk, IfErr};
 ghost use Rattle.std.specs.Int.{next_multiple_of};
 ghost use Rattle.canonical_abi.specs.Types.{prim_type, string_type, flags_type};
 ghost use Rattle.canonical_abi.specs.Layout.{size, align, discriminant_size, places_from, payload_at};
@@ -8,7 +8,7 @@ ghost use Rattle.tables.specs.Tables.{is_below, option_below, kind_below, defini
 ghost use Rattle.layout.specs.Kinds.{count_of};
 ghost use Rattle.layout.specs.Layout.{row_of, capped, IsSound, max_size};
 ghost use Rattle.layout.specs.Parts.{payloads, final_type, record_parts, variant_parts, kind_parts, definition_parts};
-ghost use Rattle.layout.specs.Rows.{row_in, rows_at, extent_at, extents, deepest, record_row, choices_at, variant_row, list_row, kind_row, definition_row, number_row, IsKeptRow, IsLimitedRow, IsLimitedDefinition, RefusesDeeper, RefusesRow, RefusesDefinition};
+ghost use Rattle.layout.specs.Rows.{row_in, rows_at, extent_at, extents, record_row, choices_at, variant_row, list_row, kind_row, definition_row, number_row, IsKeptRow, IsLimitedRow, IsLimitedDefinition, RefusesDeeper, RefusesRow, RefusesDefinition};
 ghost use Rattle.layout.specs.Work.{direct_types, laid_in, saturated};
 
 use crate::error::LayoutError;

@@ -11,7 +11,7 @@ use Rattle.canonical_abi.specs.Layout.{align, size, field_kinds, fits_flat, max_
 use Rattle.canonical_abi.specs.Lowering.{PassesParams}
 use Rattle.canonical_abi.specs.Memory.{Holds, Faulty, BlockHolds, BlockFaulty, HoldsInBlock, FaultyInBlock}
 use Rattle.canonical_abi.specs.Reading.{kind_of}
-use Rattle.canonical_abi.specs.Session.{as_list, HasResult, HasResultFault}
+use Rattle.canonical_abi.specs.Session.{HasResult, HasResultFault}
 use Rattle.canonical_abi.specs.Trace.{Event, grant, TraceLeads, RequestEnds}
 use Rattle.canonical_abi.specs.declared.flat.Flat.{Flat}
 use Rattle.canonical_abi.specs.declared.trap.Fault.{Fault}
@@ -27,6 +27,7 @@ use Rattle.lift_lower.specs.Scripts.{IsDone, HasEnded, GrantsBlock}
 use Rattle.values.specs.Val.{value_of}
 use Rattle.values.specs.declared.val.Val.{Val}
 use Rattle.lift_lower.proofs.Alone.{alone-align, alone-size, first-place}
+use Rattle.std.specs.Prelude.{option_to_list}
 
 -- ---- the arguments
 
@@ -102,11 +103,11 @@ module _ (t : ClosedType) (m : List ℕ) (at : ℕ) (spilled : fits_flat max_fla
   pub value-block : BlockHolds m at (align (record_type (field t no_field))) (size (record_type (field t no_field))) → BlockHolds m at (align t) (size t)
   value-block h = (subst (λ a. at % a ≡ 0) (alone-align t) h.0, omega (arith, h.1, alone-size t))
 
-  pub value-taken : (v : Val) → HoldsInBlock t m at (value_of v) → HasResult (field t no_field) m flats at (as_list (option_map value_of (Some v)))
+  pub value-taken : (v : Val) → HoldsInBlock t m at (value_of v) → HasResult (field t no_field) m flats at (option_to_list (option_map value_of (Some v)))
   value-taken v h = holds-result (value_of v) h
 
   pub fault-taken : (fault : Fault) → BlockHolds m at (align t) (size t)
       → AnswerStands step.Take (λ v. HoldsInBlock t m at (value_of v)) (FaultyInBlock t m at) (Err fault)
-      → AnswerStands step.Take (λ v. HasResult (field t no_field) m flats at (as_list (option_map value_of v))) (HasResultFault (field t no_field) m flats at) (Err fault)
+      → AnswerStands step.Take (λ v. HasResult (field t no_field) m flats at (option_to_list (option_map value_of v))) (HasResultFault (field t no_field) m flats at) (Err fault)
   fault-taken (ended.Trap trap) block h = (h.0, fault-result trap.kind block h.1)
   fault-taken ended.NoMemory block h = tt

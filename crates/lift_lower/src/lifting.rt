@@ -1,10 +1,9 @@
 //! Lifting: the values that flat values denote.
-ghost use Rattle.std.specs.Prelude.{◌≡◌, ◌≢◌, ◌≤◌, ◌↔◌, ◌<◌, ◌^◌, ℕ, Err, IsTrue, [], ◌∷◌, length, map, IfOk, IfErr, IfSome, option_map};
+ghost use Rattle.std.specs.Prelude.{◌≡◌, ◌≢◌, ◌≤◌, ◌↔◌, ◌<◌, ◌^◌, Err, [], ◌∷◌, length, map, IfOk, IfErr, IfSome, option_map, option_to_list};
 ghost use Rattle.canonical_abi.specs.Types.{record_type, result_fields, field, no_field, IsPlain};
 ghost use Rattle.canonical_abi.specs.Flat.{Denotes, DenotesFault};
 ghost use Rattle.canonical_abi.specs.Layout.{size, max_flat_params, max_flat_results};
-ghost use Rattle.canonical_abi.specs.Reading.{denoting, kind_of};
-ghost use Rattle.canonical_abi.specs.Session.{as_list};
+ghost use Rattle.canonical_abi.specs.Reading.{denoting};
 ghost use Rattle.canonical_abi.specs.Values.{HaveTypes};
 ghost use Rattle.canonical_abi.specs.declared.trap.Step.TheVariants.{Take};
 ghost use Rattle.layout.specs.Layout.{layouts_of};
@@ -84,10 +83,10 @@ pub fn lift_result<G: Guest>(
 ) -> Result<Option<Val>, Fault>
     requires inside { IfSome ty (IsInside table.now) }
     ensures value { let ts = result_fields (option_map (closed_type table.now) ty) in
-        AnswerStands Take (λ v. Denotes max_flat_results ts (G.memory guest.now).bytes flats.now (as_list (option_map value_of v)))
+        AnswerStands Take (λ v. Denotes max_flat_results ts (G.memory guest.now).bytes flats.now (option_to_list (option_map value_of v)))
         (DenotesFault max_flat_results ts (G.memory guest.now).bytes flats.now) result }
     ensures plain { IfSome ty (λ t. IsPlain (closed_type table.now t)) → result ≢ Err Fault.NoMemory }
-    ensures typed { IfOk result (λ v. HaveTypes (as_list (option_map value_of v))
+    ensures typed { IfOk result (λ v. HaveTypes (option_to_list (option_map value_of v))
         (result_fields (option_map (closed_type table.now) ty))) }
 {
     let Some(ty) = ty else {

@@ -1,12 +1,12 @@
 //! The caller's side of a typed call: arguments and return area are put into its memory, and the result is
 //! taken from there.
-ghost use Rattle.std.specs.Prelude.{◌≡◌, ◌≢◌, ◌≤◌, ◌↔◌, ℕ, List, IsTrue, Err, length, map, IfOk, IfErr, IfSome, option_map};
+ghost use Rattle.std.specs.Prelude.{◌≡◌, ◌≢◌, ◌≤◌, ◌↔◌, ℕ, List, IsTrue, Err, length, map, IfOk, IfErr, IfSome, option_map, option_to_list};
 ghost use Rattle.canonical_abi.specs.Types.{record_type, record_fields, result_fields, AreStandardFields, IsPlain};
 ghost use Rattle.canonical_abi.specs.Values.{HaveTypes};
 ghost use Rattle.canonical_abi.specs.Layout.{fits_flat, align, size};
 ghost use Rattle.canonical_abi.specs.Memory.{BlockHolds};
 ghost use Rattle.canonical_abi.specs.Lowering.{PassesParams, SpilledLower};
-ghost use Rattle.canonical_abi.specs.Session.{as_list, HasResult, HasResultFault};
+ghost use Rattle.canonical_abi.specs.Session.{HasResult, HasResultFault};
 ghost use Rattle.canonical_abi.specs.declared.trap.Step.TheVariants.{Take};
 ghost use Rattle.tables.specs.Closed.{closed_type, function_type, IsFunction};
 ghost use Rattle.lift_lower.specs.Crossing.{AreLowered, LowerFails};
@@ -190,10 +190,10 @@ pub fn take_result<G: Guest>(
     requires inside { IfSome ty (IsInside table.now) }
     requires area { IsAreaIn (result_fields (option_map (closed_type table.now) ty)) (G.memory guest.now).bytes area }
     ensures value { let ts = result_fields (option_map (closed_type table.now) ty) in
-        AnswerStands Take (λ v. HasResult ts (G.memory guest.now).bytes flats.now (area_at area) (as_list (option_map value_of v)))
+        AnswerStands Take (λ v. HasResult ts (G.memory guest.now).bytes flats.now (area_at area) (option_to_list (option_map value_of v)))
         (HasResultFault ts (G.memory guest.now).bytes flats.now (area_at area)) result }
     ensures plain { IfSome ty (λ t. IsPlain (closed_type table.now t)) → result ≢ Err Fault.NoMemory }
-    ensures typed { IfOk result (λ v. HaveTypes (as_list (option_map value_of v))
+    ensures typed { IfOk result (λ v. HaveTypes (option_to_list (option_map value_of v))
         (result_fields (option_map (closed_type table.now) ty))) }
 {
     let (Some(ty), Some(at)) = (ty, area) else {

@@ -1,6 +1,6 @@
 -- How a first-fit memory grows: what its last hole comes to have, and that no other hole changes.
 use Rattle.std.proofs.Common.{◌≡◌, inl, inr, ◌+◌, ◌*◌, ◌/◌, ◌%◌, ◌<◌, ◌≤◌, ◌&&◌, ◌||◌, not, ℕ, zero, suc, Bool, true, false, List, [], ◌∷◌, length, Option, Some, None, refl, sym, ap, ◌∙◌, subst, arith}
-use Rattle.std.specs.Prelude.{nat_lt, nat_le}
+use Rattle.std.specs.Prelude.{nat_lt}
 use Rattle.std.specs.Option.{ok_or}
 use Rattle.std.specs.Result.{result_ok, OnErr}
 use Rattle.std.proofs.lemmas.List.{append-nil}
@@ -10,7 +10,7 @@ use mathlib.Core.Path.{fun_ext}
 use Rattle.canonical_abi.specs.Guest.{Memory, rounded_to_eight}
 use Rattle.canonical_abi.specs.declared.guest.Full.{Full}
 use Rattle.memory.specs.FirstFit.{usable, IsHole, IsFirstWith, TakesBlock, HasRoomGrown, FirstFitAllocates}
-use Rattle.memory.specs.Growth.{with_pages, grown, IsLeastGrowth, HasNoGrowth, ReachesEnd, GrowsTo}
+use Rattle.memory.specs.Growth.{with_pages, grown, IsLeastGrowth, HasNoGrowth, ReachesEnd}
 use Rattle.memory.specs.GrowthLaws.{length-with_pages}
 use Rattle.memory.specs.Holes.{Hole, in_holes, AreHolesApart, AreShort, IsTail, TakesFront, GivesHoleBack, first_fit}
 use Rattle.memory.proofs.FirstFitSteps.{all_short, taken}

@@ -1,5 +1,5 @@
 -- What answers alike does so under the number of a kind.
-use Rattle.std.proofs.Common.{◌≡◌, inl, inr, ℕ, ◌∷◌, length, refl, sym, ap, ◌∙◌, arith}
+use Rattle.std.proofs.Common.{◌≡◌, inl, inr, ℕ, ◌∷◌, length, sym, ap, ◌∙◌, arith}
 use Rattle.canonical_abi.specs.Guest.{Memory, Allocation, Release}
 use Rattle.memory.specs.Alike.{AreAlike, AnswersAlike, ReleasesAlike}
 use Rattle.memory.specs.Bump.{BumpAllocates, BumpReleases}

@@ -1,5 +1,5 @@
 -- An allocator that takes blocks, in units of eight bytes, from the front of the first hole that has them, and takes them back.
-use Rattle.std.specs.Prelude.{◌≡◌, ◌⊎◌, ◌+◌, ◌*◌, ◌/◌, ◌%◌, ◌<◌, ◌≤◌, ◌&&◌, ◌||◌, not, ℕ, suc, Bool, true, false, List, [], ◌∷◌, Option, Some, None, length, nat_lt, nat_le}
+use Rattle.std.specs.Prelude.{◌≡◌, ◌⊎◌, ◌+◌, ◌*◌, ◌/◌, ◌%◌, ◌<◌, ◌≤◌, ◌&&◌, ◌||◌, not, ℕ, suc, Bool, true, false, [], ◌∷◌, Option, Some, None, length, nat_lt, nat_le}
 use Rattle.canonical_abi.specs.Guest.{Memory, IsWithin, rounded_to_eight}
 use Rattle.memory.specs.Growth.{grown, IsLeastGrowth, HasNoGrowth}
 

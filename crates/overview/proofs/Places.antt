@@ -1,5 +1,5 @@
 -- The types and functions of an interface stand in the layout table of their package.
-use Rattle.std.proofs.Common.{◌≡◌, ℕ, ◌<◌, IsTrue, List, Option, None, Some, length, slice_get, inl, inr, ap, sym, subst, arith}
+use Rattle.std.proofs.Common.{◌≡◌, ◌<◌, IsTrue, List, Option, None, length, inl, inr, ap, sym, subst}
 use Rattle.std.proofs.lemmas.Bool.{lt-ltb}
 use Rattle.std.proofs.lemmas.Option.{slice_get_cases}
 use Rattle.std.specs.Prelude.{nat_lt}

@@ -10,7 +10,7 @@ use Rattle.std.proofs.lemmas.Bool.{cases_lt, eq-eqb, eqb-true}
 use Rattle.canonical_abi.proofs.Images.{slice_get-take}
 use Rattle.package_form.specs.Closed.{own_package}
 use Rattle.package_form.specs.Marks.{AreMarked}
-use Rattle.package_form.specs.Reached.{is_among}
+use Rattle.package_form.specs.Reached.{is_among, is_interface_of}
 use Rattle.package_form.proofs.OwnPackage.{package-is, same-itself}
 use Rattle.package_sets.proofs.Behind.{import-other, own-behind}
 use Rattle.package_sets.proofs.Kept.{interface-in}
@@ -18,7 +18,6 @@ use Rattle.package_sets.proofs.One.{imports-one}
 use Rattle.package_sets.proofs.SameTables.{same-tables}
 use Rattle.package_sets.specs.Imports.{IsImportsOf}
 use Rattle.package_sets.specs.Joining.{are_same_packages, import_count, imports}
-use Rattle.set_rows.specs.Reaches.{is_own_interface}
 use Rattle.tables.proofs.Rows.{split, both}
 use Rattle.tables.specs.PackageNames.{PackageParts}
 use Rattle.tables.specs.declared.tables.Interface.{Interface}
@@ -106,9 +105,9 @@ module _ (closed : Resolve) (reached : List Bool) (m : AreMarked (length closed.
       let count = import_count closed in
       let l : k < count = omega (arith, slice_get_within (imports closed) k x e, length-take count closed.interfaces) in
       let at = sym (slice_get-take count closed.interfaces k l) ∙ e in
-      (at, by (is_own_interface (own_package closed.packages) x) refl (import-other (own_package closed.packages) closed.interfaces k x l at) (interface-in closed k x at))
+      (at, by (is_interface_of (own_package closed.packages) x) refl (import-other (own_package closed.packages) closed.interfaces k x l at) (interface-in closed k x at))
     where
-      by : (b : Bool) → is_own_interface (own_package closed.packages) x ≡ b → is_own_interface (own_package closed.packages) x ≡ false → x.«package».0 < length closed.packages → x.«package».0 < own_package closed.packages
+      by : (b : Bool) → is_interface_of (own_package closed.packages) x ≡ b → is_interface_of (own_package closed.packages) x ≡ false → x.«package».0 < length closed.packages → x.«package».0 < own_package closed.packages
       by true e f l = absurd (cc)
       by false e f l = let not : x.«package».0 ≢ own_package closed.packages = λ q. let same = eq-eqb x.«package».0 (own_package closed.packages) q in absurd (cc) in omega arith
 

@@ -1,8 +1,8 @@
 //! Whether rows without names stand in postfix order.
-ghost use Rattle.std.specs.Prelude.{◌≡◌, ◌==◌, [], length, nat_eq, slice_get, Decides, IfOk};
+ghost use Rattle.std.specs.Prelude.{◌≡◌, ◌==◌, [], slice_get, Decides, IfOk};
 ghost use Rattle.std.specs.List.{ends_with};
 ghost use Rattle.package_form.specs.Postfix.{is_unnamed, is_unnamed_row, is_inner, IsPostfix};
-ghost use Rattle.package_form.specs.Unused.{unnamed_at, inner_rows, is_alias, can_use, closes, is_next, are_used};
+ghost use Rattle.package_form.specs.Unused.{inner_rows, is_alias, can_use, closes, is_next, are_used};
 
 use crate::references::references;
 use std::alloc::{AllocError, Global};

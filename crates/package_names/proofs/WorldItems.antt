@@ -1,7 +1,7 @@
 -- The names of a world's items, each met on its side.
 use Rattle.std.proofs.Common.{◌≡◌, ◌⊎◌, inl, inr, ℕ, ◌+◌, ◌<◌, ◌≤◌, true, false, List, [], ◌∷◌, ◌++◌, map, flat_map, length, take, get_or, refl, ap, sym, subst, ◌∙◌, slice_get, Option, None, Some, Contains, All, Result, Ok, Err, OnOk, IfErr}
 use Rattle.std.proofs.lemmas.List.{map-append, append-nil, get_or_default, take_all}
-use Rattle.tables.specs.Package.{ItemMeaning, WithInterface, WithFunction, Fields, read_params}
+use Rattle.tables.specs.Package.{ItemMeaning, read_params}
 use Rattle.tables.specs.Package as tree
 use Rattle.tables.specs.declared.error.ResolveError.{ResolveError}
 use Rattle.tables.specs.declared.error.ResolveError.TheVariants as error

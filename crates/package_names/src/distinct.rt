@@ -4,7 +4,7 @@ ghost use Rattle.package_form.specs.Scope.{lowered, AreDistinct};
 ghost use Rattle.package_form.specs.Distinct.{AreMet, AreMetInEach, RefusesNames, RefusesScopes};
 ghost use Rattle.package_names.specs.Sides.{AreMetOnSides, RefusesSides};
 ghost use Rattle.package_form.specs.Ends.{is_parted};
-ghost use Rattle.tables.specs.Tables.{are_grouped, is_placed_item, is_placed_world, are_placed_worlds};
+ghost use Rattle.tables.specs.Tables.{are_grouped, is_placed_item, is_placed_world};
 ghost use Rattle.tables.specs.Names.{full_name};
 ghost use Rattle.tables.specs.Package.{ItemMeaning, item_meaning, world_meaning, interface_names, trees, worlds};
 ghost use Rattle.package_form.specs.Naming.{field_name, case_name, parameter_name, kind_members, row_members, row_names, rows_scopes, interfaces_scopes, item_name, item_direction, item_parameters, world_scopes, interface_labels_of, world_labels_of, of_each, package_scopes};

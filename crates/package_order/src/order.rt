@@ -1,5 +1,5 @@
 //! Packages in order.
-ghost use Rattle.std.specs.Prelude.{◌≡◌, ◌<◌, ℕ, false, length, All, IfOk, IfSome, IfNone, slice_index_or};
+ghost use Rattle.std.specs.Prelude.{◌≡◌, ◌<◌, ℕ, false, length, All, IfOk, IfSome, IfNone};
 ghost use Rattle.std.specs.List.{list_all};
 ghost use Rattle.placement.specs.Order.{is_ready, IsNext};
 ghost use Rattle.package_order.specs.Arranged.{IsArranged, is_marked_package};

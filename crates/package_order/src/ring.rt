@@ -2,7 +2,7 @@
 ghost use Rattle.std.specs.Prelude.{◌≡◌, ◌==◌, ◌<◌, ◌≤◌, true, false, IfOk, IfSome, IfNone, All, length, drop, slice_index};
 ghost use Rattle.std.specs.List.{list_any};
 ghost use Rattle.placement.specs.Order.{IsCycle};
-ghost use Rattle.package_order.specs.Arranged.{Uses, IsRing, is_marked_package, is_left};
+ghost use Rattle.package_order.specs.Arranged.{Uses, IsRing, is_left};
 
 use crate::order::is_marked;
 use std::alloc::{AllocError, Global};

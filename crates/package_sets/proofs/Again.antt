@@ -14,7 +14,7 @@ use Rattle.canonical_abi.proofs.Images.{slice_get-take, slice_get-drop}
 use Rattle.package_form.specs.Closed.{own_package, has_each_package, is_world_of, has_own, are_of_a_set}
 use Rattle.package_form.specs.Ends.{interfaces_end, are_worlds_parted}
 use Rattle.package_form.specs.Form.{IsInPackageForm, ids_of}
-use Rattle.package_form.specs.Reached.{used_in, name_of, name_at, named_interface, reached_by_row, reached_by_kind, reached_by_item, reached_by_world}
+use Rattle.package_form.specs.Reached.{used_in, name_of, name_at, named_interface, reached_by_row, reached_by_kind, reached_by_item, reached_by_world, is_interface_of}
 use Rattle.package_form.specs.References.{row_references, type_references}
 use Rattle.package_form.proofs.Lists.{contains-map, contains-flat}
 use Rattle.package_form.proofs.OwnPackage.{package-there, some-package}
@@ -50,7 +50,7 @@ use Rattle.package_sets.specs.NamedIn.{own_rows, own_reached, IsImportAt, AreNam
 use Rattle.set_rows.specs.Owners.{owner_of, owners, names, names_or}
 use Rattle.package_sets.specs.Part.{IsPart, IsTableOf}
 use Rattle.set_rows.specs.Places.{kept, place}
-use Rattle.set_rows.specs.Reaches.{Marks, is_marked, own_marks, given_marks, is_own_interface, is_own_world, item_owners, owners_in, world_owners, owner_at, named_owners, OfPackage, OfInterfaces, Reaches, of_start, of_row, AreReached}
+use Rattle.set_rows.specs.Reaches.{Marks, is_marked, own_marks, given_marks, item_owners, owners_in, world_owners, owner_at, named_owners, OfPackage, OfInterfaces, Reaches, of_start, of_row, AreReached}
 use Rattle.set_rows.specs.Renamed.{renaming}
 use Rattle.package_sets.specs.Restricted.{IsReachedIn, AreNeeded, number_or, package_of_owner, IsNeeded}
 use Rattle.package_sets.specs.Set.{HasRowsInForm}
@@ -278,14 +278,14 @@ module _ (s c : Resolve) (j : JoinedPlaces) (q : IsJoined s c j) (own : PackageP
       let x = one-there r.interfaces k m in
       let number : package_of_owner r (Some (owner.Interface (record { 0 = k }))) ≡ x.0.«package».0 = ap (λ (o : Option Interface). number_or (option_map (λ y. y.«package».0) o)) x.1 in
       let same : x.0.«package».0 ≡ new = sym number ∙ ordering.own-interface s c j q own r put k l (omega (arith, m, count-interfaces)) in
-      of_start (Some (owner.Interface (record { 0 = k }))) (inl (get_or-map (is_own_interface new) r.interfaces k x.0 true m ∙ (ap (is_own_interface new) (get_or_from_slice_get r.interfaces k x.0 x.0 x.1) ∙ eq-eqb x.0.«package».0 new same)))
+      of_start (Some (owner.Interface (record { 0 = k }))) (inl (get_or-map (is_interface_of new) r.interfaces k x.0 true m ∙ (ap (is_interface_of new) (get_or_from_slice_get r.interfaces k x.0 x.0 x.1) ∙ eq-eqb x.0.«package».0 new same)))
 
   world-started : (k : ℕ) → length s.worlds ≤ k → k < length r.worlds → IsReached (Some (owner.World (record { 0 = k })))
   world-started k l m =
       let x = one-there r.worlds k m in
       let number : package_of_owner r (Some (owner.World (record { 0 = k }))) ≡ x.0.«package».0 = ap (λ (o : Option World). number_or (option_map (λ y. y.«package».0) o)) x.1 in
       let same : x.0.«package».0 ≡ new = sym number ∙ ordering.own-world s c j q own r put k l (omega (arith, m, count-worlds)) in
-      of_start (Some (owner.World (record { 0 = k }))) (inl (get_or-map (is_own_world new) r.worlds k x.0 true m ∙ (ap (is_own_world new) (get_or_from_slice_get r.worlds k x.0 x.0 x.1) ∙ eq-eqb x.0.«package».0 new same)))
+      of_start (Some (owner.World (record { 0 = k }))) (inl (get_or-map (is_world_of new) r.worlds k x.0 true m ∙ (ap (is_world_of new) (get_or_from_slice_get r.worlds k x.0 x.0 x.1) ∙ eq-eqb x.0.«package».0 new same)))
 
   -- the rows behind the set's are of what is its own
   own-row-reached : (k : ℕ) (x : Definition) → length s.definitions ≤ k → slice_get r.definitions k ≡ Some x → IsReached (get_or (owners r.definitions) k None)
@@ -339,7 +339,7 @@ module _ (s c : Resolve) (j : JoinedPlaces) (q : IsJoined s c j) (own : PackageP
       kind (item.Interface x) (suc k, l, e) = absurd (omega (arith, l))
       kind (item.Interface x) (zero, l, e) = (0, omega arith, ap (λ (k : ℕ). Some (owner.Interface (record { 0 = to.interfaces k }))) e)
 
-      own-items : (x : World) (o : Option Owner) → Contains (flat_map owners_in x.items) o → is_own_world new x ≡ true → Contains (world_owners new x) o
+      own-items : (x : World) (o : Option Owner) → Contains (flat_map owners_in x.items) o → is_world_of new x ≡ true → Contains (world_owners new x) o
       own-items x o co z = rw z co
 
   ends : interfaces_end 0 (imports c) ≡ j.imported
@@ -442,7 +442,7 @@ module _ (s c : Resolve) (j : JoinedPlaces) (q : IsJoined s c j) (own : PackageP
     rows-counted = ap length need.rows_are ∙ (length-map (owners r.definitions) (is_marked m) ∙ length-owners r.definitions)
 
     worlds-counted : length back.worlds ≡ length r.worlds
-    worlds-counted = ap length need.worlds_are ∙ length-map r.worlds (is_own_world new)
+    worlds-counted = ap length need.worlds_are ∙ length-map r.worlds (is_world_of new)
 
     rows-images : AreImages back.rows to.rows (length c.definitions)
     rows-images = record { rising = rows-rise; marked = marked; only = only }
@@ -485,13 +485,13 @@ module _ (s c : Resolve) (j : JoinedPlaces) (q : IsJoined s c j) (own : PackageP
             let w = one-there c.worlds t l in
             let at = world-at t w.0 w.1 in
             ap (λ (bs : List Bool). get_or bs (to.worlds t) false) need.worlds_are
-            ∙ (get_or-map (is_own_world new) r.worlds (to.worlds t) (put_world to w.0) false (slice_get_within r.worlds (to.worlds t) (put_world to w.0) at)
-            ∙ (ap (is_own_world new) (get_or_from_slice_get r.worlds (to.worlds t) (put_world to w.0) (put_world to w.0) at) ∙ eq-eqb j.«package» new q.are_joined.package_is))
+            ∙ (get_or-map (is_world_of new) r.worlds (to.worlds t) (put_world to w.0) false (slice_get_within r.worlds (to.worlds t) (put_world to w.0) at)
+            ∙ (ap (is_world_of new) (get_or_from_slice_get r.worlds (to.worlds t) (put_world to w.0) (put_world to w.0) at) ∙ eq-eqb j.«package» new q.are_joined.package_is))
 
         only : (k : ℕ) → get_or back.worlds k false ≡ true → (t : ℕ) × (t < length c.worlds) × (to.worlds t ≡ k)
         only k e =
             let l : k < length r.worlds = omega (arith, mark-within back.worlds k e, worlds-counted) in
-            let marked : is_marked (own_marks r new) (Some (owner.World (record { 0 = k }))) ≡ true = get_or_default (map (is_own_world new) r.worlds) k true false (omega (arith, l, length-map r.worlds (is_own_world new))) ∙ (ap (λ (bs : List Bool). get_or bs k false) (sym need.worlds_are) ∙ e) in
+            let marked : is_marked (own_marks r new) (Some (owner.World (record { 0 = k }))) ≡ true = get_or_default (map (is_world_of new) r.worlds) k true false (omega (arith, l, length-map r.worlds (is_world_of new))) ∙ (ap (λ (bs : List Bool). get_or bs k false) (sym need.worlds_are) ∙ e) in
             let behind = covering.own-marked s c j q own r put tower.form closed there (Some (owner.World (record { 0 = k }))) marked l in
             let within : k - length s.worlds < length c.worlds = omega (arith, l, behind, count-worlds, length-map c.worlds (put_world to)) in
             (k - length s.worlds, within, worlds-behind s c j q (k - length s.worlds) within ∙ omega (arith, behind))

@@ -9,10 +9,10 @@ use Rattle.tables.specs.declared.tables.Resolve.{Resolve}
 use Rattle.package_sets.specs.Attached.{others}
 use Rattle.package_sets.specs.Follows.{BeginsWith}
 use Rattle.package_sets.specs.Joining.{before_own, import_count, imports}
-use Rattle.set_rows.specs.Reaches.{is_own_interface}
 use Rattle.package_sets.proofs.Kept.{interface-in}
+use Rattle.package_form.specs.Reached.{is_interface_of}
 
-before-append : (own : ℕ) (is xs : List Interface) → ((k : ℕ) (i : Interface) → slice_get is k ≡ Some i → is_own_interface own i ≡ false) → ((i : Interface) → Contains xs i → is_own_interface own i ≡ true)
+before-append : (own : ℕ) (is xs : List Interface) → ((k : ℕ) (i : Interface) → slice_get is k ≡ Some i → is_interface_of own i ≡ false) → ((i : Interface) → Contains xs i → is_interface_of own i ≡ true)
     → before_own own (is ++ xs) ≡ length is
 before-append own [] [] f g = refl
 before-append own [] (x ∷ xs) f g = rw (g x (0, omega arith, refl)) refl
@@ -22,8 +22,8 @@ before-append own (i ∷ is) xs f g = rw (f 0 i refl) (more (before_own own (is 
     more n m e = omega arith
 
 -- interfaces of other packages that stand before the own ones are the imports
-module _ (c : Resolve) (front own : List Interface) (e : c.interfaces ≡ front ++ own) (other : (k : ℕ) (i : Interface) → slice_get front k ≡ Some i → is_own_interface (own_package c.packages) i ≡ false)
-    (mine : (i : Interface) → Contains own i → is_own_interface (own_package c.packages) i ≡ true) where
+module _ (c : Resolve) (front own : List Interface) (e : c.interfaces ≡ front ++ own) (other : (k : ℕ) (i : Interface) → slice_get front k ≡ Some i → is_interface_of (own_package c.packages) i ≡ false)
+    (mine : (i : Interface) → Contains own i → is_interface_of (own_package c.packages) i ≡ true) where
   pub count-front : import_count c ≡ length front
   count-front = ap (λ (is : List Interface). before_own (own_package c.packages) is) e ∙ before-append (own_package c.packages) front own other mine
 
@@ -40,14 +40,14 @@ module _ (r c : Resolve) (b : BeginsWith r c) where
   pub begins-packages : others c ≡ r.packages
   begins-packages = ap (λ m. take m c.packages) own-is ∙ (ap (take (length r.packages)) b.packages_are ∙ take-append_seam r.packages (b.own ∷ []))
 
-  no-own : (x : Bool) (i : Interface) → is_own_interface (own_package c.packages) i ≡ x → i.«package».0 < length r.packages → is_own_interface (own_package c.packages) i ≡ false
+  no-own : (x : Bool) (i : Interface) → is_interface_of (own_package c.packages) i ≡ x → i.«package».0 < length r.packages → is_interface_of (own_package c.packages) i ≡ false
   no-own false i e l = e
   no-own true i e l = absurd (omega (arith, own-is, eqb-true i.«package».0 (own_package c.packages) e))
 
-  other : (k : ℕ) (i : Interface) → slice_get r.interfaces k ≡ Some i → is_own_interface (own_package c.packages) i ≡ false
-  other k i e = no-own (is_own_interface (own_package c.packages) i) i refl (interface-in r k i e)
+  other : (k : ℕ) (i : Interface) → slice_get r.interfaces k ≡ Some i → is_interface_of (own_package c.packages) i ≡ false
+  other k i e = no-own (is_interface_of (own_package c.packages) i) i refl (interface-in r k i e)
 
-  mine : (i : Interface) → Contains b.interfaces i → is_own_interface (own_package c.packages) i ≡ true
+  mine : (i : Interface) → Contains b.interfaces i → is_interface_of (own_package c.packages) i ≡ true
   mine i d = eq-eqb i.«package».0 (own_package c.packages) (b.of_last i d ∙ sym own-is)
 
   pub begins-count : import_count c ≡ length r.interfaces

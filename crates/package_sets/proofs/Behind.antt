@@ -23,7 +23,6 @@ use Rattle.tables.specs.declared.tables.WorldItemKind.{WorldItemKind}
 use Rattle.tables.specs.declared.tables.WorldItemKind.TheVariants as item
 use Rattle.tables.specs.declared.tables.Resolve.{Resolve}
 use Rattle.set_rows.specs.Moved.{Renaming, put_id, put_function_id, put_val, put_row, put_owner, has_type, has_function, put_interface, put_item, put_item_kind, put_world}
-use Rattle.set_rows.specs.Reaches.{is_own_interface}
 use Rattle.package_sets.specs.Joining.{before_own, import_count, imports, own_interfaces, IsFirst, has_name_of, import_rows, all_places}
 use Rattle.package_sets.specs.Joined.{renaming_of, IsJoined}
 use Rattle.package_sets.specs.Joined.{JoinedPlaces}
@@ -31,28 +30,29 @@ use Rattle.package_sets.proofs.Lists.{all-more, map-get, front-get, behind-get, 
 use Rattle.package_sets.proofs.Kept.{list-filter}
 use Rattle.package_sets.proofs.Named.{definition-put, standard-put}
 use Rattle.package_sets.proofs.Renaming.{StandBehind, in_place, row-stays}
+use Rattle.package_form.specs.Reached.{is_interface_of}
 
 -- ---- the first own interface
 
 pub before-le : (own : ℕ) (is : List Interface) → before_own own is ≤ length is
 before-le own [] = omega arith
-before-le own (i ∷ is) = by (is_own_interface own i) refl (before-le own is)
+before-le own (i ∷ is) = by (is_interface_of own i) refl (before-le own is)
   where
-    by : (b : Bool) → is_own_interface own i ≡ b → before_own own is ≤ length is → before_own own (i ∷ is) ≤ length (i ∷ is)
+    by : (b : Bool) → is_interface_of own i ≡ b → before_own own is ≤ length is → before_own own (i ∷ is) ≤ length (i ∷ is)
     by true e l = rw e (omega arith)
     by false e l = rw e (omega (arith, l))
 
 -- an import is of another package
-pub import-other : (own : ℕ) (is : List Interface) (k : ℕ) (i : Interface) → k < before_own own is → slice_get is k ≡ Some i → is_own_interface own i ≡ false
+pub import-other : (own : ℕ) (is : List Interface) (k : ℕ) (i : Interface) → k < before_own own is → slice_get is k ≡ Some i → is_interface_of own i ≡ false
 import-other own [] k i h e = absurd (cc)
-import-other own (j ∷ is) k i h e = by (is_own_interface own j) refl (λ k. import-other own is k i) k h e
+import-other own (j ∷ is) k i h e = by (is_interface_of own j) refl (λ k. import-other own is k i) k h e
   where
-    by : (b : Bool) → is_own_interface own j ≡ b → ((k : ℕ) → k < before_own own is → slice_get is k ≡ Some i → is_own_interface own i ≡ false) → (k : ℕ) → k < before_own own (j ∷ is) → slice_get (j ∷ is) k ≡ Some i → is_own_interface own i ≡ false
+    by : (b : Bool) → is_interface_of own j ≡ b → ((k : ℕ) → k < before_own own is → slice_get is k ≡ Some i → is_interface_of own i ≡ false) → (k : ℕ) → k < before_own own (j ∷ is) → slice_get (j ∷ is) k ≡ Some i → is_interface_of own i ≡ false
     by true q rest k h e = absurd (none k (rw q at h))
       where
         none : (k : ℕ) → k < 0 → ⊥
         none k l = omega arith
-    by false q rest zero h e = let same : j ≡ i = cc in subst (λ (x : Interface). is_own_interface own x ≡ false) same q
+    by false q rest zero h e = let same : j ≡ i = cc in subst (λ (x : Interface). is_interface_of own x ≡ false) same q
     by false q rest (suc k) h e = rest k (omega (arith, rw q at h)) e
 
 -- behind an own interface all are own, where the own package is the last
@@ -75,12 +75,12 @@ later-own count first (j ∷ is) l g k i e = by (λ n h m. later-own count j.«p
 
 pub own-behind : (count first : ℕ) (is : List Interface) → are_grouped count first is ≡ true → (k : ℕ) (i : Interface) → slice_get is (before_own (count - 1) is + k) ≡ Some i → i.«package».0 ≡ count - 1
 own-behind count first [] g k i e = absurd (cc)
-own-behind count first (j ∷ is) g k i e = by (is_own_interface (count - 1) j) refl (λ h. own-behind count j.«package».0 is h k i) e
+own-behind count first (j ∷ is) g k i e = by (is_interface_of (count - 1) j) refl (λ h. own-behind count j.«package».0 is h k i) e
   where
     p : IsTrue (nat_le first j.«package».0 && nat_lt j.«package».0 count) × IsTrue (are_grouped count j.«package».0 is)
     p = split (nat_le first j.«package».0 && nat_lt j.«package».0 count) (are_grouped count j.«package».0 is) g
 
-    by : (b : Bool) → is_own_interface (count - 1) j ≡ b → (are_grouped count j.«package».0 is ≡ true → slice_get is (before_own (count - 1) is + k) ≡ Some i → i.«package».0 ≡ count - 1)
+    by : (b : Bool) → is_interface_of (count - 1) j ≡ b → (are_grouped count j.«package».0 is ≡ true → slice_get is (before_own (count - 1) is + k) ≡ Some i → i.«package».0 ≡ count - 1)
         → slice_get (j ∷ is) (before_own (count - 1) (j ∷ is) + k) ≡ Some i → i.«package».0 ≡ count - 1
     by true z rest e =
         let own : j.«package».0 ≡ count - 1 = eqb-true j.«package».0 (count - 1) z in

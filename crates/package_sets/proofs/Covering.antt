@@ -27,7 +27,7 @@ use Rattle.tables.specs.declared.tables.WorldItemKind.TheVariants as item
 use Rattle.tables.specs.declared.tables.Resolve.{Resolve}
 use Rattle.set_rows.specs.Owners.{owner_of, owners, names}
 use Rattle.set_rows.specs.Moved.{Renaming, put_id, put_name, put_owner, put_row, put_interface, put_item, put_item_kind, put_world}
-use Rattle.set_rows.specs.Reaches.{is_marked, own_marks, is_own_interface, is_own_world, item_owners, owners_in, owner_at, named_owners, OfPackage, Reaches, of_start, of_row}
+use Rattle.set_rows.specs.Reaches.{is_marked, own_marks, item_owners, owners_in, owner_at, named_owners, OfPackage, Reaches, of_start, of_row}
 use Rattle.package_sets.specs.SetForm.{IsInSetForm}
 use Rattle.package_sets.specs.Joining.{import_count, own_interfaces}
 use Rattle.package_sets.specs.Joined.{renaming_of, IsJoined}
@@ -44,6 +44,8 @@ use Rattle.package_sets.proofs.Named.{named-before, referred-named, row-referenc
 use Rattle.package_sets.proofs.Ordering.{front-interface, front-world, same-owner}
 use Rattle.package_sets.proofs.Owning.{cut, IsOwnedFrom, IsOfWorlds, rows-owned, worlds-owned, parted-worlds}
 use Rattle.package_sets.proofs.Referring.{IsReferred, referred}
+use Rattle.package_form.specs.Closed.{is_world_of}
+use Rattle.package_form.specs.Reached.{is_interface_of}
 
 -- ---- one row
 
@@ -235,7 +237,7 @@ module _ (s c : Resolve) (j : JoinedPlaces) (q : IsJoined s c j) (own : PackageP
       behind-set l (inr g) = g
       behind-set l (inl b) =
           let x = one-there r.interfaces i.0 l in
-          let is : x.0.«package».0 ≡ new = eqb-true x.0.«package».0 new (ap (is_own_interface new) (sym (get_or_from_slice_get r.interfaces i.0 x.0 x.0 x.1)) ∙ (sym (get_or-map (is_own_interface new) r.interfaces i.0 x.0 true l) ∙ h)) in
+          let is : x.0.«package».0 ≡ new = eqb-true x.0.«package».0 new (ap (is_interface_of new) (sym (get_or_from_slice_get r.interfaces i.0 x.0 x.0 x.1)) ∙ (sym (get_or-map (is_interface_of new) r.interfaces i.0 x.0 true l) ∙ h)) in
           absurd (omega (arith, is, interface-in s i.0 x.0 (sym (front-interface s c j q own r put i.0 b) ∙ x.1)))
   own-marked (Some (owner.World w)) h = λ l. behind-set l (cut w.0 (length s.worlds))
     where
@@ -243,7 +245,7 @@ module _ (s c : Resolve) (j : JoinedPlaces) (q : IsJoined s c j) (own : PackageP
       behind-set l (inr g) = g
       behind-set l (inl b) =
           let x = one-there r.worlds w.0 l in
-          let is : x.0.«package».0 ≡ new = eqb-true x.0.«package».0 new (ap (is_own_world new) (sym (get_or_from_slice_get r.worlds w.0 x.0 x.0 x.1)) ∙ (sym (get_or-map (is_own_world new) r.worlds w.0 x.0 true l) ∙ h)) in
+          let is : x.0.«package».0 ≡ new = eqb-true x.0.«package».0 new (ap (is_world_of new) (sym (get_or_from_slice_get r.worlds w.0 x.0 x.0 x.1)) ∙ (sym (get_or-map (is_world_of new) r.worlds w.0 x.0 true l) ∙ h)) in
           absurd (omega (arith, is, worlds-grouped-at (length s.packages) 0 s.worlds w.0 x.0 s.worlds_grouped (sym (front-world s c j q own r put w.0 b) ∙ x.1)))
 
   item-here : (o : Option Owner) (k : WorldItemKind) (n : ℕ) → is_placed_item c.definitions (length c.interfaces) n k ≡ true → Contains (item_owners (put_item_kind to k)) o → IsHere o

@@ -7,7 +7,7 @@ use Rattle.std.proofs.lemmas.Bool.Decides.{nat_tests}
 use Rattle.std.proofs.lemmas.List.{get_or-map, get_or_default, get_or-take, get_or_past, length-append, length-map, length-take}
 use Rattle.std.proofs.lemmas.Option.{slice_get_within, get_or_from_slice_get}
 use Rattle.canonical_abi.proofs.Images.{slice_get-drop}
-use Rattle.package_form.specs.Closed.{own_package, has_own}
+use Rattle.package_form.specs.Closed.{own_package, has_own, is_world_of}
 use Rattle.package_form.specs.Entries.{entries_of, world_entries}
 use Rattle.package_form.specs.Form.{IsInPackageForm}
 use Rattle.package_form.specs.Reached.{is_interface_of}
@@ -27,7 +27,7 @@ use Rattle.package_sets.specs.Joining.{import_count, own_interfaces}
 use Rattle.set_rows.specs.Moved.{Renaming, put_interface, put_world, put_row}
 use Rattle.set_rows.specs.Owners.{owners, names}
 use Rattle.set_rows.specs.Places.{kept}
-use Rattle.set_rows.specs.Reaches.{Marks, is_marked, own_marks, is_own_interface, is_own_world, owners_in, world_owners, owner_at, named_owners, OfPackage, Reaches, of_start, of_row, AreReached}
+use Rattle.set_rows.specs.Reaches.{Marks, is_marked, own_marks, owners_in, world_owners, owner_at, named_owners, OfPackage, Reaches, of_start, of_row, AreReached}
 use Rattle.package_sets.specs.Restricted.{number_or, package_of_owner}
 use Rattle.package_sets.specs.Set.{HasRowsInForm}
 use Rattle.package_sets.specs.SetForm.{IsInSetForm, IsEmpty}
@@ -93,20 +93,20 @@ module _ (s c : Resolve) (j : JoinedPlaces) (q : IsJoined s c j) (own : PackageP
 
   -- ---- no package is empty
 
-  entry-of : (id : ℕ) → (list_any (is_own_interface id) r.interfaces ≡ true) ⊎ (list_any (is_own_world id) r.worlds ≡ true) → has_entry r id ≡ true
-  entry-of id (inl h) = or-left (list_any (is_own_interface id) r.interfaces) (list_any (is_own_world id) r.worlds) h
-  entry-of id (inr h) = or-right (list_any (is_own_interface id) r.interfaces) (list_any (is_own_world id) r.worlds) h
+  entry-of : (id : ℕ) → (list_any (is_interface_of id) r.interfaces ≡ true) ⊎ (list_any (is_world_of id) r.worlds ≡ true) → has_entry r id ≡ true
+  entry-of id (inl h) = or-left (list_any (is_interface_of id) r.interfaces) (list_any (is_world_of id) r.worlds) h
+  entry-of id (inr h) = or-right (list_any (is_interface_of id) r.interfaces) (list_any (is_world_of id) r.worlds) h
 
   earlier-entry : (id : ℕ) → id < new → has_entry r id ≡ true
-  earlier-entry id l = entry-of id (by (or-either (list_any (is_own_interface id) s.interfaces) (list_any (is_own_world id) s.worlds) (tower.entered id l)))
+  earlier-entry id l = entry-of id (by (or-either (list_any (is_interface_of id) s.interfaces) (list_any (is_world_of id) s.worlds) (tower.entered id l)))
     where
-      by : (list_any (is_own_interface id) s.interfaces ≡ true) ⊎ (list_any (is_own_world id) s.worlds ≡ true) → (list_any (is_own_interface id) r.interfaces ≡ true) ⊎ (list_any (is_own_world id) r.worlds ≡ true)
+      by : (list_any (is_interface_of id) s.interfaces ≡ true) ⊎ (list_any (is_world_of id) s.worlds ≡ true) → (list_any (is_interface_of id) r.interfaces ≡ true) ⊎ (list_any (is_world_of id) r.worlds ≡ true)
       by (inl h) =
-          let a = any-at (is_own_interface id) s.interfaces h in
-          inl (at-any (is_own_interface id) r.interfaces a.0 a.1 (ap (λ (is : List Interface). slice_get is a.0) put.interfaces ∙ front-get s.interfaces own-put a.0 a.1 a.2) a.3)
+          let a = any-at (is_interface_of id) s.interfaces h in
+          inl (at-any (is_interface_of id) r.interfaces a.0 a.1 (ap (λ (is : List Interface). slice_get is a.0) put.interfaces ∙ front-get s.interfaces own-put a.0 a.1 a.2) a.3)
       by (inr h) =
-          let a = any-at (is_own_world id) s.worlds h in
-          inr (at-any (is_own_world id) r.worlds a.0 a.1 (ap (λ (ws : List World). slice_get ws a.0) put.worlds ∙ front-get s.worlds worlds-put a.0 a.1 a.2) a.3)
+          let a = any-at (is_world_of id) s.worlds h in
+          inr (at-any (is_world_of id) r.worlds a.0 a.1 (ap (λ (ws : List World). slice_get ws a.0) put.worlds ∙ front-get s.worlds worlds-put a.0 a.1 a.2) a.3)
 
   new-entry : has_entry r new ≡ true
   new-entry = entry-of new (by (or-either (not (length c.worlds == 0)) (list_any (is_interface_of (own_package c.packages)) c.interfaces) (split (has_own (own_package c.packages) c.interfaces c.worlds) _ closed.closed).0))
@@ -118,15 +118,15 @@ module _ (s c : Resolve) (j : JoinedPlaces) (q : IsJoined s c j) (own : PackageP
       behind-imports k i e h (inr g) = g
       behind-imports k i e h (inl l) = absurd (true≢false (sym h ∙ import-other (own_package c.packages) c.interfaces k i l e))
 
-      by : (not (length c.worlds == 0) ≡ true) ⊎ (list_any (is_interface_of (own_package c.packages)) c.interfaces ≡ true) → (list_any (is_own_interface new) r.interfaces ≡ true) ⊎ (list_any (is_own_world new) r.worlds ≡ true)
+      by : (not (length c.worlds == 0) ≡ true) ⊎ (list_any (is_interface_of (own_package c.packages)) c.interfaces ≡ true) → (list_any (is_interface_of new) r.interfaces ≡ true) ⊎ (list_any (is_world_of new) r.worlds ≡ true)
       by (inl h) =
           let w = one-there c.worlds 0 (some (length c.worlds) h) in
-          inr (at-any (is_own_world new) r.worlds (length s.worlds + 0) (put_world to w.0) (world-at 0 w.0 w.1) (eq-eqb j.«package» new q.are_joined.package_is))
+          inr (at-any (is_world_of new) r.worlds (length s.worlds + 0) (put_world to w.0) (world-at 0 w.0 w.1) (eq-eqb j.«package» new q.are_joined.package_is))
       by (inr h) =
           let a = any-at (is_interface_of (own_package c.packages)) c.interfaces h in
           let k = a.0 - import_count c in
           let own-at : slice_get (own_interfaces c) k ≡ Some a.1 = slice_get-drop (import_count c) c.interfaces k ∙ (ap (slice_get c.interfaces) (behind-imports a.0 a.1 a.2 a.3 (before s c j q a.0 (import_count c))) ∙ a.2) in
-          inl (at-any (is_own_interface new) r.interfaces (length s.interfaces + k) (put_interface to a.1) (interface-at k a.1 own-at) (eq-eqb j.«package» new q.are_joined.package_is))
+          inl (at-any (is_interface_of new) r.interfaces (length s.interfaces + k) (put_interface to a.1) (interface-at k a.1 own-at) (eq-eqb j.«package» new q.are_joined.package_is))
 
   -- ---- what the new package reaches is of its closed table
 
@@ -145,10 +145,10 @@ module _ (s c : Resolve) (j : JoinedPlaces) (q : IsJoined s c j) (own : PackageP
       interfaces-few =
           omega (arith, length-weighs (kept m.interfaces r.interfaces), length-weighs c.interfaces, covered-weighs (λ (x : Interface). 1) (λ (x : Interface). 1) to.interfaces m.interfaces r.interfaces c.interfaces (λ t y x e f. omega arith) one-interface)
 
-      one-world : (k : ℕ) (x : World) → get_or (map (is_own_world new) r.worlds) k false ≡ true → slice_get r.worlds k ≡ Some x → (t : ℕ) × (t < length c.worlds) × (to.worlds t ≡ k)
+      one-world : (k : ℕ) (x : World) → get_or (map (is_world_of new) r.worlds) k false ≡ true → slice_get r.worlds k ≡ Some x → (t : ℕ) × (t < length c.worlds) × (to.worlds t ≡ k)
       one-world k x e at =
           let l = slice_get_within r.worlds k x at in
-          let marked : is_marked (own_marks r new) (Some (owner.World (record { 0 = k }))) ≡ true = get_or_default (map (is_own_world new) r.worlds) k true false (omega (arith, l, length-map r.worlds (is_own_world new))) ∙ e in
+          let marked : is_marked (own_marks r new) (Some (owner.World (record { 0 = k }))) ≡ true = get_or_default (map (is_world_of new) r.worlds) k true false (omega (arith, l, length-map r.worlds (is_world_of new))) ∙ e in
           let behind = covering.own-marked s c j q own r put tower.form closed there (Some (owner.World (record { 0 = k }))) marked l in
           let within : k - length s.worlds < length c.worlds = omega (arith, l, behind, covering.count-worlds s c j q own r put tower.form closed there) in
           (k - length s.worlds, within, worlds-behind s c j q (k - length s.worlds) within ∙ omega (arith, behind))
@@ -160,8 +160,8 @@ module _ (s c : Resolve) (j : JoinedPlaces) (q : IsJoined s c j) (own : PackageP
           let same : put_world to y ≡ x = cc in
           omega (arith, ap world_entries same, world-put to y)
 
-      worlds-few : sum (map world_entries (kept (map (is_own_world new) r.worlds) r.worlds)) ≤ sum (map world_entries c.worlds)
-      worlds-few = covered-weighs world_entries world_entries to.worlds (map (is_own_world new) r.worlds) r.worlds c.worlds world-weighs one-world
+      worlds-few : sum (map world_entries (kept (map (is_world_of new) r.worlds) r.worlds)) ≤ sum (map world_entries c.worlds)
+      worlds-few = covered-weighs world_entries world_entries to.worlds (map (is_world_of new) r.worlds) r.worlds c.worlds world-weighs one-world
 
       one-row : (k : ℕ) (x : Definition) → get_or (map (is_marked m) (owners r.definitions)) k false ≡ true → slice_get r.definitions k ≡ Some x → (t : ℕ) × (t < length c.definitions) × (to.rows t ≡ k)
       one-row k x e at =
@@ -211,7 +211,7 @@ module _ (s c : Resolve) (j : JoinedPlaces) (q : IsJoined s c j) (own : PackageP
     from-world : (t : Resolve) (w : World) (o : Option Owner) → Contains t.worlds w → w.«package».0 ≡ id → Contains (flat_map owners_in w.items) o → Contains (flat_map (world_owners id) t.worlds) o
     from-world t w o cw is co = contains-flat (world_owners id) t.worlds w o cw (own-items (eq-eqb w.«package».0 id is))
       where
-        own-items : is_own_world id w ≡ true → Contains (world_owners id w) o
+        own-items : is_world_of id w ≡ true → Contains (world_owners id w) o
         own-items z = rw z co
 
     -- a row that is reached is the set's
@@ -232,8 +232,8 @@ module _ (s c : Resolve) (j : JoinedPlaces) (q : IsJoined s c j) (own : PackageP
 
     start-back : (o : Option Owner) → is_marked (own_marks r id) o ≡ true → is_marked (own_marks s id) o ≡ true
     start-back None h = refl
-    start-back (Some (owner.Interface i)) h = front-marked (is_own_interface id) s.interfaces own-put i.0 (subst (λ (is : List Interface). get_or (map (is_own_interface id) is) i.0 true ≡ true) put.interfaces h)
-    start-back (Some (owner.World w)) h = front-marked (is_own_world id) s.worlds worlds-put w.0 (subst (λ (ws : List World). get_or (map (is_own_world id) ws) w.0 true ≡ true) put.worlds h)
+    start-back (Some (owner.Interface i)) h = front-marked (is_interface_of id) s.interfaces own-put i.0 (subst (λ (is : List Interface). get_or (map (is_interface_of id) is) i.0 true ≡ true) put.interfaces h)
+    start-back (Some (owner.World w)) h = front-marked (is_world_of id) s.worlds worlds-put w.0 (subst (λ (ws : List World). get_or (map (is_world_of id) ws) w.0 true ≡ true) put.worlds h)
 
     back : (o : Option Owner) → Reaches r (OfPackage id) o → Reaches s (OfPackage id) o
     back o (of_start _ e) = elim e [
@@ -250,8 +250,8 @@ module _ (s c : Resolve) (j : JoinedPlaces) (q : IsJoined s c j) (own : PackageP
 
     start-there : (o : Option Owner) → IsOf s o → is_marked (own_marks s id) o ≡ true → is_marked (own_marks r id) o ≡ true
     start-there None l h = refl
-    start-there (Some (owner.Interface i)) l h = subst (λ (is : List Interface). get_or (map (is_own_interface id) is) i.0 true ≡ true) (sym put.interfaces) (marked-front (is_own_interface id) s.interfaces own-put i.0 l h)
-    start-there (Some (owner.World w)) l h = subst (λ (ws : List World). get_or (map (is_own_world id) ws) w.0 true ≡ true) (sym put.worlds) (marked-front (is_own_world id) s.worlds worlds-put w.0 l h)
+    start-there (Some (owner.Interface i)) l h = subst (λ (is : List Interface). get_or (map (is_interface_of id) is) i.0 true ≡ true) (sym put.interfaces) (marked-front (is_interface_of id) s.interfaces own-put i.0 l h)
+    start-there (Some (owner.World w)) l h = subst (λ (ws : List World). get_or (map (is_world_of id) ws) w.0 true ≡ true) (sym put.worlds) (marked-front (is_world_of id) s.worlds worlds-put w.0 l h)
 
     pub reached-there : (o : Option Owner) → IsOf s o → Reaches s (OfPackage id) o → Reaches r (OfPackage id) o
     reached-there o l (of_start _ e) = elim e [
@@ -277,11 +277,11 @@ module _ (s c : Resolve) (j : JoinedPlaces) (q : IsJoined s c j) (own : PackageP
       sound None e = of_start None (inl refl)
       sound (Some (owner.Interface i)) e = elim (cut i.0 (length s.interfaces)) [
         | inl l ↦ back (Some (owner.Interface i)) (h.sound (Some (owner.Interface i)) (sym (get_or-take (length s.interfaces) m.interfaces i.0 true l) ∙ e))
-        | inr g ↦ of_start (Some (owner.Interface i)) (inl (past-map (is_own_interface id) s.interfaces i.0 g))
+        | inr g ↦ of_start (Some (owner.Interface i)) (inl (past-map (is_interface_of id) s.interfaces i.0 g))
       ]
       sound (Some (owner.World w)) e = elim (cut w.0 (length s.worlds)) [
         | inl l ↦ back (Some (owner.World w)) (h.sound (Some (owner.World w)) (sym (get_or-take (length s.worlds) m.worlds w.0 true l) ∙ e))
-        | inr g ↦ of_start (Some (owner.World w)) (inl (past-map (is_own_world id) s.worlds w.0 g))
+        | inr g ↦ of_start (Some (owner.World w)) (inl (past-map (is_world_of id) s.worlds w.0 g))
       ]
 
       complete : (o : Option Owner) → Reaches s (OfPackage id) o → is_marked set-marks o ≡ true
@@ -314,16 +314,16 @@ module _ (s c : Resolve) (j : JoinedPlaces) (q : IsJoined s c j) (own : PackageP
               let marked : is_marked m o ≡ true = get_or_default m.interfaces k true false (omega (arith, within, count, h.count)) ∙ e in
               absurd (omega (arith, earlier, reached-before r id there.earlier o (h.sound o marked), ordering.own-interface s c j q own r put k g within))
 
-      pub one-world : (k : ℕ) (x : World) → get_or (map (is_own_world id) r.worlds) k false ≡ true → slice_get (s.worlds ++ worlds-put) k ≡ Some x → (k < length s.worlds) × (get_or (map (is_own_world id) s.worlds) k false ≡ true)
+      pub one-world : (k : ℕ) (x : World) → get_or (map (is_world_of id) r.worlds) k false ≡ true → slice_get (s.worlds ++ worlds-put) k ≡ Some x → (k < length s.worlds) × (get_or (map (is_world_of id) s.worlds) k false ≡ true)
       one-world k x e at =
           let there-at : slice_get r.worlds k ≡ Some x = ap (λ (ws : List World). slice_get ws k) put.worlds ∙ at in
-          let is : is_own_world id x ≡ true = ap (is_own_world id) (sym (get_or_from_slice_get r.worlds k x x there-at)) ∙ (sym (get_or-map (is_own_world id) r.worlds k x false (slice_get_within r.worlds k x there-at)) ∙ e) in
+          let is : is_world_of id x ≡ true = ap (is_world_of id) (sym (get_or_from_slice_get r.worlds k x x there-at)) ∙ (sym (get_or-map (is_world_of id) r.worlds k x false (slice_get_within r.worlds k x there-at)) ∙ e) in
           by there-at is (cut k (length s.worlds))
         where
-          by : slice_get r.worlds k ≡ Some x → is_own_world id x ≡ true → (k < length s.worlds) ⊎ (length s.worlds ≤ k) → (k < length s.worlds) × (get_or (map (is_own_world id) s.worlds) k false ≡ true)
+          by : slice_get r.worlds k ≡ Some x → is_world_of id x ≡ true → (k < length s.worlds) ⊎ (length s.worlds ≤ k) → (k < length s.worlds) × (get_or (map (is_world_of id) s.worlds) k false ≡ true)
           by there-at is (inl l) =
               let here : slice_get s.worlds k ≡ Some x = sym (get-front s.worlds worlds-put k l) ∙ at in
-              (l, get_or-map (is_own_world id) s.worlds k x false l ∙ (ap (is_own_world id) (get_or_from_slice_get s.worlds k x x here) ∙ is))
+              (l, get_or-map (is_world_of id) s.worlds k x false l ∙ (ap (is_world_of id) (get_or_from_slice_get s.worlds k x x here) ∙ is))
           by there-at is (inr g) =
               let within = slice_get_within (s.worlds ++ worlds-put) k x at in
               let of-new = ordering.own-world s c j q own r put k g (omega (arith, within, length-append s.worlds worlds-put)) in
@@ -348,10 +348,10 @@ module _ (s c : Resolve) (j : JoinedPlaces) (q : IsJoined s c j) (own : PackageP
           let fewer = front-weighs (λ (x : Interface). 1) m.interfaces set-marks.interfaces s.interfaces own-put one-interface in
           omega (arith, length-weighs (kept m.interfaces (s.interfaces ++ own-put)), length-weighs (kept set-marks.interfaces s.interfaces), fewer, ap (λ (is : List Interface). length (kept m.interfaces is)) put.interfaces)
 
-      worlds-few : sum (map world_entries (kept (map (is_own_world id) r.worlds) r.worlds)) ≤ sum (map world_entries (kept (map (is_own_world id) s.worlds) s.worlds))
+      worlds-few : sum (map world_entries (kept (map (is_world_of id) r.worlds) r.worlds)) ≤ sum (map world_entries (kept (map (is_world_of id) s.worlds) s.worlds))
       worlds-few =
-          let fewer = front-weighs world_entries (map (is_own_world id) r.worlds) (map (is_own_world id) s.worlds) s.worlds worlds-put one-world in
-          omega (arith, fewer, ap (λ (ws : List World). sum (map world_entries (kept (map (is_own_world id) r.worlds) ws))) put.worlds)
+          let fewer = front-weighs world_entries (map (is_world_of id) r.worlds) (map (is_world_of id) s.worlds) s.worlds worlds-put one-world in
+          omega (arith, fewer, ap (λ (ws : List World). sum (map world_entries (kept (map (is_world_of id) r.worlds) ws))) put.worlds)
 
       rows-few : sum (map entries_of (kept (map (is_marked m) (owners r.definitions)) r.definitions)) ≤ sum (map entries_of (kept (map (is_marked set-marks) (owners s.definitions)) s.definitions))
       rows-few =

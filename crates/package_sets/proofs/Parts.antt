@@ -15,7 +15,7 @@ use Rattle.tables.specs.declared.tables.WorldItemKind.{WorldItemKind}
 use Rattle.tables.specs.declared.tables.WorldItemKind.TheVariants as item
 use Rattle.tables.specs.declared.tables.Resolve.{Resolve}
 use Rattle.set_rows.specs.Owners.{owners}
-use Rattle.set_rows.specs.Reaches.{Marks, is_marked, own_marks, is_own_world, item_owners, owners_in, world_owners, named_owners, padded, Start, IsStart, OfPackage, OfInterfaces, Reaches, of_start, of_row, AreReached}
+use Rattle.set_rows.specs.Reaches.{Marks, is_marked, own_marks, item_owners, owners_in, world_owners, named_owners, padded, Start, IsStart, OfPackage, OfInterfaces, Reaches, of_start, of_row, AreReached}
 use Rattle.package_sets.specs.Restricted.{IsReachedIn, IsNeeded}
 use Rattle.package_sets.specs.Imports.{IsImported}
 use Rattle.package_sets.specs.Part.{of_world, IsPart}
@@ -26,6 +26,7 @@ use Rattle.package_sets.proofs.Lasting.{item-of}
 use Rattle.package_sets.proofs.Lists.{contains-unflat, get-contains}
 use Rattle.set_rows.proofs.Marking.{length-padded}
 use Rattle.set_rows.proofs.Padding.{padded-none}
+use Rattle.package_form.specs.Closed.{is_world_of}
 
 -- ---- of either
 
@@ -55,14 +56,14 @@ no-item (item.Interface i) w (suc k, l, e) = omega arith
 -- ---- of a package
 
 module _ (s : Resolve) (own : ℕ) (to : Moved) (n : IsNeeded s own to) where
-  pub world-own : (k : ℕ) (w : World) → get_or to.worlds k false ≡ true → slice_get s.worlds k ≡ Some w → is_own_world own w ≡ true
+  pub world-own : (k : ℕ) (w : World) → get_or to.worlds k false ≡ true → slice_get s.worlds k ≡ Some w → is_world_of own w ≡ true
   world-own k w h e =
-      sym (get_or-map (is_own_world own) s.worlds k w false (slice_get_within s.worlds k w e) ∙ ap (is_own_world own) (get_or_from_slice_get s.worlds k w w e))
+      sym (get_or-map (is_world_of own) s.worlds k w false (slice_get_within s.worlds k w e) ∙ ap (is_world_of own) (get_or_from_slice_get s.worlds k w w e))
       ∙ (ap (λ (bs : List Bool). get_or bs k false) (sym n.worlds_are) ∙ h)
 
   -- a world is kept just where it is the package's
   pub mark-same : (k : ℕ) → k < length s.worlds → get_or to.worlds k false ≡ is_marked (own_marks s own) (of_world k)
-  mark-same k l = ap (λ (bs : List Bool). get_or bs k false) n.worlds_are ∙ get_or_default (map (is_own_world own) s.worlds) k false true (omega (arith, l, length-map s.worlds (is_own_world own)))
+  mark-same k l = ap (λ (bs : List Bool). get_or bs k false) n.worlds_are ∙ get_or_default (map (is_world_of own) s.worlds) k false true (omega (arith, l, length-map s.worlds (is_world_of own)))
 
   pub worlds-kept : AreWorldsApart s → (k : ℕ) → k < length s.worlds → is_marked n.marks (of_world k) ≡ true → get_or to.worlds k false ≡ true
   worlds-kept h k l m = by (world-start s (OfPackage own) h (of_world k) (n.are_reached.sound (of_world k) m) (record { 0 = k }) refl)
@@ -77,7 +78,7 @@ module _ (s : Resolve) (own : ℕ) (to : Moved) (n : IsNeeded s own to) where
   pub items-marked : (k : ℕ) (w : World) (o : Option Owner) → get_or to.worlds k false ≡ true → slice_get s.worlds k ≡ Some w → Contains (flat_map owners_in w.items) o → is_marked n.marks o ≡ true
   items-marked k w o h e c = n.are_reached.complete o (of_start o (inr (contains-flat (world_owners own) s.worlds w o (get-contains s.worlds k w e) (own-items (world-own k w h e)))))
     where
-      own-items : is_own_world own w ≡ true → Contains (world_owners own w) o
+      own-items : is_world_of own w ≡ true → Contains (world_owners own w) o
       own-items z = rw z c
 
   pub world-needed : (k : ℕ) (w : World) → get_or to.worlds k false ≡ true → slice_get s.worlds k ≡ Some w → get_or to.packages w.«package».0 false ≡ true
@@ -89,7 +90,7 @@ module _ (s : Resolve) (own : ℕ) (to : Moved) (n : IsNeeded s own to) where
   package-part = record {
     marks = n.marks;
     count = n.are_reached.count;
-    count_worlds = ap length n.worlds_are ∙ length-map s.worlds (is_own_world own);
+    count_worlds = ap length n.worlds_are ∙ length-map s.worlds (is_world_of own);
     count_packages = n.packages_are.count;
     interfaces_are = n.interfaces_are;
     rows_are = n.rows_are;

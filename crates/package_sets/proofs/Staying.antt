@@ -19,7 +19,7 @@ use Rattle.set_rows.specs.Moved.{Renaming, put_interface, put_world, put_row}
 use Rattle.set_rows.specs.Owners.{owners}
 use Rattle.package_sets.specs.Part.{IsTableOf}
 use Rattle.set_rows.specs.Places.{kept, place}
-use Rattle.set_rows.specs.Reaches.{Marks, is_marked, is_own_world, OfPackage, AreReached}
+use Rattle.set_rows.specs.Reaches.{Marks, is_marked, OfPackage, AreReached}
 use Rattle.set_rows.specs.Renamed.{renaming}
 use Rattle.package_sets.specs.Restricted.{IsReachedIn, AreNeeded, IsNeeded}
 use Rattle.package_sets.specs.SetForm.{IsInSetForm}
@@ -33,6 +33,7 @@ use Rattle.package_sets.proofs.One.{marked-same}
 use Rattle.package_sets.proofs.Ordering as ordering
 use Rattle.set_rows.proofs.Owned.{length-owners}
 use Rattle.package_sets.proofs.Kept.{interface-in}
+use Rattle.package_form.specs.Closed.{is_world_of}
 
 -- ---- marks that agree
 
@@ -176,27 +177,27 @@ module _ (s c : Resolve) (j : JoinedPlaces) (q : IsJoined s c j) (own : PackageP
   -- ---- worlds
 
   abbrev worlds-now : List Bool
-  worlds-now = map (is_own_world id) r.worlds
+  worlds-now = map (is_world_of id) r.worlds
 
   abbrev worlds-then : List Bool
-  worlds-then = map (is_own_world id) s.worlds
+  worlds-then = map (is_world_of id) s.worlds
 
   marked-worlds : AreSameMarks worlds-now worlds-then
   marked-worlds = same-marks worlds-now worlds-then forth back
     where
       forth : (k : ℕ) → get_or worlds-now k false ≡ true → get_or worlds-then k false ≡ true
       forth k h =
-          let l : k < length r.worlds = omega (arith, mark-within worlds-now k h, length-map r.worlds (is_own_world id)) in
+          let l : k < length r.worlds = omega (arith, mark-within worlds-now k h, length-map r.worlds (is_world_of id)) in
           let x = one-more-there s.worlds (map (put_world to) c.worlds) r.worlds put.worlds k l in
           (in-tower.one-world s c j q own r put tower closed there id earlier m a k x.0 h x.1).1
 
       back : (k : ℕ) → get_or worlds-then k false ≡ true → get_or worlds-now k false ≡ true
       back k h =
-          let l : k < length s.worlds = omega (arith, mark-within worlds-then k h, length-map s.worlds (is_own_world id)) in
+          let l : k < length s.worlds = omega (arith, mark-within worlds-then k h, length-map s.worlds (is_world_of id)) in
           let x = one-there s.worlds k l in
           let at : slice_get r.worlds k ≡ Some x.0 = ordering.front-world s c j q own r put k l ∙ x.1 in
-          get_or-map (is_own_world id) r.worlds k x.0 false (slice_get_within r.worlds k x.0 at)
-          ∙ (ap (is_own_world id) (get_or_from k r.worlds at) ∙ (ap (is_own_world id) (sym (get_or_from k s.worlds x.1)) ∙ (sym (get_or-map (is_own_world id) s.worlds k x.0 false l) ∙ h)))
+          get_or-map (is_world_of id) r.worlds k x.0 false (slice_get_within r.worlds k x.0 at)
+          ∙ (ap (is_world_of id) (get_or_from k r.worlds at) ∙ (ap (is_world_of id) (sym (get_or_from k s.worlds x.1)) ∙ (sym (get_or-map (is_world_of id) s.worlds k x.0 false l) ∙ h)))
         where
           get_or_from : {x : World} (k : ℕ) (ws : List World) → slice_get ws k ≡ Some x → get_or ws k x ≡ x
           get_or_from {x} k ws g = get_or_from_slice_get ws k x x g
@@ -259,7 +260,7 @@ module _ (s c : Resolve) (j : JoinedPlaces) (q : IsJoined s c j) (own : PackageP
         ∙ (ap (map (put_interface (renaming then))) (ap (kept now.interfaces) put.interfaces ∙ keeps-front now.interfaces then.interfaces s.interfaces _ interfaces-same (ap length y.interfaces_are ∙ d.count)) ∙ sym g.interfaces));
     worlds = f.worlds
         ∙ (ap (λ (p : Renaming). map (put_world p) (kept now.worlds r.worlds)) renamed
-        ∙ (ap (map (put_world (renaming then))) (ap (kept now.worlds) put.worlds ∙ keeps-front now.worlds then.worlds s.worlds _ worlds-same (ap length y.worlds_are ∙ length-map s.worlds (is_own_world id))) ∙ sym g.worlds));
+        ∙ (ap (map (put_world (renaming then))) (ap (kept now.worlds) put.worlds ∙ keeps-front now.worlds then.worlds s.worlds _ worlds-same (ap length y.worlds_are ∙ length-map s.worlds (is_world_of id))) ∙ sym g.worlds));
     definitions = f.definitions
         ∙ (ap (λ (p : Renaming). map (put_row p) (kept now.rows r.definitions)) renamed
         ∙ (ap (map (put_row (renaming then))) (ap (kept now.rows) put.definitions ∙ keeps-front now.rows then.rows s.definitions rows-put rows-same (ap length y.rows_are ∙ (length-map (owners s.definitions) (is_marked n) ∙ length-owners s.definitions))) ∙ sym g.definitions));

@@ -27,7 +27,7 @@ use Rattle.set_rows.specs.Moved.{put_interface, put_item, put_world}
 use Rattle.set_rows.specs.Owners.{owners}
 use Rattle.package_sets.specs.Part.{IsTableOf}
 use Rattle.set_rows.specs.Places.{kept, place}
-use Rattle.set_rows.specs.Reaches.{is_marked, own_marks, is_own_interface, is_own_world, item_owners, owners_in, OfPackage, IsStart, of_start}
+use Rattle.set_rows.specs.Reaches.{is_marked, own_marks, item_owners, owners_in, OfPackage, IsStart, of_start}
 use Rattle.set_rows.specs.Renamed.{renaming}
 use Rattle.package_sets.specs.Restricted.{IsNeeded}
 use Rattle.package_sets.specs.Set.{HasRowsInForm}
@@ -142,24 +142,24 @@ module _ (s : Resolve) (own : ℕ) (to : Moved) (n : IsNeeded s own to) (tower :
   own-kept k i e q =
       let l = slice_get_within s.interfaces k i e in
       let is : is_marked (own_marks s own) (Some (owner.Interface (record { 0 = k }))) ≡ true =
-      get_or-map (is_own_interface own) s.interfaces k i true l ∙ (ap (is_own_interface own) (get_or_from_slice_get s.interfaces k i i e) ∙ eq-eqb i.«package».0 own q) in
+      get_or-map (is_interface_of own) s.interfaces k i true l ∙ (ap (is_interface_of own) (get_or_from_slice_get s.interfaces k i i e) ∙ eq-eqb i.«package».0 own q) in
       interface-there s to (package-part s own to n) k l (n.are_reached.complete (Some (owner.Interface (record { 0 = k }))) (of_start (Some (owner.Interface (record { 0 = k }))) (inl is)))
 
   world-kept : (k : ℕ) (w : World) → slice_get s.worlds k ≡ Some w → w.«package».0 ≡ own → get_or to.worlds k false ≡ true
   world-kept k w e q =
       ap (λ (bs : List Bool). get_or bs k false) n.worlds_are
-      ∙ (get_or-map (is_own_world own) s.worlds k w false (slice_get_within s.worlds k w e) ∙ (ap (is_own_world own) (get_or_from_slice_get s.worlds k w w e) ∙ eq-eqb w.«package».0 own q))
+      ∙ (get_or-map (is_world_of own) s.worlds k w false (slice_get_within s.worlds k w e) ∙ (ap (is_world_of own) (get_or_from_slice_get s.worlds k w w e) ∙ eq-eqb w.«package».0 own q))
 
   has-entry : has_own (own_package r.packages) r.interfaces r.worlds ≡ true
-  has-entry = elim (or-either (list_any (is_own_interface own) s.interfaces) (list_any (is_own_world own) s.worlds) (tower.entered own within)) [ inl h ↦ by-interface (any-at (is_own_interface own) s.interfaces h) | inr h ↦ by-world (any-at (is_own_world own) s.worlds h) ]
+  has-entry = elim (or-either (list_any (is_interface_of own) s.interfaces) (list_any (is_world_of own) s.worlds) (tower.entered own within)) [ inl h ↦ by-interface (any-at (is_interface_of own) s.interfaces h) | inr h ↦ by-world (any-at (is_world_of own) s.worlds h) ]
     where
-      by-interface : (k : ℕ) × (i : Interface) × (slice_get s.interfaces k ≡ Some i) × (is_own_interface own i ≡ true) → has_own (own_package r.packages) r.interfaces r.worlds ≡ true
+      by-interface : (k : ℕ) × (i : Interface) × (slice_get s.interfaces k ≡ Some i) × (is_interface_of own i ≡ true) → has_own (own_package r.packages) r.interfaces r.worlds ≡ true
       by-interface (k, i, e, h) =
           let same : i.«package».0 ≡ own = eqb-true i.«package».0 own h in
           or-right (not (length r.worlds == 0)) (list_any (is_interface_of (own_package r.packages)) r.interfaces)
           (at-any (is_interface_of (own_package r.packages)) r.interfaces (place to.interfaces k) (put_interface (renaming to) i) (interface-at k i (own-kept k i e same) e) (eq-eqb (place to.packages i.«package».0) (own_package r.packages) (ap (place to.packages) same ∙ last)))
 
-      by-world : (k : ℕ) × (w : World) × (slice_get s.worlds k ≡ Some w) × (is_own_world own w ≡ true) → has_own (own_package r.packages) r.interfaces r.worlds ≡ true
+      by-world : (k : ℕ) × (w : World) × (slice_get s.worlds k ≡ Some w) × (is_world_of own w ≡ true) → has_own (own_package r.packages) r.interfaces r.worlds ≡ true
       by-world (k, w, e, h) =
           let same : w.«package».0 ≡ own = eqb-true w.«package».0 own h in
           let there = slice_get_within r.worlds (place to.worlds k) (put_world (renaming to) w) (world-at k w (world-kept k w e same) e) in
@@ -202,7 +202,7 @@ module _ (s : Resolve) (own : ℕ) (to : Moved) (n : IsNeeded s own to) (tower :
           there (x ∷ xs) (suc k) b = there xs k (omega (arith, b))
 
       given : (i : Interface) × (slice_get s.interfaces j ≡ Some i) → IsGiven j
-      given (i, e) = (i, e, eqb-true i.«package».0 own (sym (get_or-map (is_own_interface own) s.interfaces j i true l ∙ ap (is_own_interface own) (get_or_from_slice_get s.interfaces j i i e)) ∙ h))
+      given (i, e) = (i, e, eqb-true i.«package».0 own (sym (get_or-map (is_interface_of own) s.interfaces j i true l ∙ ap (is_interface_of own) (get_or_from_slice_get s.interfaces j i i e)) ∙ h))
   starts j l (inr c) = inl (by (item-of own s.worlds (Some (owner.Interface (record { 0 = j }))) c))
     where
       -- an item of a world that is kept is one there
@@ -257,9 +257,9 @@ module _ (s : Resolve) (own : ℕ) (to : Moved) (n : IsNeeded s own to) (tower :
 
   few-there : type_entries (table_of r) ≤ 65535
   few-there =
-      let marked : kept_entries s to.interfaces to.worlds to.rows ≡ kept_entries s n.marks.interfaces (map (is_own_world own) s.worlds) (map (is_marked n.marks) (owners s.definitions)) =
+      let marked : kept_entries s to.interfaces to.worlds to.rows ≡ kept_entries s n.marks.interfaces (map (is_world_of own) s.worlds) (map (is_marked n.marks) (owners s.definitions)) =
       ap (λ (bs : List Bool). kept_entries s bs to.worlds to.rows) n.interfaces_are
-      ∙ (ap (λ (bs : List Bool). kept_entries s n.marks.interfaces bs to.rows) n.worlds_are ∙ ap (kept_entries s n.marks.interfaces (map (is_own_world own) s.worlds)) n.rows_are) in
+      ∙ (ap (λ (bs : List Bool). kept_entries s n.marks.interfaces bs to.rows) n.worlds_are ∙ ap (kept_entries s n.marks.interfaces (map (is_world_of own) s.worlds)) n.rows_are) in
       subst (λ (m : ℕ). m ≤ 65535) (sym (entries-kept s to r t ∙ marked)) (tower.few own within n.marks n.are_reached)
 
   pub table-form : IsInPackageForm r

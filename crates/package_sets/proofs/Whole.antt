@@ -12,15 +12,16 @@ use Rattle.tables.specs.declared.tables.Interface.{Interface}
 use Rattle.tables.specs.declared.tables.World.{World}
 use Rattle.tables.specs.declared.tables.Resolve.{Resolve}
 use Rattle.tables.proofs.Earlier.{grouped-at}
-use Rattle.package_form.specs.Closed.{IsAlone, own_package}
+use Rattle.package_form.specs.Closed.{IsAlone, own_package, is_world_of}
 use Rattle.package_form.specs.Form.{IsInPackageForm}
 use Rattle.package_form.specs.Naming.{package_scopes}
 use Rattle.package_form.specs.Scope.{AreDistinct}
 use Rattle.set_rows.specs.Moved.{put_interface, put_world, put_row}
 use Rattle.set_rows.specs.Owners.{owner_of, owners}
+use Rattle.set_rows.proofs.Owned.{length-owners}
 use Rattle.set_rows.specs.Places.{kept, place}
 use Rattle.set_rows.specs.Renamed.{renaming}
-use Rattle.set_rows.specs.Reaches.{Marks, is_marked, is_own_interface, is_own_world, own_marks, OfPackage, of_start, AreReached}
+use Rattle.set_rows.specs.Reaches.{Marks, is_marked, own_marks, OfPackage, of_start, AreReached}
 use Rattle.set_rows.specs.declared.moved.Moved.{Moved}
 use Rattle.package_sets.specs.Restricted.{IsReachedIn, IsNeeded, IsRestricted}
 use Rattle.package_sets.specs.Part.{IsTableOf}
@@ -32,6 +33,7 @@ use Rattle.package_sets.proofs.Kept.{worlds-grouped-at}
 use Rattle.package_sets.proofs.Renaming.{in_place}
 use Rattle.package_sets.proofs.Roundtrip.{IsBack}
 use Rattle.package_sets.proofs.TowerForm.{table-form, table-distinct}
+use Rattle.package_form.specs.Reached.{is_interface_of}
 
 -- ---- lists all of whose marks are set
 
@@ -65,23 +67,11 @@ all-marked [] h k = refl
 all-marked (b ∷ bs) h zero = h 0 (omega arith)
 all-marked (b ∷ bs) h (suc k) = all-marked bs (later b bs h) k
 
-length-owners : (ds : List Definition) → length (owners ds) ≡ length ds
-length-owners [] = refl
-length-owners (d ∷ ds) = ap suc (length-owners ds)
-
-interface-is : {i j : ℕ} → Some (owner.Interface (record { 0 = i })) ≡ Some (owner.Interface (record { 0 = j })) → i ≡ j
-interface-is e = ap number e
-  where
-    number : Option Owner → ℕ
-    number (Some (owner.Interface i)) = i.0
-    number _ = 0
-
-world-is : {w v : ℕ} → Some (owner.World (record { 0 = w })) ≡ Some (owner.World (record { 0 = v })) → w ≡ v
-world-is e = ap number e
-  where
-    number : Option Owner → ℕ
-    number (Some (owner.World w)) = w.0
-    number _ = 0
+-- the number of an owner among the interfaces, or among the worlds
+number : Option Owner → ℕ
+number None = 0
+number (Some (owner.Interface i)) = i.0
+number (Some (owner.World w)) = w.0
 
 module _ (r : Resolve) (alone : IsAlone r) where
   abbrev own : ℕ
@@ -91,7 +81,7 @@ module _ (r : Resolve) (alone : IsAlone r) where
   marks = own_marks r own
 
   abbrev to : Moved
-  to = record { packages = true ∷ []; interfaces = marks.interfaces; worlds = map (is_own_world own) r.worlds; rows = map (is_marked marks) (owners r.definitions) }
+  to = record { packages = true ∷ []; interfaces = marks.interfaces; worlds = map (is_world_of own) r.worlds; rows = map (is_marked marks) (owners r.definitions) }
 
   first : own ≡ 0
   first = own-first r alone
@@ -105,10 +95,10 @@ module _ (r : Resolve) (alone : IsAlone r) where
   world-own k w e = subst (λ (n : ℕ). w.«package».0 < n) alone (worlds-grouped-at (length r.packages) 0 r.worlds k w r.worlds_grouped e)
 
   interfaces-set : AllSet marks.interfaces
-  interfaces-set = all-set (is_own_interface own) r.interfaces (λ k x e. eq-eqb x.«package».0 own (omega (arith, first, interface-own k x e)))
+  interfaces-set = all-set (is_interface_of own) r.interfaces (λ k x e. eq-eqb x.«package».0 own (omega (arith, first, interface-own k x e)))
 
   worlds-set : AllSet marks.worlds
-  worlds-set = all-set (is_own_world own) r.worlds (λ k w e. eq-eqb w.«package».0 own (omega (arith, first, world-own k w e)))
+  worlds-set = all-set (is_world_of own) r.worlds (λ k w e. eq-eqb w.«package».0 own (omega (arith, first, world-own k w e)))
 
   marked : (o : Option Owner) → is_marked marks o ≡ true
   marked None = refl
@@ -125,7 +115,7 @@ module _ (r : Resolve) (alone : IsAlone r) where
   -- ---- so it is what is needed
 
   are-reached : AreReached r (OfPackage own) marks
-  are-reached = record { count = length-map r.interfaces (is_own_interface own); sound = λ o h. of_start o (inl h); complete = λ o h. marked o }
+  are-reached = record { count = length-map r.interfaces (is_interface_of own); sound = λ o h. of_start o (inl h); complete = λ o h. marked o }
 
   reached-first : (k : ℕ) → IsReachedIn r marks k → k ≡ 0
   reached-first k (i, x, there, m, is) = omega (arith, is, interface-own i x there)
@@ -152,10 +142,10 @@ module _ (r : Resolve) (alone : IsAlone r) where
   -- ---- and its table is the set
 
   count-interfaces : length to.interfaces ≡ length r.interfaces
-  count-interfaces = length-map r.interfaces (is_own_interface own)
+  count-interfaces = length-map r.interfaces (is_interface_of own)
 
   count-worlds : length to.worlds ≡ length r.worlds
-  count-worlds = length-map r.worlds (is_own_world own)
+  count-worlds = length-map r.worlds (is_world_of own)
 
   count-rows : length to.rows ≡ length r.definitions
   count-rows = length-map (owners r.definitions) (is_marked marks) ∙ length-owners r.definitions
@@ -172,7 +162,7 @@ module _ (r : Resolve) (alone : IsAlone r) where
       where
         by : IsOfInterface r.definitions 0 (0 + length r.interfaces) k d ⊎ IsOfWorld r.definitions 0 (0 + length r.worlds) k d → i < length r.interfaces
         by (inl b) = elim (local-owned r.definitions b.interface d b.local) [
-          | inl g ↦ let same = interface-is (sym is ∙ g) in omega (arith, same, b.ends)
+          | inl g ↦ let same = ap number (sym is ∙ g) in omega (arith, same, b.ends)
           | inr g ↦ absurd cc
         ]
         by (inr b) = elim (world-owned r.definitions b.world d b.local) [
@@ -189,7 +179,7 @@ module _ (r : Resolve) (alone : IsAlone r) where
           | inr g ↦ absurd cc
         ]
         by (inr b) = elim (world-owned r.definitions b.world d b.local) [
-          | inl g ↦ let same = world-is (sym is ∙ g) in omega (arith, same, b.ends)
+          | inl g ↦ let same = ap number (sym is ∙ g) in omega (arith, same, b.ends)
           | inr g ↦ absurd cc
         ]
 

@@ -1,6 +1,6 @@
 -- What follows for tables that are made of a set.
 use Rattle.std.specs.Prelude.{◌≡◌, ◌⊎◌, ◌<◌, ◌≤◌, ◌==◌, ℕ, Bool, true, false, List, [], ◌∷◌, ◌++◌, length, map, slice_get, slice_index_or, Option, None, Some, Contains, All}
-use Rattle.package_form.specs.Closed.{own_package, is_closed, are_of_a_set, has_each_package}
+use Rattle.package_form.specs.Closed.{own_package, is_closed, are_of_a_set, has_each_package, is_world_of}
 use Rattle.package_form.specs.Form.{IsInPackageForm, has_full_names}
 use Rattle.package_form.specs.Naming.{package_scopes}
 use Rattle.package_form.specs.Postfix.{IsPostfix}
@@ -11,7 +11,6 @@ use Rattle.package_sets.specs.Imports.{IsImportsOf}
 use Rattle.package_sets.specs.Joining.{own_interfaces}
 use Rattle.set_rows.specs.Owners.{owner_of}
 use Rattle.set_rows.specs.Places.{kept}
-use Rattle.set_rows.specs.Reaches.{is_own_world}
 use Rattle.package_sets.specs.Restricted.{definitions_where, reached_definitions, package_of_owner, IsReachedIn, NamesEarlierPackages, IsRestricted}
 use Rattle.package_sets.specs.Set.{IsPackageByPackage, IsSet, HasRowsInForm}
 use Rattle.package_sets.specs.SetForm.{HasNamesApart, IsInSetForm}
@@ -84,7 +83,7 @@ pub record OfRestricted (set : Resolve) (own : ℕ) (r : Resolve) (n : IsRestric
   -- it is as the set's names tell it
   pub interfaces_are : interface_names r ≡ kept n.needed.marks.interfaces (interface_names set)
   pub definitions_are : definitions r ≡ reached_definitions set n.needed.marks
-  pub worlds_are : worlds r ≡ kept (map (is_own_world own) set.worlds) (worlds set)
+  pub worlds_are : worlds r ≡ kept (map (is_world_of own) set.worlds) (worlds set)
   -- where each package stands behind those that it names, none that is needed stands behind the own one
   pub own_is_last : NamesEarlierPackages set → (k : ℕ) → slice_index_or n.to.packages k false ≡ true → k ≤ own
   -- the rows of a set's package are as those of a package in form

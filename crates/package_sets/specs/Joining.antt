@@ -4,18 +4,18 @@ use Rattle.std.specs.Str.{bytes_eq}
 use Rattle.package_form.specs.Ends.{end_of}
 use Rattle.package_form.specs.Closed.{own_package, is_same_package}
 use Rattle.set_rows.specs.Moved.{Renaming, put_row, put_types, put_functions}
-use Rattle.set_rows.specs.Reaches.{is_own_interface}
 use Rattle.tables.specs.PackageNames.{PackageParts}
 use Rattle.tables.specs.declared.tables.Interface.{Interface}
 use Rattle.tables.specs.declared.tables.Definition.{Definition}
 use Rattle.tables.specs.declared.tables.Resolve.{Resolve}
+use Rattle.package_form.specs.Reached.{is_interface_of}
 
 -- ---- imports
 
 -- how many interfaces stand before the first of this package
 abbrev pub before_own : ℕ → List Interface → ℕ
 before_own own [] = 0
-before_own own (i ∷ is) = if is_own_interface own i then 0 else 1 + before_own own is
+before_own own (i ∷ is) = if is_interface_of own i then 0 else 1 + before_own own is
 
 abbrev pub import_count : Resolve → ℕ
 import_count closed = before_own (own_package closed.packages) closed.interfaces

@@ -4,7 +4,7 @@ use Rattle.std.specs.Option.{option_map}
 use Rattle.set_rows.specs.Owners.{owner_of, owners}
 use Rattle.set_rows.specs.declared.moved.Moved.{Moved}
 use Rattle.package_sets.specs.Part.{IsTableOf}
-use Rattle.set_rows.specs.Reaches.{Marks, is_marked, is_own_world, owners_in, named_owners, OfPackage, AreReached}
+use Rattle.set_rows.specs.Reaches.{Marks, is_marked, owners_in, named_owners, OfPackage, AreReached}
 use Rattle.tables.specs.Package.{Tree, NamedDefinition, reference, definition_of, interface_names}
 use Rattle.tables.specs.declared.tables.Owner.{Owner}
 use Rattle.tables.specs.declared.tables.Owner.TheVariants as owner
@@ -12,6 +12,7 @@ use Rattle.tables.specs.declared.tables.World.{World}
 use Rattle.tables.specs.declared.tables.Definition.{Definition}
 use Rattle.tables.specs.declared.tables.Interface.{Interface}
 use Rattle.tables.specs.declared.tables.Resolve.{Resolve}
+use Rattle.package_form.specs.Closed.{is_world_of}
 
 -- the definitions of owners with this property, in table order, as these rows tell them
 abbrev pub definitions_where : (Option Owner → Bool) → List (List ℕ) → List Tree → List Definition → List NamedDefinition
@@ -63,7 +64,7 @@ pub record IsNeeded (set : Resolve) (own : ℕ) (to : Moved) : Type 0 where
   pub are_reached : AreReached set (OfPackage own) marks
   pub packages_are : AreNeeded set own marks to.packages
   pub interfaces_are : to.interfaces ≡ marks.interfaces
-  pub worlds_are : to.worlds ≡ map (is_own_world own) set.worlds
+  pub worlds_are : to.worlds ≡ map (is_world_of own) set.worlds
   pub rows_are : to.rows ≡ map (is_marked marks) (owners set.definitions)
 
 -- The table of what is kept: just what the package reaches, in the set's order.

@@ -7,13 +7,15 @@ use Rattle.package_form.specs.Naming.{package_scopes}
 use Rattle.package_form.specs.Scope.{AreDistinct}
 use Rattle.set_rows.specs.Owners.{owners}
 use Rattle.set_rows.specs.Places.{kept}
-use Rattle.set_rows.specs.Reaches.{Marks, is_marked, is_own_interface, is_own_world, OfPackage, AreReached}
+use Rattle.set_rows.specs.Reaches.{Marks, is_marked, OfPackage, AreReached}
 use Rattle.package_sets.specs.Attached.{IsAttached}
 use Rattle.package_sets.specs.BehindImports.{IsBehindImports}
 use Rattle.package_sets.specs.Restricted.{IsRestricted}
 use Rattle.package_sets.specs.SetForm.{IsInSetForm, IsEmpty}
 use Rattle.tables.specs.Same.{IsSamePackage}
 use Rattle.tables.specs.declared.tables.Resolve.{Resolve}
+use Rattle.package_form.specs.Closed.{is_world_of}
+use Rattle.package_form.specs.Reached.{is_interface_of}
 
 -- the type entries of what is kept of a set
 abbrev pub kept_entries : Resolve → List Bool → List Bool → List Bool → ℕ
@@ -22,11 +24,11 @@ kept_entries set interfaces worlds rows =
 
 -- .. of what the package at this place reaches, by its marks
 abbrev pub package_entries : Resolve → ℕ → Marks → ℕ
-package_entries set id m = kept_entries set m.interfaces (map (is_own_world id) set.worlds) (map (is_marked m) (owners set.definitions))
+package_entries set id m = kept_entries set m.interfaces (map (is_world_of id) set.worlds) (map (is_marked m) (owners set.definitions))
 
 -- the package has an interface or a world
 abbrev pub has_entry : Resolve → ℕ → Bool
-has_entry set id = list_any (is_own_interface id) set.interfaces || list_any (is_own_world id) set.worlds
+has_entry set id = list_any (is_interface_of id) set.interfaces || list_any (is_world_of id) set.worlds
 
 abbrev pub IsFew : Resolve → ℕ → Type 0
 IsFew set id = (m : Marks) → AreReached set (OfPackage id) m → package_entries set id m ≤ 65535

@@ -1,9 +1,8 @@
 //! Where what a closed table has stands in a set with its package.
 ghost use Rattle.std.specs.Prelude.{◌≡◌, ◌++◌, ℕ, ◌≤◌, List, length, take, drop, IfOk, IfErr, OnOk, MatchOption, slice_get, ◌⊎◌};
-ghost use Rattle.std.specs.List.{list_any};
 ghost use Rattle.package_form.specs.Ends.{end_of};
 ghost use Rattle.package_form.specs.Closed.{is_same_package};
-ghost use Rattle.package_sets.specs.Joining.{before_own, import_count, imports, own_interfaces, has_name_of, place_in, IsFirst, AreFound, numbers_from, end_in, row_places, import_rows, all_places};
+ghost use Rattle.package_sets.specs.Joining.{import_count, imports, own_interfaces, has_name_of, place_in, IsFirst, AreFound, numbers_from, end_in, row_places, import_rows, all_places};
 ghost use Rattle.package_sets.specs.Attached.{has_package};
 ghost use Rattle.package_sets.specs.Joined.{joined_places, AreJoined};
 ghost use Rattle.package_sets.specs.declared.error.AttachError.TheVariants.{NotThisShape, NoMemory};

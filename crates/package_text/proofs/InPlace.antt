@@ -1,6 +1,6 @@
 -- The tree of a table: it resolves to the package of the table.
 use Rattle.std.proofs.Common.{◌≡◌, ℕ, List, [], ◌∷◌, ◌++◌, length, map, flat_map, filter_map, refl, ap, subst, ◌∙◌, append-nil}
-use Rattle.std.specs.Prelude.{Bool, true, false, Option, None, Some, if◌then◌else◌}
+use Rattle.std.specs.Prelude.{Bool, true, false, Option, None, Some, if◌then◌else◌, unwrap_or}
 use Rattle.std.specs.Option.{option_map}
 use Rattle.std.specs.Str.{bytes_eq}
 use Rattle.std.proofs.lemmas.List.{map-append, length-map}
@@ -9,7 +9,7 @@ use Rattle.wit_syntax.specs.Syntax.{Entry, FileEntry, AnInterface}
 use Rattle.tables.specs.Package.{Tree, Reference, Key, IsUse, IsType, IsFunction, NamedDefinition}
 use Rattle.placement.specs.Order.{IsPlacement}
 use Rattle.tables.specs.Names.{full_name_in}
-use Rattle.tree_meaning.specs.Declarations.{path_package, path_interface, TypeItem, InterfaceTree, entry_uses, entry_types, entry_functions, name_or, interface_tree, interface_of, names_of_trees, own_types}
+use Rattle.tree_meaning.specs.Declarations.{path_package, path_interface, TypeItem, InterfaceTree, entry_uses, entry_types, entry_functions, interface_tree, interface_of, names_of_trees, own_types}
 use Rattle.tree_meaning.specs.Resolved.{Labelled, fields_of_labelled, use_meaning, type_meaning, meaning_of_function, interface_meaning, in_order, no_type, resolved_if}
 use Rattle.tree_meaning.specs.Resolves.{interface_uses, uses_of_interface, type_uses, uses_of_type}
 use Rattle.tree_meaning.proofs.Finding.{same-bytes}
@@ -52,10 +52,10 @@ other-bytes a b h = by (bytes_eq a b) refl
     by true e = absurd (h (same-bytes a b e))
     by false e = refl
 
-pub local-back : (n l : List ℕ) → name_or (local_of n l) n ≡ l
+pub local-back : (n l : List ℕ) → unwrap_or (local_of n l) n ≡ l
 local-back n l = by (bytes_eq n l) refl
   where
-    by : (b : Bool) → bytes_eq n l ≡ b → name_or (if b then None else Some l) n ≡ l
+    by : (b : Bool) → bytes_eq n l ≡ b → unwrap_or (if b then None else Some l) n ≡ l
     by true e = same-bytes n l e
     by false e = refl
 

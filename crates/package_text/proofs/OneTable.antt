@@ -35,7 +35,7 @@ use Rattle.atoms.specs.Label.{IsLabel}
 use Rattle.package_form.proofs.DistinctTypes.{types-apart}
 use Rattle.wit_syntax.specs.Syntax.{File}
 use Rattle.tree_meaning.specs.Declarations.{package_named, full_interfaces, full_worlds}
-use Rattle.tree_meaning.specs.Resolves.{is_behind, in_package, interfaces_behind, is_world_in, IsPackageOf, IsClosedPackageOf}
+use Rattle.tree_meaning.specs.Resolves.{is_behind, in_package, interfaces_behind, IsPackageOf, IsClosedPackageOf}
 use Rattle.tree_meaning.proofs.Owning.{used-inner}
 use Rattle.tree_meaning.proofs.Placed.{one-behind}
 use Rattle.tree_meaning.proofs.Reading.{get-end}
@@ -52,6 +52,7 @@ use Rattle.package_text.proofs.Begins.{form-regions}
 use Rattle.package_text.proofs.Told.{empty}
 use Rattle.package_text.proofs.SameRows.{IsSound, one-list, world_owners}
 use Rattle.package_text.proofs.SameWorlds.{owners_by, all-owned, worlds-same}
+use Rattle.package_form.specs.Closed.{is_world_of}
 
 filled : (xs ys : List ℕ) (x : ℕ) → xs ++ x ∷ ys ≡ [] → ⊥
 filled [] ys x e = absurd cc
@@ -205,7 +206,7 @@ module _ (imports : Resolve) (f : File) (r s : Resolve) (a : IsClosedPackageOf i
       a.own.1 ∙ (ap (λ (ls : List (List ℕ)). imports.interfaces ++ interfaces_behind n (length imports.interfaces) r.definitions ls) own-same
       ∙ (ap (λ (ds : List Definition). imports.interfaces ++ interfaces_behind n (length imports.interfaces) ds b.own.0) rows-same ∙ sym b.own.1))
 
-  world-full : (t : Resolve) → IsClosedPackageOf imports f t → (w : World) → is_world_in n w ≡ true → world_name t w ≡ own_name p w.name
+  world-full : (t : Resolve) → IsClosedPackageOf imports f t → (w : World) → is_world_of n w ≡ true → world_name t w ≡ own_name p w.name
   world-full t h w q = ap (λ (o : Option PackageParts). full_name_in o w.name) (ap (slice_get t.packages) (eqb-true w.«package».0 n q) ∙ own-at t h)
 
   worlds-one : r.worlds ≡ s.worlds
@@ -235,12 +236,12 @@ first-kept : (rows : List Definition) (i : ℕ) (ns : List (List ℕ)) → inter
 first-kept rows i [] = refl
 first-kept rows i (m ∷ ns) = ap (λ (is : List Interface). in_package 0 (interface_in rows i m) ∷ is) (first-kept rows (i + 1) ns)
 
-worlds-first : (first : ℕ) (ws : List World) → are_worlds_grouped 1 first ws ≡ true → list_all (is_world_in 0) ws ≡ true
+worlds-first : (first : ℕ) (ws : List World) → are_worlds_grouped 1 first ws ≡ true → list_all (is_world_of 0) ws ≡ true
 worlds-first first [] h = refl
 worlds-first first (w ∷ ws) h =
     let s = and_parts (nat_le first w.«package».0 && nat_lt w.«package».0 1) (are_worlds_grouped 1 w.«package».0 ws) h in
     let below = ltb-true w.«package».0 1 (and_parts (nat_le first w.«package».0) (nat_lt w.«package».0 1) s.0).1 in
-    both (is_world_in 0 w) (list_all (is_world_in 0) ws) (eq-eqb w.«package».0 0 (omega (arith, below))) (worlds-first w.«package».0 ws s.1)
+    both (is_world_of 0 w) (list_all (is_world_of 0) ws) (eq-eqb w.«package».0 0 (omega (arith, below))) (worlds-first w.«package».0 ws s.1)
 
 -- it is closed behind no imports
 alone-closed : (f : File) (r : Resolve) → IsPackageOf f r → IsClosedPackageOf empty f r

@@ -20,9 +20,9 @@ use Rattle.package_form.specs.Form.{item_function, functions_in_item, functions_
 use Rattle.package_form.specs.Naming.{item_direction}
 use Rattle.package_form.proofs.Lists.{flat_map-append}
 use Rattle.package_form.proofs.OnePackage.{one-full-name}
-use Rattle.tree_meaning.specs.Resolves.{is_world_in}
 use Rattle.package_text.proofs.Fronts.{get-there}
 use Rattle.package_text.proofs.SameRows.{owner_world, row_world, world_owners}
+use Rattle.package_form.specs.Closed.{is_world_of}
 
 -- ---- the world of each function
 
@@ -163,15 +163,15 @@ module _ (ns : List (List ℕ)) (apart : (i j : ℕ) → i < length ns → j < l
       (ap (λ (x : WorldItem). x ∷ is) same ∙ ap (λ (xs : List WorldItem). j ∷ xs) rest, more.1)
 
   -- worlds of package n
-  pub worlds-same : (n : ℕ) (q : PackageParts) (name other : World → List ℕ) → ((w : World) → is_world_in n w ≡ true → name w ≡ own_name q w.name) → ((w : World) → is_world_in n w ≡ true → other w ≡ own_name q w.name)
-      → (k l : ℕ) (vs ws : List World) → list_all (is_world_in n) vs ≡ true → list_all (is_world_in n) ws ≡ true → are_placed_worlds rows count k vs ≡ true → are_placed_worlds rows count l ws ≡ true
+  pub worlds-same : (n : ℕ) (q : PackageParts) (name other : World → List ℕ) → ((w : World) → is_world_of n w ≡ true → name w ≡ own_name q w.name) → ((w : World) → is_world_of n w ≡ true → other w ≡ own_name q w.name)
+      → (k l : ℕ) (vs ws : List World) → list_all (is_world_of n) vs ≡ true → list_all (is_world_of n) ws ≡ true → are_placed_worlds rows count k vs ≡ true → are_placed_worlds rows count l ws ≡ true
       → map (λ w. world_meaning ns trees rows (name w) w) vs ≡ map (λ w. world_meaning ns trees rows (other w) w) ws → (ps qs : List ℕ) → flat_map functions_of vs ++ ps ≡ flat_map functions_of ws ++ qs → vs ≡ ws
   worlds-same n q name other own owned k l [] [] f g h m e ps qs p = refl
   worlds-same n q name other own owned k l [] (w ∷ ws) f g h m e ps qs p = absurd cc
   worlds-same n q name other own owned k l (v ∷ vs) [] f g h m e ps qs p = absurd cc
   worlds-same n q name other own owned k l (v ∷ vs) (w ∷ ws) f g h m e ps qs p =
-      let a = and_parts (is_world_in n v) (list_all (is_world_in n) vs) f in
-      let b = and_parts (is_world_in n w) (list_all (is_world_in n) ws) g in
+      let a = and_parts (is_world_of n v) (list_all (is_world_of n) vs) f in
+      let b = and_parts (is_world_of n w) (list_all (is_world_of n) ws) g in
       let t = and_parts (is_placed_world rows count k v) (are_placed_worlds rows count (k + 1) vs) h in
       let u = and_parts (is_placed_world rows count l w) (are_placed_worlds rows count (l + 1) ws) m in
       let front : world_meaning ns trees rows (name v) v ≡ world_meaning ns trees rows (other w) w = cc in

@@ -1,7 +1,7 @@
 //! Interfaces: what is written for each of their rows.
 ghost use Rattle.std.specs.Prelude.{◌≡◌, ◌<◌, ◌∷◌, [], ◌++◌, map, flat_map, length, None, Some, MatchOption, IfOk, OnOk, IsTrue, slice_get};
 ghost use Rattle.wit_tokens.specs.declared.token.Span.{Span};
-ghost use Rattle.wit_syntax.specs.View.{version_view, path_view, used_view, entry_view, item_view, function_view};
+ghost use Rattle.wit_syntax.specs.View.{version_view, path_view, used_view, entry_view, item_view};
 ghost use Rattle.wit_print.specs.Unplaced.{nowhere};
 ghost use Rattle.tables.specs.Tables.{kind_all, function_all, is_type_before};
 ghost use Rattle.tables.specs.declared.tables.ValType.TheVariants as val;

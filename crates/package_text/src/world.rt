@@ -1,7 +1,7 @@
 //! Worlds: what is written for each of their items.
-ghost use Rattle.std.specs.Prelude.{◌≡◌, map, IfOk, IsTrue};
+ghost use Rattle.std.specs.Prelude.{◌≡◌, IfOk, IsTrue};
 ghost use Rattle.std.specs.List.{list_all};
-ghost use Rattle.wit_syntax.specs.View.{world_kind_view, world_entry_view, item_view};
+ghost use Rattle.wit_syntax.specs.View.{world_entry_view, item_view};
 ghost use Rattle.package_form.specs.Form.{IsInPackageForm};
 ghost use Rattle.package_text.specs.Written.{direction_for};
 ghost use Rattle.package_text.specs.Tree.{item_written, world_written};

@@ -1,7 +1,6 @@
 //! The order in which things that use each other are placed: each after those that it uses.
-ghost use Rattle.std.specs.Prelude.{◌≡◌, ◌<◌, ℕ, Bool, true, false, length, All, IfSome, IfNone, IfOk, IfErr, slice_index_or, Err};
-ghost use Rattle.std.specs.List.{list_all};
-ghost use Rattle.placement.specs.Order.{is_ready, IsNext, IsPlacement, IsCycle};
+ghost use Rattle.std.specs.Prelude.{◌≡◌, ◌<◌, ℕ, Bool, length, All, IfOk, Err};
+ghost use Rattle.placement.specs.Order.{IsPlacement, IsCycle};
 
 use crate::queue::Queue;
 use std::alloc::{AllocError, AllocFailed, Global};

@@ -2,7 +2,7 @@
 use Rattle.std.proofs.Common.{◌≡◌, inl, inr, ℕ, zero, suc, ◌+◌, ◌-◌, ◌<◌, ◌≤◌, max, fold, List, get_or, refl, ap, ◌∙◌, arith}
 use Rattle.std.specs.Int.{byte_len, next_multiple_of}
 use Rattle.std.proofs.lemmas.Bool.{cases_lt, lt-ltb, le-ltb}
-use Rattle.canonical_abi.specs.Types.{Prim, ClosedType, prim_type, string_type, list_type, record_type, variant_type, flags_type, Fields, no_field, field, Cases, no_case, plain_case, case_with, case_count}
+use Rattle.canonical_abi.specs.Types.{ClosedType, prim_type, string_type, list_type, record_type, variant_type, flags_type, Fields, no_field, field, Cases, no_case, plain_case, case_with, case_count}
 use Rattle.canonical_abi.specs.Layout.{align, size, prim_width, discriminant_size, flags_size, end_from, field_extents, payload_extents, greatest_align, greatest_size, payload_place, variant_align}
 use Rattle.canonical_abi.specs.Reading.{case_number}
 use Rattle.canonical_abi.proofs.Places.{le-next_multiple_of}

@@ -1,11 +1,11 @@
 //! The caps of a type's bytes.
-ghost use Rattle.std.specs.Prelude.{◌≡◌, ◌≢◌, ℕ, ◌+◌, ◌*◌, ◌<◌, ◌≤◌, List, length, get_or, IsTrue, IfSome};
-ghost use Rattle.canonical_abi.specs.Types.{prim_type, flags_type, record_type, record_fields, field_count, scalar_value};
-ghost use Rattle.canonical_abi.specs.Layout.{size, end_from, field_extents};
+ghost use Rattle.std.specs.Prelude.{◌≡◌, ◌≢◌, ℕ, ◌+◌, ◌*◌, ◌<◌, ◌≤◌, get_or, IfSome};
+ghost use Rattle.canonical_abi.specs.Types.{record_type, record_fields, field_count};
+ghost use Rattle.canonical_abi.specs.Layout.{size};
 ghost use Rattle.values.specs.Types.{IsInside};
 ghost use Rattle.ranges.specs.Bytewise.{caps};
 ghost use Rattle.ranges.specs.Plan.{IsBlank, Fills};
-ghost use Rattle.tables.specs.Closed.{closed_type, prim_of};
+ghost use Rattle.tables.specs.Closed.{closed_type};
 
 use layout::Shape;
 use tables::{Primitive, ValType};

@@ -1,11 +1,11 @@
 //! Elements from the front of a list, as far as they pass their tests a chunk at a time. What is left is for
 //! who takes elements one by one: there the first fault is found.
-ghost use Rattle.std.specs.Prelude.{◌≡◌, ℕ, ◌+◌, ◌*◌, ◌^◌, ◌<◌, ◌≤◌, length, get_or, IsTrue, true};
+ghost use Rattle.std.specs.Prelude.{◌≡◌, ℕ, ◌+◌, ◌*◌, ◌^◌, ◌<◌, ◌≤◌, length, IsTrue, true};
 ghost use Rattle.std.specs.Int.{w32};
 ghost use Rattle.canonical_abi.specs.Reading.{number_at};
 ghost use Rattle.canonical_abi.specs.Types.{prim_type, scalar_value};
 ghost use Rattle.canonical_abi.specs.Values.{is_scalar};
-ghost use Rattle.ranges.specs.Bytewise.{Crosses, IsTested};
+ghost use Rattle.ranges.specs.Bytewise.{Crosses};
 
 use crate::blend::{Caps, cross_range};
 use crate::elements::Elements;

@@ -1,9 +1,9 @@
 //! The plan of a type's values.
-ghost use Rattle.std.specs.Prelude.{◌≡◌, ℕ, ◌+◌, ◌-◌, ◌*◌, ◌^◌, ◌<◌, ◌≤◌, min, length, IfSome};
+ghost use Rattle.std.specs.Prelude.{◌≡◌, ◌+◌, ◌-◌, ◌*◌, ◌^◌, ◌<◌, ◌≤◌, min, length, IfSome};
 ghost use Rattle.std.specs.Int.{next_multiple_of};
 ghost use Rattle.canonical_abi.specs.Guest.{IsAlignment};
 ghost use Rattle.canonical_abi.specs.Types.{ClosedType, record_type, record_fields, field_count, variant_type, variant_cases, case_count};
-ghost use Rattle.canonical_abi.specs.Layout.{size, end_from, field_extents};
+ghost use Rattle.canonical_abi.specs.Layout.{size};
 ghost use Rattle.values.specs.Types.{IsInside};
 ghost use Rattle.ranges.specs.Columns.{AreBefore, HasPlain, HasPlan, IsBounded, Plans};
 ghost use Rattle.ranges.specs.Bytewise.{Crosses, each_nodes};

@@ -1,7 +1,7 @@
 //! Rows of caps, one for each case of a variant.
-ghost use Rattle.std.specs.Prelude.{◌≡◌, ℕ, ◌+◌, ◌*◌, ◌<◌, ◌≤◌, List, length, get_or, IfSome};
+ghost use Rattle.std.specs.Prelude.{◌≡◌, ℕ, ◌+◌, ◌*◌, ◌<◌, ◌≤◌, get_or, IfSome};
 ghost use Rattle.canonical_abi.specs.Types.{variant_type, variant_cases, case_count};
-ghost use Rattle.canonical_abi.specs.Layout.{size, align, payload_place};
+ghost use Rattle.canonical_abi.specs.Layout.{size};
 ghost use Rattle.values.specs.Types.{IsInside};
 ghost use Rattle.ranges.specs.Bytewise.{IsBytewise, HasRows};
 ghost use Rattle.ranges.specs.Plan.{IsBlank, IsRow};

@@ -6,7 +6,7 @@ use Rattle.std.proofs.lemmas.Grind.{take_at_read}
 use Rattle.std.proofs.lemmas.Option.{slice_get_within, slice_get-get_or}
 use Rattle.std.proofs.lemmas.List.Elements.{Contains-append_cases, Contains-append_left, Contains-append_right}
 use Rattle.set_rows.specs.Owners.{owners}
-use Rattle.set_rows.specs.Reaches.{Marks, is_marked, owner_at, named_owners, own_marks, owners_in, is_own_interface, is_own_world, world_owners, padded, given_marks, Start, OfPackage, OfInterfaces, IsStart, Reaches, of_start, of_row, AreReached}
+use Rattle.set_rows.specs.Reaches.{Marks, is_marked, owner_at, named_owners, own_marks, owners_in, world_owners, padded, given_marks, Start, OfPackage, OfInterfaces, IsStart, Reaches, of_start, of_row, AreReached}
 use Rattle.set_rows.specs.Marking.{unmarked_in, unmarked, AddsMarks, TellsGrowth, AddsRow, Passes, AreSound, IsFixedAt, AreGrown}
 use Rattle.tables.specs.declared.tables.TypeId.{TypeId}
 use Rattle.tables.specs.declared.tables.Owner.{Owner}
@@ -15,6 +15,8 @@ use Rattle.tables.specs.declared.tables.World.{World}
 use Rattle.tables.specs.declared.tables.WorldItem.{WorldItem}
 use Rattle.tables.specs.declared.tables.Definition.{Definition}
 use Rattle.tables.specs.declared.tables.Resolve.{Resolve}
+use Rattle.package_form.specs.Closed.{is_world_of}
+use Rattle.package_form.specs.Reached.{is_interface_of}
 
 set-same : (bs : List Bool) (k : ℕ) → get_or bs k true ≡ true → put bs k true ≡ bs
 set-same [] k e = refl
@@ -250,7 +252,7 @@ pub record AreBegun (set : Resolve) (from : Start) (m : Marks) : Type 0 where
   pub sound : AreSound set from m
 
 pub package-begun : (set : Resolve) (own : ℕ) (a m : Marks) → a ≡ own_marks set own → AddsMarks (flat_map (world_owners own) set.worlds) a m → AreBegun set (OfPackage own) m
-package-begun set own a m e h = record { count = h.count ∙ (ap (λ (x : Marks). length x.interfaces) e ∙ length-map set.interfaces (is_own_interface own)); begun = begun; sound = λ o q. by o (h.only o q) }
+package-begun set own a m e h = record { count = h.count ∙ (ap (λ (x : Marks). length x.interfaces) e ∙ length-map set.interfaces (is_interface_of own)); begun = begun; sound = λ o q. by o (h.only o q) }
   where
     begun : (o : Option Owner) → (is_marked (own_marks set own) o ≡ true) ⊎ Contains (flat_map (world_owners own) set.worlds) o → is_marked m o ≡ true
     begun o (inl q) = h.keeps o (subst (λ (x : Marks). is_marked x o ≡ true) (sym e) q)
@@ -289,12 +291,12 @@ are-reached set from a m h g = record { count = g.count ∙ h.count; sound = g.s
 
 pub adds-own : (own : ℕ) (w : World) (items : List WorldItem) (a b : Marks) → w.«package».0 ≡ own → items ≡ w.items → AddsMarks (flat_map owners_in items) a b → AddsMarks (world_owners own w) a b
 adds-own own w items a b h e p =
-    let same : is_own_world own w ≡ true = eq-eqb _ _ h in
+    let same : is_world_of own w ≡ true = eq-eqb _ _ h in
     rw same (subst (λ (is : List WorldItem). AddsMarks (flat_map owners_in is) a b) e p)
 
 pub adds-other : (own : ℕ) (w : World) (a : Marks) → w.«package».0 ≢ own → AddsMarks (world_owners own w) a a
-adds-other own w a h = by (is_own_world own w) refl
+adds-other own w a h = by (is_world_of own w) refl
   where
-    by : (b : Bool) → is_own_world own w ≡ b → AddsMarks (world_owners own w) a a
+    by : (b : Bool) → is_world_of own w ≡ b → AddsMarks (world_owners own w) a a
     by true e = absurd (h (eqb-true w.«package».0 own e))
     by false e = rw e (adds-none a)

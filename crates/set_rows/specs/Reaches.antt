@@ -1,17 +1,18 @@
 -- What is reached in a set: by a package, its own interfaces and worlds, and the interfaces whose types they name, directly or by others; by
 -- interfaces, those whose types they name so.
-use Rattle.std.specs.Prelude.{◌≡◌, ◌⊎◌, ℕ, zero, suc, ◌==◌, Bool, true, false, List, [], ◌∷◌, map, flat_map, length, slice_get, slice_index_or, Option, None, Some, Contains, if◌then◌else◌}
+use Rattle.std.specs.Prelude.{◌≡◌, ◌⊎◌, ℕ, zero, suc, Bool, true, false, List, [], ◌∷◌, map, flat_map, length, slice_get, slice_index_or, Option, None, Some, Contains, if◌then◌else◌}
 use Rattle.set_rows.specs.Owners.{owners, names}
 use Rattle.tables.specs.declared.tables.TypeId.{TypeId}
 use Rattle.tables.specs.declared.tables.Owner.{Owner}
 use Rattle.tables.specs.declared.tables.Owner.TheVariants as owner
-use Rattle.tables.specs.declared.tables.Interface.{Interface}
 use Rattle.tables.specs.declared.tables.Definition.{Definition}
 use Rattle.tables.specs.declared.tables.World.{World}
 use Rattle.tables.specs.declared.tables.WorldItem.{WorldItem}
 use Rattle.tables.specs.declared.tables.WorldItemKind.{WorldItemKind}
 use Rattle.tables.specs.declared.tables.WorldItemKind.TheVariants as item
 use Rattle.tables.specs.declared.tables.Resolve.{Resolve}
+use Rattle.package_form.specs.Closed.{is_world_of}
+use Rattle.package_form.specs.Reached.{is_interface_of}
 
 -- a mark for each interface and for each world
 pub record Marks : Type 0 where
@@ -25,14 +26,8 @@ is_marked m (Some (owner.Interface i)) = slice_index_or m.interfaces i.0 true
 is_marked m (Some (owner.World w)) = slice_index_or m.worlds w.0 true
 
 -- the interfaces and the worlds of a package
-abbrev pub is_own_interface : ℕ → Interface → Bool
-is_own_interface own i = i.«package».0 == own
-
-abbrev pub is_own_world : ℕ → World → Bool
-is_own_world own w = w.«package».0 == own
-
 abbrev pub own_marks : Resolve → ℕ → Marks
-own_marks set own = record { interfaces = map (is_own_interface own) set.interfaces; worlds = map (is_own_world own) set.worlds }
+own_marks set own = record { interfaces = map (is_interface_of own) set.interfaces; worlds = map (is_world_of own) set.worlds }
 
 -- the interfaces that the items of its worlds name
 abbrev pub item_owners : WorldItemKind → List (Option Owner)
@@ -43,7 +38,7 @@ abbrev pub owners_in : WorldItem → List (Option Owner)
 owners_in i = item_owners i.kind
 
 abbrev pub world_owners : ℕ → World → List (Option Owner)
-world_owners own w = if is_own_world own w then flat_map owners_in w.items else []
+world_owners own w = if is_world_of own w then flat_map owners_in w.items else []
 
 -- whose the row at this place is
 abbrev pub owner_at : List (Option Owner) → TypeId → Option Owner

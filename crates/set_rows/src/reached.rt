@@ -1,8 +1,10 @@
 //! What a package of a set reaches, and what some of its interfaces do.
 ghost use Rattle.std.specs.Prelude.{◌≡◌, ◌∷◌, [], not, IfOk, OnOk, map, flat_map, slice_set, slice_index_or, true, false, None, Some};
 ghost use Rattle.set_rows.specs.Owners.{owners as owners_of};
-ghost use Rattle.set_rows.specs.Reaches.{is_marked, is_own_interface, is_own_world, own_marks, item_owners, owners_in, world_owners, named_owners, padded, given_marks, OfPackage, OfInterfaces, AreReached};
+ghost use Rattle.set_rows.specs.Reaches.{is_marked, own_marks, item_owners, owners_in, world_owners, named_owners, padded, given_marks, OfPackage, OfInterfaces, AreReached};
 ghost use Rattle.set_rows.specs.Marking.{AddsMarks, TellsGrowth, AddsRow, Passes, AreGrown};
+ghost use Rattle.package_form.specs.Closed.{is_world_of};
+ghost use Rattle.package_form.specs.Reached.{is_interface_of};
 
 use crate::owners::{names, owner_at};
 use std::alloc::{AllocError, Global};
@@ -29,7 +31,7 @@ fn own_interfaces(
     interfaces: &[Interface],
     id: PackageId,
 ) -> Result<Vec<bool>, AllocError>
-    ensures { IfOk result (λ marks. marks.items ≡ map (is_own_interface id.0) interfaces.now) }
+    ensures { IfOk result (λ marks. marks.items ≡ map (is_interface_of id.0) interfaces.now) }
 {
     let mut marks = Vec::new(alloc);
     for interface in interfaces {
@@ -39,7 +41,7 @@ fn own_interfaces(
 }
 
 pub fn own_worlds(alloc: Global, worlds: &[World], id: PackageId) -> Result<Vec<bool>, AllocError>
-    ensures { IfOk result (λ marks. marks.items ≡ map (is_own_world id.0) worlds.now) }
+    ensures { IfOk result (λ marks. marks.items ≡ map (is_world_of id.0) worlds.now) }
 {
     let mut marks = Vec::new(alloc);
     for world in worlds {

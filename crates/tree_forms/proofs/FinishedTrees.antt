@@ -13,7 +13,7 @@ use Rattle.tree_meaning.specs.Scopes.{file_name, scopes}
 use Rattle.package_form.specs.Distinct.{RefusesScopes}
 use Rattle.package_form.specs.Entries.{Table, table_of, labels_of, type_entries}
 use Rattle.tree_meaning.specs.Imports.{Imports, imports_of}
-use Rattle.tree_meaning.specs.Resolves.{ResolvesBehind, package_behind, with_names, HasWorldsBehind, HasItems, PassesLimit, HasEntries, HasNoFaultsOf, HasDistinctNames, KnowsPackagesOf, interfaces_behind, is_world_in, IsClosedPackageOf, ResolveRefusesOf}
+use Rattle.tree_meaning.specs.Resolves.{ResolvesBehind, package_behind, with_names, HasWorldsBehind, HasItems, PassesLimit, HasEntries, HasNoFaultsOf, HasDistinctNames, KnowsPackagesOf, interfaces_behind, IsClosedPackageOf, ResolveRefusesOf}
 use Rattle.tree_meaning.specs.Finished.{IsFinished}
 use Rattle.tree_meaning.specs.Knowing.{RefusesPackage, RefusesUnknown}
 use Rattle.package_form.specs.Postfix.{IsPostfix}
@@ -32,6 +32,7 @@ use Rattle.tables.specs.Tables.{are_earlier, name_types, are_grouped}
 use Rattle.tree_meaning.specs.WorldRows.{world_stands, worlds_stand}
 use Rattle.tables.specs.declared.tables.World.{World}
 use Rattle.tree_meaning.proofs.Trees.{own_table}
+use Rattle.package_form.specs.Closed.{is_world_of}
 
 -- ---- names of a file
 
@@ -140,12 +141,12 @@ module _ (imports : Resolve) (p : PackageParts) (names : List (List ℕ)) (t : T
       ∷ map (λ x. world_meaning fulls_in (references fulls_in [] t.rows) t.rows (full_name_in (slice_get (imports.packages ++ p ∷ []) x.«package».0) x.name) x) ws) (get-end imports.packages p w.«package».0 last)
       ∙ ap (λ (ms : List WorldMeaning). here (own_name p w.name) ∷ ms) (worlds-named (k + 1) ws s.1)
 
-  worlds-last : (k : ℕ) (ws : List World) → worlds_stand (length imports.packages) t k ws ≡ true → list_all (is_world_in (length imports.packages)) ws ≡ true
+  worlds-last : (k : ℕ) (ws : List World) → worlds_stand (length imports.packages) t k ws ≡ true → list_all (is_world_of (length imports.packages)) ws ≡ true
   worlds-last k [] h = refl
   worlds-last k (w ∷ ws) h =
       let n = length imports.packages in
       let s = split (world_stands n t k w) (worlds_stand n t (k + 1) ws) h in
-      both (is_world_in n w) (list_all (is_world_in n) ws) (split (w.«package».0 == n) _ s.0).0 (worlds-last (k + 1) ws s.1)
+      both (is_world_of n w) (list_all (is_world_of n) ws) (split (w.«package».0 == n) _ s.0).0 (worlds-last (k + 1) ws s.1)
 
   package-same : worlds_stand (length imports.packages) t 0 t.worlds ≡ true → package_of r ≡ package_behind (names_in imports) p own
   package-same stand =
@@ -187,6 +188,6 @@ module _ (imports : Resolve) (p : PackageParts) (names : List (List ℕ)) (t : T
     items = subst (λ (ds : List Definition). HasItems ds r.worlds) (sym f.definitions) (subst (HasItems t.rows) (sym f.worlds) m.items);
     rows = (rows.0, f.definitions ∙ rows.1);
     own = (names, f.interfaces ∙ ap (λ (ds : List Definition). imports.interfaces ++ interfaces_behind (length imports.packages) (length imports.interfaces) ds names) (sym f.definitions));
-    worlds = ap (list_all (is_world_in (length imports.packages))) f.worlds ∙ worlds-last 0 t.worlds stand;
+    worlds = ap (list_all (is_world_of (length imports.packages))) f.worlds ∙ worlds-last 0 t.worlds stand;
     within = entries-same is;
   }

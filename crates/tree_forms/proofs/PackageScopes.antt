@@ -22,7 +22,7 @@ use Rattle.package_form.proofs.OnePackage.{one-full-name}
 use Rattle.placement.specs.Order.{IsPlacement}
 use Rattle.tree_meaning.specs.Declarations.{InterfaceTree, WorldTree, interfaces, file_worlds, package_named, full_world, interface_of, world_of, full_interface, type_name, interface_at, no_interface, interface_tree_name, names_of_trees}
 use Rattle.tree_meaning.specs.Scopes.{file_name, interface_scopes}
-use Rattle.tree_meaning.specs.Resolves.{uses_of_interface, interface_uses, names_in_order, AreImports, HasNoFaultsOf, IsClosedPackageOf, interfaces_behind, is_world_in}
+use Rattle.tree_meaning.specs.Resolves.{uses_of_interface, interface_uses, names_in_order, AreImports, HasNoFaultsOf, IsClosedPackageOf, interfaces_behind}
 use Rattle.package_form.proofs.Lists.{all-head, all-tail, all-append, all-none, all-left, all-right, all-contained, contains-unmap, flat_map-append}
 use Rattle.package_form.proofs.Meeting.{below_or_at}
 use Rattle.package_form.proofs.EachPackage.{each-distinct}
@@ -48,6 +48,7 @@ use Rattle.tree_forms.proofs.TableScopes.{HasDistinctKeys, scoped}
 use Rattle.tree_meaning.proofs.Apart.{AreOthers, AreApart, every-from, every-contained, apart-distinct, are-apart, apart-insert, apart-between}
 use Rattle.tree_meaning.proofs.TableRows.{is-that}
 use Rattle.tree_forms.proofs.ClosedForms.{rows-kept}
+use Rattle.package_form.specs.Closed.{is_world_of}
 
 every-map : {A B : Type 0} (P : B → Type 0) (f : A → B) (xs : List A) → Every (λ x. P (f x)) xs → Every P (map f xs)
 every-map P f [] h = tt
@@ -105,16 +106,16 @@ labels-elsewhere n k j rows [] h = refl
 labels-elsewhere n k j rows (m ∷ ms) h =
     ap (λ (b : Bool). cond b (m ∷ []) [] ++ interface_labels_of (interfaces_behind n (j + 1) rows ms) k) (not-that n k h) ∙ labels-elsewhere n k (j + 1) rows ms h
 
-worlds-here : (n : ℕ) (ws : List World) → list_all (is_world_in n) ws ≡ true → world_labels_of ws n ≡ map label_of ws
+worlds-here : (n : ℕ) (ws : List World) → list_all (is_world_of n) ws ≡ true → world_labels_of ws n ≡ map label_of ws
 worlds-here n [] h = refl
 worlds-here n (w ∷ ws) h =
-    let s = split (is_world_in n w) (list_all (is_world_in n) ws) h in
+    let s = split (is_world_of n w) (list_all (is_world_of n) ws) h in
     ap (λ (b : Bool). cond b (w.name ∷ []) [] ++ world_labels_of ws n) s.0 ∙ ap (λ (ns : List (List ℕ)). w.name ∷ ns) (worlds-here n ws s.1)
 
-worlds-elsewhere : (n k : ℕ) (ws : List World) → list_all (is_world_in n) ws ≡ true → (k ≡ n → ⊥) → world_labels_of ws k ≡ []
+worlds-elsewhere : (n k : ℕ) (ws : List World) → list_all (is_world_of n) ws ≡ true → (k ≡ n → ⊥) → world_labels_of ws k ≡ []
 worlds-elsewhere n k [] h other = refl
 worlds-elsewhere n k (w ∷ ws) h other =
-    let s = split (is_world_in n w) (list_all (is_world_in n) ws) h in
+    let s = split (is_world_of n w) (list_all (is_world_of n) ws) h in
     let at = eqb-true w.«package».0 n s.0 in
     ap (λ (b : Bool). cond b (w.name ∷ []) [] ++ world_labels_of ws k) (not-that w.«package».0 k (λ e. other (e ∙ at))) ∙ worlds-elsewhere n k ws s.1 other
 
@@ -146,11 +147,11 @@ abbrev meaning_name : WorldMeaning → List ℕ
 meaning_name m = m.name
 
 -- all of these worlds are of the last package
-labels-full : (ps : List PackageParts) (q : PackageParts) (ws : List World) → list_all (is_world_in (length ps)) ws ≡ true
+labels-full : (ps : List PackageParts) (q : PackageParts) (ws : List World) → list_all (is_world_of (length ps)) ws ≡ true
     → map (λ (w : World). full_name_in (slice_get (ps ++ q ∷ []) w.«package».0) w.name) ws ≡ map (λ (w : World). own_name q w.name) ws
 labels-full ps q [] h = refl
 labels-full ps q (w ∷ ws) h =
-    let s = split (is_world_in (length ps) w) (list_all (is_world_in (length ps)) ws) h in
+    let s = split (is_world_of (length ps) w) (list_all (is_world_of (length ps)) ws) h in
     ap (λ (o : Option PackageParts). full_name_in o w.name ∷ map (λ (v : World). full_name_in (slice_get (ps ++ q ∷ []) v.«package».0) v.name) ws)
     (get-end ps q w.«package».0 (eqb-true w.«package».0 (length ps) s.0))
     ∙ ap (λ (ns : List (List ℕ)). own_name q w.name ∷ ns) (labels-full ps q ws s.1)

@@ -2,7 +2,7 @@
 -- they are the definitions of the rows.
 use Rattle.std.proofs.Common.{◌≡◌, ℕ, ◌+◌, Bool, true, false, not, cond, ◌&&◌, List, [], ◌∷◌, ◌++◌, get_or, refl, ap, ◌∙◌}
 use Rattle.std.specs.List.{list_all}
-use Rattle.tables.specs.Package.{Tree, NamedDefinition, reference, read_params, read_val, named_by, named_function, function_meaning, definitions_from}
+use Rattle.tables.specs.Package.{Tree, NamedDefinition, reference, named_by, named_function, function_meaning, definitions_from}
 use Rattle.tables.specs.Package as tree
 use Rattle.tables.specs.declared.tables.Owner.{Owner}
 use Rattle.tables.specs.declared.tables.Owner.TheVariants as owner

@@ -18,9 +18,10 @@ use Rattle.package_form.specs.Ids.{interfaces_from}
 use Rattle.package_form.specs.Postfix.{IsPostfix, begin}
 use Rattle.tree_meaning.specs.Declarations.{package_named, full_interfaces, full_worlds}
 use Rattle.tree_meaning.specs.Imports.{Imports, no_imports, imports_from, interfaces_of, imports_of}
-use Rattle.tree_meaning.specs.Resolves.{ResolvesBehind, KnowsPackagesOf, HasNoFaults, HasNoFaultsOf, IsPackageOf, is_of_interfaces, AreImports, in_package, interfaces_behind, IsClosedPackageOf, ResolveRefuses, ResolveRefusesOf, is_world_in}
+use Rattle.tree_meaning.specs.Resolves.{ResolvesBehind, KnowsPackagesOf, HasNoFaults, HasNoFaultsOf, IsPackageOf, is_of_interfaces, AreImports, in_package, interfaces_behind, IsClosedPackageOf, ResolveRefuses, ResolveRefusesOf}
 use Rattle.tree_meaning.proofs.Trees.{names-kept}
 use Rattle.tree_meaning.proofs.TableRows.{is-that}
+use Rattle.package_form.specs.Closed.{is_world_of}
 
 -- interfaces are made as those of the first package
 first-kept : (rows : List Definition) (i : ℕ) (ns : List (List ℕ)) → map (in_package 0) (interfaces_from rows i ns) ≡ interfaces_from rows i ns
@@ -28,12 +29,12 @@ first-kept rows i [] = refl
 first-kept rows i (n ∷ ns) = let a = first-kept rows (i + 1) ns in cc
 
 -- worlds of one package are of the first
-first-worlds : (first : ℕ) (ws : List World) → are_worlds_grouped 1 first ws ≡ true → list_all (is_world_in 0) ws ≡ true
+first-worlds : (first : ℕ) (ws : List World) → are_worlds_grouped 1 first ws ≡ true → list_all (is_world_of 0) ws ≡ true
 first-worlds first [] h = refl
 first-worlds first (w ∷ ws) h =
     let s = split (nat_le first w.«package».0 && nat_lt w.«package».0 1) (are_worlds_grouped 1 w.«package».0 ws) h in
     let l = ltb-true w.«package».0 1 (split (nat_le first w.«package».0) (nat_lt w.«package».0 1) s.0).1 in
-    both (is_world_in 0 w) (list_all (is_world_in 0) ws) (is-that w.«package».0 0 (omega (arith, l))) (first-worlds w.«package».0 ws s.1)
+    both (is_world_of 0 w) (list_all (is_world_of 0) ws) (is-that w.«package».0 0 (omega (arith, l))) (first-worlds w.«package».0 ws s.1)
 
 module _ (imports : Resolve) (packages : imports.packages ≡ []) (interfaces : imports.interfaces ≡ []) (worlds : imports.worlds ≡ []) (rows : imports.definitions ≡ []) where
   none : imports_of imports ≡ no_imports
@@ -98,7 +99,7 @@ module _ (imports : Resolve) (packages : imports.packages ≡ []) (interfaces : 
         items = h.items;
         rows = (r.definitions, sym (ap (λ (ds : List Definition). ds ++ r.definitions) rows));
         own = (names, h.ids ∙ sym (own-alone r.definitions names));
-        worlds = ap (λ (ps : List PackageParts). list_all (is_world_in (length ps)) r.worlds) packages
+        worlds = ap (λ (ps : List PackageParts). list_all (is_world_of (length ps)) r.worlds) packages
             ∙ first-worlds 0 r.worlds (subst (λ (n : ℕ). are_worlds_grouped n 0 r.worlds ≡ true) (ap length h.packages) r.worlds_grouped);
         within = h.within;
       }

@@ -17,7 +17,7 @@ use Rattle.placement.specs.Order.{IsPlacement}
 use Rattle.tables.specs.Package.{Key, key_of, Tree, Reference, IsUse, NamedDefinition, ItemMeaning, WithInterface, WorldMeaning, trees, world_meaning, reference, reference_by, read_kind, references, package_of, interface_names as names_in, named_by, meaning_of, named_function, function_meaning as called, definition_of, definitions_from}
 use Rattle.tree_meaning.specs.Resolved.{interface_meaning}
 use Rattle.tree_meaning.specs.Resolved as tree
-use Rattle.tree_meaning.specs.Declarations.{UsedItem, InterfaceTree, ItemTree, InterfaceNamed, ForeignNamed, FunctionOf, WorldTree, full_item, interfaces, file_worlds, use_interface, full_label, full_use, full_interface, full_world, no_interface, interface_at, interface_tree_name, names_of_trees}
+use Rattle.tree_meaning.specs.Declarations.{UsedItem, InterfaceTree, ItemTree, InterfaceNamed, ForeignNamed, FunctionOf, WorldTree, full_item, interfaces, use_interface, full_label, full_use, full_interface, full_world, no_interface, interface_at, interface_tree_name, names_of_trees}
 use Rattle.package_form.specs.Entries.{Table}
 use Rattle.tree_meaning.specs.Imports.{imports_of}
 use Rattle.tree_meaning.specs.Resolves.{ResolvesBehind, package_behind, names_in_order, uses_of_interface, IsKnownIn, IsKnownUseOf, HasKnownNamesOf, interface_uses, type_uses, IsKnownItemOf, IsKnownWorldOf, is_name_of, is_owned_among, is_of_interfaces, AreImports}

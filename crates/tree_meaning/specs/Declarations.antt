@@ -1,6 +1,6 @@
 -- What the interfaces of a syntax tree declare: used names, types and functions, each in source order; what its worlds import and export;
 -- and what they name.
-use Rattle.std.specs.Prelude.{ℕ, List, [], ◌∷◌, ◌++◌, map, flat_map, filter_map, Option, None, Some, slice_index_or}
+use Rattle.std.specs.Prelude.{ℕ, List, [], ◌∷◌, ◌++◌, map, flat_map, filter_map, Option, None, Some, slice_index_or, unwrap_or}
 use Rattle.wit_syntax.specs.Syntax.{Ty, Prim, Named, ListOf, OptionOf, TupleOf, ResultOf, Tys, none, more, MaybeTy, Absent, Present, Definition, Alias, Record, Variant, Enumeration, FlagSet, Function, Member, CaseOf, PathTo, Local, Foreign, UsedAs, Entry, Uses, Defines, Declares, WorldEntry, Whole, Single, FileEntry, AnInterface, AWorld, File}
 use Rattle.tables.specs.PackageNames.{PackageParts, own_name}
 use Rattle.tables.specs.Names.{full_name_in}
@@ -27,12 +27,8 @@ pub record InterfaceTree : Type 0 where
   pub types : List TypeItem
   pub functions : List FunctionItem
 
-abbrev pub name_or : Option (List ℕ) → List ℕ → List ℕ
-name_or None n = n
-name_or (Some m) n = m
-
 abbrev pub local_name : UsedAs → List ℕ
-local_name u = name_or u.local u.name
+local_name u = unwrap_or u.local u.name
 
 -- the package that a path names, where it is another one
 abbrev pub path_package : PathTo → Option PackageParts

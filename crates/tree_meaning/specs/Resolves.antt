@@ -1,5 +1,5 @@
 -- What a syntax tree stands for: the package that it resolves to, and when it is refused.
-use Rattle.std.specs.Prelude.{◌≡◌, ◌≢◌, ◌<◌, ◌≤◌, ◌+◌, ◌==◌, ℕ, suc, Bool, true, false, not, List, [], ◌∷◌, ◌++◌, map, flat_map, filter_map, length, All, Contains, Option, None, Some, is_some, ◌⊎◌, if◌then◌else◌, ◌&&◌, nat_le, nat_lt, IsTrue, Result, MatchResult}
+use Rattle.std.specs.Prelude.{◌≡◌, ◌≢◌, ◌<◌, ◌≤◌, ◌+◌, ℕ, suc, Bool, true, false, not, List, [], ◌∷◌, ◌++◌, map, flat_map, filter_map, length, All, Contains, Option, None, Some, is_some, ◌⊎◌, if◌then◌else◌, ◌&&◌, nat_le, nat_lt, IsTrue, Result, MatchResult}
 use Rattle.std.specs.List.{list_all}
 use Rattle.std.specs.Option.{option_map}
 use Rattle.std.specs.Str.{bytes_eq}
@@ -27,6 +27,7 @@ use Rattle.tree_meaning.specs.Resolved.{interface_meaning, meaning_of_world}
 use Rattle.tables.specs.declared.error.ResolveError.{ResolveError}
 use Rattle.tables.specs.declared.error.ResolveError.TheVariants as error
 use Rattle.tables.specs.declared.tables.Resolve.{Resolve}
+use Rattle.package_form.specs.Closed.{is_world_of}
 
 -- ---- order
 
@@ -305,9 +306,6 @@ in_package n i = record { «package» = package_id n; name = i.name; uses = i.us
 abbrev pub interfaces_behind : ℕ → ℕ → List Definition → List (List ℕ) → List Interface
 interfaces_behind packages interfaces rows names = map (in_package packages) (interfaces_from rows interfaces names)
 
-abbrev pub is_world_in : ℕ → World → Bool
-is_world_in n w = w.«package».0 == n
-
 -- .. behind its imports, which stand as in their table: one table of all, closed where each import is reached
 pub record IsClosedPackageOf (imports : Resolve) (f : File) (r : Resolve) : Type 0 where
   pub earlier : KnowsPackagesOf (imports_of imports) f
@@ -318,7 +316,7 @@ pub record IsClosedPackageOf (imports : Resolve) (f : File) (r : Resolve) : Type
   pub items : HasItems r.definitions r.worlds
   pub rows : (own : List Definition) × (r.definitions ≡ imports.definitions ++ own)
   pub own : (names : List (List ℕ)) × (r.interfaces ≡ imports.interfaces ++ interfaces_behind (length imports.packages) (length imports.interfaces) r.definitions names)
-  pub worlds : list_all (is_world_in (length imports.packages)) r.worlds ≡ true
+  pub worlds : list_all (is_world_of (length imports.packages)) r.worlds ≡ true
   pub within : type_entries (table_of r) ≤ 65535
 
 -- the tree has an interface or a world

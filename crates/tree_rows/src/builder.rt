@@ -1,9 +1,8 @@
 //! The table of definitions while it is made.
 ghost use Rattle.std.specs.Prelude.{◌≡◌, ◌≢◌, ◌<◌, ◌++◌, ◌∷◌, [], length, IfOk};
-ghost use Rattle.std.specs.Bool.{OnTrue, OnFalse};
 ghost use Rattle.tables.specs.Package.{Tree, interface_names};
 ghost use Rattle.package_form.specs.Entries.{Table};
-ghost use Rattle.tree_meaning.specs.Building.{Lowers, LowersInner, label_at};
+ghost use Rattle.tree_meaning.specs.Building.{Lowers, LowersInner};
 
 use atoms::Label;
 use package_names::IndexedTable;

@@ -1,5 +1,5 @@
 //! The definitions of an interface as rows of the table.
-ghost use Rattle.std.specs.Prelude.{◌≡◌, ◌++◌, ◌∷◌, [], map, All, Contains, IfOk, OnOk};
+ghost use Rattle.std.specs.Prelude.{◌≡◌, ◌++◌, ◌∷◌, [], map, All, IfOk, OnOk};
 ghost use Rattle.tree_meaning.specs.Declarations.{named_definition, names_in_function};
 ghost use Rattle.tree_meaning.specs.Resolved.{use_meaning, type_meaning, meaning_of_function, in_order};
 ghost use Rattle.tables.specs.Package.{Reference};

@@ -1,12 +1,12 @@
 -- What stands as JSON of a type is a value of the type.
-use Rattle.std.proofs.Common.{◌≡◌, ap, ◌∙◌, map, inl, inr, ℕ, zero, suc, ◌+◌, ◌*◌, ◌<◌, ◌^◌, List, [], ◌∷◌, length, Some, slice_get, Bool, true, false, cond, ◌||◌, ◌&&◌, nat_lt, refl, sym, subst, arith}
+use Rattle.std.proofs.Common.{◌≡◌, ap, ◌∙◌, inl, inr, ℕ, zero, suc, ◌+◌, ◌*◌, ◌<◌, ◌^◌, List, [], ◌∷◌, length, Some, slice_get, Bool, true, false, cond, ◌||◌, ◌&&◌, nat_lt, refl, sym, subst, arith}
 use Rattle.std.proofs.Math.Nat.{pow-succ'}
 use Rattle.std.specs.Char.{IsScalar}
 use Rattle.std.specs.List.{AllByRecursion}
 use Rattle.canonical_abi.specs.Types.{Prim, boolean, unsigned, signed, scalar_value, Cases, no_case}
 use Rattle.canonical_abi.specs.Labelled.{Label, LabelledType, labelled_prim, labelled_string, labelled_list, labelled_option, labelled_tuple, labelled_result, labelled_record, labelled_variant, labelled_enum, labelled_flags, LabelledTypes, no_member, member, Payload, no_payload, payload, LabelledFields, no_labelled_field, labelled_field, LabelledCases, no_labelled_case, labelled_case, closed, closed_members, closed_fields, closed_cases, closed_payload, plain_cases}
 use Rattle.canonical_abi.specs.Values.{Value, is_scalar, HasPrimType, HasType, HaveTypes, IsOfCase, plain_value}
-use Rattle.canonical_abi.specs.Types.{field, fields_of}
+use Rattle.canonical_abi.specs.Types.{field}
 use Rattle.serde_json.specs.Data.{Data, Members}
 use Rattle.tables.specs.Closed.{closed_type}
 use Rattle.tables.specs.Labelled.{labelled_type, labelled_types, labelled_members}

@@ -1,8 +1,7 @@
 //! Values of JSON.
 ghost use Rattle.std.specs.Prelude.{◌≡◌, ◌≤◌, ◌<◌, ◌^◌, ℕ, IsTrue, IfSome, IfNone, IfOk, IsErrOf, map, List, length};
 ghost use Rattle.std.specs.List.{list_all};
-ghost use Rattle.serde_json.specs.View.{view, items_of};
-ghost use Rattle.serde_json.specs.Data.{Data};
+ghost use Rattle.serde_json.specs.View.{view};
 ghost use Rattle.canonical_abi.specs.Values.{Value, HasType, HaveTypes};
 ghost use Rattle.canonical_abi.specs.Labelled.{labelled_string, labelled_enum, labelled_flags};
 ghost use Rattle.tables.specs.Closed.{closed_type};

@@ -1,13 +1,13 @@
 //! JSON values of values: over the types that stand above in the table.
-ghost use Rattle.std.specs.Prelude.{◌≡◌, false, ◌<◌, ◌≤◌, ◌^◌, ◌++◌, ℕ, List, length, map, IfOk, IsTrue};
+ghost use Rattle.std.specs.Prelude.{◌≡◌, false, ◌<◌, ◌≤◌, ◌^◌, ◌++◌, ℕ, List, map, IfOk, IsTrue};
 ghost use Rattle.std.specs.List.{list_all, AllByRecursion};
 ghost use Rattle.canonical_abi.specs.Labelled.{labelled_enum, labelled_flags, labelled_string, closed, closed_members, closed_fields, closed_cases, plain_cases};
 ghost use Rattle.canonical_abi.specs.Types.{variant_type, depth};
-ghost use Rattle.canonical_abi.specs.Values.{HasType, HasPrimType, HaveTypes, Value};
+ghost use Rattle.canonical_abi.specs.Values.{HasType, HaveTypes};
 ghost use Rattle.serde_json.specs.Data.{string, put, depth as json_depth};
 ghost use Rattle.serde_json.specs.View.{view, members_view};
 ghost use Rattle.serde_json.specs.Written.{has_float};
-ghost use Rattle.tables.specs.Closed.{prim_of, closed_type};
+ghost use Rattle.tables.specs.Closed.{closed_type};
 ghost use Rattle.tables.specs.Standard.{IsTypeOf};
 ghost use Rattle.tables.specs.Tables.{is_below, is_type, option_all, kind_all, is_standard_kind};
 ghost use Rattle.values.specs.Val.{value_of};

@@ -2,7 +2,6 @@
 
 ghost use Rattle.std.specs.Prelude.{◌≡◌, IfOk};
 ghost use Rattle.tables.specs.Closed.{IsFunction};
-ghost use Rattle.tables.specs.Standard.{IsTypeOf};
 
 use canonical_abi::Fault;
 use lift_lower::Val;

@@ -20,7 +20,7 @@ use Rattle.package_form.specs.Distinct.{RefusesScopes}
 use Rattle.package_form.proofs.Lists.{all-contained}
 use Rattle.component_reader.specs.declared.unread.Unread.TheVariants as unread
 use Rattle.package_form.specs.Ends.{end_of, rows_of, interfaces_end}
-use Rattle.wit_component.specs.Component.{aliases_of, ComponentFront, interface_declarations, interface_direction, front_after, interfaces_declared, no_front, interfaces_front, worlds_declared, package_declarations, component_of}
+use Rattle.wit_component.specs.Component.{aliases_of, ComponentFront, interface_declarations, interface_direction, front_after, interfaces_declared, no_front, interfaces_front, worlds_declared, component_of}
 use Rattle.wit_component.specs.FromComponent.{is_none, is_empty_package}
 use Rattle.package_form.specs.Naming.{package_scopes, table_scopes}
 use Rattle.package_form.specs.Closed.{own_package}

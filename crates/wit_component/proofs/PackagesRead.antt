@@ -1,10 +1,9 @@
 -- The packages of full names that are read one after the other.
-use Rattle.std.proofs.Common.{◌≡◌, ◌⊎◌, inl, inr, ◌≤◌, ◌<◌, ◌-◌, ℕ, zero, suc, ◌+◌, Bool, true, false, cond, ◌||◌, ◌&&◌, nat_le, nat_lt, List, [], ◌∷◌, ◌++◌, take, length, get_or, slice_get, Option, None, Some, refl, ap, sym, subst, ◌∙◌, arith, length-take, length-append, eqb-true}
+use Rattle.std.proofs.Common.{◌≡◌, ◌⊎◌, inl, inr, ◌≤◌, ◌<◌, ◌-◌, ℕ, zero, suc, ◌+◌, Bool, true, false, cond, ◌||◌, ◌&&◌, nat_le, nat_lt, List, [], ◌∷◌, ◌++◌, take, length, slice_get, Option, Some, refl, ap, sym, ◌∙◌, arith, length-take, eqb-true}
 use Rattle.std.specs.List.{list_any}
-use Rattle.std.proofs.lemmas.Bool.{leb-true, ltb-true, cases_lt}
+use Rattle.std.proofs.lemmas.Bool.{leb-true, cases_lt}
 use Rattle.tables.specs.PackageNames.{PackageParts}
 use Rattle.tables.specs.Tables.{are_grouped}
-use Rattle.tables.specs.declared.tables.PackageId.{PackageId}
 use Rattle.tables.specs.declared.tables.Interface.{Interface}
 use Rattle.tables.proofs.Rows.{split}
 use Rattle.package_form.specs.Reached.{is_interface_of}

@@ -6,12 +6,8 @@ use Rattle.ctype_format.specs.Raw.{Component, Instance, Decl, Entry, Alias, Expo
 use Rattle.ctype_format.specs.View.{decls_of}
 use Rattle.ctype_format.specs.declared.raw.RawAlias.TheVariants as alias
 use Rattle.ctype_format.specs.declared.raw.RawDescription.TheVariants as described
-use Rattle.tables.specs.Tables.{type_of}
 use Rattle.tables.specs.Names.{full_name, world_name}
 use Rattle.tables.specs.Package.{interface_names}
-use Rattle.tables.specs.declared.tables.TypeId.{TypeId}
-use Rattle.tables.specs.declared.tables.TypeDef.{TypeDef}
-use Rattle.tables.specs.declared.tables.TypeDefKind.{TypeDefKind}
 use Rattle.tables.specs.declared.tables.TypeDefKind.TheVariants as kind
 use Rattle.tables.specs.declared.tables.TypeName.{TypeName}
 use Rattle.tables.specs.declared.tables.Definition.{Definition}

@@ -1,6 +1,6 @@
 -- What is answered of a raw component.
 use Rattle.std.specs.Prelude.{◌≡◌, Bool, true, false, List, [], ◌∷◌}
-use Rattle.ctype_format.specs.Raw.{Definition, Define, Func, Component, Instance, Decls, none, then}
+use Rattle.ctype_format.specs.Raw.{Definition, Component, Decls, none, then}
 use Rattle.ctype_bin.specs.FileView.{raw_component_view}
 use Rattle.ctype_bin.specs.declared.component.RawComponent.{RawComponent}
 use Rattle.tables.specs.declared.error.ResolveError.{ResolveError}

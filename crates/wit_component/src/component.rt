@@ -6,7 +6,7 @@ ghost use Rattle.ctype_format.specs.View.{decl_view, decls_of};
 ghost use Rattle.ctype_format.specs.Raw.{Component, Entry, Export};
 ghost use Rattle.ctype_format.specs.declared.raw.RawDescription.TheVariants as described;
 ghost use Rattle.tables.specs.Names.{full_name, world_name};
-ghost use Rattle.wit_component.specs.Component.{ComponentFront, first_place, interface_direction, interface_declarations, front_after, interfaces_declared, no_front, interfaces_front, world_declarations, world_front, package_declarations};
+ghost use Rattle.wit_component.specs.Component.{ComponentFront, interface_direction, interface_declarations, front_after, interfaces_declared, no_front, interfaces_front, world_declarations, world_front, package_declarations};
 ghost use Rattle.wit_component.specs.Worlds.{directed, StandFrom};
 ghost use Rattle.package_form.specs.Closed.{own_package};
 ghost use Rattle.package_form.specs.Ends.{interfaces_end, world_rows, is_parted};

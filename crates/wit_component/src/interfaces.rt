@@ -1,13 +1,8 @@
 //! Interfaces as declarations of the component type.
-ghost use Rattle.std.specs.Prelude.{◌≡◌, ◌≤◌, ◌<◌, ◌+◌, ◌++◌, ◌∷◌, [], ◌-◌, None, Some, map, length, take, drop, IsTrue, IfOk, OnOk, MatchOption};
-ghost use Rattle.atoms.specs.FullName.{is_package_label, is_version_or_none};
-ghost use Rattle.ctype_format.specs.Names.{name_view};
+ghost use Rattle.std.specs.Prelude.{◌≡◌, ◌≤◌, ◌<◌, ◌+◌, ◌++◌, ◌∷◌, [], ◌-◌, Some, map, length, IfOk};
 ghost use Rattle.ctype_format.specs.View.{decl_view, decls_of};
-ghost use Rattle.ctype_format.specs.Raw.{Instance, Entry, Alias, Export};
-ghost use Rattle.tables.specs.Names.{full_name};
-ghost use Rattle.wit_component.specs.Rows.{Place, declarations_of, places_after};
-ghost use Rattle.package_form.specs.Reached.{used_in, name_at};
-ghost use Rattle.wit_component.specs.Component.{instance_export, row_alias, aliases_of};
+ghost use Rattle.ctype_format.specs.Raw.{Instance, Entry, Alias};
+ghost use Rattle.wit_component.specs.Component.{instance_export, aliases_of};
 
 use crate::rows::{RowPlace, declarations_of};
 use ctype_bin::{RawAlias, RawDecl, RawDescription, RawType};

@@ -1,13 +1,13 @@
 //! Rows as declarations of the type that they stand in: an interface's instance type, or a world's component type.
-ghost use Rattle.std.specs.Prelude.{◌≡◌, ◌≤◌, ◌<◌, ◌+◌, ◌*◌, ◌++◌, map, option_map, length, vec_len, IsTrue, IfOk, OnOk, OnErr};
+ghost use Rattle.std.specs.Prelude.{◌≡◌, ◌≤◌, ◌<◌, ◌+◌, ◌*◌, ◌++◌, map, option_map, length, IsTrue, IfOk, OnOk};
 ghost use Rattle.std.specs.List.{list_all};
 ghost use Rattle.atoms.specs.Label.{IsLabel};
-ghost use Rattle.ctype_format.specs.View.{decl_view, decls_of, defined_view};
+ghost use Rattle.ctype_format.specs.View.{decl_view, defined_view};
 ghost use Rattle.ctype_format.specs.Names.{name_view};
 ghost use Rattle.ctype_format.specs.Raw.{Define, Func, Entry};
 ghost use Rattle.tables.specs.Tables.{function_of, is_there};
 ghost use Rattle.package_form.specs.Ids.{is_use};
-ghost use Rattle.wit_component.specs.Rows.{Place, signature_of, defined_of, definition_declared, definition_index, type_export, row_declarations, outer_alias, defined_types, row_types, row_offset, place_after, declarations_of, places_after};
+ghost use Rattle.wit_component.specs.Rows.{Place, signature_of, defined_of, definition_declared, definition_index, row_declarations, outer_alias, defined_types, row_types, row_offset, place_after, declarations_of, places_after};
 ghost use Rattle.wit_component.specs.Worlds.{directed, function_declared};
 ghost use Rattle.wit_component.specs.ToComponent.{is_labelled};
 

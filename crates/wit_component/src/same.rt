@@ -1,5 +1,5 @@
 //! Whether raw components are the same, and whether one is empty.
-ghost use Rattle.std.specs.Prelude.{◌≡◌, [], true, IfOk, map};
+ghost use Rattle.std.specs.Prelude.{◌≡◌, [], true, IfOk};
 ghost use Rattle.std.specs.Bool.{OnTrue};
 ghost use Rattle.ctype_format.specs.View.{type_view};
 ghost use Rattle.ctype_bin.specs.FileView.{raw_component_view};

@@ -1,5 +1,5 @@
 //! A package as a raw component.
-ghost use Rattle.std.specs.Prelude.{◌≡◌, ◌⊎◌, [], ◌∷◌, IsTrue, true, IfOk, OnOk, IfErr};
+ghost use Rattle.std.specs.Prelude.{◌≡◌, ◌⊎◌, [], ◌∷◌, IsTrue, IfOk, OnOk, IfErr};
 ghost use Rattle.ctype_format.specs.View.{parts_file, export_view};
 ghost use Rattle.ctype_bin.specs.FileView.{raw_component_view};
 ghost use Rattle.ctype_bin.specs.Encoding.{AppendsSpelling};

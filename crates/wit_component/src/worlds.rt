@@ -7,7 +7,7 @@ ghost use Rattle.tables.specs.Package.{interface_names};
 ghost use Rattle.tables.specs.declared.tables.WorldItemKind.TheVariants as item;
 ghost use Rattle.package_form.specs.Ends.{behind_item, behind_items};
 ghost use Rattle.package_form.specs.Form.{has_full_names};
-ghost use Rattle.wit_component.specs.Worlds.{Surroundings, rows_between, item_declarations, item_place, items_declared, items_place, StandsFrom, StandFrom};
+ghost use Rattle.wit_component.specs.Worlds.{rows_between, item_declarations, item_place, items_declared, items_place, StandsFrom, StandFrom};
 ghost use Rattle.wit_component.specs.ToComponent.{is_labelled};
 
 use crate::names::full_name;

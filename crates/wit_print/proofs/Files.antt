@@ -1,6 +1,6 @@
 -- Files: the text of their words is read as they are, but for where their items stand.
 use Rattle.std.proofs.Common.{◌≡◌, ◌≤◌, ℕ, zero, suc, List, [], ◌∷◌, ◌++◌, map, length, refl, ap, subst, append_assoc, arith}
-use Rattle.std.specs.Prelude.{false, Option}
+use Rattle.std.specs.Prelude.{false}
 use Rattle.std.specs.List.{AllByRecursion}
 use Rattle.std.proofs.lemmas.Bool.{or_left, or_right}
 use Rattle.wit_tokens.specs.declared.token.Keyword.TheVariants as kw

@@ -1,6 +1,6 @@
 -- Types: they are spelled by their words, and these stand.
 use Rattle.std.proofs.Common.{◌≡◌, ◌≤◌, ◌<◌, ℕ, zero, suc, List, [], ◌∷◌, ◌++◌, refl, sym, ap, subst, ◌∙◌, arith}
-use Rattle.std.specs.Prelude.{None, true, false, nat_le, ◌||◌}
+use Rattle.std.specs.Prelude.{None, true, nat_le, ◌||◌}
 use Rattle.std.proofs.lemmas.Bool.{or_left, or_right, false≢true, leb-true, and_parts}
 use Rattle.atoms.specs.Label.{is_label}
 use Rattle.wit_tokens.specs.declared.token.Keyword.{Keyword}

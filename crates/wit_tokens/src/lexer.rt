@@ -1,5 +1,5 @@
 //! From text to tokens.
-ghost use Rattle.std.specs.Prelude.{◌≡◌, ◌<◌, ◌≤◌, ◌+◌, ◌^◌, ◌∷◌, ℕ, IsTrue, false, length, take, drop, if◌then◌else◌, IfOk, IfErr, IfSome, IfNone, None};
+ghost use Rattle.std.specs.Prelude.{◌≡◌, ◌<◌, ◌≤◌, ◌+◌, ◌^◌, ◌∷◌, IsTrue, false, length, take, drop, if◌then◌else◌, IfOk, IfErr, IfSome, IfNone, None};
 ghost use Rattle.atoms.specs.Label.{are_words};
 ghost use Rattle.wit_tokens.specs.Lexing.{is_letter, is_blank, is_in_version, blank_run, word_run, digit_run, version_run, line_run, comment_run, plus, begins_with, begins_pair, begins_letter, begins_digit, mark_of, char_len, token, slash_front, word_kind, word_front, escape_front, at_front, front_of, Takes, limit, Lexes, LexFault};
 ghost use Rattle.wit_tokens.specs.declared.lexer.Front.TheVariants as front;

@@ -5,7 +5,7 @@ use Rattle.canonical_abi.specs.Types.{FunctionType, result_fields}
 use Rattle.canonical_abi.specs.Values.{Value}
 use Rattle.canonical_abi.specs.Guest.{Memory}
 use Rattle.canonical_abi.specs.Call.{exact, Parties, World, Ways, Traps, Calls}
-use Rattle.canonical_abi.specs.Session.{HasResult, HasResultFault, Placed, PlaceFails, CameBack, TypedTraps, TypedCall, as_list}
+use Rattle.canonical_abi.specs.Session.{HasResult, HasResultFault, Placed, PlaceFails, CameBack, TypedTraps, TypedCall}
 use Rattle.canonical_abi.specs.declared.flat.Flat.{Flat}
 use Rattle.canonical_abi.specs.declared.trap.Fault.{Fault}
 use Rattle.canonical_abi.specs.declared.trap.Fault.TheVariants as ended
@@ -18,6 +18,7 @@ use Rattle.lift_lower.specs.NoValue.{AnswerStands}
 use Rattle.lift_lower.specs.Placing.{area_at}
 use Rattle.witcall.specs.Session.{typed_answer, IsReady, IsNotReady}
 use Rattle.canonical_abi.specs.Halves.{as_world}
+use Rattle.std.specs.Prelude.{option_to_list}
 
 module _ (parties : Parties) (f : FunctionType) (arguments : List Value) where
   pub placed : (caller caller' callee : Memory) (body : List ℕ) (flats : List Flat) (area : Option ℕ)
@@ -61,7 +62,7 @@ module _ (parties : Parties) (f : FunctionType) (arguments : List Value) where
         subst (λ x. TypedTraps parties exact f arguments old x k new) (sym is_take) (back, area, came, fault)
 
     pub takes : (old new : World) (back : List Flat) (answer : Result (Option Val) Fault) → CameBack parties f arguments old back area new
-        → AnswerStands step.Take (λ v. HasResult (result_fields f.result) new.caller.bytes back area (as_list (option_map value_of v)))
+        → AnswerStands step.Take (λ v. HasResult (result_fields f.result) new.caller.bytes back area (option_to_list (option_map value_of v)))
         (HasResultFault (result_fields f.result) new.caller.bytes back area) answer
         → TypedCall parties exact f arguments old (typed_answer answer) new
     takes old new back (Ok v) came stands = (back, area, came, stands)

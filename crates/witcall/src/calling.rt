@@ -1,11 +1,10 @@
 //! One call whose arguments and result are JSON.
 
-ghost use Rattle.std.specs.Prelude.{◌≡◌, ◌≢◌, ◌≤◌, ℕ, List, true, false, length, take, map, IfOk, IfErr, OnOk, OnErr, IsErrOf, string_bytes, replicate, Ok};
+ghost use Rattle.std.specs.Prelude.{◌≡◌, ◌≢◌, ◌≤◌, ℕ, List, true, false, length, take, map, IfOk, IfErr, OnOk, IsErrOf, string_bytes, Ok, option_to_list};
 ghost use Rattle.std.specs.Option.{option_map};
 ghost use Rattle.std.specs.Io.KnownBytes.{Appends, Keeps};
-ghost use Rattle.canonical_abi.specs.Values.{HasType, HaveTypes};
+ghost use Rattle.canonical_abi.specs.Values.{HaveTypes};
 ghost use Rattle.canonical_abi.specs.Types.{result_fields};
-ghost use Rattle.canonical_abi.specs.Session.{as_list};
 ghost use Rattle.tables.specs.Closed.{IsFunction, function_at, function_type};
 ghost use Rattle.values.specs.Val.{value_of};
 ghost use Rattle.memory.specs.Growth.{ArePages};
@@ -76,7 +75,7 @@ fn call_once(
     ensures call { IfOk result (λ v. CallAnswers «package».now.resolve func (map value_of arguments.now)
         (runs body) (posts body) (state body) (Ok (option_map value_of v))) }
     ensures err { IfErr result (CallRefuses «package».now.resolve func (map value_of arguments.now) (runs body) (posts body) (state body)) }
-    ensures typed { IfOk result (λ v. HaveTypes (as_list (option_map value_of v))
+    ensures typed { IfOk result (λ v. HaveTypes (option_to_list (option_map value_of v))
         (result_fields (function_type «package».now.resolve func).result)) }
 {
     let caller = fresh_memory(alloc, MEMORY, MAX_MEMORY)?;
@@ -106,7 +105,7 @@ fn output_of(
     answer: Option<Val>,
 ) -> Result<String, AllocError>
     requires function { IsFunction «package».now.resolve func }
-    requires typed { HaveTypes (as_list (option_map value_of answer))
+    requires typed { HaveTypes (option_to_list (option_map value_of answer))
         (result_fields (function_type «package».now.resolve func).result) }
     ensures { IfOk result (λ output. IsOutputOf «package».now.resolve (function_signature (function_at «package».now.resolve func)).result
         (option_map value_of answer) (string_bytes output)) }

@@ -1,22 +1,16 @@
 //! Typed calls between two components.
 
-ghost use Rattle.std.specs.Prelude.{◌≡◌, ◌≢◌, ◌≤◌, ℕ, List, Err, length, map, is_ok, IfOk, IfErr, IfSome, OnErr, OnOk, option_to_list};
+ghost use Rattle.std.specs.Prelude.{◌≡◌, ◌≢◌, ◌≤◌, Err, map, is_ok, IfOk, IfSome, OnErr, OnOk, option_to_list};
 ghost use Rattle.std.specs.List.{All};
 ghost use Rattle.std.specs.Option.{option_map};
 ghost use Rattle.canonical_abi.specs.Values.{HasType, HaveTypes};
 ghost use Rattle.canonical_abi.specs.Types.{IsPlain, result_fields};
 ghost use Rattle.tables.specs.Closed.{IsFunction, closed_type, function_type};
 ghost use Rattle.tables.specs.Standard.{IsTypeOf};
-ghost use Rattle.canonical_abi.specs.Layout.{max_flat_results};
-ghost use Rattle.canonical_abi.specs.Flat.{Denotes};
 ghost use Rattle.canonical_abi.specs.Call.{exact, AllowsSameRuns, AllowsSamePosts};
-ghost use Rattle.canonical_abi.specs.Session.{PlacesValue, ReadsValue, TakesStep, TypedCall, as_list};
+ghost use Rattle.canonical_abi.specs.Session.{PlacesValue, ReadsValue, TakesStep, TypedCall};
 ghost use Rattle.canonical_abi.specs.Headline.{IsPromised};
 ghost use Rattle.values.specs.Val.{value_of};
-ghost use Rattle.values.specs.Members.{fields_of_types};
-ghost use Rattle.values.specs.Scalars.{AreScalar};
-ghost use Rattle.values.specs.Scalar.{value_in};
-ghost use Rattle.tables.specs.declared.tables.Resolve.{Resolve};
 ghost use Rattle.witcall.specs.Session.{typed_answer};
 ghost use Rattle.witcall.specs.Steps.{IsKnownAnswer, IsStep, Runs, answer_of, held_of, placed_answer, read_answer, step_of};
 
@@ -102,7 +96,7 @@ impl<'a, C: Guest, E: Guest, B: Body<E>> Session<'a, C, E, B> {
             (record { caller = C.memory self.new.caller; callee = E.memory self.new.callee; body = B.state self.new.body }) }
         ensures same_runs { AllowsSameRuns (B.runs self.old.body) (B.runs self.new.body) }
         ensures same_posts { AllowsSamePosts (B.posts self.old.body) (B.posts self.new.body) }
-        ensures typed { IfOk result (λ v. HaveTypes (as_list (option_map value_of v))
+        ensures typed { IfOk result (λ v. HaveTypes (option_to_list (option_map value_of v))
             (result_fields (function_type self.old.package.now.resolve func).result)) }
         ensures package { self.new.package.now ≡ self.old.package.now }
         ensures no_memory { IfSome (function_type self.old.package.now.resolve func).result IsPlain → result ≢ Err Fault.NoMemory }

@@ -3,7 +3,6 @@ use Rattle.canonical_abi.specs.Types.{Fields, field, no_field, result_fields}
 use Rattle.canonical_abi.specs.Flat.{Denotes, DenotesFault}
 use Rattle.canonical_abi.specs.Layout.{max_flat_results}
 use Rattle.canonical_abi.specs.Reading.{denoting}
-use Rattle.canonical_abi.specs.Session.{as_list}
 use Rattle.canonical_abi.specs.declared.trap.Step.TheVariants.{Take}
 use Rattle.canonical_abi.proofs.Tells.{denoting-tells}
 use Rattle.std.specs.Option.{option_map}
@@ -13,6 +12,7 @@ use Rattle.values.specs.Val.{value_of}
 use Rattle.values.specs.declared.val.Val.{Val}
 use Rattle.lift_lower.proofs.Denoted.{denotes-typed}
 use Rattle.lift_lower.proofs.Loadings.{fails-stand}
+use Rattle.std.specs.Prelude.{option_to_list}
 use Rattle.lift_lower.proofs.lifting.lift_result.Goals as goal
 
 pub returns-in-Ok-clause-value : goal.returns-in-Ok-clause-value
@@ -26,7 +26,7 @@ returns-in-Err-clause-value g c =
     let ts = field (closed_type c.args.table.now c.in-Some.ty) no_field in
     let m = (g.G.Guest.memory c.args.guest.now).bytes in
     let same : ts ≡ result_fields (option_map (closed_type c.args.table.now) c.args.ty) = ap (λ o. result_fields (option_map (closed_type c.args.table.now) o)) (sym c.in-Some.is) in
-    let P : Fields → Option Val → Type 0 = λ us v. Denotes max_flat_results us m c.args.flats.now (as_list (option_map value_of v)) in
+    let P : Fields → Option Val → Type 0 = λ us v. Denotes max_flat_results us m c.args.flats.now (option_to_list (option_map value_of v)) in
     subst (λ us. AnswerStands Take (P us) (DenotesFault max_flat_results us m c.args.flats.now) (Err c.at-in-Err.result)) same
     (fails-stand Take c.in-Err.no_value c.at-in-Err.result (denoting max_flat_results ts m c.args.flats.now) (P ts) (DenotesFault max_flat_results ts m c.args.flats.now) c.at-in-Err.ensures (rw c.bytes.ensures at c.in-Err.ensures.value) (λ k e. (denoting-tells max_flat_results ts m c.args.flats.now).err k e))
 

@@ -1,4 +1,4 @@
-use Rattle.std.proofs.Common.{◌≡◌, ◌*◌, ◌/◌, length, arith}
+use Rattle.std.proofs.Common.{◌≡◌, ◌*◌, ◌/◌, length}
 use Rattle.memory.specs.HolesView.{listed_holes}
 use Rattle.memory.proofs.FirstFitSteps.{listed_are_holes}
 use Rattle.memory.proofs.laws.holes_are_longest_runs.Goals as goal

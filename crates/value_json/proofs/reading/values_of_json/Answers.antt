@@ -1,11 +1,8 @@
-use Rattle.std.proofs.Common.{List, map, sym, ap, ◌∙◌, subst, rules}
-use Rattle.std.specs.List.{list_all}
-use Rattle.values.specs.Val.{value_of}
+use Rattle.std.proofs.Common.{map, sym, ap, ◌∙◌, subst, rules}
 use Rattle.values.proofs.Known.{all-known-inside}
 use Rattle.serde_json.specs.Data.{array}
 use Rattle.serde_json.specs.View.{view, items_of}
 use Rattle.tables.specs.Labelled.{labelled_types, labelled_members}
-use Rattle.tables.specs.Tables.{is_below}
 use Rattle.value_json.specs.Json.{MembersJson}
 use Rattle.value_json.proofs.Objects.{array-is, only_items}
 use Rattle.value_json.proofs.Typed.{values-typed}

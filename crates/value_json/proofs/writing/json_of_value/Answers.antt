@@ -1,4 +1,4 @@
-use Rattle.std.proofs.Common.{◌≡◌, ◌≤◌, sym, ap, subst}
+use Rattle.std.proofs.Common.{◌≡◌, ◌≤◌, sym, subst}
 use Rattle.canonical_abi.specs.Types.{depth}
 use Rattle.canonical_abi.specs.Values.{HasType}
 use Rattle.values.specs.Val.{value_of}

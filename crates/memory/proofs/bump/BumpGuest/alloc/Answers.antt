@@ -1,7 +1,6 @@
-use Rattle.std.proofs.Common.{◌≡◌, ◌+◌, List, ℕ, refl, arith, rules}
+use Rattle.std.proofs.Common.{◌≡◌, ◌+◌, refl, rules}
 use Rattle.std.proofs.lemmas.Result.{err_from_is_err_and}
-use Rattle.memory.specs.Bump.{bump, IsRoundedUp}
-use Rattle.memory.specs.Growth.{HasNoGrowth, ReachesEnd}
+use Rattle.memory.specs.Bump.{IsRoundedUp}
 use Rattle.memory.proofs.bump.BumpGuest.alloc.Goals as goal
 
 pub returns-in_err-reach-clause-step : goal.returns-in_err-reach-clause-step

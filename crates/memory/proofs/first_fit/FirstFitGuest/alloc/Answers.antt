@@ -1,9 +1,8 @@
-use Rattle.std.proofs.Common.{◌≡◌, ◌<◌, ◌≤◌, ◌+◌, ◌*◌, ◌/◌, ◌%◌, length, true, refl, ap, ◌∙◌, subst, arith}
+use Rattle.std.proofs.Common.{◌≡◌, ◌<◌, ◌≤◌, ◌+◌, ◌*◌, ◌/◌, ◌%◌, length, true, ap, ◌∙◌, subst, arith}
 use Rattle.std.proofs.lemmas.Result.{err_from_is_err_and}
-use Rattle.canonical_abi.specs.Guest.{rounded_to_eight}
-use Rattle.memory.specs.Growth.{with_pages, IsLeastGrowth, HasNoGrowth, ReachesEnd, GrowsTo}
+use Rattle.memory.specs.Growth.{HasNoGrowth, ReachesEnd, GrowsTo}
 use Rattle.memory.specs.GrowthLaws.{length-with_pages}
-use Rattle.memory.specs.Holes.{AreShort, IsTail, GivesHoleBack, TakesFront}
+use Rattle.memory.specs.Holes.{IsTail, GivesHoleBack}
 use Rattle.memory.specs.HolesView.{listed_holes}
 use Rattle.memory.proofs.FirstFitGrowth.{here, is_full, grows_longer, answered, never_refused}
 use Rattle.memory.proofs.first_fit.FirstFitGuest.alloc.Goals as goal

@@ -1,8 +1,8 @@
 use Rattle.std.proofs.Common.{ap, sym, map, subst, ◌∙◌, List, Option, None, Some, Ok, Err}
 use Rattle.std.proofs.lemmas.Result.{err_from_is_err_and}
 use Rattle.std.specs.Option.{option_map}
-use Rattle.std.specs.Prelude.{IfOk, IfSome}
-use Rattle.canonical_abi.specs.Session.{as_list, HasResult, HasResultFault}
+use Rattle.std.specs.Prelude.{IfOk, IfSome, option_to_list}
+use Rattle.canonical_abi.specs.Session.{HasResult, HasResultFault}
 use Rattle.canonical_abi.specs.Types.{ClosedType, Fields, IsPlain, result_fields}
 use Rattle.canonical_abi.specs.Call.{exact, Parties, Calls}
 use Rattle.canonical_abi.specs.Values.{HaveTypes}
@@ -97,7 +97,7 @@ returns-clause-call g c =
     let is = subst (λ q. IsFunction q c.args.func) (sym c.types-table.ensures.types) c.requires.function in
     let same = ap result_fields (sym (result-is own c.args.func is c.signature.result.now (rw c.resolve-resolve.ensures at c.signature.ensures))) ∙ ap (λ q. result_fields (function_type q c.args.func).result) c.types-table.ensures.types in
     let m = (g.C.Guest.memory c.call.new.caller).bytes in
-    let P : Fields → List Flat → Type 0 = λ ts fs. AnswerStands Take (λ v. HasResult ts m fs (area_at area) (as_list (option_map value_of v))) (HasResultFault ts m fs (area_at area)) c.take_result.result in
+    let P : Fields → List Flat → Type 0 = λ ts fs. AnswerStands Take (λ v. HasResult ts m fs (area_at area) (option_to_list (option_map value_of v))) (HasResultFault ts m fs (area_at area)) c.take_result.result in
     let stands = subst (P (result_fields f.result)) c.as_slice-2.ensures.value (subst (λ ts. P ts c.as_slice-2.result.now) same c.take_result.ensures.value) in
     takes parties f arguments (area_at area) (as_world caller callee body) new back c.take_result.result came stands
 
@@ -106,7 +106,7 @@ returns-clause-typed g c =
     let own = c.types-table.result in
     let is = subst (λ q. IsFunction q c.args.func) (sym c.types-table.ensures.types) c.requires.function in
     let same = ap result_fields (sym (result-is own c.args.func is c.signature.result.now (rw c.resolve-resolve.ensures at c.signature.ensures))) ∙ ap (λ q. result_fields (function_type q c.args.func).result) c.types-table.ensures.types in
-    subst (λ ts. IfOk c.take_result.result (λ v. HaveTypes (as_list (option_map value_of v)) ts)) same c.take_result.ensures.typed
+    subst (λ ts. IfOk c.take_result.result (λ v. HaveTypes (option_to_list (option_map value_of v)) ts)) same c.take_result.ensures.typed
 
 -- a result of a plain type
 plain-of : (g : ValType → ClosedType) (o : Option ValType) → IfSome (option_map g o) IsPlain → IfSome o (λ t. IsPlain (g t))
