@@ -1,7 +1,10 @@
--- The words by which a trap is printed: its kind and its step.
-use Rattle.std.specs.Prelude.{ℕ, List, codes}
+-- The words by which the end of a call is printed: a trap with its kind and its step, or that the host is out of memory.
+use Rattle.std.specs.Prelude.{ℕ, List, ◌++◌, codes}
+use Rattle.canonical_abi.specs.declared.trap.Fault.{Fault}
+use Rattle.canonical_abi.specs.declared.trap.Fault.TheVariants as fault
 use Rattle.canonical_abi.specs.declared.trap.Step.{Step}
 use Rattle.canonical_abi.specs.declared.trap.Step.TheVariants as step
+use Rattle.canonical_abi.specs.declared.trap.Trap.{Trap}
 use Rattle.canonical_abi.specs.declared.trap.TrapKind.{TrapKind}
 use Rattle.canonical_abi.specs.declared.trap.TrapKind.TheVariants as kind
 
@@ -26,3 +29,11 @@ step_words step.Body = codes "body"
 step_words step.LiftResult = codes "lift-result"
 step_words step.LowerResult = codes "lower-result"
 step_words step.Post = codes "post"
+
+abbrev pub trap_words : Trap → List ℕ
+trap_words t = codes "trap " ++ kind_words t.kind ++ codes " in " ++ step_words t.step
+
+-- the program's line
+abbrev pub fault_words : Fault → List ℕ
+fault_words (fault.Trap t) = trap_words t
+fault_words fault.NoMemory = codes "error 66 no memory"
