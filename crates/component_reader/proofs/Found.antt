@@ -3,7 +3,7 @@ use Rattle.std.proofs.Common.{◌≡◌, ◌⊎◌, inl, inr, ℕ, zero, suc, �
 use Rattle.std.specs.Option.{option_map}
 use Rattle.component_reader.specs.declared.unread.Unread.{Unread}
 use Rattle.component_reader.specs.declared.unread.Unread.TheVariants as unread
-use Rattle.component_reader.specs.Types.{Reads, Becomes, both_found, all_found}
+use Rattle.component_reader.specs.Types.{Becomes, both_found, all_found, ReadsFound}
 use Rattle.package_form.proofs.Meeting.{take-more}
 
 module _ {A B : Type 0} (f : A → Option B) where
@@ -37,7 +37,7 @@ module _ {A B : Type 0} (f : A → Option B) where
   found-none (y ∷ xs) (suc k) x l is e = ap (both_found (λ z zs. z ∷ zs) (f y)) (found-none xs k x (omega arith) is e) ∙ none-right (f y)
 
   pub refused-at : (xs : List A) (k : ℕ) (x : A) → k < length xs → x ≡ get_or xs k x → (e : Unread)
-      → (e ≡ unread.NoMemory) ⊎ ((e ≡ unread.NotThisShape) × (f x ≡ None)) → Reads (all_found f xs) (Err e)
+      → (e ≡ unread.NoMemory) ⊎ ((e ≡ unread.NotThisShape) × (f x ≡ None)) → ReadsFound (all_found f xs) (Err e)
   refused-at xs k x l is e (inl q) = inl q
   refused-at xs k x l is e (inr q) = inr (q.0, found-none xs k x l is q.1)
 
@@ -50,7 +50,7 @@ module _ {A B : Type 0} (f : A → Option B) where
     pub found-next : (ys : List B) (y : B) → all_found f (take k xs) ≡ Some ys → f (get_or xs k d) ≡ Some y → all_found f (take (k + 1) xs) ≡ Some (ys ++ y ∷ [])
     found-next ys y e q = found-more xs k (get_or xs k d) l (item-is xs k d l) ys y e q
 
-    pub refused-next : (e : Unread) → (e ≡ unread.NoMemory) ⊎ ((e ≡ unread.NotThisShape) × (f (get_or xs k d) ≡ None)) → Reads (all_found f xs) (Err e)
+    pub refused-next : (e : Unread) → (e ≡ unread.NoMemory) ⊎ ((e ≡ unread.NotThisShape) × (f (get_or xs k d) ≡ None)) → ReadsFound (all_found f xs) (Err e)
     refused-next e q = refused-at xs k (get_or xs k d) l (item-is xs k d l) e q
 
 -- what is read of a part is none where the part is

@@ -15,19 +15,19 @@ use Rattle.package_form.specs.Scoped.{NameEntry, mapped_entry}
 use Rattle.tables.specs.declared.tables.TypeId.{TypeId}
 use Rattle.component_reader.specs.declared.unread.Unread.{Unread}
 use Rattle.component_reader.specs.Types.{IsUnread, Becomes}
-use Rattle.component_reader.specs.Instance.{InstanceRead, if_found, named, type_named}
+use Rattle.component_reader.specs.Instance.{InstanceRead, if_found, type_named, with_name}
 use Rattle.component_reader.specs.Component.{exported_type}
 use Rattle.component_reader.specs.Readers.{names_view}
 
 -- ---- names
 
-named-there : (e : Vec ℕ × TypeId) (es : List (Vec ℕ × TypeId)) (k : Vec ℕ) (t : TypeId) (b : Bool) → names_view (insert_entry (λ x y. bytes_eq x.items y.items) es k t) ≡ named (names_view es) k.items t
-    → names_view (cond b ((e.0, t) ∷ es) (e ∷ insert_entry (λ x y. bytes_eq x.items y.items) es k t)) ≡ cond b (record { name = e.0.items; id = t } ∷ names_view es) (mapped_entry (λ v. v.items) e ∷ named (names_view es) k.items t)
+named-there : (e : Vec ℕ × TypeId) (es : List (Vec ℕ × TypeId)) (k : Vec ℕ) (t : TypeId) (b : Bool) → names_view (insert_entry (λ x y. bytes_eq x.items y.items) es k t) ≡ with_name (names_view es) k.items t
+    → names_view (cond b ((e.0, t) ∷ es) (e ∷ insert_entry (λ x y. bytes_eq x.items y.items) es k t)) ≡ cond b (record { name = e.0.items; id = t } ∷ names_view es) (mapped_entry (λ v. v.items) e ∷ with_name (names_view es) k.items t)
 named-there e es k t true h = refl
 named-there e es k t false h = ap (λ (ns : List NameEntry). mapped_entry (λ (v : Vec ℕ). v.items) e ∷ ns) h
 
 -- what a map keeps under a name
-pub names-inserted : (es : List (Vec ℕ × TypeId)) (k : Vec ℕ) (t : TypeId) → names_view (insert_entry (λ x y. bytes_eq x.items y.items) es k t) ≡ named (names_view es) k.items t
+pub names-inserted : (es : List (Vec ℕ × TypeId)) (k : Vec ℕ) (t : TypeId) → names_view (insert_entry (λ x y. bytes_eq x.items y.items) es k t) ≡ with_name (names_view es) k.items t
 names-inserted [] k t = refl
 names-inserted (e ∷ es) k t = named-there e es k t (bytes_eq k.items e.0.items) (names-inserted es k t)
 

@@ -3,7 +3,7 @@ use Rattle.std.specs.Prelude.{◌≡◌, ◌⊎◌, ◌-◌, ℕ, Bool, false, R
 use Rattle.std.specs.Option.{option_map}
 use Rattle.atoms.specs.Label.{is_label}
 use Rattle.ctype_format.specs.Names.{cut_at}
-use Rattle.ctype_format.specs.Raw.{Definition as AnyType, Define, Func, Component, Instance, Decl, Entry, Alias, Import, Export, Decls, none, then as more, BinaryFile}
+use Rattle.ctype_format.specs.Raw.{TypeEntry as AnyType, Define, Func, Component, Instance, Decl, Entry, Alias, Import, Export, Decls, none, then as more, BinaryFile}
 use Rattle.ctype_format.specs.declared.raw.RawAlias.{RawAlias}
 use Rattle.ctype_format.specs.declared.raw.RawAlias.TheVariants as alias
 use Rattle.ctype_format.specs.declared.raw.RawDescription.{RawDescription}

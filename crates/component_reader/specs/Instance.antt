@@ -3,7 +3,7 @@ use Rattle.std.specs.Prelude.{◌==◌, ℕ, List, [], ◌∷◌, ◌++◌, leng
 use Rattle.std.specs.Option.{option_map}
 use Rattle.std.specs.Str.{bytes_eq}
 use Rattle.atoms.specs.Label.{is_label}
-use Rattle.ctype_format.specs.Raw.{Definition as AnyType, Define, Func, Component, Instance, Decl, Entry, Alias, Import, Export, Decls, none, then as more}
+use Rattle.ctype_format.specs.Raw.{TypeEntry as AnyType, Define, Func, Component, Instance, Decl, Entry, Alias, Import, Export, Decls, none, then as more}
 use Rattle.ctype_format.specs.declared.raw.RawAlias.{RawAlias}
 use Rattle.ctype_format.specs.declared.raw.RawAlias.TheVariants as alias
 use Rattle.ctype_format.specs.declared.raw.RawDescription.{RawDescription}
@@ -45,9 +45,9 @@ pub record InstanceRead : Type 0 where
   pub functions : List FunctionId
 
 -- a name stands for the type that was exported last under it
-abbrev pub named : List NameEntry → List ℕ → TypeId → List NameEntry
-named [] n t = record { name = n; id = t } ∷ []
-named (e ∷ es) n t = if bytes_eq n e.name then record { name = e.name; id = t } ∷ es else e ∷ named es n t
+abbrev pub with_name : List NameEntry → List ℕ → TypeId → List NameEntry
+with_name [] n t = record { name = n; id = t } ∷ []
+with_name (e ∷ es) n t = if bytes_eq n e.name then record { name = e.name; id = t } ∷ es else e ∷ with_name es n t
 
 abbrev pub type_named : List NameEntry → List ℕ → Option TypeId
 type_named [] n = None
@@ -97,7 +97,7 @@ with_named k n what s = record {
   rows = s.rows ++ named_row k n what ∷ [];
   indices = s.indices ++ Some (type_id (length s.rows)) ∷ [];
   awaited = Nothing;
-  names = named s.names n (type_id (length s.rows));
+  names = with_name s.names n (type_id (length s.rows));
   uses = uses_with s.uses (type_id (length s.rows)) what;
   types = types_with s.types (type_id (length s.rows)) what;
   functions = s.functions;

@@ -25,9 +25,9 @@ abbrev pub IsUnread : {A : Type 0} → Unread → Option A → Type 0
 IsUnread e found = (e ≡ unread.NoMemory) ⊎ ((e ≡ unread.NotThisShape) × (found ≡ None))
 
 -- what was read is this; where it is none, the component isn't of a package's shape
-abbrev pub Reads : {A : Type 0} → Option A → Result A Unread → Type 0
-Reads found (Ok x) = found ≡ Some x
-Reads found (Err e) = IsUnread e found
+abbrev pub ReadsFound : {A : Type 0} → Option A → Result A Unread → Type 0
+ReadsFound found (Ok x) = found ≡ Some x
+ReadsFound found (Err e) = IsUnread e found
 
 -- .. and what was read is seen so
 abbrev pub ReadsAs : {A B : Type 0} → (B → A) → Option A → Result B Unread → Type 0

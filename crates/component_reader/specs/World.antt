@@ -2,7 +2,7 @@
 use Rattle.std.specs.Prelude.{◌==◌, ℕ, List, [], ◌∷◌, ◌++◌, length, Option, None, Some, slice_get, if◌then◌else◌}
 use Rattle.std.specs.Option.{option_map}
 use Rattle.atoms.specs.Label.{is_label}
-use Rattle.ctype_format.specs.Raw.{Definition as AnyType, Decl, Entry, Alias, Import, Export, Decls, none, then as more}
+use Rattle.ctype_format.specs.Raw.{TypeEntry as AnyType, Decl, Entry, Alias, Import, Export, Decls, none, then as more}
 use Rattle.ctype_format.specs.declared.raw.RawAlias.{RawAlias}
 use Rattle.ctype_format.specs.declared.raw.RawAlias.TheVariants as alias
 use Rattle.ctype_format.specs.declared.raw.RawDescription.{RawDescription}

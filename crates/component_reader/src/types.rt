@@ -1,7 +1,7 @@
 //! Types with indices as types of the table.
 ghost use Rattle.std.specs.Prelude.{◌≡◌, Some, IfOk};
 ghost use Rattle.ctype_format.specs.View.{defined_view};
-ghost use Rattle.component_reader.specs.Types.{Reads, all_found, primitive_type, row_at, val_type, optional_type, field_read, parameter_read, case_read, kind_defined};
+ghost use Rattle.component_reader.specs.Types.{all_found, primitive_type, row_at, val_type, optional_type, field_read, parameter_read, case_read, kind_defined, ReadsFound};
 
 use crate::unread::Unread;
 use atoms::Label;
@@ -29,7 +29,7 @@ fn primitive_type(primitive: ctype_bin::Primitive) -> ValType
 
 /// The row of a type index, if it has one.
 pub fn row_at(rows: &[Option<TypeId>], index: u32) -> Result<TypeId, Unread>
-    ensures { Reads (row_at rows.now index) result }
+    ensures { ReadsFound (row_at rows.now index) result }
 {
     match rows.get(index as usize) {
         Some(Some(id)) => Ok(*id),
@@ -38,7 +38,7 @@ pub fn row_at(rows: &[Option<TypeId>], index: u32) -> Result<TypeId, Unread>
 }
 
 fn val_type(rows: &[Option<TypeId>], ty: RawValType) -> Result<ValType, Unread>
-    ensures { Reads (val_type rows.now ty) result }
+    ensures { ReadsFound (val_type rows.now ty) result }
 {
     match ty {
         RawValType::Primitive(primitive) => Ok(primitive_type(primitive)),
@@ -50,7 +50,7 @@ pub fn optional_type(
     rows: &[Option<TypeId>],
     ty: Option<RawValType>,
 ) -> Result<Option<ValType>, Unread>
-    ensures { Reads (optional_type rows.now ty) result }
+    ensures { ReadsFound (optional_type rows.now ty) result }
 {
     match ty {
         Some(ty) => Ok(Some(val_type(rows, ty)?)),
@@ -63,7 +63,7 @@ fn members(
     rows: &[Option<TypeId>],
     types: &[RawValType],
 ) -> Result<Sequence<ValType>, Unread>
-    ensures { Reads (all_found (val_type rows.now) types.now) result }
+    ensures { ReadsFound (all_found (val_type rows.now) types.now) result }
 {
     let mut members = Vec::with_capacity(alloc, types.len())?;
     for ty in types {
@@ -77,7 +77,7 @@ fn fields(
     rows: &[Option<TypeId>],
     raw: &[RawField],
 ) -> Result<Sequence<Field>, Unread>
-    ensures { Reads (all_found (field_read rows.now) raw.now) result }
+    ensures { ReadsFound (all_found (field_read rows.now) raw.now) result }
 {
     let mut fields = Vec::with_capacity(alloc, raw.len())?;
     for field in raw {
@@ -94,7 +94,7 @@ pub fn parameters(
     rows: &[Option<TypeId>],
     raw: &[RawField],
 ) -> Result<Sequence<Parameter>, Unread>
-    ensures { Reads (all_found (parameter_read rows.now) raw.now) result }
+    ensures { ReadsFound (all_found (parameter_read rows.now) raw.now) result }
 {
     let mut params = Vec::with_capacity(alloc, raw.len())?;
     for param in raw {
@@ -107,7 +107,7 @@ pub fn parameters(
 }
 
 fn cases(alloc: Global, rows: &[Option<TypeId>], raw: &[RawCase]) -> Result<Sequence<Case>, Unread>
-    ensures { Reads (all_found (case_read rows.now) raw.now) result }
+    ensures { ReadsFound (all_found (case_read rows.now) raw.now) result }
 {
     let mut cases = Vec::with_capacity(alloc, raw.len())?;
     for case in raw {
@@ -135,7 +135,7 @@ pub fn kind_of(
     rows: &[Option<TypeId>],
     defined: &RawDefinedType,
 ) -> Result<TypeDefKind, Unread>
-    ensures { Reads (kind_defined rows.now (defined_view defined.now)) result }
+    ensures { ReadsFound (kind_defined rows.now (defined_view defined.now)) result }
 {
     match defined {
         RawDefinedType::Primitive(primitive) => Ok(TypeDefKind::Alias(primitive_type(*primitive))),

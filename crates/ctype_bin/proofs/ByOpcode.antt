@@ -4,9 +4,9 @@ use Rattle.ctype_format.specs.declared.error.ItemError.{ItemError}
 use Rattle.ctype_format.specs.declared.error.ItemError.TheVariants as errors
 use Rattle.ctype_format.specs.declared.opcode.Opcode.{Opcode}
 use Rattle.ctype_format.specs.declared.scope.Scope.{Scope}
-use Rattle.ctype_format.specs.Raw.{Definition}
 use Rattle.ctype_format.specs.Bytes.{Stops}
 use Rattle.ctype_format.specs.Grammar.{opcode, plain_entry, plain_type, scope_of, is_nested, type}
+use Rattle.ctype_format.specs.Raw.{TypeEntry}
 
 pub type_stops : (depth : ℕ) (around : List ℕ) (scope : Scope) (bytes : List ℕ) (e : ItemError) → Stops e ((opcode depth scope.entries).read bytes) → Stops e ((type depth around scope).read bytes)
 unfolding type
@@ -27,7 +27,7 @@ type_nested (suc depth) around scope bytes o rest lt h deep =
     let k : suc depth - 1 ≡ depth = omega arith in
     rw (h, deep, k) refl
 
-pub plain_ok : (scope : Scope) (o : Opcode) (bytes : List ℕ) (t : Definition) (rest : List ℕ) → (plain_entry scope.types o).read bytes ≡ Ok (t, rest) → (plain_type scope o).read bytes ≡ Ok ((t, scope.entries + 1), rest)
+pub plain_ok : (scope : Scope) (o : Opcode) (bytes : List ℕ) (t : TypeEntry) (rest : List ℕ) → (plain_entry scope.types o).read bytes ≡ Ok (t, rest) → (plain_type scope o).read bytes ≡ Ok ((t, scope.entries + 1), rest)
 plain_ok scope o bytes t rest h = rw h refl
 
 pub plain_stops : (scope : Scope) (o : Opcode) (bytes : List ℕ) (e : ItemError) → Stops e ((plain_entry scope.types o).read bytes) → Stops e ((plain_type scope o).read bytes)

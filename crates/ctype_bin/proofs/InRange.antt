@@ -20,7 +20,7 @@ use Rattle.ctype_format.specs.Grammar as g
 use Rattle.ctype_format.specs.File as f
 use Rattle.ctype_format.specs.View.{decls_of}
 use Rattle.ctype_format.specs.Raw as raw
-use Rattle.ctype_format.specs.Raw.{Definition, Define, Func, Component, Instance, Decl, Entry, Alias, Import, Export, Decls, BinaryFile}
+use Rattle.ctype_format.specs.Raw.{Define, Func, Component, Instance, Decl, Entry, Alias, Import, Export, Decls, BinaryFile, TypeEntry}
 use Rattle.ctype_format.specs.Formed.{All}
 use Rattle.ctype_bin.specs.InRange.{ValTypeInRange, OptionInRange, FieldInRange, CaseInRange, DefinedInRange, DescriptionInRange, AliasInRange, described_types, instances_with, types_behind, instances_behind, TypeInRange, DeclInRange, DeclsInRange, TypesInRange, FileInRange}
 use Rattle.ctype_bin.proofs.Rewritten.{passes}
@@ -113,11 +113,11 @@ yields-case types = yields-then g.label _ (λ text. Unit {0}) (CaseInRange types
     (λ o k. yields-gives g.zero_byte (λ b. record { label = text; payload = o }) (λ b. Unit {0}) (CaseInRange types) (yields-any g.zero_byte) (λ b u. k)))
 
 -- a count and as many
-yields-counted : {X : Type 0} (c : Bytes ℕ) (p : Bytes X) (k : List X → Definition) (P : X → Type 0) (Q : Definition → Type 0) → Yields p P → ((xs : List X) → All P xs → Q (k xs)) → Yields (c >>= λ n. times n p >>= λ xs. give (k xs)) Q
+yields-counted : {X : Type 0} (c : Bytes ℕ) (p : Bytes X) (k : List X → TypeEntry) (P : X → Type 0) (Q : TypeEntry → Type 0) → Yields p P → ((xs : List X) → All P xs → Q (k xs)) → Yields (c >>= λ n. times n p >>= λ xs. give (k xs)) Q
 yields-counted c p k P Q yp same = yields-then c _ (λ n. Unit {0}) Q (yields-any c) (λ n h. yields-gives (times n p) k (λ xs. All P xs) Q (yields-times n p P yp) same)
 
 module _ (around : List ℕ) (types : ℕ) where
-  abbrev Good : Definition → Type 0
+  abbrev Good : TypeEntry → Type 0
   Good = TypeInRange around types
 
   yields-plain : (o : Opcode) → Yields (g.plain_entry types o) Good
@@ -234,17 +234,17 @@ yields-type (suc depth) around scope = yields-then (g.opcode (suc depth) scope.e
 
 -- ---- the file
 
-abbrev Entered : Scope → Definition × Scope → Type 0
+abbrev Entered : Scope → TypeEntry × Scope → Type 0
 Entered scope y = TypeInRange [] scope.types y.0 × (y.1.types ≡ scope.types + 1)
 
 yields-entry : (scope : Scope) → Yields (f.entry_of_type scope) (Entered scope)
 unfolding f.entry_of_type
 yields-entry scope = yields-gives (g.type f.max_scope_depth [] scope) (λ t. (t.0, g.with_entries scope t.1)) (λ y. TypeInRange [] scope.types y.0) (Entered scope) (yields-type f.max_scope_depth [] scope) (λ t h. (h, refl))
 
-abbrev Sectioned : Scope → List Definition × Scope → Type 0
+abbrev Sectioned : Scope → List TypeEntry × Scope → Type 0
 Sectioned scope y = TypesInRange scope.types y.0 × (y.1.types ≡ scope.types + length y.0)
 
-sectioned : (s : Scope) (first : Definition × Scope) (others : List Definition × Scope) → Entered s first → Sectioned first.1 others → Sectioned s (first.0 ∷ others.0, others.1)
+sectioned : (s : Scope) (first : TypeEntry × Scope) (others : List TypeEntry × Scope) → Entered s first → Sectioned first.1 others → Sectioned s (first.0 ∷ others.0, others.1)
 sectioned s first others h hs = ((h.0, subst (λ (n : ℕ). TypesInRange n others.0) h.1 hs.0), omega (arith, h.1, hs.1))
 
 yields-types : Yields f.type_section (λ y. TypesInRange 0 y.0 × (y.1.types ≡ length y.0))
@@ -317,7 +317,7 @@ prop_alias around types instances (aliases.Outer n i) = both le_prop (less i (g.
 mutual
   unfolding TypeInRange
 
-  prop_type : (around : List ℕ) (types : ℕ) (d : Definition) → IsProp (TypeInRange around types d)
+  prop_type : (around : List ℕ) (types : ℕ) (d : TypeEntry) → IsProp (TypeInRange around types d)
   prop_type around types (Define d) = prop_defined types d
   prop_type around types (Func f) = both (prop_all (FieldInRange types) (λ p. prop_valtype types p.ty) f.params) (prop_option types f.outcome)
   prop_type around types (Component ds) = prop_decls (around ++ types ∷ []) 0 0 ds
@@ -333,7 +333,7 @@ mutual
   prop_decls around types instances raw.none = one
   prop_decls around types instances (raw.then d ds) = both (prop_decl around types instances d) (prop_decls around (types_behind types d) (instances_behind instances d) ds)
 
-prop_types : (types : ℕ) (ds : List Definition) → IsProp (TypesInRange types ds)
+prop_types : (types : ℕ) (ds : List TypeEntry) → IsProp (TypesInRange types ds)
 prop_types types [] = one
 prop_types types (d ∷ ds) = both (prop_type [] types d) (prop_types (types + 1) ds)
 

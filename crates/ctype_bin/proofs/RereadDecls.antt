@@ -15,7 +15,7 @@ use Rattle.ctype_format.specs.Opcodes.{opcode_of}
 use Rattle.ctype_format.specs.Bytes.{Bytes, byte, only_bytes, unless, u32}
 use Rattle.ctype_format.specs.Grammar as g
 use Rattle.ctype_format.specs.View.{decls_of}
-use Rattle.ctype_format.specs.Raw.{Definition, Define, Func, Component, Instance, Decl, Entry, Alias, Import, Export, Decls, none}
+use Rattle.ctype_format.specs.Raw.{Define, Func, Component, Instance, Decl, Entry, Alias, Import, Export, Decls, none, TypeEntry}
 use Rattle.ctype_format.specs.Raw as raw
 use Rattle.ctype_format.specs.Writing.{u32_bytes, name_bytes, extern_bytes, description_bytes, alias_bytes, decl_count, type_bytes, decl_bytes, decls_bytes}
 use Rattle.ctype_format.specs.Formed.{FitsU32, FormedAlias, FormedDescription, FormedName, FormedType, FormedDecl, FormedDecls}
@@ -117,7 +117,7 @@ no_room entries o nested h = by (g.is_full entries) (rw (opcode_back o, nested) 
     by true e = cc
     by false e = cc
 
-reread-plain : {W : Type 0} (depth : ℕ) (around : List ℕ) (scope : Scope) (d : Definition) → OpensPlain W scope.types d → Rereads W (g.type depth around scope) (type_bytes d) (λ y. y.0 ≡ d)
+reread-plain : {W : Type 0} (depth : ℕ) (around : List ℕ) (scope : Scope) (d : TypeEntry) → OpensPlain W scope.types d → Rereads W (g.type depth around scope) (type_bytes d) (λ y. y.0 ≡ d)
 unfolding g.type
 reread-plain {W = W} zero around scope d opens = subst (λ (l : List ℕ). Rereads W (g.type zero around scope) l (λ y. y.0 ≡ d)) (sym opens.written)
     (reread-then (g.opcode 0 scope.entries) _ (opcode_byte opens.opcode ∷ []) opens.back (λ y. (y ≡ opens.opcode) × (g.opcode_fault 0 scope.entries (opcode_byte opens.opcode) (opcode_of (opcode_byte opens.opcode)) ≡ None)) (λ y. y.0 ≡ d) (reread-opcode 0 scope.entries opens.opcode)
@@ -134,13 +134,13 @@ reread-plain {W = W} (suc depth) around scope d opens = subst (λ (l : List ℕ)
 RereadsDecls : Type 0 → ℕ → Decls → Type 0
 RereadsDecls W depth ds = (component : Bool) (around : List ℕ) (scope : Scope) → Rereads W (run (g.decl (g.type depth) component around) (decl_count ds) scope) (decls_bytes ds) (λ y. decls_of y.0 ≡ ds)
 
-reread-scope : {W : Type 0} (depth : ℕ) (o : Opcode) (ds : Decls) (d : Definition) (around : List ℕ) (entries : ℕ) → ((ys : List Decl) → decls_of ys ≡ ds → g.nested o ys ≡ d) → (W → FitsU32 (decl_count ds)) → RereadsDecls W depth ds → Rereads W (g.scope_of (g.type depth) o around entries) (u32_bytes (decl_count ds) ++ decls_bytes ds) (λ y. y.0 ≡ d)
+reread-scope : {W : Type 0} (depth : ℕ) (o : Opcode) (ds : Decls) (d : TypeEntry) (around : List ℕ) (entries : ℕ) → ((ys : List Decl) → decls_of ys ≡ ds → g.nested o ys ≡ d) → (W → FitsU32 (decl_count ds)) → RereadsDecls W depth ds → Rereads W (g.scope_of (g.type depth) o around entries) (u32_bytes (decl_count ds) ++ decls_bytes ds) (λ y. y.0 ≡ d)
 unfolding g.scope_of RereadsDecls
 reread-scope depth o ds d around entries same fits all = reread-next u32 _ (u32_bytes (decl_count ds)) (decls_bytes ds) (decl_count ds) (λ y. y.0 ≡ d) (reread-u32 (decl_count ds) fits)
     (reread-gives (run (g.decl (g.type depth) (g.is_component o) around) (decl_count ds) (g.new_scope entries)) (λ y. (g.nested o y.0, y.1.entries)) (decls_bytes ds) (λ y. decls_of y.0 ≡ ds) (λ y. y.0 ≡ d) (all (g.is_component o) around (g.new_scope entries)) (λ y e. same y.0 e))
 
 -- a type with a scope of its own, at any depth
-reread-nested : {W : Type 0} (depth : ℕ) (around : List ℕ) (scope : Scope) (o : Opcode) (ds : Decls) (d : Definition) → g.is_nested o ≡ true → ((ys : List Decl) → decls_of ys ≡ ds → g.nested o ys ≡ d) → (W → FitsU32 (decl_count ds)) → ((n : ℕ) → RereadsDecls W n ds)
+reread-nested : {W : Type 0} (depth : ℕ) (around : List ℕ) (scope : Scope) (o : Opcode) (ds : Decls) (d : TypeEntry) → g.is_nested o ≡ true → ((ys : List Decl) → decls_of ys ≡ ds → g.nested o ys ≡ d) → (W → FitsU32 (decl_count ds)) → ((n : ℕ) → RereadsDecls W n ds)
     → Rereads W (g.type depth around scope) (opcode_byte o ∷ (u32_bytes (decl_count ds) ++ decls_bytes ds)) (λ y. y.0 ≡ d)
 unfolding g.type
 reread-nested {W = W} zero around scope o ds d nested same fits all =
@@ -161,7 +161,7 @@ instance_is ds ys e = ap Instance e
 mutual
   unfolding type_bytes FormedType RereadsDecls run
 
-  pub reread-type : {W : Type 0} (d : Definition) (depth : ℕ) (around : List ℕ) (scope : Scope) → (W → FormedType d) → Rereads W (g.type depth around scope) (type_bytes d) (λ y. y.0 ≡ d)
+  pub reread-type : {W : Type 0} (d : TypeEntry) (depth : ℕ) (around : List ℕ) (scope : Scope) → (W → FormedType d) → Rereads W (g.type depth around scope) (type_bytes d) (λ y. y.0 ≡ d)
   reread-type (Define d) depth around scope formed = reread-plain depth around scope (Define d) (opens_defined scope.types d formed)
   reread-type (Func f) depth around scope formed = reread-plain depth around scope (Func f) (opens_function scope.types f formed)
   reread-type (Component ds) depth around scope formed = reread-nested depth around scope op.Component ds (Component ds) refl (component_is ds) (λ w. (formed w).0) (reread-decls ds (λ w. (formed w).1))

@@ -12,7 +12,7 @@ use Rattle.ctype_format.specs.declared.scope.Scope.{Scope}
 use Rattle.ctype_format.specs.Bytes.{Bytes, byte, only_bytes, unless, u32, sized, section_from, in_section}
 use Rattle.ctype_format.specs.Grammar.{index, zero_byte, extern_name, type, new_scope, with_entries}
 use Rattle.ctype_format.specs.File as f
-use Rattle.ctype_format.specs.Raw.{Definition, Exported, BinaryFile}
+use Rattle.ctype_format.specs.Raw.{Exported, BinaryFile, TypeEntry}
 use Rattle.ctype_format.specs.Writing.{u32_bytes, each, counted, extern_bytes, type_bytes, exported_bytes, section_bytes, file_bytes}
 use Rattle.ctype_format.specs.Formed.{FitsU32, Counted, FormedType, FormedExport, FormedFile}
 use Rattle.ctype_bin.proofs.File.{exact-exactly}
@@ -23,11 +23,11 @@ use Rattle.ctype_bin.proofs.RereadDecls.{reread-type}
 
 -- ---- what the sections have
 
-reread-entry : {W : Type 0} (scope : Scope) (d : Definition) → (W → FormedType d) → Rereads W (f.entry_of_type scope) (type_bytes d) (λ y. y.0 ≡ d)
+reread-entry : {W : Type 0} (scope : Scope) (d : TypeEntry) → (W → FormedType d) → Rereads W (f.entry_of_type scope) (type_bytes d) (λ y. y.0 ≡ d)
 unfolding f.entry_of_type
 reread-entry scope d formed = reread-gives (type f.max_scope_depth [] scope) (λ t. (t.0, with_entries scope t.1)) (type_bytes d) (λ y. y.0 ≡ d) (λ y. y.0 ≡ d) (reread-type d f.max_scope_depth [] scope formed) (λ y e. e)
 
-reread-types : {W : Type 0} (ds : List Definition) → (W → Counted FormedType ds) → Rereads W f.type_section (counted type_bytes ds) (λ y. y.0 ≡ ds)
+reread-types : {W : Type 0} (ds : List TypeEntry) → (W → Counted FormedType ds) → Rereads W f.type_section (counted type_bytes ds) (λ y. y.0 ≡ ds)
 unfolding f.type_section
 reread-types ds formed = reread-next u32 (λ n. run f.entry_of_type n (new_scope 0)) (u32_bytes (length ds)) (each type_bytes ds) (length ds) (λ y. y.0 ≡ ds) (reread-u32 (length ds) (λ w. (formed w).0))
     (reread-run f.entry_of_type type_bytes FormedType reread-entry ds (new_scope 0) (λ w. (formed w).1))
@@ -84,13 +84,13 @@ unfolding f.trailing
 trailing_read n = refl
 
 -- the file from its last part on, its second section, that section's head, its first section, and that one's head
-abbrev last : List Definition × Scope → List Exported → Bytes BinaryFile
+abbrev last : List TypeEntry × Scope → List Exported → Bytes BinaryFile
 last types exports = f.trailing f.max_length >>= λ rest. give (record { types = types.0; exports = exports })
 
-abbrev exports_on : List Definition × Scope → ℕ → Bytes BinaryFile
+abbrev exports_on : List TypeEntry × Scope → ℕ → Bytes BinaryFile
 exports_on types more = sized Past more (f.export_section types.1.types) >>= last types
 
-abbrev head_on : List Definition × Scope → Bytes BinaryFile
+abbrev head_on : List TypeEntry × Scope → Bytes BinaryFile
 head_on types = f.section 11 f.max_length >>= exports_on types
 
 abbrev types_on : ℕ → Bytes BinaryFile
@@ -115,16 +115,16 @@ module _ (W : Type 0) (x : BinaryFile) (formed : W → FormedFile x) where
   layout : section_bytes 7 T ++ section_bytes 11 E ≡ first
   layout = ap (λ (l : List ℕ). 7 ∷ l) (append_assoc (u32_bytes (length T)) T (section_bytes 11 E)) ∙ ap (λ (l : List ℕ). (7 ∷ u32_bytes (length T)) ++ (T ++ (11 ∷ (u32_bytes (length E) ++ l)))) (sym (append-nil E))
 
-  reread-last : (types : List Definition × Scope) (exports : List Exported) → types.0 ≡ x.types → exports ≡ x.exports → Again W (λ y. y ≡ x) [] ((last types exports).read [])
+  reread-last : (types : List TypeEntry × Scope) (exports : List Exported) → types.0 ≡ x.types → exports ≡ x.exports → Again W (λ y. y ≡ x) [] ((last types exports).read [])
   reread-last types exports is are = rw (trailing_read 1048575, is, are) (refl, refl)
 
-  reread-exports_on : (types : List Definition × Scope) → types.0 ≡ x.types → (more : ℕ) → more ≡ length E → Again W (λ y. y ≡ x) [] ((exports_on types more).read ((E ++ []) ++ []))
+  reread-exports_on : (types : List TypeEntry × Scope) → types.0 ≡ x.types → (more : ℕ) → more ≡ length E → Again W (λ y. y ≡ x) [] ((exports_on types more).read ((E ++ []) ++ []))
   reread-exports_on types is more size = subst (λ (n : ℕ). Again W (λ y. y ≡ x) [] ((exports_on types n).read ((E ++ []) ++ []))) (sym size)
       (then_at W (sized Past (length E) (f.export_section types.1.types)) (last types) E [] [] (λ y. y ≡ x.exports) (λ y. y ≡ x)
       ((reread-sized Past (f.export_section types.1.types) E (λ y. y ≡ x.exports) (reread-exports types.1.types x.exports (λ w. (formed w).exports))).again [])
       (λ exports are. reread-last types exports is are))
 
-  reread-head_on : (types : List Definition × Scope) → types.0 ≡ x.types → Again W (λ y. y ≡ x) [] ((head_on types).read (second ++ []))
+  reread-head_on : (types : List TypeEntry × Scope) → types.0 ≡ x.types → Again W (λ y. y ≡ x) [] ((head_on types).read (second ++ []))
   reread-head_on types is = then_at W (f.section 11 f.max_length) (exports_on types) (11 ∷ u32_bytes (length E)) (E ++ []) [] (λ y. y ≡ length E) (λ y. y ≡ x)
       ((reread-section 11 1048575 (length E) refl (λ w. (formed w).export_size)).again ((E ++ []) ++ [])) (λ more size. reread-exports_on types is more size)
 

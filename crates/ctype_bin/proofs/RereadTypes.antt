@@ -13,7 +13,7 @@ use Rattle.ctype_format.specs.declared.opcode.Opcode.TheVariants as op
 use Rattle.ctype_format.specs.Names.{is_extern_name}
 use Rattle.ctype_format.specs.Bytes.{byte, several, only_bytes, unless, u32, s33}
 use Rattle.ctype_format.specs.Grammar as g
-use Rattle.ctype_format.specs.Raw.{Defined, Prim, Record, Variant, ListOf, Tuple, FlagSet, Enumeration, OptionOf, ResultOf, BinaryFunction, Definition, Define, Func}
+use Rattle.ctype_format.specs.Raw.{Defined, Prim, Record, Variant, ListOf, Tuple, FlagSet, Enumeration, OptionOf, ResultOf, BinaryFunction, Define, Func, TypeEntry}
 use Rattle.ctype_format.specs.Writing.{u32_bytes, s33_bytes, each, counted, name_bytes, extern_bytes, primitive_byte, valtype_bytes, optional_bytes, outcome_bytes, field_bytes, case_bytes, type_bytes}
 use Rattle.ctype_format.specs.Formed.{FitsU32, FormedLabel, FormedName, FormedValType, FormedOption, FormedField, FormedCase, FormedDefined, FormedFunction}
 use Rattle.ctype_bin.proofs.Rewritten.{index_begins, primitive_opens, primitive_back, no_fault}
@@ -115,7 +115,7 @@ reread-case types c formed = reread-next g.label _ (name_bytes c.label) (optiona
 -- ---- types without scopes of their own
 
 -- what opens a type that has no scope, and what stands behind it
-pub record OpensPlain (W : Type 0) (types : ℕ) (d : Definition) : Type 0 where
+pub record OpensPlain (W : Type 0) (types : ℕ) (d : TypeEntry) : Type 0 where
   pub opcode : Opcode
   pub back : List ℕ
   pub written : type_bytes d ≡ opcode_byte opcode ∷ back

@@ -13,7 +13,7 @@ use Rattle.ctype_format.specs.declared.scope.Scope.{Scope}
 use Rattle.ctype_bin.specs.Exactness.{Written}
 use Rattle.ctype_format.specs.Bytes.{Bytes, byte, only_bytes, unless, stuck_if, u32}
 use Rattle.ctype_format.specs.Grammar as g
-use Rattle.ctype_format.specs.Raw.{Definition, Decl, Entry, Import, Export}
+use Rattle.ctype_format.specs.Raw.{Decl, Entry, Import, Export, TypeEntry}
 use Rattle.ctype_format.specs.Writing.{u32_bytes, each, counted, extern_bytes, description_bytes, type_bytes, decl_bytes}
 use Rattle.ctype_format.proofs.Rows.{decls_are}
 use Rattle.ctype_bin.proofs.Written.{written-then, written-gives, written-only, written-when, written-byte, one_byte, written-run, run-length}
@@ -164,10 +164,10 @@ unfolding g.scope_of
 written-scope t wt o around entries = written-running (g.decl t (g.is_component o) around) decl_bytes (g.new_scope entries) (λ ds. (g.nested o ds.0, ds.1.entries)) (λ y. body y.0)
     (λ s. written-decl t wt (g.is_component o) around s) (λ r. nested_body o r.0)
 
-plain_head : (scope : Scope) (o : Opcode) (back : List ℕ) (y : Definition × ℕ) → (g.plain_type scope o).spells back y → type_bytes y.0 ≡ opcode_byte o ∷ body y.0
+plain_head : (scope : Scope) (o : Opcode) (back : List ℕ) (y : TypeEntry × ℕ) → (g.plain_type scope o).spells back y → type_bytes y.0 ≡ opcode_byte o ∷ body y.0
 plain_head scope o back y s = rw s.5.1 (type_head scope.types o s.0 s.2 s.4)
 
-scope_head : (t : g.Reader) (o : Opcode) (around : List ℕ) (entries : ℕ) (back : List ℕ) (y : Definition × ℕ) → g.is_nested o ≡ true → (g.scope_of t o around entries).spells back y → type_bytes y.0 ≡ opcode_byte o ∷ body y.0
+scope_head : (t : g.Reader) (o : Opcode) (around : List ℕ) (entries : ℕ) (back : List ℕ) (y : TypeEntry × ℕ) → g.is_nested o ≡ true → (g.scope_of t o around entries).spells back y → type_bytes y.0 ≡ opcode_byte o ∷ body y.0
 unfolding g.scope_of type_bytes
 scope_head t op.Component around entries back y is s = rw s.5.5.1 refl
 scope_head t op.Instance around entries back y is s = rw s.5.5.1 refl
@@ -182,7 +182,7 @@ scope_head t op.Option around entries back y is s = absurd cc
 scope_head t op.Result around entries back y is s = absurd cc
 scope_head t op.Function around entries back y is s = absurd cc
 
-opened : (t : g.Reader) (scope : Scope) (o : Opcode) (around : List ℕ) (entries : ℕ) (back : List ℕ) (y : Definition × ℕ) (b : Bool) → g.is_nested o ≡ b → (when b (g.scope_of t o around entries) (g.plain_type scope o)).spells back y → type_bytes y.0 ≡ opcode_byte o ∷ body y.0
+opened : (t : g.Reader) (scope : Scope) (o : Opcode) (around : List ℕ) (entries : ℕ) (back : List ℕ) (y : TypeEntry × ℕ) (b : Bool) → g.is_nested o ≡ b → (when b (g.scope_of t o around entries) (g.plain_type scope o)).spells back y → type_bytes y.0 ≡ opcode_byte o ∷ body y.0
 opened t scope o around entries back y true is s = scope_head t o around entries back y is s
 opened t scope o around entries back y false is s = plain_head scope o back y s
 

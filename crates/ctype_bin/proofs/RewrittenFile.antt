@@ -12,7 +12,7 @@ use Rattle.ctype_bin.specs.Exactness.{Written}
 use Rattle.ctype_format.specs.Bytes.{Bytes, byte, only_bytes, unless, stuck_if, u32, sized}
 use Rattle.ctype_format.specs.Grammar.{index, extern_name, type, new_scope, with_entries}
 use Rattle.ctype_format.specs.File as f
-use Rattle.ctype_format.specs.Raw.{Definition, Exported, BinaryFile}
+use Rattle.ctype_format.specs.Raw.{Exported, BinaryFile, TypeEntry}
 use Rattle.ctype_format.specs.Writing.{u32_bytes, each, counted, extern_bytes, type_bytes, exported_bytes, section_bytes, file_bytes}
 use Rattle.ctype_format.proofs.Least.{small, least_of}
 use Rattle.ctype_bin.proofs.Written.{written-then, written-gives, written-only, written-byte, one_byte, written-times, times-length, written-run, run-length}
@@ -97,7 +97,7 @@ sized_spelt short p bytes x s = (refl, s)
 
 -- ---- the file
 
-module _ (types : List Definition × Scope) (exports : List Exported) where
+module _ (types : List TypeEntry × Scope) (exports : List Exported) where
   abbrev T : List ℕ
   T = counted type_bytes types.0
 

@@ -17,7 +17,7 @@ use Rattle.ctype_format.specs.Opcodes.{primitive_of, opcode_of}
 use Rattle.ctype_bin.specs.Exactness.{Written}
 use Rattle.ctype_format.specs.Bytes.{Bytes, byte, only_bytes, unless, stuck_if, u32}
 use Rattle.ctype_format.specs.Grammar as g
-use Rattle.ctype_format.specs.Raw.{Prim, Record, Variant, ListOf, Tuple, FlagSet, Enumeration, OptionOf, ResultOf, Definition, Define, Func, Alias}
+use Rattle.ctype_format.specs.Raw.{Prim, Record, Variant, ListOf, Tuple, FlagSet, Enumeration, OptionOf, ResultOf, Define, Func, Alias, TypeEntry}
 use Rattle.ctype_format.specs.Writing.{u32_bytes, each, counted, name_bytes, primitive_byte, valtype_bytes, optional_bytes, outcome_bytes, field_bytes, case_bytes, alias_bytes, type_bytes, decl_bytes}
 use Rattle.ctype_bin.proofs.Written.{written-then, written-give, written-gives, written-only, written-when, written-byte, one_byte, written-times, times-length}
 use Rattle.ctype_bin.proofs.Rewritten.{written-u32, written-index, passes, written-label, written-valtype, written-optional, written-outcome, written-field, written-case}
@@ -41,7 +41,7 @@ written-counted {X = X} {Y = Y} c p w f wy ec ep same = record {
     joined {n} {xs} {y} long is = ap wy is ∙ same xs ∙ ap (λ (m : ℕ). u32_bytes m ++ each w xs) long
 
 -- what stands behind a type's opcode
-abbrev pub body : Definition → List ℕ
+abbrev pub body : TypeEntry → List ℕ
 body d = drop 1 (type_bytes d)
 
 written-record : (types : ℕ) → Written (g.record_type types) body
@@ -78,11 +78,11 @@ written-result types = written-then (g.optional_valtype types) _ optional_bytes 
     (λ ok. written-gives (g.optional_valtype types) (λ error. Define (ResultOf ok error)) optional_bytes (λ d. drop (length (optional_bytes ok)) (body d)) (written-optional types) (λ error. drop_at (optional_bytes ok) (optional_bytes error) (length (optional_bytes ok)) refl))
     (λ ok d front back sp sq. rw sq.5.1 (ap (λ (l : List ℕ). optional_bytes ok ++ l) (sym (drop_at (optional_bytes ok) (optional_bytes sq.2) (length (optional_bytes ok)) refl))))
 
-params_of : Definition → List RawField
+params_of : TypeEntry → List RawField
 params_of (Func f) = f.params
 params_of _ = []
 
-outcome_of : Definition → Option RawValType
+outcome_of : TypeEntry → Option RawValType
 outcome_of (Func f) = f.outcome
 outcome_of _ = None
 
@@ -172,7 +172,7 @@ written-opcode depth entries = record {
       omega (arith, one, parts);
 }
 
-pub type_head : (types : ℕ) (o : Opcode) (back : List ℕ) (d : Definition) → (g.plain_entry types o).spells back d → type_bytes d ≡ opcode_byte o ∷ body d
+pub type_head : (types : ℕ) (o : Opcode) (back : List ℕ) (d : TypeEntry) → (g.plain_entry types o).spells back d → type_bytes d ≡ opcode_byte o ∷ body d
 unfolding g.plain_entry g.record_type g.variant_type g.list_type g.tuple_type g.flags_type g.enum_type g.option_type g.result_entry g.function_entry type_bytes
 type_head types (op.Primitive p) back d s = rw s.1 refl
 type_head types op.Record back d s = rw s.5.5.1 refl

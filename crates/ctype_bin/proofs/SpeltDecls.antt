@@ -14,7 +14,7 @@ use Rattle.ctype_format.specs.declared.scope.Scope.{Scope}
 use Rattle.ctype_format.specs.Bytes.{byte, only_bytes, unless, u32}
 use Rattle.ctype_format.specs.Grammar as g
 use Rattle.ctype_format.specs.View.{decls_of}
-use Rattle.ctype_format.specs.Raw.{Definition, Define, Func, Component, Instance, Decl, Entry, Alias, Import, Export, Decls, none}
+use Rattle.ctype_format.specs.Raw.{Define, Func, Component, Instance, Decl, Entry, Alias, Import, Export, Decls, none, TypeEntry}
 use Rattle.ctype_format.specs.Raw as raw
 use Rattle.ctype_format.specs.Writing.{u32_bytes, name_bytes, extern_bytes, description_bytes, alias_bytes, decl_count, type_bytes, decl_bytes, decls_bytes}
 use Rattle.ctype_format.specs.Formed.{FitsU32, FormedAlias, FormedDescription, FormedName, FormedType, FormedDecl, FormedDecls}
@@ -122,7 +122,7 @@ abbrev SpeltDecls : ℕ → Bool → Decls → List ℕ → Scope → Type 0
 SpeltDecls depth component ds around scope = Spelt (run (g.decl (g.type depth) component around) (decl_count ds) scope) (decls_bytes ds) (list_of ds, scopes_behind scope ds)
 
 -- a type with a scope of its own
-spelt-nested : (depth : ℕ) (around : List ℕ) (scope : Scope) (o : Opcode) (ds : Decls) (d : Definition) → g.is_nested o ≡ true → g.nested o (list_of ds) ≡ d → FitsU32 (decl_count ds) → scope.entries + (1 + entries_of_decls ds) ≤ g.max_entries → SpeltDecls depth (g.is_component o) ds (around ++ scope.types ∷ []) (g.new_scope (scope.entries + 1))
+spelt-nested : (depth : ℕ) (around : List ℕ) (scope : Scope) (o : Opcode) (ds : Decls) (d : TypeEntry) → g.is_nested o ≡ true → g.nested o (list_of ds) ≡ d → FitsU32 (decl_count ds) → scope.entries + (1 + entries_of_decls ds) ≤ g.max_entries → SpeltDecls depth (g.is_component o) ds (around ++ scope.types ∷ []) (g.new_scope (scope.entries + 1))
     → Spelt (g.type (suc depth) around scope) (opcode_byte o ∷ (u32_bytes (decl_count ds) ++ decls_bytes ds)) (d, scope.entries + (1 + entries_of_decls ds))
 unfolding g.type g.scope_of
 spelt-nested depth around scope o ds d nested same fits room all =
@@ -138,7 +138,7 @@ spelt-nested depth around scope o ds d nested same fits room all =
 mutual
   unfolding type_bytes FormedType TypeInRange AllowedType entries_of_type run
 
-  pub spelt-type : (d : Definition) (depth : ℕ) (around : List ℕ) (scope : Scope) → FormedType d → TypeInRange around scope.types d → AllowedType depth d → scope.entries + entries_of_type d ≤ g.max_entries → Spelt (g.type depth around scope) (type_bytes d) (d, scope.entries + entries_of_type d)
+  pub spelt-type : (d : TypeEntry) (depth : ℕ) (around : List ℕ) (scope : Scope) → FormedType d → TypeInRange around scope.types d → AllowedType depth d → scope.entries + entries_of_type d ≤ g.max_entries → Spelt (g.type depth around scope) (type_bytes d) (d, scope.entries + entries_of_type d)
   spelt-type (Define d) depth around scope formed ranged allowed room = spelt-defined depth around scope (omega (arith, room)) d formed ranged allowed
   spelt-type (Func f) depth around scope formed ranged allowed room = spelt-function depth around scope (omega (arith, room)) f formed ranged
   spelt-type (Component ds) zero around scope formed ranged allowed room = absurd allowed

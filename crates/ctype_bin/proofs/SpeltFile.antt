@@ -8,7 +8,7 @@ use Rattle.ctype_format.specs.declared.scope.Scope.{Scope}
 use Rattle.ctype_format.specs.Bytes.{byte, only_bytes, unless, u32}
 use Rattle.ctype_format.specs.Grammar.{index, zero_byte, extern_name, type, new_scope, with_entries, max_entries}
 use Rattle.ctype_format.specs.File as f
-use Rattle.ctype_format.specs.Raw.{Definition, Exported, BinaryFile}
+use Rattle.ctype_format.specs.Raw.{Exported, BinaryFile, TypeEntry}
 use Rattle.ctype_format.specs.Writing.{u32_bytes, each, counted, extern_bytes, type_bytes, exported_bytes, file_bytes}
 use Rattle.ctype_format.specs.Formed.{All, Counted, FormedType, FormedExport, FormedFile}
 use Rattle.ctype_bin.specs.InRange.{TypesInRange}
@@ -19,19 +19,19 @@ use Rattle.ctype_bin.proofs.SpeltDecls.{spelt-type}
 
 -- ---- the type section
 
-abbrev scope_after : Scope → List Definition → Scope
+abbrev scope_after : Scope → List TypeEntry → Scope
 scope_after scope [] = scope
 scope_after scope (d ∷ ds) = scope_after (with_entries scope (scope.entries + entries_of_type d)) ds
 
-types_after : (scope : Scope) (ds : List Definition) → (scope_after scope ds).types ≡ scope.types + length ds
+types_after : (scope : Scope) (ds : List TypeEntry) → (scope_after scope ds).types ≡ scope.types + length ds
 types_after scope [] = omega arith
 types_after scope (d ∷ ds) = let ih = types_after (with_entries scope (scope.entries + entries_of_type d)) ds in omega (arith, ih)
 
-spelt-entry : (scope : Scope) (d : Definition) → FormedType d → TypesInRange scope.types (d ∷ []) → AllowedType f.max_scope_depth d → scope.entries + entries_of_type d ≤ max_entries → Spelt (f.entry_of_type scope) (type_bytes d) (d, with_entries scope (scope.entries + entries_of_type d))
+spelt-entry : (scope : Scope) (d : TypeEntry) → FormedType d → TypesInRange scope.types (d ∷ []) → AllowedType f.max_scope_depth d → scope.entries + entries_of_type d ≤ max_entries → Spelt (f.entry_of_type scope) (type_bytes d) (d, with_entries scope (scope.entries + entries_of_type d))
 unfolding f.entry_of_type
 spelt-entry scope d formed ranged allowed room = spelt-gives (type f.max_scope_depth [] scope) (λ t. (t.0, with_entries scope t.1)) (type_bytes d) (d, scope.entries + entries_of_type d) (spelt-type d f.max_scope_depth [] scope formed ranged.0 allowed room)
 
-spelt-entries : (ds : List Definition) (scope : Scope) → All FormedType ds → TypesInRange scope.types ds → All (AllowedType f.max_scope_depth) ds → scope.entries + sum (map entries_of_type ds) ≤ max_entries → Spelt (run f.entry_of_type (length ds) scope) (each type_bytes ds) (ds, scope_after scope ds)
+spelt-entries : (ds : List TypeEntry) (scope : Scope) → All FormedType ds → TypesInRange scope.types ds → All (AllowedType f.max_scope_depth) ds → scope.entries + sum (map entries_of_type ds) ≤ max_entries → Spelt (run f.entry_of_type (length ds) scope) (each type_bytes ds) (ds, scope_after scope ds)
 unfolding run
 spelt-entries [] scope formed ranged allowed room = spelt-give ([], scope)
 spelt-entries (d ∷ ds) scope formed ranged allowed room =
@@ -41,7 +41,7 @@ spelt-entries (d ∷ ds) scope formed ranged allowed room =
     (spelt-gives (run f.entry_of_type (length ds) (with_entries scope (scope.entries + entries_of_type d))) (λ others. (d ∷ others.0, others.1)) (each type_bytes ds) (ds, scope_after (with_entries scope (scope.entries + entries_of_type d)) ds)
     (spelt-entries ds (with_entries scope (scope.entries + entries_of_type d)) formed.1 ranged.1 allowed.1 (omega (arith, room, all))))
 
-spelt-types : (ds : List Definition) → Counted FormedType ds → TypesInRange 0 ds → All (AllowedType f.max_scope_depth) ds → sum (map entries_of_type ds) ≤ max_entries → Spelt f.type_section (counted type_bytes ds) (ds, scope_after (new_scope 0) ds)
+spelt-types : (ds : List TypeEntry) → Counted FormedType ds → TypesInRange 0 ds → All (AllowedType f.max_scope_depth) ds → sum (map entries_of_type ds) ≤ max_entries → Spelt f.type_section (counted type_bytes ds) (ds, scope_after (new_scope 0) ds)
 unfolding f.type_section
 spelt-types ds formed ranged allowed room = spelt-next u32 (λ n. run f.entry_of_type n (new_scope 0)) (u32_bytes (length ds)) (each type_bytes ds) (length ds) (ds, scope_after (new_scope 0) ds) (spelt-u32 (length ds) formed.0)
     (spelt-entries ds (new_scope 0) formed.1 ranged allowed (omega (arith, room)))

@@ -9,7 +9,7 @@ use Rattle.ctype_format.specs.declared.scope.Scope.{Scope}
 use Rattle.ctype_format.specs.Opcodes.{opcode_of}
 use Rattle.ctype_format.specs.Bytes.{byte, only_bytes, u32}
 use Rattle.ctype_format.specs.Grammar as g
-use Rattle.ctype_format.specs.Raw.{Defined, Prim, Record, Variant, ListOf, Tuple, FlagSet, Enumeration, OptionOf, ResultOf, BinaryFunction, Definition, Define, Func}
+use Rattle.ctype_format.specs.Raw.{Defined, Prim, Record, Variant, ListOf, Tuple, FlagSet, Enumeration, OptionOf, ResultOf, BinaryFunction, Define, Func, TypeEntry}
 use Rattle.ctype_format.specs.Writing.{u32_bytes, each, counted, name_bytes, valtype_bytes, optional_bytes, outcome_bytes, field_bytes, case_bytes, type_bytes}
 use Rattle.ctype_format.specs.Formed.{All, FormedLabel, FormedValType, FormedField, FormedCase, FormedDefined, FormedFunction}
 use Rattle.ctype_bin.specs.InRange.{ValTypeInRange, FieldInRange, CaseInRange, DefinedInRange, FunctionInRange}
@@ -30,7 +30,7 @@ spelt-opcode depth entries o room flat =
     (spelt-gives (only_bytes byte (λ b. g.opcode_fault depth entries b (opcode_of b))) (λ b. g.opcode_at b) (opcode_byte o ∷ []) (opcode_byte o)
     (spelt-only byte (λ b. g.opcode_fault depth entries b (opcode_of b)) (opcode_byte o ∷ []) (opcode_byte o) (spelt-byte (opcode_byte o)) fits))
 
-spelt-plain : (depth : ℕ) (around : List ℕ) (scope : Scope) (o : Opcode) (back : List ℕ) (d : Definition) → scope.entries < g.max_entries → g.is_nested o ≡ false → Spelt (g.plain_entry scope.types o) back d → Spelt (g.type depth around scope) (opcode_byte o ∷ back) (d, scope.entries + 1)
+spelt-plain : (depth : ℕ) (around : List ℕ) (scope : Scope) (o : Opcode) (back : List ℕ) (d : TypeEntry) → scope.entries < g.max_entries → g.is_nested o ≡ false → Spelt (g.plain_entry scope.types o) back d → Spelt (g.type depth around scope) (opcode_byte o ∷ back) (d, scope.entries + 1)
 unfolding g.type
 spelt-plain zero around scope o back d room flat s = spelt-next (g.opcode 0 scope.entries) _ (opcode_byte o ∷ []) back o (d, scope.entries + 1) (spelt-opcode 0 scope.entries o room (rw flat refl))
     (spelt-gives (g.plain_entry scope.types o) (λ t. (t, scope.entries + 1)) back d s)
@@ -48,7 +48,7 @@ module _ (depth : ℕ) (around : List ℕ) (scope : Scope) (room : scope.entries
   abbrev types : ℕ
   types = scope.types
 
-  abbrev Written : Definition → Type 0
+  abbrev Written : TypeEntry → Type 0
   Written d = Spelt (g.type depth around scope) (type_bytes d) (d, scope.entries + 1)
 
   pub spelt-defined : (d : Defined) → FormedDefined d → DefinedInRange types d → AllowedDefined d → Written (Define d)

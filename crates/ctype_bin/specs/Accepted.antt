@@ -2,7 +2,7 @@
 use Rattle.std.specs.Prelude.{◌≡◌, ◌<◌, ◌≤◌, ℕ, zero, suc, ◌+◌, Bool, true, false, length, map, sum}
 use Rattle.ctype_format.specs.declared.raw.RawDescription.{RawDescription}
 use Rattle.ctype_format.specs.declared.raw.RawDescription.TheVariants as descriptions
-use Rattle.ctype_format.specs.Raw.{Defined, Prim, Record, Variant, ListOf, Tuple, FlagSet, Enumeration, OptionOf, ResultOf, Definition, Define, Func, Component, Instance, Decl, Entry, Alias, Import, Export, Decls, none, then, BinaryFile}
+use Rattle.ctype_format.specs.Raw.{Defined, Prim, Record, Variant, ListOf, Tuple, FlagSet, Enumeration, OptionOf, ResultOf, Define, Func, Component, Instance, Decl, Entry, Alias, Import, Export, Decls, none, then, BinaryFile, TypeEntry}
 use Rattle.ctype_format.specs.Grammar.{max_cases, max_flags, max_entries}
 use Rattle.ctype_format.specs.File.{max_scope_depth}
 use Rattle.ctype_format.specs.Formed.{All}
@@ -27,7 +27,7 @@ AllowedDefined (ResultOf ok error) = Unit {0}
 
 unfoldable mutual
   -- where so many scopes may stand within one another
-  pub AllowedType : ℕ → Definition → Type 0
+  pub AllowedType : ℕ → TypeEntry → Type 0
   AllowedType depth (Define d) = AllowedDefined d
   AllowedType depth (Func f) = Unit {0}
   AllowedType zero (Component ds) = ⊥
@@ -55,7 +55,7 @@ description_entries (descriptions.Component i) = 0
 description_entries (descriptions.Instance i) = 0
 
 unfoldable mutual
-  pub entries_of_type : Definition → ℕ
+  pub entries_of_type : TypeEntry → ℕ
   entries_of_type (Define d) = 1
   entries_of_type (Func f) = 1
   entries_of_type (Component ds) = 1 + entries_of_decls ds

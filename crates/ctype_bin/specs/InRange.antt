@@ -8,7 +8,7 @@ use Rattle.ctype_format.specs.declared.raw.RawAlias.{RawAlias}
 use Rattle.ctype_format.specs.declared.raw.RawAlias.TheVariants as aliases
 use Rattle.ctype_format.specs.declared.raw.RawDescription.{RawDescription}
 use Rattle.ctype_format.specs.declared.raw.RawDescription.TheVariants as descriptions
-use Rattle.ctype_format.specs.Raw.{Defined, Prim, Record, Variant, ListOf, Tuple, FlagSet, Enumeration, OptionOf, ResultOf, BinaryFunction, Definition, Define, Func, Component, Instance, Decl, Entry, Alias, Import, Export, Decls, none, then, BinaryFile}
+use Rattle.ctype_format.specs.Raw.{Defined, Prim, Record, Variant, ListOf, Tuple, FlagSet, Enumeration, OptionOf, ResultOf, BinaryFunction, Define, Func, Component, Instance, Decl, Entry, Alias, Import, Export, Decls, none, then, BinaryFile, TypeEntry}
 use Rattle.ctype_format.specs.Grammar.{types_at}
 use Rattle.ctype_format.specs.Formed.{All}
 
@@ -82,7 +82,7 @@ instances_behind instances (Export text d) = instances_with instances d
 
 unfoldable mutual
   -- in a scope of so many types
-  pub TypeInRange : List ℕ → ℕ → Definition → Type 0
+  pub TypeInRange : List ℕ → ℕ → TypeEntry → Type 0
   TypeInRange around types (Define d) = DefinedInRange types d
   TypeInRange around types (Func f) = FunctionInRange types f
   TypeInRange around types (Component ds) = DeclsInRange (around ++ types ∷ []) 0 0 ds
@@ -101,7 +101,7 @@ unfoldable mutual
 
 -- ---- in a file, whose scope has no other around it
 
-abbrev pub TypesInRange : ℕ → List Definition → Type 0
+abbrev pub TypesInRange : ℕ → List TypeEntry → Type 0
 TypesInRange types [] = Unit {0}
 TypesInRange types (d ∷ ds) = TypeInRange [] types d × TypesInRange (types + 1) ds
 

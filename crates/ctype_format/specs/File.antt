@@ -9,7 +9,7 @@ use Rattle.ctype_format.specs.declared.error.Stuck.TheVariants.{End, At, Past}
 use Rattle.ctype_format.specs.declared.error.BinError.{BinError}
 use Rattle.ctype_format.specs.declared.error.BinError.TheVariants as errors
 use Rattle.ctype_format.specs.declared.scope.Scope.{Scope}
-use Rattle.ctype_format.specs.Raw.{Definition, Exported, BinaryFile}
+use Rattle.ctype_format.specs.Raw.{Exported, BinaryFile, TypeEntry}
 use Rattle.ctype_format.specs.Bytes.{Bytes, byte, only_bytes, unless, u32, sized, remaining, ended}
 use Rattle.ctype_format.specs.Grammar.{zero_byte, index, utf8, extern_name, new_scope, with_entries, type}
 
@@ -88,12 +88,12 @@ trailing (suc n) = do
 
 -- ---- the two sections and the file
 
-unfoldable pub entry_of_type : Scope → Bytes (Definition × Scope)
+unfoldable pub entry_of_type : Scope → Bytes (TypeEntry × Scope)
 entry_of_type scope = do
   t ← type max_scope_depth [] scope
   give (t.0, with_entries scope t.1)
 
-unfoldable pub type_section : Bytes (List Definition × Scope)
+unfoldable pub type_section : Bytes (List TypeEntry × Scope)
 type_section = do
   n ← u32
   run entry_of_type n (new_scope 0)

@@ -10,7 +10,7 @@ use Rattle.ctype_format.specs.declared.raw.RawAlias.TheVariants as aliases
 use Rattle.ctype_format.specs.declared.raw.RawDescription.{RawDescription}
 use Rattle.ctype_format.specs.declared.raw.RawDescription.TheVariants as descriptions
 use Rattle.ctype_format.specs.Names.{is_extern_name}
-use Rattle.ctype_format.specs.Raw.{Defined, Prim, Record, Variant, ListOf, Tuple, FlagSet, Enumeration, OptionOf, ResultOf, BinaryFunction, Definition, Define, Func, Component, Instance, Decl, Entry, Alias, Import, Export, Decls, none, then, Exported, BinaryFile}
+use Rattle.ctype_format.specs.Raw.{Defined, Prim, Record, Variant, ListOf, Tuple, FlagSet, Enumeration, OptionOf, ResultOf, BinaryFunction, Define, Func, Component, Instance, Decl, Entry, Alias, Import, Export, Decls, none, then, Exported, BinaryFile, TypeEntry}
 use Rattle.ctype_format.specs.Writing.{counted, decl_count, type_bytes, exported_bytes}
 
 -- a number of 32 bits
@@ -69,7 +69,7 @@ FormedDescription (descriptions.Component i) = FitsU32 i
 FormedDescription (descriptions.Instance i) = FitsU32 i
 
 unfoldable mutual
-  pub FormedType : Definition → Type 0
+  pub FormedType : TypeEntry → Type 0
   FormedType (Define d) = FormedDefined d
   FormedType (Func f) = FormedFunction f
   FormedType (Component ds) = FitsU32 (decl_count ds) × FormedDecls ds

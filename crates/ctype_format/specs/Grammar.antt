@@ -21,7 +21,7 @@ use Rattle.ctype_format.specs.declared.opcode.Opcode.TheVariants as op
 use Rattle.ctype_format.specs.declared.scope.Scope.{Scope}
 use Rattle.ctype_format.specs.Opcodes.{primitive_of, opcode_of}
 use Rattle.ctype_format.specs.Names.{is_extern_name}
-use Rattle.ctype_format.specs.Raw.{Prim, Record, Variant, ListOf, Tuple, FlagSet, Enumeration, OptionOf, ResultOf, Definition, Define, Func, Component, Instance, Decl, Entry, Alias, Import, Export}
+use Rattle.ctype_format.specs.Raw.{Prim, Record, Variant, ListOf, Tuple, FlagSet, Enumeration, OptionOf, ResultOf, Define, Func, Component, Instance, Decl, Entry, Alias, Import, Export, TypeEntry}
 use Rattle.ctype_format.specs.View.{decls_of}
 use Rattle.ctype_format.specs.Bytes.{Bytes, byte, several, only_bytes, unless, u32, s33, choose, ended}
 
@@ -127,47 +127,47 @@ max_cases = 100000
 abbrev pub max_flags : ℕ
 max_flags = 32
 
-unfoldable pub record_type : ℕ → Bytes Definition
+unfoldable pub record_type : ℕ → Bytes TypeEntry
 record_type types = do
   n ← some
   fields ← times n (field types)
   give (Define (Record fields))
 
-unfoldable pub variant_type : ℕ → Bytes Definition
+unfoldable pub variant_type : ℕ → Bytes TypeEntry
 variant_type types = do
   n ← some_upto max_cases
   cases ← times n (case types)
   give (Define (Variant cases))
 
-unfoldable pub list_type : ℕ → Bytes Definition
+unfoldable pub list_type : ℕ → Bytes TypeEntry
 list_type types = do
   element ← valtype types
   give (Define (ListOf element))
 
-unfoldable pub tuple_type : ℕ → Bytes Definition
+unfoldable pub tuple_type : ℕ → Bytes TypeEntry
 tuple_type types = do
   n ← some
   members ← times n (valtype types)
   give (Define (Tuple members))
 
-unfoldable pub flags_type : Bytes Definition
+unfoldable pub flags_type : Bytes TypeEntry
 flags_type = do
   n ← some_upto max_flags
   labels ← times n label
   give (Define (FlagSet labels))
 
-unfoldable pub enum_type : Bytes Definition
+unfoldable pub enum_type : Bytes TypeEntry
 enum_type = do
   n ← some_upto max_cases
   labels ← times n label
   give (Define (Enumeration labels))
 
-unfoldable pub option_type : ℕ → Bytes Definition
+unfoldable pub option_type : ℕ → Bytes TypeEntry
 option_type types = do
   some ← valtype types
   give (Define (OptionOf some))
 
-unfoldable pub result_entry : ℕ → Bytes Definition
+unfoldable pub result_entry : ℕ → Bytes TypeEntry
 result_entry types = do
   ok ← optional_valtype types
   error ← optional_valtype types
@@ -184,14 +184,14 @@ outcome types = do
   b ← flag_byte
   when (b == 0) (present types) absent
 
-unfoldable pub function_entry : ℕ → Bytes Definition
+unfoldable pub function_entry : ℕ → Bytes TypeEntry
 function_entry types = do
   n ← u32
   params ← times n (field types)
   result ← outcome types
   give (Func (record { params = params; outcome = result }))
 
-unfoldable pub plain_entry : ℕ → Opcode → Bytes Definition
+unfoldable pub plain_entry : ℕ → Opcode → Bytes TypeEntry
 plain_entry types (op.Primitive p) = give (Define (Prim p))
 plain_entry types op.Record = record_type types
 plain_entry types op.Variant = variant_type types
@@ -316,7 +316,7 @@ external scope sort = do
 -- ---- declarations and types, where type reads a type in a scope with those around it, and the entries after it
 
 abbrev pub Reader : Type 1
-Reader = List ℕ → Scope → Bytes (Definition × ℕ)
+Reader = List ℕ → Scope → Bytes (TypeEntry × ℕ)
 
 abbrev pub definition_entry : Reader → List ℕ → Scope → Bytes (Decl × Scope)
 definition_entry type around scope = do
@@ -333,7 +333,7 @@ decl type component around scope = do
   sort ← only_bytes byte (λ b. unless (is_decl component b) (UnknownOpcode b))
   when (sort == 1) (definition_entry type around scope) (when (sort == 2) (alias_entry around scope) (external scope sort))
 
-abbrev pub nested : Opcode → List Decl → Definition
+abbrev pub nested : Opcode → List Decl → TypeEntry
 nested op.Component ds = Component (decls_of ds)
 nested _ ds = Instance (decls_of ds)
 
@@ -342,13 +342,13 @@ is_component op.Component = true
 is_component _ = false
 
 -- the declarations of a new scope
-unfoldable pub scope_of : Reader → Opcode → List ℕ → ℕ → Bytes (Definition × ℕ)
+unfoldable pub scope_of : Reader → Opcode → List ℕ → ℕ → Bytes (TypeEntry × ℕ)
 scope_of type o around entries = do
   n ← u32
   ds ← run (decl type (is_component o) around) n (new_scope entries)
   give (nested o ds.0, ds.1.entries)
 
-abbrev pub plain_type : Scope → Opcode → Bytes (Definition × ℕ)
+abbrev pub plain_type : Scope → Opcode → Bytes (TypeEntry × ℕ)
 plain_type scope o = do
   t ← plain_entry scope.types o
   give (t, scope.entries + 1)

@@ -23,14 +23,14 @@ pub record BinaryFunction : Type 0 where
   pub outcome : Option RawValType
 
 mutual
-  pub data Definition : Type 0 where
-    Define : Defined → Definition
-    Func : BinaryFunction → Definition
-    Component : Decls → Definition
-    Instance : Decls → Definition
+  pub data TypeEntry : Type 0 where
+    Define : Defined → TypeEntry
+    Func : BinaryFunction → TypeEntry
+    Component : Decls → TypeEntry
+    Instance : Decls → TypeEntry
 
   pub data Decl : Type 0 where
-    Entry : Definition → Decl
+    Entry : TypeEntry → Decl
     Alias : RawAlias → Decl
     Import : List ℕ → RawDescription → Decl
     Export : List ℕ → RawDescription → Decl
@@ -45,5 +45,5 @@ pub record Exported : Type 0 where
   pub type : ℕ
 
 pub record BinaryFile : Type 0 where
-  pub types : List Definition
+  pub types : List TypeEntry
   pub exports : List Exported

@@ -1,7 +1,7 @@
 -- The component type that a value of the crate's types stands for.
 use Rattle.std.specs.Prelude.{List, [], ◌∷◌, map}
 use Rattle.std.specs.Global.{Vec}
-use Rattle.ctype_format.specs.Raw.{Defined, Prim, Record, Variant, ListOf, Tuple, FlagSet, Enumeration, OptionOf, ResultOf, BinaryFunction, Definition, Define, Func, Component, Instance, Decl, Entry, Alias, Import, Export, Decls, none, then, Exported, BinaryFile}
+use Rattle.ctype_format.specs.Raw.{Defined, Prim, Record, Variant, ListOf, Tuple, FlagSet, Enumeration, OptionOf, ResultOf, BinaryFunction, Define, Func, Component, Instance, Decl, Entry, Alias, Import, Export, Decls, none, then, Exported, BinaryFile, TypeEntry}
 use Rattle.ctype_format.specs.Names.{name_view}
 use Rattle.ctype_format.specs.declared.raw.RawExport.{RawExport}
 use Rattle.ctype_format.specs.declared.raw.RawFunction.{RawFunction}
@@ -31,7 +31,7 @@ decls_of [] = none
 decls_of (d ∷ ds) = then d (decls_of ds)
 
 unfoldable mutual
-  pub type_view : RawType → Definition
+  pub type_view : RawType → TypeEntry
   type_view (t.Defined x) = Define (defined_view x)
   type_view (t.Function f) = Func (raw_function_view f)
   type_view (t.Component' shape all) = Component (row_view all)

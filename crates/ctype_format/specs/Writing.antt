@@ -10,7 +10,7 @@ use Rattle.ctype_format.specs.declared.raw.RawAlias.{RawAlias}
 use Rattle.ctype_format.specs.declared.raw.RawAlias.TheVariants as aliases
 use Rattle.ctype_format.specs.declared.raw.RawDescription.{RawDescription}
 use Rattle.ctype_format.specs.declared.raw.RawDescription.TheVariants as descriptions
-use Rattle.ctype_format.specs.Raw.{Defined, Prim, Record, Variant, ListOf, Tuple, FlagSet, Enumeration, OptionOf, ResultOf, BinaryFunction, Definition, Define, Func, Component, Instance, Decl, Entry, Alias, Import, Export, Decls, none, then, Exported, BinaryFile}
+use Rattle.ctype_format.specs.Raw.{Defined, Prim, Record, Variant, ListOf, Tuple, FlagSet, Enumeration, OptionOf, ResultOf, BinaryFunction, Define, Func, Component, Instance, Decl, Entry, Alias, Import, Export, Decls, none, then, Exported, BinaryFile, TypeEntry}
 use Rattle.ctype_format.specs.File.{preamble}
 use Rattle.ctype_format.specs.Shortest.{groups}
 
@@ -95,7 +95,7 @@ decl_count none = 0
 decl_count (then d ds) = suc (decl_count ds)
 
 unfoldable mutual
-  pub type_bytes : Definition → List ℕ
+  pub type_bytes : TypeEntry → List ℕ
   type_bytes (Define d) = defined_bytes d
   type_bytes (Func f) = function_bytes f
   type_bytes (Component ds) = 0x41 ∷ (u32_bytes (decl_count ds) ++ decls_bytes ds)

@@ -19,7 +19,7 @@ use Rattle.memory.specs.Blocks.{is_apart, are_good}
 use Rattle.memory.specs.Lent.{lent, LentAllocates, LentReleases}
 use Rattle.memory.specs.LentLaws.{LentIsHonest, LentKeepsLimit}
 use Rattle.memory.specs.declared.block.Block.{Block}
-use Rattle.example_host_halves.specs.Promise.{hosting, HasGranted, Enters, LeavesCall, IsToldAs, MakesCall, RunsOnBytes, PostsOnBytes}
+use Rattle.example_host_halves.specs.Promise.{hosting, HasGranted, LeavesCall, IsToldAs, MakesCall, RunsOnBytes, PostsOnBytes, EntersCall}
 
 -- blocks that can be handed out, and of which none meets the return area, keep it
 pub beside : (f : FunctionType) (flats : List Flat) (caller : List ℕ) (blocks : List Block) → length caller < 4294967296 → are_good (length caller) blocks ≡ true
@@ -70,7 +70,7 @@ module _ (runs : Run) (posts : PostRun) (law : HalvesKeepPromise (hosting runs p
   }
 
   -- the first half was broken off
-  pub not-entered : (error : HalfError) (caller' new : List ℕ) → caller' ≡ caller → Enters f flats caller callee (Err error) new → MakesCall runs posts f flats caller callee (Err error) caller' new
+  pub not-entered : (error : HalfError) (caller' new : List ℕ) → caller' ≡ caller → EntersCall f flats caller callee (Err error) new → MakesCall runs posts f flats caller callee (Err error) caller' new
   not-entered (half.OtherBlock index) caller' new same (entering, there, grants, (name, (n, (below, (s, fails))))) =
       promised name entering there grants 0 caller [] (refl, refl) (all-live f flats caller) (Err (full_in s)) n 0 (as_world (lent 0 caller []) (lent name new (drop index there)) [])
       (ends_at_entry (full_in s) n (lent name new (drop index there)) fails) (Err (half.OtherBlock index)) (inl (below, (name, refl)), (s, refl)) caller' new same refl
@@ -79,7 +79,7 @@ module _ (runs : Run) (posts : PostRun) (law : HalvesKeepPromise (hosting runs p
       (ends_at_entry fault n (lent name new rest) fails) (Err (half.Fault fault)) refl caller' new same refl
 
   -- the core function stopped
-  pub not-run : (handed : ArrayVec Flat) (entered caller' left : List ℕ) → caller' ≡ caller → Enters f flats caller callee (Ok handed) entered → RunsOnBytes runs entered handed.items left None
+  pub not-run : (handed : ArrayVec Flat) (entered caller' left : List ℕ) → caller' ≡ caller → EntersCall f flats caller callee (Ok handed) entered → RunsOnBytes runs entered handed.items left None
       → MakesCall runs posts f flats caller callee (Err (half.Fault body_stopped)) caller' left
   not-run handed entered caller' left same (entering, there, grants, (name, (n, rest, enters))) run =
       promised name entering there grants 0 caller [] (refl, refl) (all-live f flats caller) (Err body_stopped) n 0 (as_world (lent 0 caller []) (lent name left rest) [])
@@ -87,7 +87,7 @@ module _ (runs : Run) (posts : PostRun) (law : HalvesKeepPromise (hosting runs p
       (Err (half.Fault body_stopped)) refl caller' left same refl
 
   -- the second half was broken off
-  pub not-returned : (handed : ArrayVec Flat) (entered left : List ℕ) (answer : List Flat) (error : HalfError) (new callee' : List ℕ) → callee' ≡ left → Enters f flats caller callee (Ok handed) entered
+  pub not-returned : (handed : ArrayVec Flat) (entered left : List ℕ) (answer : List Flat) (error : HalfError) (new callee' : List ℕ) → callee' ≡ left → EntersCall f flats caller callee (Ok handed) entered
       → RunsOnBytes runs entered handed.items left (Some answer) → LeavesCall f flats left answer caller (Err error) new → MakesCall runs posts f flats caller callee (Err error) new callee'
   not-returned handed entered left answer (half.OtherBlock index) new callee' same (entering, there, grants, (name, (n, rest, enters))) run (between, back, grants', area, (other, (m, (below, (s, fails))))) =
       promised name entering there grants other between back grants' (area other) (Err (full_in s)) n m (as_world (lent other new (drop index back)) (lent name left rest) [])
@@ -103,7 +103,7 @@ module _ (runs : Run) (posts : PostRun) (law : HalvesKeepPromise (hosting runs p
       (Err (half.Fault fault)) refl new callee' refl same
 
   -- post-return stopped
-  pub not-finished : (handed : ArrayVec Flat) (entered left : List ℕ) (answer : List Flat) (given : ArrayVec Flat) (new callee' : List ℕ) → Enters f flats caller callee (Ok handed) entered
+  pub not-finished : (handed : ArrayVec Flat) (entered left : List ℕ) (answer : List Flat) (given : ArrayVec Flat) (new callee' : List ℕ) → EntersCall f flats caller callee (Ok handed) entered
       → RunsOnBytes runs entered handed.items left (Some answer) → LeavesCall f flats left answer caller (Ok given) new → PostsOnBytes posts left answer callee' None
       → MakesCall runs posts f flats caller callee (Err (half.Fault post_stopped)) new callee'
   not-finished handed entered left answer given new callee' (entering, there, grants, (name, (n, rest, enters))) run (between, back, grants', area, (other, (m, remain, returns))) post =
@@ -114,7 +114,7 @@ module _ (runs : Run) (posts : PostRun) (law : HalvesKeepPromise (hosting runs p
       (Err (half.Fault post_stopped)) refl new callee' refl refl
 
   -- all of it was done
-  pub finished : (handed : ArrayVec Flat) (entered left : List ℕ) (answer : List Flat) (given : ArrayVec Flat) (new callee' : List ℕ) → Enters f flats caller callee (Ok handed) entered
+  pub finished : (handed : ArrayVec Flat) (entered left : List ℕ) (answer : List Flat) (given : ArrayVec Flat) (new callee' : List ℕ) → EntersCall f flats caller callee (Ok handed) entered
       → RunsOnBytes runs entered handed.items left (Some answer) → LeavesCall f flats left answer caller (Ok given) new → PostsOnBytes posts left answer callee' (Some tt)
       → MakesCall runs posts f flats caller callee (Ok given) new callee'
   finished handed entered left answer given new callee' (entering, there, grants, (name, (n, rest, enters))) run (between, back, grants', area, (other, (m, remain, returns))) post =

@@ -35,8 +35,8 @@ abbrev pub HasGranted : List ℕ → List ℕ → Type 0
 HasGranted old new = (length new ≡ length old) × (drop 4 new ≡ drop 4 old)
 
 -- the callee's allocator granted some blocks, and the arguments were put into them, or this half was broken off
-abbrev pub Enters : FunctionType → List Flat → List ℕ → List ℕ → Result (ArrayVec Flat) HalfError → List ℕ → Type 0
-Enters f flats caller callee result new =
+abbrev pub EntersCall : FunctionType → List Flat → List ℕ → List ℕ → Result (ArrayVec Flat) HalfError → List ℕ → Type 0
+EntersCall f flats caller callee result new =
     (granted : List ℕ) × (blocks : List Block) × HasGranted callee granted × MatchResult result
     (λ handed. (name : ℕ) × EntersLent name f flats caller granted blocks handed.items new)
     (λ error. (name : ℕ) × EntryOfLentFails name f flats caller granted blocks error new)

@@ -2,7 +2,7 @@
 ghost use Rattle.std.specs.Prelude.{◌≡◌, ◌<◌, length};
 ghost use Rattle.layout.specs.Layout.{AreWithin};
 ghost use Rattle.tables.specs.Closed.{IsFunction, function_type};
-ghost use Rattle.example_host_halves.specs.Promise.{Enters, LeavesCall};
+ghost use Rattle.example_host_halves.specs.Promise.{LeavesCall, EntersCall};
 
 use crate::grants::{grant, lendable};
 use crate::requests::{request_answer, request_arguments};
@@ -30,7 +30,7 @@ pub fn enter(
     requires function { IsFunction types.now invocation.now.func }
     requires short { length caller.old < 4294967296 }
     requires limited { length callee.old < 4294967296 }
-    ensures entered { Enters (function_type types.now invocation.now.func) invocation.now.flats.now caller.old callee.old result callee.new }
+    ensures entered { EntersCall (function_type types.now invocation.now.func) invocation.now.flats.now caller.old callee.old result callee.new }
     ensures same_caller { caller.new ≡ caller.old }
 {
     let mut slots = [NOTHING; MOST];

@@ -4,7 +4,7 @@ ghost use Rattle.canonical_abi.specs.Types.{ClosedType, nth_case, nth_field, rec
 ghost use Rattle.canonical_abi.specs.Layout.{align, discriminant_size, field_places, flat_kinds, payload_place, size};
 ghost use Rattle.layout.specs.Kinds.{kinds_of};
 ghost use Rattle.layout.specs.Layout.{layouts_of};
-ghost use Rattle.layout_picture.specs.Closed.{closed, IsShape};
+ghost use Rattle.layout_picture.specs.Closed.{IsShape, closed_of};
 ghost use Rattle.tables.specs.Tables.{is_below};
 
 use layout::{Kinds, Layouts, Shape};
@@ -57,21 +57,21 @@ impl<'a> TypeLayout<'a> {
 
     /// Its size in bytes.
     pub fn size(&self) -> u32
-        ensures { result ≡ size (closed self.now) }
+        ensures { result ≡ size (closed_of self.now) }
     {
         self.layouts.size(self.ty)
     }
 
     /// Its alignment in bytes.
     pub fn align(&self) -> u32
-        ensures { result ≡ align (closed self.now) }
+        ensures { result ≡ align (closed_of self.now) }
     {
         self.layouts.align(self.ty)
     }
 
     /// Its flat core values.
     pub fn flat(&self) -> Kinds
-        ensures { result ≡ kinds_of (flat_kinds (closed self.now)) }
+        ensures { result ≡ kinds_of (flat_kinds (closed_of self.now)) }
     {
         self.layouts.flat(&[self.ty])
     }
@@ -85,9 +85,9 @@ impl<'a> TypeLayout<'a> {
 
     /// A field of a record or a tuple. None if the type has no such field.
     pub fn field(&self, index: usize) -> Option<Part<'a>>
-        ensures none { IfNone result (nth_field (record_fields (closed self.now)) index ≡ None) }
-        ensures field { IfSome result (λ p. nth_field (record_fields (closed self.now)) index ≡ Some (closed p.layout)) }
-        ensures offset { IfSome result (λ p. slice_get (field_places (record_fields (closed self.now))) index ≡ Some p.offset) }
+        ensures none { IfNone result (nth_field (record_fields (closed_of self.now)) index ≡ None) }
+        ensures field { IfSome result (λ p. nth_field (record_fields (closed_of self.now)) index ≡ Some (closed_of p.layout)) }
+        ensures offset { IfSome result (λ p. slice_get (field_places (record_fields (closed_of self.now))) index ≡ Some p.offset) }
     {
         let field = self.layouts.field(self.ty, index)?;
         Some(Part {
@@ -102,9 +102,9 @@ impl<'a> TypeLayout<'a> {
 
     /// The payload of a case of a variant, an option or a result. None if the type has no such case, or the case no payload.
     pub fn payload(&self, index: usize) -> Option<Part<'a>>
-        ensures none { IfNone result ((t : ClosedType) → nth_case (variant_cases (closed self.now)) index ≢ Some (Some t)) }
-        ensures payload { IfSome result (λ p. nth_case (variant_cases (closed self.now)) index ≡ Some (Some (closed p.layout))) }
-        ensures offset { IfSome result (λ p. p.offset ≡ payload_place (variant_cases (closed self.now))) }
+        ensures none { IfNone result ((t : ClosedType) → nth_case (variant_cases (closed_of self.now)) index ≢ Some (Some t)) }
+        ensures payload { IfSome result (λ p. nth_case (variant_cases (closed_of self.now)) index ≡ Some (Some (closed_of p.layout))) }
+        ensures offset { IfSome result (λ p. p.offset ≡ payload_place (variant_cases (closed_of self.now))) }
     {
         let case = self.layouts.case_info(self.ty, index)?;
         let ty = case.payload?;
@@ -120,8 +120,8 @@ impl<'a> TypeLayout<'a> {
 
     /// The offset of payloads in bytes, whether there are any. None if the type has no cases.
     pub fn payload_offset(&self) -> Option<u32>
-        ensures none { IfNone result (nth_case (variant_cases (closed self.now)) 0 ≡ None) }
-        ensures offset { IfSome result (λ p. p ≡ payload_place (variant_cases (closed self.now))) }
+        ensures none { IfNone result (nth_case (variant_cases (closed_of self.now)) 0 ≡ None) }
+        ensures offset { IfSome result (λ p. p ≡ payload_place (variant_cases (closed_of self.now))) }
     {
         Some(self.layouts.case_info(self.ty, 0)?.place)
     }

@@ -14,7 +14,7 @@ use Rattle.tables.specs.declared.tables.Direction.TheVariants as direction
 use Rattle.tables.specs.declared.tables.World.{World}
 use Rattle.tables.specs.declared.tables.Resolve.{Resolve}
 use Rattle.tables.specs.PackageNames.{PackageParts}
-use Rattle.tables.specs.Package.{Fields, no_fields, field, ItemMeaning, WithInterface, WithFunction, WorldMeaning, worlds}
+use Rattle.tables.specs.Package.{no_fields, field, ItemMeaning, WithInterface, WithFunction, WorldMeaning, worlds, TreeFields}
 use Rattle.package_form.specs.Scope.{IsDuplicate}
 use Rattle.package_form.specs.Ends.{end_of, rows_of}
 
@@ -76,7 +76,7 @@ abbrev pub item_name : ItemMeaning → List ℕ
 item_name (WithInterface way name) = name
 item_name (WithFunction way name params result) = name
 
-abbrev pub field_labels : Fields → List (List ℕ)
+abbrev pub field_labels : TreeFields → List (List ℕ)
 field_labels no_fields = []
 field_labels (field label t fs) = label ∷ field_labels fs
 

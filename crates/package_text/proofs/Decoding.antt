@@ -7,7 +7,7 @@ use Rattle.std.proofs.lemmas.Bool.{and_parts, false≢true}
 use Rattle.std.proofs.lemmas.Slice.Eq.{bytes_eq-Decides}
 use Rattle.canonical_abi.specs.Labelled.{ok_label, error_label}
 use Rattle.tables.specs.Tables.{option_all, kind_all, is_type, is_there, type_of}
-use Rattle.tables.specs.Package.{Tree, PrimTree, TextTree, Reference, ListTree, RecordTree, VariantTree, FlagsTree, Fields, no_fields, field, Choices, no_choices, empty, holding, AsEnum, AsOption, AsResult, AsTuple, Meaning, IsUse, IsType, IsFunction, Key, key_of, is_same_key, is_known, IsDistinctName, HasDistinctTypes, read_val, read_choice, read_tuple, read_fields, read_params, read_cases, read_enum, read_kind, meaning_of, references}
+use Rattle.tables.specs.Package.{Tree, PrimTree, TextTree, Reference, ListTree, RecordTree, VariantTree, FlagsTree, no_fields, field, Choices, no_choices, empty, holding, AsEnum, AsOption, AsResult, AsTuple, Meaning, IsUse, IsType, IsFunction, Key, key_of, is_same_key, is_known, IsDistinctName, HasDistinctTypes, read_val, read_choice, read_tuple, read_fields, read_params, read_cases, read_enum, read_kind, meaning_of, references, TreeFields}
 use Rattle.tables.specs.declared.tables.ValType.{ValType}
 use Rattle.tables.specs.declared.tables.ValType.TheVariants as val
 use Rattle.tables.specs.declared.tables.TypeId.{TypeId}
@@ -120,20 +120,20 @@ val_from ns rows (RecordTree form fs) ps = next ps
 val_from ns rows (VariantTree form cs) ps = next ps
 val_from ns rows (FlagsTree labels) ps = next ps
 
-abbrev tuple_from : List (List ℕ) → List Definition → Fields → List ℕ → List ValType
+abbrev tuple_from : List (List ℕ) → List Definition → TreeFields → List ℕ → List ValType
 tuple_from ns rows no_fields ps = []
 tuple_from ns rows (field label t fs) ps = (val_from ns rows t ps).0 ∷ tuple_from ns rows fs (val_from ns rows t ps).1
 
-abbrev fields_from : List (List ℕ) → List Definition → Fields → List ℕ → List Field
+abbrev fields_from : List (List ℕ) → List Definition → TreeFields → List ℕ → List Field
 fields_from ns rows no_fields ps = []
 fields_from ns rows (field label t fs) ps = record { name = label; ty = (val_from ns rows t ps).0 } ∷ fields_from ns rows fs (val_from ns rows t ps).1
 
-abbrev pub params_from : List (List ℕ) → List Definition → Fields → List ℕ → List Parameter
+abbrev pub params_from : List (List ℕ) → List Definition → TreeFields → List ℕ → List Parameter
 params_from ns rows no_fields ps = []
 params_from ns rows (field label t fs) ps = record { name = label; ty = (val_from ns rows t ps).0 } ∷ params_from ns rows fs (val_from ns rows t ps).1
 
 -- the places behind those of the parameters
-abbrev behind_params : List (List ℕ) → List Definition → Fields → List ℕ → List ℕ
+abbrev behind_params : List (List ℕ) → List Definition → TreeFields → List ℕ → List ℕ
 behind_params ns rows no_fields ps = ps
 behind_params ns rows (field label t fs) ps = behind_params ns rows fs (val_from ns rows t ps).1
 
@@ -141,7 +141,7 @@ abbrev if_from : List (List ℕ) → List Definition → Option Tree → List �
 if_from ns rows None ps = None
 if_from ns rows (Some t) ps = Some (val_from ns rows t ps).0
 
-abbrev pub result_from : List (List ℕ) → List Definition → Fields → Option Tree → List ℕ → Option ValType
+abbrev pub result_from : List (List ℕ) → List Definition → TreeFields → Option Tree → List ℕ → Option ValType
 result_from ns rows fs result ps = if_from ns rows result (behind_params ns rows fs ps)
 
 abbrev cases_from : List (List ℕ) → List Definition → Choices → List ℕ → List Case

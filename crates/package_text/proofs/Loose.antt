@@ -7,7 +7,7 @@ use Rattle.std.proofs.lemmas.Bool.{and_parts, false≢true}
 use Rattle.std.proofs.lemmas.List.{map-append}
 use Rattle.canonical_abi.specs.Labelled.{ok_label, error_label}
 use Rattle.tables.specs.Tables.{option_all, kind_all, definition_all, is_type, is_there, type_of}
-use Rattle.tables.specs.Package.{Tree, PrimTree, TextTree, Reference, ListTree, RecordTree, VariantTree, FlagsTree, Fields, no_fields, field, Choices, no_choices, empty, holding, Meaning, IsUse, IsType, IsFunction, read_val, read_choice, read_tuple, read_fields, read_params, read_cases, read_enum, read_kind, meaning_of, reference_by, references}
+use Rattle.tables.specs.Package.{Tree, PrimTree, TextTree, Reference, ListTree, RecordTree, VariantTree, FlagsTree, no_fields, field, Choices, no_choices, empty, holding, Meaning, IsUse, IsType, IsFunction, read_val, read_choice, read_tuple, read_fields, read_params, read_cases, read_enum, read_kind, meaning_of, reference_by, references, TreeFields}
 use Rattle.tables.specs.declared.tables.ValType.{ValType}
 use Rattle.tables.specs.declared.tables.ValType.TheVariants as val
 use Rattle.tables.specs.declared.tables.TypeDef.{TypeDef}
@@ -37,7 +37,7 @@ loose (RecordTree form fs) = RecordTree form fs ∷ []
 loose (VariantTree form cs) = VariantTree form cs ∷ []
 loose (FlagsTree labels) = FlagsTree labels ∷ []
 
-abbrev pub loose_fields : Fields → List Tree
+abbrev pub loose_fields : TreeFields → List Tree
 loose_fields no_fields = []
 loose_fields (field label t fs) = loose t ++ loose_fields fs
 

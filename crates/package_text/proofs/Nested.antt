@@ -36,7 +36,7 @@ use Rattle.package_form.specs.Postfix.{is_inner, IsPostfix}
 use Rattle.package_form.specs.Form.{ids_of}
 use Rattle.package_form.proofs.Postfix.{postfix-used}
 use Rattle.package_form.proofs.Lists.{all-get}
-use Rattle.wit_syntax.specs.Syntax.{Ty, depth, depth_all, PathTo}
+use Rattle.wit_syntax.specs.Syntax.{Ty, depth_all, PathTo, ty_depth}
 use Rattle.tree_meaning.specs.Resolves.{fits, fits_if, member_fits, case_fits, body_fits, signature_fits, entry_fits, world_entry_fits, interface_fits, file_fits}
 use Rattle.tree_meaning.proofs.Owning.{is_inner_row, used-inner}
 use Rattle.tree_meaning.proofs.TableRows.{name-tree}
@@ -47,8 +47,8 @@ use Rattle.package_text.proofs.Loose.{inner-at}
 
 -- ---- types within types
 
-below-limit : (t : Ty) (n : ℕ) → depth t ≤ n → n ≤ 64 → fits t ≡ true
-below-limit t n l m = le-leb (depth t) 64 (omega (arith, l, m))
+below-limit : (t : Ty) (n : ℕ) → ty_depth t ≤ n → n ≤ 64 → fits t ≡ true
+below-limit t n l m = le-leb (ty_depth t) 64 (omega (arith, l, m))
 
 at-least-one : (t : ClosedType) → 1 ≤ closed.depth t
 at-least-one (prim_type p) = omega arith
@@ -109,7 +109,7 @@ inner-expression trees (kind.Variant cs) h = absurd (false≢true h)
 inner-expression trees (kind.Enum ns) h = absurd (false≢true h)
 inner-expression trees (kind.Flags ns) h = absurd (false≢true h)
 
-module _ (trees : List Tree) (ts : List ClosedType) (has : ValType → Bool) (told : (v : ValType) → has v ≡ true → depth (ty_of (read_val trees v)) ≤ closed.depth (closed_val ts v)) where
+module _ (trees : List Tree) (ts : List ClosedType) (has : ValType → Bool) (told : (v : ValType) → has v ≡ true → ty_depth (ty_of (read_val trees v)) ≤ closed.depth (closed_val ts v)) where
   tuple-deep : (vs : List ValType) → list_all has vs ≡ true → depth_all (tys_in (read_tuple trees vs)) ≤ closed.fields_depth (fields_of (map (closed_val ts) vs))
   tuple-deep [] h = omega arith
   tuple-deep (v ∷ vs) h =
@@ -123,13 +123,13 @@ module _ (trees : List Tree) (ts : List ClosedType) (has : ValType → Bool) (to
       let a = told p.ty t.0 in let b = params-deep ps t.1 in omega (arith, a, b)
 
   result-deep : (ok error : Option ValType) → option_all has ok ≡ true → option_all has error ≡ true
-      → depth (ty_of (read_kind trees (kind.Result ok error))) ≤ closed.depth (closed_kind ts (kind.Result ok error))
+      → ty_depth (ty_of (read_kind trees (kind.Result ok error))) ≤ closed.depth (closed_kind ts (kind.Result ok error))
   result-deep None None h k = omega arith
   result-deep (Some v) None h k = let a = told v h in omega (arith, a)
   result-deep None (Some w) h k = let b = told w k in omega (arith, b)
   result-deep (Some v) (Some w) h k = let a = told v h in let b = told w k in omega (arith, a, b)
 
-  pub inner-deep : (k : TypeDefKind) → is_inner k ≡ true → kind_all has k ≡ true → depth (ty_of (read_kind trees k)) ≤ closed.depth (closed_kind ts k)
+  pub inner-deep : (k : TypeDefKind) → is_inner k ≡ true → kind_all has k ≡ true → ty_depth (ty_of (read_kind trees k)) ≤ closed.depth (closed_kind ts k)
   inner-deep (kind.List v) i h = let a = told v h in omega (arith, a)
   inner-deep (kind.Option v) i h = let a = told v h in omega (arith, a)
   inner-deep (kind.Result ok error) i h = let t = and_parts (option_all has ok) (option_all has error) h in result-deep ok error t.0 t.1
@@ -188,9 +188,9 @@ module _ (trees : List Tree) (ts : List ClosedType) (has : ValType → Bool) (to
 
 -- each tree is written no deeper than its closed type is
 abbrev IsBounded : List Tree → List ClosedType → Type 0
-IsBounded trees ts = (k : ℕ) → depth (ty_of (get_or trees k TextTree)) ≤ closed.depth (get_or ts k string_type)
+IsBounded trees ts = (k : ℕ) → ty_depth (ty_of (get_or trees k TextTree)) ≤ closed.depth (get_or ts k string_type)
 
-bounded-more : (trees : List Tree) (ts : List ClosedType) (x : Tree) (t : ClosedType) → length trees ≡ length ts → IsBounded trees ts → depth (ty_of x) ≤ closed.depth t → IsBounded (trees ++ x ∷ []) (ts ++ t ∷ [])
+bounded-more : (trees : List Tree) (ts : List ClosedType) (x : Tree) (t : ClosedType) → length trees ≡ length ts → IsBounded trees ts → ty_depth (ty_of x) ≤ closed.depth t → IsBounded (trees ++ x ∷ []) (ts ++ t ∷ [])
 bounded-more [] [] x t e b l zero = l
 bounded-more [] [] x t e b l (suc k) = omega arith
 bounded-more [] (u ∷ ts) x t e b l k = absurd (omega (arith, e))
@@ -198,16 +198,16 @@ bounded-more (y ∷ trees) [] x t e b l k = absurd (omega (arith, e))
 bounded-more (y ∷ trees) (u ∷ ts) x t e b l zero = b 0
 bounded-more (y ∷ trees) (u ∷ ts) x t e b l (suc k) = bounded-more trees ts x t (omega (arith, e)) (λ j. b (suc j)) l k
 
-val-bounded : (trees : List Tree) (ts : List ClosedType) → IsBounded trees ts → (v : ValType) → depth (ty_of (read_val trees v)) ≤ closed.depth (closed_val ts v)
+val-bounded : (trees : List Tree) (ts : List ClosedType) → IsBounded trees ts → (v : ValType) → ty_depth (ty_of (read_val trees v)) ≤ closed.depth (closed_val ts v)
 val-bounded trees ts b (val.Primitive p) = omega arith
 val-bounded trees ts b val.String = omega arith
 val-bounded trees ts b (val.Id t) = b t.0
 
 row-bounded : (ns : List (List ℕ)) (trees : List Tree) (ts : List ClosedType) (n : ℕ) → IsBounded trees ts → (d : Definition) → is_inner_row d ≡ true → definition_below n d ≡ true
-    → depth (ty_of (reference ns trees d)) ≤ closed.depth (closed_definition ts d)
+    → ty_depth (ty_of (reference ns trees d)) ≤ closed.depth (closed_definition ts d)
 row-bounded ns trees ts n b (row.Type d) i h = by d.name i
   where
-    by : (m : Option TypeName) → is_inner_row (row.Type (record { name = m; kind = d.kind })) ≡ true → depth (ty_of (reference_by ns m (read_kind trees d.kind))) ≤ closed.depth (closed_kind ts d.kind)
+    by : (m : Option TypeName) → is_inner_row (row.Type (record { name = m; kind = d.kind })) ≡ true → ty_depth (ty_of (reference_by ns m (read_kind trees d.kind))) ≤ closed.depth (closed_kind ts d.kind)
     by None q = inner-deep trees ts (is_below n) (λ v g. val-bounded trees ts b v) d.kind q h
     by (Some m) q = at-least-one (closed_kind ts d.kind)
 row-bounded ns trees ts n b (row.Function f) i h =
@@ -250,7 +250,7 @@ module _ (r : Resolve) (postfix : IsPostfix r.definitions) (shallow : IsShallow 
   function-fits : (k : ℕ) (f : Function) → slice_get r.definitions k ≡ Some (row.Function f) → signature_fits (function_by (read_params (own_trees r) f.params) (option_map (read_val (own_trees r)) f.result)) ≡ true
   function-fits k f e =
       let t = and_parts (list_all (λ p. is_type r.definitions p.ty) f.params) (option_all (is_type r.definitions) f.result) (typed-at k (row.Function f) e) in
-      let told : (v : ValType) → is_type r.definitions v ≡ true → depth (ty_of (read_val (own_trees r) v)) ≤ closed.depth (closed_val (closed_types r) v) = λ v h. val-bounded (own_trees r) (closed_types r) bounded v in
+      let told : (v : ValType) → is_type r.definitions v ≡ true → ty_depth (ty_of (read_val (own_trees r) v)) ≤ closed.depth (closed_val (closed_types r) v) = λ v h. val-bounded (own_trees r) (closed_types r) bounded v in
       both _ _ (params-fit (own_trees r) (closed_types r) (is_type r.definitions) told f.params t.0 val-shallow) (if-fits (own_trees r) (closed_types r) (is_type r.definitions) told f.result t.1 val-shallow)
 
   -- the type of an alias is written as an expression
@@ -276,13 +276,13 @@ module _ (r : Resolve) (postfix : IsPostfix r.definitions) (shallow : IsShallow 
       let front = closed_rows [] (take k r.definitions) in
       let below : definition_below k (row.Type d) ≡ true = below-at k r.definitions k (row.Type d) r.earlier at.0 refl (sym (at.1 (row.Type d))) in
       let here : get_or (closed_types r) k string_type ≡ closed_kind front d.kind = closed-at r.definitions k (row.Type d) at.0 ∙ ap (closed_definition front) (at.1 (row.Type d)) in
-      let told : (v : ValType) → is_below k v ≡ true → depth (ty_of (read_val (own_trees r) v)) ≤ closed.depth (closed_val front v) = λ v h. val-front k (omega (arith, at.0)) v h in
+      let told : (v : ValType) → is_below k v ≡ true → ty_depth (ty_of (read_val (own_trees r) v)) ≤ closed.depth (closed_val front v) = λ v h. val-front k (omega (arith, at.0)) v h in
       kind-fits (own_trees r) front (is_below k) told q n d.kind below
       (λ v u. val-expression v (subst (λ (c : TypeDefKind). kind_all (is_type r.definitions) c ≡ true) u (typed-at k (row.Type d) e)))
       (subst (λ (c : ClosedType). closed.depth c ≤ 64) here (shallow k d e))
     where
-      val-front : (j : ℕ) → j ≤ length r.definitions → (v : ValType) → is_below j v ≡ true → depth (ty_of (read_val (own_trees r) v)) ≤ closed.depth (closed_val (closed_rows [] (take j r.definitions)) v)
-      val-front j l v h = subst (λ (c : ClosedType). depth (ty_of (read_val (own_trees r) v)) ≤ closed.depth c) (sym (closed_val-stays r.definitions j v l h)) (val-bounded (own_trees r) (closed_types r) bounded v)
+      val-front : (j : ℕ) → j ≤ length r.definitions → (v : ValType) → is_below j v ≡ true → ty_depth (ty_of (read_val (own_trees r) v)) ≤ closed.depth (closed_val (closed_rows [] (take j r.definitions)) v)
+      val-front j l v h = subst (λ (c : ClosedType). ty_depth (ty_of (read_val (own_trees r) v)) ≤ closed.depth c) (sym (closed_val-stays r.definitions j v l h)) (val-bounded (own_trees r) (closed_types r) bounded v)
 
   place-fits : (k : ℕ) → list_all entry_fits (written_at r k) ≡ true
   place-fits k = by (slice_get r.definitions k) refl

@@ -26,7 +26,7 @@ use Rattle.tables.specs.declared.tables.Definition.{Definition}
 use Rattle.tables.specs.declared.tables.Definition.TheVariants as row
 use Rattle.tables.specs.declared.tables.Interface.{Interface}
 use Rattle.wit_tokens.specs.Lexing.{limit}
-use Rattle.wit_syntax.specs.Syntax.{Ty, depth, Alias}
+use Rattle.wit_syntax.specs.Syntax.{Ty, Alias, ty_depth}
 use Rattle.wit_tokens.specs.declared.token.Punctuation.TheVariants as mark
 use Rattle.wit_print.specs.Words.{mark_word}
 use Rattle.wit_print.specs.Canonical.{blank, ty_words, member_words, parameter_words, result_words, field_words, case_words, label_words, lined_words, definition_words, entry_words, file_entry_words, items_words}
@@ -62,7 +62,7 @@ by-recursion P [] h = tt
 by-recursion P (x ∷ xs) h = (all-head P x xs h, by-recursion P xs (all-tail P x xs h))
 
 type-printable : (space : List ℕ) (t : Ty) → is_worded t ≡ true → fits t ≡ true → weight (ty_words space t) ≤ limit → IsPrintableType t
-type-printable space t s f l = record { spelt = ty-spelt space t s l; nested = leb-true (depth t) 64 f }
+type-printable space t s f l = record { spelt = ty-spelt space t s l; nested = leb-true (ty_depth t) 64 f }
 
 alias-printable : (n : List ℕ) (t : Ty) → is_worded t ≡ true → fits t ≡ true → weight (definition_words n (Alias t)) ≤ limit → IsPrintableType t
 alias-printable n t s f l = let a = weight-append (ty_words blank t) (mark_word [] mark.Semicolon ∷ []) in type-printable blank t s f (omega (arith, l, a))

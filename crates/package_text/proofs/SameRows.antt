@@ -7,7 +7,7 @@ use Rattle.std.proofs.lemmas.Bool.{and_parts, false≢true}
 use Rattle.std.proofs.lemmas.List.{length-map, map-append}
 use Rattle.std.proofs.lemmas.List.Folds.{list_all-append}
 use Rattle.tables.specs.Tables.{option_all, is_type}
-use Rattle.tables.specs.Package.{Tree, TextTree, Fields, Meaning, IsUse, IsType, IsFunction, Key, key_of, NamedDefinition, HasDistinctTypes, read_val, read_params, read_kind, meaning_of, named_by, references}
+use Rattle.tables.specs.Package.{Tree, TextTree, Meaning, IsUse, IsType, IsFunction, Key, key_of, NamedDefinition, HasDistinctTypes, read_val, read_params, read_kind, meaning_of, named_by, references, TreeFields}
 use Rattle.tables.specs.declared.tables.TypeId.{TypeId}
 use Rattle.tables.specs.declared.tables.InterfaceId.{InterfaceId}
 use Rattle.tables.specs.declared.tables.ValType.{ValType}
@@ -115,7 +115,7 @@ no-function trees (kind.Flags ls) = refl
 abbrev AreSameMeanings : Meaning → Meaning → Type 0
 AreSameMeanings m n = m ≡ n
 
-same-function : (A B : Fields) (X Y : Option Tree) → AreSameMeanings (IsFunction A X) (IsFunction B Y) → (A ≡ B) × (X ≡ Y)
+same-function : (A B : TreeFields) (X Y : Option Tree) → AreSameMeanings (IsFunction A X) (IsFunction B Y) → (A ≡ B) × (X ≡ Y)
 same-function A B X Y e = (cc, cc)
 
 abbrev AreSameOwners : Option Owner → Option Owner → Type 0
@@ -229,8 +229,8 @@ module _ (ns : List (List ℕ)) (apart : (i j : ℕ) → i < length ns → j < l
         let same : c ≡ d = rw (name, kinds) refl in
         ap (λ (z : TypeDef). row.Type z) same
     row-same rows others rest more (row.Function f) (row.Function g) p q u v x y k m o front parted =
-        let A : Fields = read_params (references ns [] rows) f.params in
-        let B : Fields = read_params (references ns [] others) g.params in
+        let A : TreeFields = read_params (references ns [] rows) f.params in
+        let B : TreeFields = read_params (references ns [] others) g.params in
         let X : Option Tree = option_map (read_val (references ns [] rows)) f.result in
         let Y : Option Tree = option_map (read_val (references ns [] others)) g.result in
         let ps : List ℕ = parts_of rows (row.Function f) in
@@ -241,10 +241,10 @@ module _ (ns : List (List ℕ)) (apart : (i j : ℕ) → i < length ns → j < l
         let name : f.name ≡ g.name = ap (λ (z : Key). z.name) k in
         let params : f.params ≡ g.params =
         sym (whole-params R a rows rest f p)
-        ∙ (ap (λ (ds : List Definition). params_from ns ds A ps) front ∙ (ap (λ (z : Fields). params_from ns others z ps) fields ∙ (ap (params_from ns others B) parted ∙ whole-params S b others more g q))) in
+        ∙ (ap (λ (ds : List Definition). params_from ns ds A ps) front ∙ (ap (λ (z : TreeFields). params_from ns others z ps) fields ∙ (ap (params_from ns others B) parted ∙ whole-params S b others more g q))) in
         let result : f.result ≡ g.result =
         sym (whole-result R a rows rest f p)
-        ∙ (ap (λ (ds : List Definition). result_from ns ds A X ps) front ∙ (ap (λ (z : Fields). result_from ns others z X ps) fields
+        ∙ (ap (λ (ds : List Definition). result_from ns ds A X ps) front ∙ (ap (λ (z : TreeFields). result_from ns others z X ps) fields
         ∙ (ap (λ (z : Option Tree). result_from ns others B z ps) results ∙ (ap (result_from ns others B Y) parted ∙ whole-result S b others more g q)))) in
         let same : f ≡ g = rw (owned, name, params, result) refl in
         ap (λ (z : Function). row.Function z) same

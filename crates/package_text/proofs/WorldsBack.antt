@@ -6,7 +6,7 @@ use Rattle.std.specs.Option.{option_map}
 use Rattle.std.proofs.lemmas.Bool.{and_parts, false≢true}
 use Rattle.std.proofs.lemmas.List.{length-map, get_or_past}
 use Rattle.tables.specs.Tables.{option_all, are_earlier, function_of, is_function_of, is_placed_item, is_placed_world, are_placed_worlds}
-use Rattle.tables.specs.Package.{Tree, Fields, Meaning, IsUse, IsType, IsFunction, ItemMeaning, WithInterface, WithFunction, WorldMeaning, read_val, read_params, function_meaning, function_item, references, item_meaning}
+use Rattle.tables.specs.Package.{Tree, Meaning, IsUse, IsType, IsFunction, ItemMeaning, WithInterface, WithFunction, WorldMeaning, read_val, read_params, function_meaning, function_item, references, item_meaning, TreeFields}
 use Rattle.tables.specs.declared.tables.Direction.{Direction}
 use Rattle.tables.specs.declared.tables.Direction.TheVariants as direction
 use Rattle.tables.specs.declared.tables.Function.{Function}
@@ -63,7 +63,7 @@ IsBack (IsFunction fs result) = (fields_of_labelled (map (member_meaning []) (me
 read-back : (ts : List Tree) (g : Function) (i : List ℕ) → i ≡ [] → map (member_meaning i) (members_in (fields_of_labelled (map (read_parameter ts) g.params))) ≡ map (read_parameter ts) g.params
     → resolved_if i (option_map ty_of (option_map (read_val ts) g.result)) ≡ option_map (read_val ts) g.result → IsBack (function_meaning ts g)
 read-back ts g i none params result = (
-  subst (λ (fs : Fields). fields_of_labelled (map (member_meaning []) (members_in fs)) ≡ fs) (sym (parameters-read ts g.params))
+  subst (λ (fs : TreeFields). fields_of_labelled (map (member_meaning []) (members_in fs)) ≡ fs) (sym (parameters-read ts g.params))
       (ap fields_of_labelled (subst (λ (n : List ℕ). map (member_meaning n) (members_in (fields_of_labelled (map (read_parameter ts) g.params))) ≡ map (read_parameter ts) g.params) none params)),
   subst (λ (n : List ℕ). resolved_if n (option_map ty_of (option_map (read_val ts) g.result)) ≡ option_map (read_val ts) g.result) none result,
 )
@@ -111,7 +111,7 @@ module _ (r : Resolve) (f : IsInPackageForm r) where
           let fs = read_params (own_trees r) g.params in
           let result = option_map (read_val (own_trees r)) g.result in
           ap (λ (d : Direction). WithFunction d g.name (fields_of_labelled (map (member_meaning []) (members_in fs))) (resolved_if [] (option_map ty_of result))) (way-back way)
-          ∙ (ap (λ (ms : Fields). WithFunction way g.name ms (resolved_if [] (option_map ty_of result))) b.0 ∙ ap (λ (t : Option Tree). WithFunction way g.name fs t) b.1)
+          ∙ (ap (λ (ms : TreeFields). WithFunction way g.name ms (resolved_if [] (option_map ty_of result))) b.0 ∙ ap (λ (t : Option Tree). WithFunction way g.name fs t) b.1)
 
   items-back : (w : ℕ) (is : List WorldItem) → list_all (λ i. is_placed_item r.definitions (length r.interfaces) w i.kind) is ≡ true
       → map (own_item r) is ≡ map tree.tree_item_meaning (map item_tree (map (λ i. item_entry (own_item r i)) is))

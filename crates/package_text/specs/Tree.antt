@@ -6,7 +6,7 @@ use Rattle.std.specs.Str.{bytes_eq}
 use Rattle.wit_syntax.specs.Syntax.{Function, PathTo, Local, Foreign, Entry, Uses, Defines, Declares, Alias, WorldEntry, Whole, Single, FileEntry, AnInterface, AWorld, File}
 use Rattle.tables.specs.PackageNames.{PackageParts}
 use Rattle.tables.specs.Names.{full_name_in}
-use Rattle.tables.specs.Package.{Tree, Reference, Fields, Meaning, IsUse, IsType, IsFunction, NamedDefinition, ItemMeaning, WithInterface, WithFunction, references, definition_of, item_meaning}
+use Rattle.tables.specs.Package.{Tree, Reference, Meaning, IsUse, IsType, IsFunction, NamedDefinition, ItemMeaning, WithInterface, WithFunction, references, definition_of, item_meaning, TreeFields}
 use Rattle.tables.specs.declared.tables.TypeName.{TypeName}
 use Rattle.tables.specs.declared.tables.Definition.{Definition}
 use Rattle.tables.specs.declared.tables.Interface.{Interface}
@@ -84,7 +84,7 @@ use_entry p (Reference k) l = Uses nowhere p (record { name = k.name; local = lo
 use_entry p t l = Defines nowhere l (Alias (ty_of t))
 
 -- the parameters and the result that are written for a function
-abbrev pub function_by : Fields → Option Tree → Function
+abbrev pub function_by : TreeFields → Option Tree → Function
 function_by fs result = record { params = members_in fs; result = option_map ty_of result }
 
 abbrev pub entry_by : PathTo → List ℕ → Meaning → Entry

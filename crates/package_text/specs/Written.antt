@@ -1,6 +1,6 @@
 -- From what a package's names tell to the syntax that is written for it: a type, a definition, a use and a function.
 use Rattle.std.specs.Prelude.{ℕ, List, [], ◌∷◌, None, Some}
-use Rattle.wit_syntax.specs.Syntax.{Ty, Prim, Named, ListOf, OptionOf, TupleOf, ResultOf, Tys, none, more, MaybeTy, Absent, Present, Definition, Alias, Record, Variant, Enumeration, FlagSet, Member, CaseOf}
+use Rattle.wit_syntax.specs.Syntax.{Ty, Prim, Named, ListOf, OptionOf, TupleOf, ResultOf, Tys, none, more, MaybeTy, Absent, Present, Alias, Record, Variant, Enumeration, FlagSet, Member, CaseOf, TypeBody}
 use Rattle.wit_syntax.specs.declared.ast.Primitive.{Primitive as Keyword}
 use Rattle.wit_syntax.specs.declared.ast.Primitive.TheVariants as keyword
 use Rattle.tables.specs.declared.tables.Primitive.{Primitive}
@@ -9,7 +9,7 @@ use Rattle.wit_syntax.specs.declared.ast.Direction.{Direction as Way}
 use Rattle.wit_syntax.specs.declared.ast.Direction.TheVariants as way
 use Rattle.tables.specs.declared.tables.Direction.{Direction}
 use Rattle.tables.specs.declared.tables.Direction.TheVariants as direction
-use Rattle.tables.specs.Package.{Tree, PrimTree, TextTree, Reference, ListTree, RecordTree, VariantTree, FlagsTree, Fields, no_fields, field, Choices, no_choices, empty, holding, Plain, AsEnum, AsResult}
+use Rattle.tables.specs.Package.{Tree, PrimTree, TextTree, Reference, ListTree, RecordTree, VariantTree, FlagsTree, no_fields, field, Choices, no_choices, empty, holding, Plain, AsEnum, AsResult, TreeFields}
 
 -- ---- types
 
@@ -40,7 +40,7 @@ abbrev mutual
   ty_of (VariantTree form cs) = OptionOf (some_of cs)
   ty_of (FlagsTree labels) = no_ty
 
-  pub tys_in : Fields → Tys
+  pub tys_in : TreeFields → Tys
   tys_in no_fields = none
   tys_in (field label t fs) = more (ty_of t) (tys_in fs)
 
@@ -61,7 +61,7 @@ abbrev mutual
 
 -- ---- definitions
 
-abbrev pub members_in : Fields → List Member
+abbrev pub members_in : TreeFields → List Member
 members_in no_fields = []
 members_in (field label t fs) = record { name = label; ty = ty_of t } ∷ members_in fs
 
@@ -76,7 +76,7 @@ labels_in (empty label cs) = label ∷ labels_in cs
 labels_in (holding label t cs) = label ∷ labels_in cs
 
 -- the definition that is written for a tree
-abbrev pub body_of : Tree → Definition
+abbrev pub body_of : Tree → TypeBody
 body_of (RecordTree Plain fs) = Record (members_in fs)
 body_of (VariantTree Plain cs) = Variant (cases_in cs)
 body_of (VariantTree AsEnum cs) = Enumeration (labels_in cs)

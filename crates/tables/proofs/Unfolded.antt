@@ -6,7 +6,7 @@ use Rattle.std.proofs.lemmas.Slice.Eq.{bytes_eq-Decides}
 use Rattle.canonical_abi.specs.Types.{ClosedType, string_type, list_type, record_type, variant_type, fields_of, cases_of}
 use Rattle.canonical_abi.specs.Types as closed
 use Rattle.tables.specs.Closed.{closed_val, closed_kind, closed_params, closed_definition, closed_rows}
-use Rattle.tables.specs.Package.{ClosesAlike, HasDistinctTypes, IsDistinctName, Key, key_of, is_same_key, is_known, lookup, environment_entry, environment, Environment, meaning_of, named_by, named_function, function_meaning, definitions_from, reference_by, references, interface_names, Tree, TextTree, Reference, RecordTree, Plain, Choices, closed_tree, closed_fields, closed_choices, read_val, read_choice, read_tuple, read_fields, read_params, read_cases, read_enum, read_kind}
+use Rattle.tables.specs.Package.{ClosesAlike, HasDistinctTypes, IsDistinctName, Key, key_of, is_same_key, is_known, lookup, environment_entry, environment, Environment, meaning_of, named_by, named_function, function_meaning, definitions_from, reference_by, references, interface_names, Tree, TextTree, Reference, RecordTree, Plain, Choices, closed_tree, closed_choices, read_val, read_choice, read_tuple, read_fields, read_params, read_cases, read_enum, read_kind, closed_tree_fields}
 use Rattle.tables.specs.declared.tables.ValType.{ValType}
 use Rattle.tables.specs.declared.tables.ValType.TheVariants as val
 use Rattle.tables.specs.declared.tables.TypeDefKind.{TypeDefKind}
@@ -32,15 +32,15 @@ module _ (env : Environment) (trees : List Tree) (rows : List ClosedType) (agree
   val-closed val.String = refl
   val-closed (val.Id t) = agree t.0
 
-  tuple-closed : (vs : List ValType) → closed_fields env (read_tuple trees vs) ≡ fields_of (map (λ v. closed_val rows v) vs)
+  tuple-closed : (vs : List ValType) → closed_tree_fields env (read_tuple trees vs) ≡ fields_of (map (λ v. closed_val rows v) vs)
   tuple-closed [] = refl
   tuple-closed (v ∷ vs) = rw (val-closed v, tuple-closed vs) refl
 
-  fields-closed : (fs : List Field) → closed_fields env (read_fields trees fs) ≡ fields_of (map (λ f. closed_val rows f.ty) fs)
+  fields-closed : (fs : List Field) → closed_tree_fields env (read_fields trees fs) ≡ fields_of (map (λ f. closed_val rows f.ty) fs)
   fields-closed [] = refl
   fields-closed (f ∷ fs) = rw (val-closed f.ty, fields-closed fs) refl
 
-  params-closed : (ps : List Parameter) → closed_fields env (read_params trees ps) ≡ fields_of (closed_params rows ps)
+  params-closed : (ps : List Parameter) → closed_tree_fields env (read_params trees ps) ≡ fields_of (closed_params rows ps)
   params-closed [] = refl
   params-closed (p ∷ ps) = rw (val-closed p.ty, params-closed ps) refl
 

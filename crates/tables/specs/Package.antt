@@ -49,13 +49,13 @@ mutual
     TextTree : Tree
     Reference : Key → Tree
     ListTree : Tree → Tree
-    RecordTree : Form → Fields → Tree
+    RecordTree : Form → TreeFields → Tree
     VariantTree : Form → Choices → Tree
     FlagsTree : List (List ℕ) → Tree
 
-  pub data Fields : Type 0 where
-    no_fields : Fields
-    field : List ℕ → Tree → Fields → Fields
+  pub data TreeFields : Type 0 where
+    no_fields : TreeFields
+    field : List ℕ → Tree → TreeFields → TreeFields
 
   pub data Choices : Type 0 where
     no_choices : Choices
@@ -66,7 +66,7 @@ mutual
 pub data Meaning : Type 0 where
   IsUse : Tree → Meaning
   IsType : Tree → Meaning
-  IsFunction : Fields → Option Tree → Meaning
+  IsFunction : TreeFields → Option Tree → Meaning
 
 pub record NamedDefinition : Type 0 where
   pub key : Key
@@ -75,7 +75,7 @@ pub record NamedDefinition : Type 0 where
 -- what a world imports or exports: an interface under its full name, or a function with its name, its parameters and its result
 pub data ItemMeaning : Type 0 where
   WithInterface : Direction → List ℕ → ItemMeaning
-  WithFunction : Direction → List ℕ → Fields → Option Tree → ItemMeaning
+  WithFunction : Direction → List ℕ → TreeFields → Option Tree → ItemMeaning
 
 -- a world under its full name, with its items in order
 pub record WorldMeaning : Type 0 where
@@ -100,13 +100,13 @@ abbrev mutual
   closed_tree env TextTree = string_type
   closed_tree env (Reference n) = lookup env n
   closed_tree env (ListTree t) = list_type (closed_tree env t)
-  closed_tree env (RecordTree form fs) = record_type (closed_fields env fs)
+  closed_tree env (RecordTree form fs) = record_type (closed_tree_fields env fs)
   closed_tree env (VariantTree form cs) = variant_type (closed_choices env cs)
   closed_tree env (FlagsTree labels) = flags_type (length labels)
 
-  pub closed_fields : Environment → Fields → closed.Fields
-  closed_fields env no_fields = closed.no_field
-  closed_fields env (field label t fs) = closed.field (closed_tree env t) (closed_fields env fs)
+  pub closed_tree_fields : Environment → TreeFields → closed.Fields
+  closed_tree_fields env no_fields = closed.no_field
+  closed_tree_fields env (field label t fs) = closed.field (closed_tree env t) (closed_tree_fields env fs)
 
   pub closed_choices : Environment → Choices → closed.Cases
   closed_choices env no_choices = closed.no_case
@@ -135,15 +135,15 @@ abbrev pub read_choice : List Tree → List ℕ → Option ValType → Choices �
 read_choice trees label None cs = empty label cs
 read_choice trees label (Some v) cs = holding label (read_val trees v) cs
 
-abbrev pub read_tuple : List Tree → List ValType → Fields
+abbrev pub read_tuple : List Tree → List ValType → TreeFields
 read_tuple trees [] = no_fields
 read_tuple trees (v ∷ vs) = field [] (read_val trees v) (read_tuple trees vs)
 
-abbrev pub read_fields : List Tree → List Field → Fields
+abbrev pub read_fields : List Tree → List Field → TreeFields
 read_fields trees [] = no_fields
 read_fields trees (f ∷ fs) = field f.name (read_val trees f.ty) (read_fields trees fs)
 
-abbrev pub read_params : List Tree → List Parameter → Fields
+abbrev pub read_params : List Tree → List Parameter → TreeFields
 read_params trees [] = no_fields
 read_params trees (p ∷ ps) = field p.name (read_val trees p.ty) (read_params trees ps)
 

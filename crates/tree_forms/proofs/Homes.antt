@@ -3,7 +3,7 @@ use Rattle.std.proofs.Common.{◌≡◌, ℕ, zero, suc, ◌+◌, ◌<◌, true,
 use Rattle.std.specs.Prelude.{slice_index_or}
 use Rattle.std.proofs.Math.Seq.{get_or-append_seam}
 use Rattle.std.proofs.lemmas.List.{get_or_append_left}
-use Rattle.tables.specs.Package.{Tree, TextTree, Reference, NamedDefinition, Key, IsUse, IsType, IsFunction, Fields, read_kind, meaning_of, reference, reference_by, references}
+use Rattle.tables.specs.Package.{Tree, TextTree, Reference, NamedDefinition, Key, IsUse, IsType, IsFunction, read_kind, meaning_of, reference, reference_by, references, TreeFields}
 use Rattle.tables.specs.declared.tables.TypeId.{TypeId}
 use Rattle.tables.specs.declared.tables.TypeDef.{TypeDef}
 use Rattle.tables.specs.declared.tables.TypeDefKind.{TypeDefKind}
@@ -37,7 +37,7 @@ pub record MeansType (i : List ℕ) (x : NamedDefinition) : Type 0 where
 
 pub record MeansFunction (i : List ℕ) (x : NamedDefinition) : Type 0 where
   pub key : x.key.interface ≡ i
-  pub params : Fields
+  pub params : TreeFields
   pub result : Option Tree
   pub meaning : x.meaning ≡ IsFunction params result
   pub params_refer : FieldsRefer i params
@@ -72,7 +72,7 @@ type-kind trees (kind.Variant cs) tree e = (refl, cc)
 type-kind trees (kind.Enum ns) tree e = (refl, cc)
 type-kind trees (kind.Flags ns) tree e = (refl, cc)
 
-pub no-function : (trees : List Tree) (k : TypeDefKind) (fs : Fields) (r : Option Tree) → meaning_of trees k ≡ IsFunction fs r → ⊥
+pub no-function : (trees : List Tree) (k : TypeDefKind) (fs : TreeFields) (r : Option Tree) → meaning_of trees k ≡ IsFunction fs r → ⊥
 no-function trees (kind.Use t) fs r e = absurd (cc)
 no-function trees (kind.Alias v) fs r e = absurd (cc)
 no-function trees (kind.List v) fs r e = absurd (cc)

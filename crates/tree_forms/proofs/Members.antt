@@ -1,10 +1,10 @@
 -- The names of the members of rows are those of what the rows define.
 use Rattle.std.proofs.Common.{◌≡◌, ℕ, true, cond, is_some, List, [], ◌∷◌, ◌++◌, map, Option, None, Some, refl, ap, sym, subst, ◌∙◌, All}
 use Rattle.std.specs.List.{list_all}
-use Rattle.wit_syntax.specs.Syntax.{Ty, Prim, Named, ListOf, OptionOf, TupleOf, ResultOf, Definition as Body, Alias, Record, Variant, Enumeration, FlagSet, Member, CaseOf}
+use Rattle.wit_syntax.specs.Syntax.{Ty, Prim, Named, ListOf, OptionOf, TupleOf, ResultOf, TypeBody as Body, Alias, Record, Variant, Enumeration, FlagSet, Member, CaseOf}
 use Rattle.wit_syntax.specs.declared.ast.Primitive.{Primitive as Keyword}
 use Rattle.wit_syntax.specs.declared.ast.Primitive.TheVariants as keyword
-use Rattle.tables.specs.Package.{Plain, AsTuple, AsEnum, AsOption, AsResult, Tree, PrimTree, TextTree, Reference, ListTree, RecordTree, VariantTree, FlagsTree, Fields, no_fields, field, Choices, no_choices, empty, holding, Meaning, IsUse, IsType, IsFunction, NamedDefinition, reference, meaning_of, read_choice, read_fields, read_params, read_cases, read_enum}
+use Rattle.tables.specs.Package.{Plain, AsTuple, AsEnum, AsOption, AsResult, Tree, PrimTree, TextTree, Reference, ListTree, RecordTree, VariantTree, FlagsTree, no_fields, field, Choices, no_choices, empty, holding, Meaning, IsUse, IsType, IsFunction, NamedDefinition, reference, meaning_of, read_choice, read_fields, read_params, read_cases, read_enum, TreeFields}
 use Rattle.tables.specs.declared.tables.ValType.{ValType}
 use Rattle.tables.specs.declared.tables.TypeName.{TypeName}
 use Rattle.tables.specs.declared.tables.TypeDefKind.{TypeDefKind}
@@ -26,7 +26,7 @@ use Rattle.tree_forms.proofs.Segments.{TypeMeans, Means}
 use Rattle.tree_meaning.proofs.Owning.{is_inner_row}
 use Rattle.tree_meaning.proofs.Apart.{none-distinct}
 
-abbrev pub field_names : Fields → List (List ℕ)
+abbrev pub field_names : TreeFields → List (List ℕ)
 field_names no_fields = []
 field_names (field n t fs) = n ∷ field_names fs
 

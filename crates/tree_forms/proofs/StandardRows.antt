@@ -4,7 +4,7 @@ use Rattle.std.specs.Prelude.{Bool, true, false, not, ◌&&◌, nat_lt, if◌the
 use Rattle.std.specs.List.{list_all}
 use Rattle.std.proofs.lemmas.Bool.{and_parts, false≢true}
 use Rattle.tables.specs.Tables.{option_all, kind_all, definition_all, is_type, is_within, is_standard_kind, is_standard, are_standard}
-use Rattle.tables.specs.Package.{Tree, TextTree, PrimTree, Reference, ListTree, VariantTree, RecordTree, FlagsTree, Fields, Choices, no_fields, field, no_choices, empty, holding, Meaning, IsUse, IsType, IsFunction, read_val, read_choice, read_tuple, read_fields, read_cases, read_enum, read_kind, meaning_of, references, named_by}
+use Rattle.tables.specs.Package.{Tree, TextTree, PrimTree, Reference, ListTree, VariantTree, RecordTree, FlagsTree, Choices, no_fields, field, no_choices, empty, holding, Meaning, IsUse, IsType, IsFunction, read_val, read_choice, read_tuple, read_fields, read_cases, read_enum, read_kind, meaning_of, references, named_by, TreeFields}
 use Rattle.tables.specs.declared.tables.ValType.{ValType}
 use Rattle.tables.specs.declared.tables.TypeDefKind.{TypeDefKind}
 use Rattle.tables.specs.declared.tables.TypeDefKind.TheVariants as kind
@@ -22,7 +22,7 @@ use Rattle.tree_meaning.proofs.AllDefinitions.{all_from, all_of}
 
 -- ---- types that no text has
 
-abbrev pub fields_length : Fields → ℕ
+abbrev pub fields_length : TreeFields → ℕ
 fields_length no_fields = 0
 fields_length (field label t fs) = suc (fields_length fs)
 

@@ -8,7 +8,7 @@ use Rattle.std.proofs.lemmas.List.{map-append}
 use Rattle.std.proofs.lemmas.List.Sums.{sum_by-append}
 use Rattle.tables.specs.Tables.{option_all, kind_all, definition_all, is_type, type_of, is_there}
 use Rattle.canonical_abi.specs.Labelled.{ok_label, error_label}
-use Rattle.tables.specs.Package.{Tree, TextTree, PrimTree, Reference, ListTree, VariantTree, RecordTree, FlagsTree, Fields, Choices, no_fields, field, no_choices, empty, holding, Meaning, read_val, read_choice, read_tuple, read_fields, read_params, read_cases, read_enum, read_kind, references, NamedDefinition}
+use Rattle.tables.specs.Package.{Tree, TextTree, PrimTree, Reference, ListTree, VariantTree, RecordTree, FlagsTree, Choices, no_fields, field, no_choices, empty, holding, Meaning, read_val, read_choice, read_tuple, read_fields, read_params, read_cases, read_enum, read_kind, references, NamedDefinition, TreeFields}
 use Rattle.tables.specs.declared.tables.ValType.{ValType}
 use Rattle.tables.specs.declared.tables.ValType.TheVariants as val
 use Rattle.tables.specs.declared.tables.TypeDefKind.{TypeDefKind}
@@ -39,7 +39,7 @@ abbrev mutual
   nodes w (VariantTree form cs) = w (VariantTree form cs) + nodes_of w cs
   nodes w (FlagsTree labels) = w (FlagsTree labels)
 
-  pub nodes_in : (Tree → ℕ) → Fields → ℕ
+  pub nodes_in : (Tree → ℕ) → TreeFields → ℕ
   nodes_in w no_fields = 0
   nodes_in w (field label t fs) = nodes w t + nodes_in w fs
 

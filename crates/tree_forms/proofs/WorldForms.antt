@@ -8,7 +8,7 @@ use Rattle.std.proofs.lemmas.Bool.{ltb-true, le-leb}
 use Rattle.std.proofs.lemmas.List.Folds.{list_all-append}
 use Rattle.tables.specs.PackageNames.{PackageParts}
 use Rattle.tables.specs.Tables.{is_type, is_type_id, is_there, type_of, function_of, definition_all, definition_below, are_earlier, is_function_of, is_placed_item, is_placed_world, are_placed_worlds}
-use Rattle.tables.specs.Package.{Tree, TextTree, Fields, IsFunction, NamedDefinition, read_params, read_val, read_kind, named_by, reference, reference_by, references}
+use Rattle.tables.specs.Package.{Tree, TextTree, IsFunction, NamedDefinition, read_params, read_val, read_kind, named_by, reference, reference_by, references, TreeFields}
 use Rattle.tables.specs.declared.tables.TypeId.{TypeId}
 use Rattle.tables.specs.declared.tables.TypeDefKind.{TypeDefKind}
 use Rattle.tables.specs.declared.tables.TypeName.{TypeName}
@@ -46,7 +46,7 @@ use Rattle.tree_meaning.proofs.AllDefinitions.{all_from}
 
 -- whatever interface is named, all that it refers to is of it
 pub record RefersNowhere (x : NamedDefinition) : Type 0 where
-  pub params : Fields
+  pub params : TreeFields
   pub result : Option Tree
   pub meaning : x.meaning ≡ IsFunction params result
   pub params_refer : (i : List ℕ) → FieldsRefer i params

@@ -3,10 +3,10 @@ use Rattle.std.proofs.Common.{◌≡◌, ℕ, zero, suc, List, [], ◌∷◌, �
 use Rattle.std.specs.Prelude.{slice_index_or}
 use Rattle.std.specs.Option.{option_map}
 use Rattle.std.proofs.lemmas.List.{map-append}
-use Rattle.wit_syntax.specs.Syntax.{Ty, Prim, Named, ListOf, OptionOf, TupleOf, ResultOf, Tys, none, more, MaybeTy, Absent, Present, Definition as Body, Alias, Record, Variant, Enumeration, FlagSet, Member, CaseOf}
+use Rattle.wit_syntax.specs.Syntax.{Ty, Prim, Named, ListOf, OptionOf, TupleOf, ResultOf, Tys, none, more, MaybeTy, Absent, Present, TypeBody as Body, Alias, Record, Variant, Enumeration, FlagSet, Member, CaseOf}
 use Rattle.wit_syntax.specs.declared.ast.Primitive.{Primitive as Keyword}
 use Rattle.wit_syntax.specs.declared.ast.Primitive.TheVariants as keyword
-use Rattle.tables.specs.Package.{Key, key_of, Tree, PrimTree, TextTree, Reference, ListTree, RecordTree, VariantTree, FlagsTree, Fields, no_fields, field, Choices, no_choices, empty, holding, Plain, AsTuple, AsResult, AsEnum, Meaning, IsUse, IsType, IsFunction, NamedDefinition, read_val, read_choice, read_tuple, read_fields, read_params, read_cases, read_enum, read_kind, reference, reference_by, meaning_of, named_function, function_meaning as called, named_by, definition_of, definitions_from, references, ItemMeaning, WithInterface, WithFunction, function_item, item_meaning}
+use Rattle.tables.specs.Package.{Key, key_of, Tree, PrimTree, TextTree, Reference, ListTree, RecordTree, VariantTree, FlagsTree, no_fields, field, Choices, no_choices, empty, holding, Plain, AsTuple, AsResult, AsEnum, Meaning, IsUse, IsType, IsFunction, NamedDefinition, read_val, read_choice, read_tuple, read_fields, read_params, read_cases, read_enum, read_kind, reference, reference_by, meaning_of, named_function, function_meaning as called, named_by, definition_of, definitions_from, references, ItemMeaning, WithInterface, WithFunction, function_item, item_meaning, TreeFields}
 use Rattle.tables.specs.PackageNames.{own_name}
 use Rattle.tables.specs.Tables.{function_of}
 use Rattle.tables.specs.declared.tables.ValType.{ValType}
@@ -44,7 +44,7 @@ module _ (to : List ℕ → List ℕ) (none-kept : to [] ≡ []) where
     renamed (VariantTree form cs) = VariantTree form (renamed_choices cs)
     renamed (FlagsTree labels) = FlagsTree labels
 
-    renamed_fields : Fields → Fields
+    renamed_fields : TreeFields → TreeFields
     renamed_fields no_fields = no_fields
     renamed_fields (field label t fs) = field label (renamed t) (renamed_fields fs)
 
@@ -180,7 +180,7 @@ module _ (to : List ℕ → List ℕ) (none-kept : to [] ≡ []) where
       by : (o : Option Function) → function_item (map renamed ts) way o ≡ renamed_item (function_item ts way o)
       by None = ap (WithInterface way) (sym none-kept)
       by (Some g) =
-          ap (λ (fs : Fields). WithFunction way g.name fs (option_map (read_val (map renamed ts)) g.result)) (params-same ts g.params)
+          ap (λ (fs : TreeFields). WithFunction way g.name fs (option_map (read_val (map renamed ts)) g.result)) (params-same ts g.params)
           ∙ ap (WithFunction way g.name (renamed_fields (read_params ts g.params))) (if-same ts g.result)
 
   pub read-items : (ns : List (List ℕ)) (ts : List Tree) (rows : List Definition) (is : List WorldItem)
@@ -284,7 +284,7 @@ module _ (to : List ℕ → List ℕ) (none-kept : to [] ≡ []) where
       ap (λ (i : List ℕ). fields_of_labelled (map (member_meaning i) ms)) (sym none-kept) ∙ members-renamed [] ms in
       let result : resolved_if [] f.function.result ≡ option_map renamed (resolved_if [] f.function.result) =
       ap (λ (i : List ℕ). resolved_if i f.function.result) (sym none-kept) ∙ if-renamed [] f.function.result in
-      ap (λ (fs : Fields). WithFunction (direction_meaning way) f.name fs (resolved_if [] f.function.result)) params
+      ap (λ (fs : TreeFields). WithFunction (direction_meaning way) f.name fs (resolved_if [] f.function.result)) params
       ∙ ap (WithFunction (direction_meaning way) f.name (renamed_fields (fields_of_labelled (map (member_meaning []) ms)))) result
 
   -- the interface, and those that it uses, under their new names

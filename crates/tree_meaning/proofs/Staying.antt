@@ -4,7 +4,7 @@ use Rattle.std.specs.List.{list_all}
 use Rattle.std.specs.Option.{option_map}
 use Rattle.std.proofs.lemmas.List.{map-append}
 use Rattle.tables.specs.Tables.{is_type, option_all}
-use Rattle.tables.specs.Package.{Tree, read_val, read_tuple, read_fields, read_params, read_cases, read_choice, Fields, field, Choices}
+use Rattle.tables.specs.Package.{Tree, read_val, read_tuple, read_fields, read_params, read_cases, read_choice, field, Choices, TreeFields}
 use Rattle.package_form.specs.Postfix.{unnamed, unnamed_if, unnamed_parameter}
 use Rattle.tree_meaning.specs.Resolved.{Labelled, fields_of_labelled, unlabelled, choices_of, choice}
 use Rattle.package_form.specs.Entries.{Table}
@@ -81,15 +81,15 @@ module _ {A X : Type 0} (typed : List Definition → A → Bool) (read : List Tr
 
 pub tuple-reads : (ts : List Tree) (vs : List ValType) → read_tuple ts vs ≡ unlabelled (map (read_val ts) vs)
 tuple-reads ts [] = refl
-tuple-reads ts (v ∷ vs) = ap (λ (fs : Fields). field [] (read_val ts v) fs) (tuple-reads ts vs)
+tuple-reads ts (v ∷ vs) = ap (λ (fs : TreeFields). field [] (read_val ts v) fs) (tuple-reads ts vs)
 
 pub fields-read : (ts : List Tree) (fs : List Field) → read_fields ts fs ≡ fields_of_labelled (map (read_field ts) fs)
 fields-read ts [] = refl
-fields-read ts (f ∷ fs) = ap (λ (gs : Fields). field f.name (read_val ts f.ty) gs) (fields-read ts fs)
+fields-read ts (f ∷ fs) = ap (λ (gs : TreeFields). field f.name (read_val ts f.ty) gs) (fields-read ts fs)
 
 pub parameters-read : (ts : List Tree) (fs : List Parameter) → read_params ts fs ≡ fields_of_labelled (map (read_parameter ts) fs)
 parameters-read ts [] = refl
-parameters-read ts (f ∷ fs) = ap (λ (gs : Fields). field f.name (read_val ts f.ty) gs) (parameters-read ts fs)
+parameters-read ts (f ∷ fs) = ap (λ (gs : TreeFields). field f.name (read_val ts f.ty) gs) (parameters-read ts fs)
 
 pub cases-read : (ts : List Tree) (cs : List Case) → read_cases ts cs ≡ choices_of (map (read_case ts) cs)
 cases-read ts [] = refl

@@ -61,7 +61,7 @@ pub record TreeStands (t : Table) (v : ValType) (tree : Tree) : Type 0 where
   pub reads : read_val (table_trees t) v ≡ tree
 
 -- the table got the rows that the type needs
-pub record Lowers (old new : Table) (v : ValType) (tree : Tree) : Type 0 where
+pub record LowersType (old new : Table) (v : ValType) (tree : Tree) : Type 0 where
   pub extends : Extends old new (unnamed new.rows v)
   pub stands : TreeStands new v tree
 

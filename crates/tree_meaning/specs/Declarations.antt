@@ -1,7 +1,7 @@
 -- What the interfaces of a syntax tree declare: used names, types and functions, each in source order; what its worlds import and export;
 -- and what they name.
 use Rattle.std.specs.Prelude.{ℕ, List, [], ◌∷◌, ◌++◌, map, flat_map, filter_map, Option, None, Some, slice_index_or, unwrap_or}
-use Rattle.wit_syntax.specs.Syntax.{Ty, Prim, Named, ListOf, OptionOf, TupleOf, ResultOf, Tys, none, more, MaybeTy, Absent, Present, Definition, Alias, Record, Variant, Enumeration, FlagSet, Function, Member, CaseOf, PathTo, Local, Foreign, UsedAs, Entry, Uses, Defines, Declares, WorldEntry, Whole, Single, FileEntry, AnInterface, AWorld, File}
+use Rattle.wit_syntax.specs.Syntax.{Ty, Prim, Named, ListOf, OptionOf, TupleOf, ResultOf, Tys, none, more, MaybeTy, Absent, Present, Alias, Record, Variant, Enumeration, FlagSet, Function, Member, CaseOf, PathTo, Local, Foreign, UsedAs, Entry, Uses, Defines, Declares, WorldEntry, Whole, Single, FileEntry, AnInterface, AWorld, File, TypeBody}
 use Rattle.tables.specs.PackageNames.{PackageParts, own_name}
 use Rattle.tables.specs.Names.{full_name_in}
 use Rattle.wit_syntax.specs.declared.ast.Direction.{Direction}
@@ -15,7 +15,7 @@ pub record UsedItem : Type 0 where
 
 pub record TypeItem : Type 0 where
   pub name : List ℕ
-  pub definition : Definition
+  pub definition : TypeBody
 
 pub record FunctionItem : Type 0 where
   pub name : List ℕ
@@ -199,7 +199,7 @@ named_member m = named m.ty
 abbrev pub named_case : CaseOf → List (List ℕ)
 named_case c = named_if c.payload
 
-abbrev pub named_definition : Definition → List (List ℕ)
+abbrev pub named_definition : TypeBody → List (List ℕ)
 named_definition (Alias t) = named t
 named_definition (Record ms) = flat_map named_member ms
 named_definition (Variant cs) = flat_map named_case cs
@@ -251,7 +251,7 @@ member_name m = m.name
 abbrev pub tree_case_name : CaseOf → List ℕ
 tree_case_name c = c.name
 
-abbrev pub definition_scopes : Definition → List (List (List ℕ))
+abbrev pub definition_scopes : TypeBody → List (List (List ℕ))
 definition_scopes (Alias t) = []
 definition_scopes (Record ms) = map member_name ms ∷ []
 definition_scopes (Variant cs) = map tree_case_name cs ∷ []

@@ -1,6 +1,6 @@
 -- What the syntax stands for in an interface: each name for that name of the interface's scope.
 use Rattle.std.specs.Prelude.{ℕ, List, [], ◌∷◌, ◌++◌, map, slice_index_or, Option, None, Some}
-use Rattle.wit_syntax.specs.Syntax.{Ty, Prim, Named, ListOf, OptionOf, TupleOf, ResultOf, Tys, none, more, MaybeTy, Absent, Present, Definition, Alias, Record, Variant, Enumeration, FlagSet, Member, CaseOf}
+use Rattle.wit_syntax.specs.Syntax.{Ty, Prim, Named, ListOf, OptionOf, TupleOf, ResultOf, Tys, none, more, MaybeTy, Absent, Present, Alias, Record, Variant, Enumeration, FlagSet, Member, CaseOf, TypeBody}
 use Rattle.wit_syntax.specs.declared.ast.Direction.{Direction as Syntax}
 use Rattle.wit_syntax.specs.declared.ast.Direction.TheVariants as syntax
 use Rattle.wit_syntax.specs.declared.ast.Primitive.{Primitive as Keyword}
@@ -12,7 +12,7 @@ use Rattle.tables.specs.declared.tables.Primitive.TheVariants as primitive
 use Rattle.tables.specs.declared.tables.ValType.{ValType}
 use Rattle.tables.specs.declared.tables.ValType.TheVariants as val
 use Rattle.tables.specs.PackageNames.{own_name}
-use Rattle.tables.specs.Package.{Tree, PrimTree, TextTree, Reference, ListTree, RecordTree, VariantTree, FlagsTree, Fields, no_fields, field, Choices, no_choices, empty, holding, Plain, AsTuple, AsEnum, AsOption, AsResult, NamedDefinition, IsUse, IsType, IsFunction, ItemMeaning, WithInterface, WithFunction, WorldMeaning, read_enum}
+use Rattle.tables.specs.Package.{Tree, PrimTree, TextTree, Reference, ListTree, RecordTree, VariantTree, FlagsTree, no_fields, field, Choices, no_choices, empty, holding, Plain, AsTuple, AsEnum, AsOption, AsResult, NamedDefinition, IsUse, IsType, IsFunction, ItemMeaning, WithInterface, WithFunction, WorldMeaning, read_enum, TreeFields}
 use Rattle.tree_meaning.specs.Declarations.{UsedItem, TypeItem, FunctionItem, InterfaceTree, ItemTree, InterfaceNamed, ForeignNamed, FunctionOf, WorldTree, use_interface}
 
 abbrev pub primitive_tree : Keyword → Tree
@@ -50,11 +50,11 @@ pub record Choice : Type 0 where
   pub name : List ℕ
   pub payload : Option Tree
 
-abbrev pub fields_of_labelled : List Labelled → Fields
+abbrev pub fields_of_labelled : List Labelled → TreeFields
 fields_of_labelled [] = no_fields
 fields_of_labelled (f ∷ fs) = field f.name f.tree (fields_of_labelled fs)
 
-abbrev pub unlabelled : List Tree → Fields
+abbrev pub unlabelled : List Tree → TreeFields
 unlabelled [] = no_fields
 unlabelled (t ∷ ts) = field [] t (unlabelled ts)
 
@@ -103,7 +103,7 @@ member_meaning i m = record { name = m.name; tree = resolved i m.ty }
 abbrev pub case_meaning : List ℕ → CaseOf → Choice
 case_meaning i c = record { name = c.name; payload = resolved_if i c.payload }
 
-abbrev pub definition_meaning : List ℕ → Definition → Tree
+abbrev pub definition_meaning : List ℕ → TypeBody → Tree
 definition_meaning i (Alias t) = resolved i t
 definition_meaning i (Record ms) = RecordTree Plain (fields_of_labelled (map (member_meaning i) ms))
 definition_meaning i (Variant cs) = VariantTree Plain (choices_of (map (case_meaning i) cs))

@@ -3,7 +3,7 @@ use Rattle.std.specs.Prelude.{◌≡◌, ◌≢◌, ◌<◌, ◌≤◌, ◌+◌,
 use Rattle.std.specs.List.{list_all}
 use Rattle.std.specs.Option.{option_map}
 use Rattle.std.specs.Str.{bytes_eq}
-use Rattle.wit_syntax.specs.Syntax.{Ty, depth, Member, CaseOf, PathTo, Definition as Body, Alias, Record, Variant, Enumeration, FlagSet, Function as Signature, Entry, Uses, Defines, Declares, WorldEntry, Whole, Single, FileEntry, AnInterface, AWorld, File}
+use Rattle.wit_syntax.specs.Syntax.{Ty, Member, CaseOf, PathTo, TypeBody as Body, Alias, Record, Variant, Enumeration, FlagSet, Function as Signature, Entry, Uses, Defines, Declares, WorldEntry, Whole, Single, FileEntry, AnInterface, AWorld, File, ty_depth}
 use Rattle.tables.specs.PackageNames.{PackageParts, own_name}
 use Rattle.package_form.specs.Scope.{AreDistinct, IsDuplicate}
 use Rattle.placement.specs.Order.{IsPlacement, IsCycle}
@@ -226,7 +226,7 @@ HasCycle f =
 
 -- a type is nested at most 64 deep, as in every text
 abbrev pub fits : Ty → Bool
-fits t = nat_le (depth t) 64
+fits t = nat_le (ty_depth t) 64
 
 abbrev pub fits_if : Option Ty → Bool
 fits_if None = true

@@ -2,28 +2,28 @@
 use Rattle.std.proofs.Common.{◌≡◌, ℕ, zero, suc, ◌+◌, ◌<◌, ◌≤◌, Bool, true, false, ◌&&◌, nat_le, List, [], ◌∷◌, ◌++◌, map, take, length, get_or, refl, ap, sym, ◌∙◌, arith}
 use Rattle.std.specs.List.{list_all}
 use Rattle.std.proofs.lemmas.Bool.{le-leb, leb-true, lt-leb, leb-false}
-use Rattle.wit_syntax.specs.Syntax.{depth, depth_all, tys_of}
+use Rattle.wit_syntax.specs.Syntax.{depth_all, tys_of, ty_depth}
 use Rattle.wit_syntax.specs.View.{ty_view}
 use Rattle.wit_syntax.specs.declared.ast.TypeExpression.{TypeExpression}
 use Rattle.tree_meaning.specs.Declarations.{named, named_all}
 
-depth-among : (xs : List TypeExpression) (k : ℕ) (x : TypeExpression) → k < length xs → x ≡ get_or xs k x → depth (ty_view x) ≤ depth_all (tys_of (map ty_view xs))
+depth-among : (xs : List TypeExpression) (k : ℕ) (x : TypeExpression) → k < length xs → x ≡ get_or xs k x → ty_depth (ty_view x) ≤ depth_all (tys_of (map ty_view xs))
 depth-among [] k x l e = absurd (omega arith)
-depth-among (y ∷ xs) zero x l e = let same = ap (λ z. depth (ty_view z)) e in omega (arith, same)
+depth-among (y ∷ xs) zero x l e = let same = ap (λ z. ty_depth (ty_view z)) e in omega (arith, same)
 depth-among (y ∷ xs) (suc k) x l e = let rest = depth-among xs k x (omega arith) e in omega (arith, rest)
 
 depth-suc : (xs : List TypeExpression) (k : ℕ) (x : TypeExpression) (n : ℕ) → k < length xs → x ≡ get_or xs k x
-    → depth_all (tys_of (map ty_view (take k xs))) ≤ n → depth (ty_view x) ≤ n → depth_all (tys_of (map ty_view (take (suc k) xs))) ≤ n
+    → depth_all (tys_of (map ty_view (take k xs))) ≤ n → ty_depth (ty_view x) ≤ n → depth_all (tys_of (map ty_view (take (suc k) xs))) ≤ n
 depth-suc [] k x n l e h q = absurd (omega arith)
-depth-suc (y ∷ xs) zero x n l e h q = let same = ap (λ z. depth (ty_view z)) e in omega (arith, same)
+depth-suc (y ∷ xs) zero x n l e h q = let same = ap (λ z. ty_depth (ty_view z)) e in omega (arith, same)
 depth-suc (y ∷ xs) (suc k) x n l e h q = let rest = depth-suc xs k x n (omega arith) e (omega (arith, h)) q in omega (arith, rest, h)
 
-pub deeper-at : (xs : List TypeExpression) (k : ℕ) (x : TypeExpression) (n : ℕ) → k < length xs → x ≡ get_or xs k x → nat_le (depth (ty_view x)) n ≡ false
+pub deeper-at : (xs : List TypeExpression) (k : ℕ) (x : TypeExpression) (n : ℕ) → k < length xs → x ≡ get_or xs k x → nat_le (ty_depth (ty_view x)) n ≡ false
     → nat_le (depth_all (tys_of (map ty_view xs))) n ≡ false
-deeper-at xs k x n l e h = lt-leb (depth_all (tys_of (map ty_view xs))) n (omega (arith, leb-false (depth (ty_view x)) n h, depth-among xs k x l e))
+deeper-at xs k x n l e h = lt-leb (depth_all (tys_of (map ty_view xs))) n (omega (arith, leb-false (ty_depth (ty_view x)) n h, depth-among xs k x l e))
 
 pub within-more : (xs : List TypeExpression) (k : ℕ) (x : TypeExpression) (n : ℕ) → k < length xs → x ≡ get_or xs k x
-    → nat_le (depth_all (tys_of (map ty_view (take k xs)))) n ≡ true → nat_le (depth (ty_view x)) n ≡ true → nat_le (depth_all (tys_of (map ty_view (take (k + 1) xs)))) n ≡ true
+    → nat_le (depth_all (tys_of (map ty_view (take k xs)))) n ≡ true → nat_le (ty_depth (ty_view x)) n ≡ true → nat_le (depth_all (tys_of (map ty_view (take (k + 1) xs)))) n ≡ true
 within-more xs k x n l e h q =
     let same : k + 1 ≡ suc k = omega arith in
     rw same (le-leb (depth_all (tys_of (map ty_view (take (suc k) xs)))) n (depth-suc xs k x n l e (leb-true _ n h) (leb-true _ n q)))

@@ -1,7 +1,7 @@
 //! How deep types are nested. No recursion here is deeper than the limit.
 ghost use Rattle.std.specs.Prelude.{◌≡◌, nat_le, map};
 ghost use Rattle.std.specs.List.{list_all};
-ghost use Rattle.wit_syntax.specs.Syntax.{depth, depth_all, depth_maybe, tys_of};
+ghost use Rattle.wit_syntax.specs.Syntax.{depth_all, depth_maybe, tys_of, ty_depth};
 ghost use Rattle.wit_syntax.specs.View.{ty_view, boxed_view, optional_view, field_view, case_view, definition_view, function_view, entry_view, world_entry_view, item_view};
 ghost use Rattle.tree_meaning.specs.Resolves.{fits_if, member_fits, case_fits, body_fits, signature_fits, entry_fits, world_entry_fits, interface_fits};
 
@@ -16,7 +16,7 @@ const MAX_NESTING: usize = 64;
 /// Whether a type is nested at most so deep.
 #[cycle(nested)]
 fn is_within(limit: usize, ty: &TypeExpression) -> bool
-    ensures { result ≡ nat_le (depth (ty_view ty.now)) limit }
+    ensures { result ≡ nat_le (ty_depth (ty_view ty.now)) limit }
 {
     if limit == 0 {
         return false;

@@ -4,12 +4,12 @@ use Rattle.wit_syntax.specs.Syntax.{Ty, tys_of}
 use Rattle.wit_syntax.specs.View.{ty_view}
 use Rattle.wit_syntax.specs.declared.ast.TypeExpression.{TypeExpression}
 use Rattle.tables.specs.Tables.{is_type, option_all}
-use Rattle.tables.specs.Package.{Tree, Reference, ListTree, IsType, read_val, read_kind, Fields, Choices, RecordTree, VariantTree, Plain, AsTuple}
+use Rattle.tables.specs.Package.{Tree, Reference, ListTree, IsType, read_val, read_kind, Choices, RecordTree, VariantTree, Plain, AsTuple, TreeFields}
 use Rattle.package_form.specs.Postfix.{unnamed, unnamed_if, unnamed_field, unnamed_case}
 use Rattle.tree_meaning.specs.Declarations.{named, named_all}
 use Rattle.tree_meaning.specs.Resolved.{Labelled, Choice, resolved, resolved_all, option_tree, tuple_tree, result_tree, fields_of_labelled, unlabelled, choices_of}
 use Rattle.package_form.specs.Entries.{Table}
-use Rattle.tree_meaning.specs.Building.{table_trees, IsTableFront, Extends, TreeStands, Lowers, LowersIf, LowersEach, LowersKind, LowersInner, read_field, read_case, field_typed, case_typed}
+use Rattle.tree_meaning.specs.Building.{table_trees, IsTableFront, Extends, TreeStands, LowersIf, LowersEach, LowersKind, LowersInner, read_field, read_case, field_typed, case_typed, LowersType}
 use Rattle.tree_scopes.specs.KnownScopes.{IsScope, KnowsNames, scope_name}
 use Rattle.tree_scopes.specs.declared.known.KnownTypes.{KnownTypes}
 use Rattle.canonical_abi.specs.Labelled.{ok_label, error_label}
@@ -44,19 +44,19 @@ same_name old new s x = ap (λ (ns : List (List ℕ)). get_or ns s.interface.0 [
 
 -- ---- one type
 
-pub lowers-list : (a b : Table) (v : ValType) (tree : Tree) → Lowers a b v tree → LowersInner a b (kind.List v) (ListTree tree)
+pub lowers-list : (a b : Table) (v : ValType) (tree : Tree) → LowersType a b v tree → LowersInner a b (kind.List v) (ListTree tree)
 lowers-list a b v tree l = record {
   lowers = record { extends = l.extends; typed = l.stands.typed; means = ap (λ (t : Tree). IsType (ListTree t)) l.stands.reads; names = refl };
   inner = refl;
 }
 
-pub lowers-option : (a b : Table) (v : ValType) (tree : Tree) → Lowers a b v tree → LowersInner a b (kind.Option v) (option_tree tree)
+pub lowers-option : (a b : Table) (v : ValType) (tree : Tree) → LowersType a b v tree → LowersInner a b (kind.Option v) (option_tree tree)
 lowers-option a b v tree l = record {
   lowers = record { extends = l.extends; typed = l.stands.typed; means = ap (λ (t : Tree). IsType (option_tree t)) l.stands.reads; names = refl };
   inner = refl;
 }
 
-pub lowers-some : (a b : Table) (v : ValType) (tree : Tree) → Lowers a b v tree → LowersIf a b (Some v) (Some tree)
+pub lowers-some : (a b : Table) (v : ValType) (tree : Tree) → LowersType a b v tree → LowersIf a b (Some v) (Some tree)
 lowers-some a b v tree l = record { extends = l.extends; typed = l.stands.typed; reads = ap (λ (t : Tree). Some t) l.stands.reads }
 
 pub lowers-result : (a b c : Table) (v w : Option ValType) (t u : Option Tree) → LowersIf a b v t → LowersIf b c w u
@@ -93,7 +93,7 @@ lowers-tuple a b vs ts l = record {
   lowers = record {
     extends = l.extends;
     typed = l.within;
-    means = ap (λ (fs : Fields). IsType (RecordTree AsTuple fs)) (tuple-reads (table_trees b) vs ∙ ap unlabelled l.reads);
+    means = ap (λ (fs : TreeFields). IsType (RecordTree AsTuple fs)) (tuple-reads (table_trees b) vs ∙ ap unlabelled l.reads);
     names = refl;
   };
   inner = refl;
@@ -136,7 +136,7 @@ pub lowers-record : (a b : Table) (fs : List Field) (ls : List Labelled) → Low
 lowers-record a b fs ls l = record {
   extends = l.extends;
   typed = l.within;
-  means = ap (λ (gs : Fields). IsType (RecordTree Plain gs)) (fields-read (table_trees b) fs ∙ ap fields_of_labelled l.reads);
+  means = ap (λ (gs : TreeFields). IsType (RecordTree Plain gs)) (fields-read (table_trees b) fs ∙ ap fields_of_labelled l.reads);
   names = refl;
 }
 

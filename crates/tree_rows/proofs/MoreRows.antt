@@ -6,7 +6,7 @@ use Rattle.tables.specs.Package.{Tree, TextTree, NamedDefinition, Meaning, IsUse
 use Rattle.package_form.specs.Postfix.{Leaves, inner, unnamed, is_inner, is_unnamed, is_unnamed_row, one_if, inner_row}
 use Rattle.package_form.specs.Ids.{is_world_function, places_where}
 use Rattle.package_form.specs.Entries.{Table}
-use Rattle.tree_meaning.specs.Building.{world_functions, table_trees, table_definitions, IsTableFront, AddsDefinitions, TreeStands, Lowers, LowersInner, is_expressed}
+use Rattle.tree_meaning.specs.Building.{world_functions, table_trees, table_definitions, IsTableFront, AddsDefinitions, TreeStands, LowersInner, is_expressed, LowersType}
 use Rattle.tables.specs.declared.tables.ValType.{ValType}
 use Rattle.tables.specs.declared.tables.ValType.TheVariants as val
 use Rattle.tables.specs.declared.tables.TypeId.{TypeId}
@@ -129,7 +129,7 @@ is-inner (kind.Enum ns) n h = h
 is-inner (kind.Flags ns) n h = h
 
 pub inner-lowers : (first old new : Table) (k : TypeDefKind) (id : TypeId) (tree : Tree) → id.0 ≡ length old.rows → With old (inner_row k) new → is_inner k ≡ true
-    → LowersInner first old k tree → Lowers first new (val.Id id) tree
+    → LowersInner first old k tree → LowersType first new (val.Id id) tree
 inner-lowers first old new k id tree at is isinner li =
     let l = li.lowers in
     let front = with-front old new (inner_row k) is l.typed in

@@ -2,7 +2,7 @@
 ghost use Rattle.std.specs.Prelude.{◌≡◌, ◌≢◌, ◌<◌, ◌++◌, ◌∷◌, [], length, IfOk};
 ghost use Rattle.tables.specs.Package.{Tree, interface_names};
 ghost use Rattle.package_form.specs.Entries.{Table};
-ghost use Rattle.tree_meaning.specs.Building.{Lowers, LowersInner};
+ghost use Rattle.tree_meaning.specs.Building.{LowersInner, LowersType};
 
 use atoms::Label;
 use package_names::IndexedTable;
@@ -61,7 +61,7 @@ impl<'a> Builder<'a> {
 
     /// A type of this kind inside another: a row of its own, but for a name or a primitive.
     pub fn inner(&mut self, kind: TypeDefKind) -> Result<ValType, AllocError>
-        ensures { IfOk result (λ v. (first : Table) (tree : Tree) → LowersInner first self.old kind tree → Lowers first self.new v tree) }
+        ensures { IfOk result (λ v. (first : Table) (tree : Tree) → LowersInner first self.old kind tree → LowersType first self.new v tree) }
     {
         match kind {
             TypeDefKind::Alias(target) => Ok(target),

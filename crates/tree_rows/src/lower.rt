@@ -4,7 +4,7 @@ ghost use Rattle.wit_syntax.specs.Syntax.{tys_of};
 ghost use Rattle.wit_syntax.specs.View.{ty_view, boxed_view, optional_view};
 ghost use Rattle.tree_meaning.specs.Declarations.{named, named_all, named_maybe, named_if};
 ghost use Rattle.tree_meaning.specs.Resolved.{resolved, resolved_all, resolved_maybe, resolved_if, val_of_primitive};
-ghost use Rattle.tree_meaning.specs.Building.{Lowers, LowersInner, LowersIf, LowersAll};
+ghost use Rattle.tree_meaning.specs.Building.{LowersInner, LowersIf, LowersAll, LowersType};
 ghost use Rattle.tree_scopes.specs.KnownScopes.{IsScope, KnowsNames, scope_name};
 
 use crate::builder::Builder;
@@ -116,7 +116,7 @@ pub fn lower_type(
 ) -> Result<ValType, AllocError>
     requires known { KnowsNames scope.now (named (ty_view expression.now)) }
     requires scoped { IsScope builder.old scope.now }
-    ensures { IfOk result (λ v. Lowers builder.old builder.new v (resolved (scope_name builder.old scope.now) (ty_view expression.now))) }
+    ensures { IfOk result (λ v. LowersType builder.old builder.new v (resolved (scope_name builder.old scope.now) (ty_view expression.now))) }
 {
     let kind = lower_kind(alloc, builder, scope, expression)?;
     builder.inner(kind)

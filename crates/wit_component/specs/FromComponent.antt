@@ -1,6 +1,6 @@
 -- What is answered of a raw component.
 use Rattle.std.specs.Prelude.{◌≡◌, Bool, true, false, List, [], ◌∷◌}
-use Rattle.ctype_format.specs.Raw.{Definition, Component, Decls, none, then}
+use Rattle.ctype_format.specs.Raw.{Component, Decls, none, then, TypeEntry}
 use Rattle.ctype_bin.specs.FileView.{raw_component_view}
 use Rattle.ctype_bin.specs.declared.component.RawComponent.{RawComponent}
 use Rattle.tables.specs.declared.error.ResolveError.{ResolveError}
@@ -13,12 +13,12 @@ abbrev pub is_none : Decls → Bool
 is_none none = true
 is_none (then d ds) = false
 
-abbrev pub has_no_decls : Definition → Bool
+abbrev pub has_no_decls : TypeEntry → Bool
 has_no_decls (Component ds) = is_none ds
 has_no_decls _ = false
 
 -- the one type of the component is a component type without declarations
-abbrev pub is_empty_package : List Definition → Bool
+abbrev pub is_empty_package : List TypeEntry → Bool
 is_empty_package [] = false
 is_empty_package (t ∷ []) = has_no_decls t
 is_empty_package (t ∷ u ∷ ts) = false

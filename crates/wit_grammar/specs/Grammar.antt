@@ -29,7 +29,7 @@ use Rattle.wit_tokens.specs.Lexing.{limit}
 use Rattle.wit_tokens.specs.Tokens.{Lexeme, span_of}
 use Rattle.wit_grammar.specs.Faults.{wanted, is, feature_or, unless_feature}
 use Rattle.wit_grammar.specs.Lookahead.{Phrase}
-use Rattle.wit_syntax.specs.Syntax.{Ty, Prim, Named, ListOf, OptionOf, TupleOf, ResultOf, Absent, Present, tys_of, Member, CaseOf, UsedAs, Definition, Alias, Record, Variant, Enumeration, FlagSet, Function, PathTo, Local, Foreign, Entry, Uses, Defines, Declares, WorldEntry, Whole, Single, FileEntry, AnInterface, AWorld, HeaderNames, File}
+use Rattle.wit_syntax.specs.Syntax.{Ty, Prim, Named, ListOf, OptionOf, TupleOf, ResultOf, Absent, Present, tys_of, Member, CaseOf, UsedAs, Alias, Record, Variant, Enumeration, FlagSet, Function, PathTo, Local, Foreign, Entry, Uses, Defines, Declares, WorldEntry, Whole, Single, FileEntry, AnInterface, AWorld, HeaderNames, File, TypeBody}
 
 -- ---- tokens
 
@@ -444,7 +444,7 @@ use_item end at = do
 
 -- ---- type definitions, each behind its keyword
 
-unfoldable pub alias : ℕ → ℕ → Phrase Definition
+unfoldable pub alias : ℕ → ℕ → Phrase TypeBody
 alias end n = do
   a ← punctuation end mark.Equals
   t ← ty end n
@@ -454,7 +454,7 @@ alias end n = do
 abbrev pub field_list : ℕ → ℕ → ℕ → Phrase (List Member)
 field_list end n = listed (is comma) (is close_brace) (comma_wanted end) (member end n)
 
-unfoldable pub record_body : ℕ → ℕ → Phrase Definition
+unfoldable pub record_body : ℕ → ℕ → Phrase TypeBody
 record_body end n = do
   a ← punctuation end mark.OpenBrace
   ms ← field_list end n limit
@@ -488,7 +488,7 @@ variant_case end n = do
 abbrev pub case_list : ℕ → ℕ → ℕ → Phrase (List CaseOf)
 case_list end n = listed (is comma) (is close_brace) (comma_wanted end) (variant_case end n)
 
-unfoldable pub variant_body : ℕ → ℕ → Phrase Definition
+unfoldable pub variant_body : ℕ → ℕ → Phrase TypeBody
 variant_body end n = do
   a ← punctuation end mark.OpenBrace
   cs ← case_list end n limit
@@ -502,13 +502,13 @@ name_of_case end false = id end
 abbrev pub name_list : ℕ → Bool → ℕ → Phrase (List (List ℕ))
 name_list end gated = listed (is comma) (is close_brace) (comma_wanted end) (name_of_case end gated)
 
-unfoldable pub enum_cases : ℕ → Phrase Definition
+unfoldable pub enum_cases : ℕ → Phrase TypeBody
 enum_cases end = do
   a ← punctuation end mark.OpenBrace
   ns ← name_list end true limit
   give (Enumeration ns)
 
-unfoldable pub flag_names : ℕ → Phrase Definition
+unfoldable pub flag_names : ℕ → Phrase TypeBody
 flag_names end = do
   a ← punctuation end mark.OpenBrace
   ns ← name_list end false limit
@@ -552,7 +552,7 @@ unfoldable pub entry_fault : ℕ → List Lexeme → TextError
 entry_fault end = unless_feature end (λ t. item_feature (item_kind t.token.kind)) want.Identifier
 
 -- a definition of a type, behind its name
-unfoldable pub definition : ℕ → ℕ → ItemStart → Phrase Definition
+unfoldable pub definition : ℕ → ℕ → ItemStart → Phrase TypeBody
 definition end n begin.Alias = alias end n
 definition end n begin.Record = record_body end n
 definition end n begin.Variant = variant_body end n

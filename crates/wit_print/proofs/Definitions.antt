@@ -10,7 +10,7 @@ use Rattle.wit_tokens.specs.declared.token.Span.{Span}
 use Rattle.wit_tokens.specs.declared.error.TextError.{TextError}
 use Rattle.wit_tokens.specs.Tokens.{Lexeme}
 use Rattle.wit_tokens.specs.Lexing.{limit}
-use Rattle.wit_syntax.specs.Syntax.{Ty, Member, CaseOf, Definition, Alias, Record, Variant, Enumeration, FlagSet, Defines}
+use Rattle.wit_syntax.specs.Syntax.{Ty, Member, CaseOf, Alias, Record, Variant, Enumeration, FlagSet, Defines, TypeBody}
 use Rattle.wit_grammar.specs.declared.starts.ItemStart.{ItemStart}
 use Rattle.wit_grammar.specs.declared.starts.ItemStart.TheVariants as begin
 use Rattle.wit_grammar.specs.Faults.{is}
@@ -131,28 +131,28 @@ flags-writes end ns h =
     (all-lined label_words IsLabel (comma_wanted end) (name_of_case end false) ns (λ n hn. id-writes end member_line n hn) h) (λ xs e. ap FlagSet e))
 
 -- how a definition begins, and what stands behind its name
-abbrev pub definition_start : Definition → ItemStart
+abbrev pub definition_start : TypeBody → ItemStart
 definition_start (Alias t) = begin.Alias
 definition_start (Record ms) = begin.Record
 definition_start (Variant cs) = begin.Variant
 definition_start (Enumeration ns) = begin.Enum
 definition_start (FlagSet ns) = begin.Flags
 
-abbrev pub definition_word : Definition → Keyword
+abbrev pub definition_word : TypeBody → Keyword
 definition_word (Alias t) = kw.«Type»
 definition_word (Record ms) = kw.Record
 definition_word (Variant cs) = kw.Variant
 definition_word (Enumeration ns) = kw.Enum
 definition_word (FlagSet ns) = kw.Flags
 
-abbrev pub definition_behind : Definition → List Word
+abbrev pub definition_behind : TypeBody → List Word
 definition_behind (Alias t) = mark_word blank mark.Equals ∷ (ty_words blank t ++ mark_word [] mark.Semicolon ∷ [])
 definition_behind (Record ms) = mark_word blank mark.OpenBrace ∷ lined_words field_words ms
 definition_behind (Variant cs) = mark_word blank mark.OpenBrace ∷ lined_words case_words cs
 definition_behind (Enumeration ns) = mark_word blank mark.OpenBrace ∷ lined_words label_words ns
 definition_behind (FlagSet ns) = mark_word blank mark.OpenBrace ∷ lined_words label_words ns
 
-definition-writes : (end : ℕ) (d : Definition) → IsPrintableDefinition d → Writes (definition end nesting (definition_start d)).spells (definition_behind d) (λ x. x ≡ d)
+definition-writes : (end : ℕ) (d : TypeBody) → IsPrintableDefinition d → Writes (definition end nesting (definition_start d)).spells (definition_behind d) (λ x. x ≡ d)
 unfolding definition
 definition-writes end (Alias t) h = alias-writes end t h
 definition-writes end (Record ms) h = record-writes end ms h
@@ -161,14 +161,14 @@ definition-writes end (Enumeration ns) h = enum-writes end ns h
 definition-writes end (FlagSet ns) h = flags-writes end ns h
 
 -- behind its keyword
-pub defined-writes : (end : ℕ) (at : Span) (n : List ℕ) (d : Definition) → IsLabel n → IsPrintableDefinition d
+pub defined-writes : (end : ℕ) (at : Span) (n : List ℕ) (d : TypeBody) → IsLabel n → IsPrintableDefinition d
     → Writes (defined end nesting (definition_start d) at).spells (name_word blank n ∷ definition_behind d) (λ e. unplaced_entry e ≡ Defines nowhere n d)
 unfolding defined
 defined-writes end at n d l h =
     bind_writes (name_word blank n ∷ []) (definition_behind d) (λ x. x ≡ n) (λ e. unplaced_entry e ≡ Defines nowhere n d) (id-writes end blank n l)
     (λ m em. made_writes (λ x. Defines at m x) (definition_behind d) (λ x. x ≡ d) (λ e. unplaced_entry e ≡ Defines nowhere n d) (definition-writes end d h) (λ x ex. rw (em, ex) refl))
 
-behind-stands : (d : Definition) → IsPrintableDefinition d → (rest : List ℕ) → AllStand (definition_behind d) rest
+behind-stands : (d : TypeBody) → IsPrintableDefinition d → (rest : List ℕ) → AllStand (definition_behind d) rest
 behind-stands (Alias t) h rest = (
   mark-stands blank mark.Equals _ refl refl,
   followed (ty_words blank t) (mark_word [] mark.Semicolon ∷ []) rest (ty-stands blank t refl h.spelt) refl (mark-stands [] mark.Semicolon rest refl refl, tt),
@@ -178,14 +178,14 @@ behind-stands (Variant cs) h rest = (mark-stands blank mark.OpenBrace _ refl ref
 behind-stands (Enumeration ns) h rest = (mark-stands blank mark.OpenBrace _ refl refl, lined-stand label_words IsLabel ns label-stands h.each rest)
 behind-stands (FlagSet ns) h rest = (mark-stands blank mark.OpenBrace _ refl refl, lined-stand label_words IsLabel ns label-stands h.each rest)
 
-behind-breaks : (d : Definition) (rest : List ℕ) → breaks (words_text (definition_behind d) rest) ≡ true
+behind-breaks : (d : TypeBody) (rest : List ℕ) → breaks (words_text (definition_behind d) rest) ≡ true
 behind-breaks (Alias t) rest = refl
 behind-breaks (Record ms) rest = refl
 behind-breaks (Variant cs) rest = refl
 behind-breaks (Enumeration ns) rest = refl
 behind-breaks (FlagSet ns) rest = refl
 
-pub definition-stands : (n : List ℕ) (d : Definition) → IsLabel n → IsPrintableDefinition d → (rest : List ℕ)
+pub definition-stands : (n : List ℕ) (d : TypeBody) → IsLabel n → IsPrintableDefinition d → (rest : List ℕ)
     → AllStand (keyword_word item_line (definition_word d) ∷ name_word blank n ∷ definition_behind d) rest
 definition-stands n d l h rest =
     (keyword-stands item_line (definition_word d) _ refl refl, (name-stands blank n _ refl l (behind-breaks d rest), behind-stands d h rest))

@@ -11,7 +11,7 @@ use Rattle.wit_tokens.specs.Tokens.{Lexeme}
 use Rattle.wit_tokens.specs.Lexing.{limit}
 use Rattle.wit_syntax.specs.declared.ast.Primitive.{Primitive}
 use Rattle.wit_syntax.specs.declared.ast.Primitive.TheVariants as primitive
-use Rattle.wit_syntax.specs.Syntax.{Ty, Prim, Named, ListOf, OptionOf, TupleOf, ResultOf, Tys, none, more, Absent, Present, tys_of, depth, depth_all}
+use Rattle.wit_syntax.specs.Syntax.{Ty, Prim, Named, ListOf, OptionOf, TupleOf, ResultOf, Tys, none, more, Absent, Present, tys_of, depth_all, ty_depth}
 use Rattle.wit_grammar.specs.declared.types.Start.TheVariants as start
 use Rattle.wit_grammar.specs.Faults.{is}
 use Rattle.wit_grammar.specs.Lookahead.{Phrase}
@@ -161,7 +161,7 @@ both-writes end inner space t e w v =
 -- ---- every type
 
 -- each type has a depth
-deep : (t : Ty) → 0 < depth t
+deep : (t : Ty) → 0 < ty_depth t
 deep (Prim p) = omega arith
 deep (Named n) = omega arith
 deep (ListOf t) = omega arith
@@ -173,7 +173,7 @@ deep (ResultOf a b) = omega arith
 mutual
   unfolding ty
 
-  pub ty-writes : (end n : ℕ) (space : List ℕ) (t : Ty) → depth t ≤ n → is_spelt t ≡ true → Writes (ty end n).spells (ty_words space t) (λ x. x ≡ t)
+  pub ty-writes : (end n : ℕ) (space : List ℕ) (t : Ty) → ty_depth t ≤ n → is_spelt t ≡ true → Writes (ty end n).spells (ty_words space t) (λ x. x ≡ t)
   ty-writes end zero space t d h = absurd (omega (arith, d, deep t))
   ty-writes end (suc n) space (Prim p) d h = primitive-writes end (ty end n) space p
   ty-writes end (suc n) space (Named m) d h = name-writes end (ty end n) space m h

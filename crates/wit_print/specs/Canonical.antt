@@ -8,7 +8,7 @@ use Rattle.wit_syntax.specs.declared.ast.Primitive.{Primitive}
 use Rattle.wit_syntax.specs.declared.ast.Primitive.TheVariants as primitive
 use Rattle.wit_syntax.specs.declared.ast.Direction.{Direction}
 use Rattle.wit_syntax.specs.declared.ast.Direction.TheVariants as direction
-use Rattle.wit_syntax.specs.Syntax.{Ty, Prim, Named, ListOf, OptionOf, TupleOf, ResultOf, Tys, none, more, Absent, Present, Member, CaseOf, UsedAs, Definition, Alias, Record, Variant, Enumeration, FlagSet, Function, PathTo, Local, Foreign, Entry, Uses, Defines, Declares, WorldEntry, Whole, Single, FileEntry, AnInterface, AWorld, File}
+use Rattle.wit_syntax.specs.Syntax.{Ty, Prim, Named, ListOf, OptionOf, TupleOf, ResultOf, Tys, none, more, Absent, Present, Member, CaseOf, UsedAs, Alias, Record, Variant, Enumeration, FlagSet, Function, PathTo, Local, Foreign, Entry, Uses, Defines, Declares, WorldEntry, Whole, Single, FileEntry, AnInterface, AWorld, File, TypeBody}
 use Rattle.wit_print.specs.Words.{Word, words_text, mark_word, keyword_word, name_word, version_word}
 
 -- ---- blanks: one, a new line, one with two blanks or with four, and an empty line
@@ -108,7 +108,7 @@ abbrev pub lined_words : {X : Type 0} → (X → List Word) → List X → List 
 lined_words words [] = mark_word item_line mark.CloseBrace ∷ []
 lined_words words (x ∷ xs) = words x ++ mark_word [] mark.Comma ∷ lined_words words xs
 
-abbrev pub definition_words : List ℕ → Definition → List Word
+abbrev pub definition_words : List ℕ → TypeBody → List Word
 definition_words n (Alias t) = keyword_word item_line kw.«Type» ∷ name_word blank n ∷ mark_word blank mark.Equals ∷ (ty_words blank t ++ mark_word [] mark.Semicolon ∷ [])
 definition_words n (Record ms) = keyword_word item_line kw.Record ∷ name_word blank n ∷ mark_word blank mark.OpenBrace ∷ lined_words field_words ms
 definition_words n (Variant cs) = keyword_word item_line kw.Variant ∷ name_word blank n ∷ mark_word blank mark.OpenBrace ∷ lined_words case_words cs

@@ -4,7 +4,7 @@ use Rattle.std.specs.List.{AllByRecursion}
 use Rattle.atoms.specs.Label.{IsLabel, is_label}
 use Rattle.atoms.specs.FullName.{is_package_label}
 use Rattle.wit_tokens.specs.Lexing.{limit, begins_digit, version_run}
-use Rattle.wit_syntax.specs.Syntax.{Ty, Prim, Named, ListOf, OptionOf, TupleOf, ResultOf, Tys, none, more, MaybeTy, Absent, Present, depth, Member, CaseOf, UsedAs, Definition, Alias, Record, Variant, Enumeration, FlagSet, Function, PathTo, Local, Foreign, Entry, Uses, Defines, Declares, WorldEntry, Whole, Single, FileEntry, AnInterface, AWorld, File}
+use Rattle.wit_syntax.specs.Syntax.{Ty, Prim, Named, ListOf, OptionOf, TupleOf, ResultOf, Tys, none, more, MaybeTy, Absent, Present, Member, CaseOf, UsedAs, Alias, Record, Variant, Enumeration, FlagSet, Function, PathTo, Local, Foreign, Entry, Uses, Defines, Declares, WorldEntry, Whole, Single, FileEntry, AnInterface, AWorld, File, ty_depth, TypeBody}
 use Rattle.wit_grammar.specs.Grammar.{nesting, is_version_text}
 
 abbrev pub types_count : Tys → ℕ
@@ -32,7 +32,7 @@ abbrev mutual
 
 pub record IsPrintableType (t : Ty) : Type 0 where
   pub spelt : is_spelt t ≡ true
-  pub nested : depth t ≤ nesting
+  pub nested : ty_depth t ≤ nesting
 
 abbrev pub IsPrintableOption : Option Ty → Type 0
 IsPrintableOption None = Unit {0}
@@ -60,7 +60,7 @@ pub record ArePrintable {X : Type 0} (P : X → Type 0) (xs : List X) : Type 0 w
   pub few : length xs ≤ limit
   pub each : AllByRecursion P xs
 
-abbrev pub IsPrintableDefinition : Definition → Type 0
+abbrev pub IsPrintableDefinition : TypeBody → Type 0
 IsPrintableDefinition (Alias t) = IsPrintableType t
 IsPrintableDefinition (Record ms) = ArePrintable IsPrintableMember ms
 IsPrintableDefinition (Variant cs) = ArePrintable IsPrintableCase cs

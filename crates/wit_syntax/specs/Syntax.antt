@@ -27,21 +27,21 @@ tys_of (t ∷ ts) = more t (tys_of ts)
 
 -- nesting counts a type within a type, the outermost as 1
 abbrev mutual
-  pub depth : Ty → ℕ
-  depth (Prim p) = 1
-  depth (Named n) = 1
-  depth (ListOf t) = depth t + 1
-  depth (OptionOf t) = depth t + 1
-  depth (TupleOf ts) = depth_all ts + 1
-  depth (ResultOf a b) = max (depth_maybe a) (depth_maybe b) + 1
+  pub ty_depth : Ty → ℕ
+  ty_depth (Prim p) = 1
+  ty_depth (Named n) = 1
+  ty_depth (ListOf t) = ty_depth t + 1
+  ty_depth (OptionOf t) = ty_depth t + 1
+  ty_depth (TupleOf ts) = depth_all ts + 1
+  ty_depth (ResultOf a b) = max (depth_maybe a) (depth_maybe b) + 1
 
   pub depth_all : Tys → ℕ
   depth_all none = 0
-  depth_all (more t ts) = max (depth t) (depth_all ts)
+  depth_all (more t ts) = max (ty_depth t) (depth_all ts)
 
   pub depth_maybe : MaybeTy → ℕ
   depth_maybe Absent = 0
-  depth_maybe (Present t) = depth t
+  depth_maybe (Present t) = ty_depth t
 
 pub record Member : Type 0 where
   pub name : List ℕ
@@ -55,12 +55,12 @@ pub record UsedAs : Type 0 where
   pub name : List ℕ
   pub local : Option (List ℕ)
 
-pub data Definition : Type 0 where
-  Alias : Ty → Definition
-  Record : List Member → Definition
-  Variant : List CaseOf → Definition
-  Enumeration : List (List ℕ) → Definition
-  FlagSet : List (List ℕ) → Definition
+pub data TypeBody : Type 0 where
+  Alias : Ty → TypeBody
+  Record : List Member → TypeBody
+  Variant : List CaseOf → TypeBody
+  Enumeration : List (List ℕ) → TypeBody
+  FlagSet : List (List ℕ) → TypeBody
 
 pub record Function : Type 0 where
   pub params : List Member
@@ -74,7 +74,7 @@ pub data PathTo : Type 0 where
 -- the span is that of the first token
 pub data Entry : Type 0 where
   Uses : (at : Span) → (interface : PathTo) → List UsedAs → Entry
-  Defines : (at : Span) → (name : List ℕ) → Definition → Entry
+  Defines : (at : Span) → (name : List ℕ) → TypeBody → Entry
   Declares : (at : Span) → (name : List ℕ) → Function → Entry
 
 pub data WorldEntry : Type 0 where

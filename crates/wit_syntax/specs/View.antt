@@ -4,7 +4,7 @@ use Rattle.std.specs.declared.boxed.Box.{Box}
 use Rattle.std.specs.declared.alloc.Global.{Global}
 use Rattle.std.specs.String.{string_bytes}
 use Rattle.std.specs.declared.string.String.{String}
-use Rattle.wit_syntax.specs.Syntax.{Ty, MaybeTy, Prim, Named, ListOf, OptionOf, TupleOf, ResultOf, Absent, Present, tys_of, Member, CaseOf, UsedAs, Definition, Alias, Record, Variant, Enumeration, FlagSet, Function, PathTo, Local, Foreign, Entry, Uses, Defines, Declares, WorldEntry, Whole, Single, FileEntry, AnInterface, AWorld, HeaderNames, File}
+use Rattle.wit_syntax.specs.Syntax.{Ty, MaybeTy, Prim, Named, ListOf, OptionOf, TupleOf, ResultOf, Absent, Present, tys_of, Member, CaseOf, UsedAs, Alias, Record, Variant, Enumeration, FlagSet, Function, PathTo, Local, Foreign, Entry, Uses, Defines, Declares, WorldEntry, Whole, Single, FileEntry, AnInterface, AWorld, HeaderNames, File, TypeBody}
 use Rattle.wit_syntax.specs.declared.ast.Ast.{Ast}
 use Rattle.wit_syntax.specs.declared.ast.PackageId.{PackageId}
 use Rattle.wit_syntax.specs.declared.ast.Item.{Item}
@@ -68,7 +68,7 @@ abbrev pub path_view : Path → PathTo
 path_view (path.Local n) = Local n
 path_view (path.Foreign p n) = Foreign p.namespace p.name (version_view p.version) n
 
-abbrev pub definition_view : TypeDefKind → Definition
+abbrev pub definition_view : TypeDefKind → TypeBody
 definition_view (definition.Alias t) = Alias (ty_view t)
 definition_view (definition.Record fs) = Record (map field_view fs.items)
 definition_view (definition.Variant cs) = Variant (map case_view cs.items)

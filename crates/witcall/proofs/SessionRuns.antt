@@ -9,12 +9,12 @@ use Rattle.canonical_abi.specs.Guest.{Release}
 use Rattle.canonical_abi.specs.Session.{TakesStep, RunsSession}
 use Rattle.canonical_abi.proofs.Longer.{runs-longer}
 use Rattle.tables.specs.declared.tables.Resolve.{Resolve}
-use Rattle.witcall.specs.Steps.{IsKnownAnswer, Runs, answer_of, step_of}
+use Rattle.witcall.specs.Steps.{IsKnownAnswer, answer_of, step_of, RunsSteps}
 use Rattle.witcall.specs.declared.steps.Answer.{Answer}
 use Rattle.witcall.specs.declared.steps.Step.{Step}
 
 module _ (parties : Parties) (caller_releases : Release) (r : Resolve) (steps : List Step) (before : List Answer) (old : World) where
-  pub none_ran : Runs parties caller_releases r [] before old before old
+  pub none_ran : RunsSteps parties caller_releases r [] before old before old
   none_ran = record {
     made = [];
     appended = sym (append-nil before);
@@ -23,17 +23,17 @@ module _ (parties : Parties) (caller_releases : Release) (r : Resolve) (steps : 
   }
 
   -- the answers of this run are those behind the ones that were there
-  pub made_is : (n : ℕ) (items : List Answer) (now : World) (ran : Runs parties caller_releases r (take n steps) before old items now) → drop (length before) items ≡ ran.made
+  pub made_is : (n : ℕ) (items : List Answer) (now : World) (ran : RunsSteps parties caller_releases r (take n steps) before old items now) → drop (length before) items ≡ ran.made
   made_is n items now ran = ap (λ xs. drop (length before) xs) ran.appended ∙ drop-append_seam before ran.made
 
-  pub known_so_far : (n : ℕ) (items : List Answer) (now : World) → Runs parties caller_releases r (take n steps) before old items now
+  pub known_so_far : (n : ℕ) (items : List Answer) (now : World) → RunsSteps parties caller_releases r (take n steps) before old items now
       → All (IsKnownAnswer r) (drop (length before) items)
   known_so_far n items now ran = subst (All (IsKnownAnswer r)) (sym (made_is n items now ran)) ran.known
 
   pub one_more : (n : ℕ) (items : List Answer) (now : World) (s : Step) (a : Answer) (new : World) → n < length steps → s ≡ get_or steps n s
-      → Runs parties caller_releases r (take n steps) before old items now
+      → RunsSteps parties caller_releases r (take n steps) before old items now
       → TakesStep parties caller_releases exact (map (answer_of r) (drop (length before) items)) now (step_of r s) (answer_of r a) new → IsKnownAnswer r a
-      → Runs parties caller_releases r (take (n + 1) steps) before old (items ++ a ∷ []) new
+      → RunsSteps parties caller_releases r (take (n + 1) steps) before old (items ++ a ∷ []) new
   one_more n items now s a new less is ran taken known =
       let first = take n steps in
       let more : take (n + 1) steps ≡ first ++ s ∷ [] = take_more steps n s less ∙ ap (λ x. first ++ x ∷ []) (sym is) in
@@ -50,11 +50,11 @@ module _ (parties : Parties) (caller_releases : Release) (r : Resolve) (steps : 
             (subst (λ xs. RunsSession parties caller_releases exact [] old (map (step_of r) first ++ step_of r s ∷ []) xs new) (sym answers) longer);
       }
 
-  pub all_ran : (n : ℕ) (items : List Answer) (now : World) → n ≡ length steps → Runs parties caller_releases r (take n steps) before old items now
-      → Runs parties caller_releases r steps before old items now
+  pub all_ran : (n : ℕ) (items : List Answer) (now : World) → n ≡ length steps → RunsSteps parties caller_releases r (take n steps) before old items now
+      → RunsSteps parties caller_releases r steps before old items now
   all_ran n items now is ran =
       let whole : take n steps ≡ steps = ap (λ k. take k steps) is ∙ take-length steps in
-      subst (λ ss. Runs parties caller_releases r ss before old items now) whole ran
+      subst (λ ss. RunsSteps parties caller_releases r ss before old items now) whole ran
 
 -- what stands from a place to the end, as a slice of it
 pub to_the_end : {A : Type 0} (n : ℕ) (xs : List A) → take (length xs - n) (drop n xs) ≡ drop n xs

@@ -50,15 +50,15 @@ module _ (parties : Parties) (caller_releases callee_releases : Release) (r : Re
 
 module _ (parties : Parties) (other : Allocation) (caller_releases other_releases callee_releases : Release) (r : Resolve) where
   -- the same callee and body, called from another caller
-  abbrev pub second : Parties
-  second = otherwise parties other caller_releases other_releases callee_releases
+  abbrev pub other_parties : Parties
+  other_parties = otherwise parties other caller_releases other_releases callee_releases
 
   -- what two lists of steps leave of the callee and the body, traps among them or not, is told by their beginning, by the functions and the
   -- arguments in turn, and by which calls the callers had no room for: nothing else of a caller is in them
   abbrev pub StepsTellCallee : Type 0
   StepsTellCallee =
       (before earlier : List SessionAnswer) (old past : World) (steps moves : List Step) (answers replies : List SessionAnswer) (new last : World)
-      → AreHonest parties caller_releases callee_releases → AreHonest second other_releases callee_releases → AreLimited parties old → AreLimited second past
+      → AreHonest parties caller_releases callee_releases → AreHonest other_parties other_releases callee_releases → AreLimited parties old → AreLimited other_parties past
       → AllocatesInOneWay parties.callee_allocates → RunsInOneWay parties.runs parties.posts → All (IsStep r) steps → All (IsStep r) moves
-      → Ran parties caller_releases callee_releases r before old steps answers new → Ran second other_releases callee_releases r earlier past moves replies last
+      → Ran parties caller_releases callee_releases r before old steps answers new → Ran other_parties other_releases callee_releases r earlier past moves replies last
       → calls_of (map (step_of r) steps) ≡ calls_of (map (step_of r) moves) → endings_of answers ≡ endings_of replies → SameCallee old past → SameCallee new last

@@ -39,8 +39,8 @@ Replies f vs old given None new =
     ⊎ ((arguments : List Value) × Denotes max_flat_params f.params old.bytes given arguments × HasNoRoom f vs old new)
 
 -- the flat values denote no arguments of the function; or the host has no memory for them, of which a scalar function's take none
-abbrev pub ArgumentsFail : Resolve → FunctionId → List ℕ → List Flat → Type 0
-ArgumentsFail r f m given = ((k : TrapKind) × DenotesFault max_flat_params (function_type r f).params m given k) ⊎ (IsScalarFunction r f → ⊥)
+abbrev pub DenotesNoArguments : Resolve → FunctionId → List ℕ → List Flat → Type 0
+DenotesNoArguments r f m given = ((k : TrapKind) × DenotesFault max_flat_params (function_type r f).params m given k) ⊎ (IsScalarFunction r f → ⊥)
 
 -- it stops before it did anything, since the host has no memory for the arguments; a scalar function's take none
 abbrev pub WantsMemory : Resolve → FunctionId → Memory → Option (List Flat) → Memory → Type 0

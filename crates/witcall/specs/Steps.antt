@@ -55,7 +55,7 @@ IsKnownAnswer r (answer.Placed (Ok held)) = IsTypeOf r held.ty
 IsKnownAnswer r _ = Unit {0}
 
 -- the steps were taken in turn, and their answers stand behind those that were there
-pub record Runs (parties : Parties) (caller_releases : Release) (r : Resolve) (steps : List Step) (before : List Answer) (old : World) (after : List Answer) (new : World) : Type 0 where
+pub record RunsSteps (parties : Parties) (caller_releases : Release) (r : Resolve) (steps : List Step) (before : List Answer) (old : World) (after : List Answer) (new : World) : Type 0 where
   pub made : List Answer
   pub appended : after ≡ before ++ made
   pub known : All (IsKnownAnswer r) made

@@ -12,7 +12,7 @@ ghost use Rattle.canonical_abi.specs.Session.{PlacesValue, ReadsValue, TakesStep
 ghost use Rattle.canonical_abi.specs.Headline.{IsPromised};
 ghost use Rattle.values.specs.Val.{value_of};
 ghost use Rattle.witcall.specs.Session.{typed_answer};
-ghost use Rattle.witcall.specs.Steps.{IsKnownAnswer, IsStep, Runs, answer_of, held_of, placed_answer, read_answer, step_of};
+ghost use Rattle.witcall.specs.Steps.{IsKnownAnswer, IsStep, answer_of, held_of, placed_answer, read_answer, step_of, RunsSteps};
 
 use crate::placing::{place_call, place_value};
 use crate::steps::{Answer, Held, Step, held_by};
@@ -176,7 +176,7 @@ impl<'a, C: Guest, E: Guest, B: Body<E>> Session<'a, C, E, B> {
         answers: &mut Vec<Answer>,
     ) -> Result<(), AllocError>
         requires { All (IsStep self.old.package.now.resolve) steps.now }
-        ensures run { OnOk result (Runs
+        ensures run { OnOk result (RunsSteps
             (record { caller_allocates = C.allocates; callee_allocates = E.allocates; runs = B.runs self.old.body; posts = B.posts self.old.body })
             C.releases
             self.old.package.now.resolve

@@ -3,7 +3,7 @@ use Rattle.wit_syntax.specs.View.{ty_view, field_view}
 use Rattle.package_form.specs.Postfix.{unnamed_parameter}
 use Rattle.tree_meaning.specs.Declarations.{named_member}
 use Rattle.tree_meaning.specs.Resolved.{resolved, member_meaning}
-use Rattle.tree_meaning.specs.Building.{Lowers, parameter_typed, read_parameter}
+use Rattle.tree_meaning.specs.Building.{parameter_typed, read_parameter, LowersType}
 use Rattle.tree_scopes.specs.KnownScopes.{scope_name, scope_names}
 use Rattle.package_form.proofs.Lists.{all_flat-at, map_map-more}
 use Rattle.tree_rows.proofs.Lowering.{scope-later, same_name, labelled-same}
@@ -29,7 +29,7 @@ loop-member-preserved c =
     let here = scope_name old scope in
     let so_far = c.loop-member.invariant in
     let x = c.member-item.result in
-    let m = subst (λ (i : List ℕ). Lowers mid new c.in_ok-ty.ty (resolved i (ty_view x.ty))) (same_name old mid scope so_far.extends.front) c.in_ok-ty.ensures in
+    let m = subst (λ (i : List ℕ). LowersType mid new c.in_ok-ty.ty (resolved i (ty_view x.ty))) (same_name old mid scope so_far.extends.front) c.in_ok-ty.ensures in
     let more = lowers_each-more parameter_typed read_parameter unnamed_parameter parameter-stays old mid new c.loop-member.parameters.items _ (record { name = c.in_ok-copy.field-0; ty = c.in_ok-ty.ty }) (member_meaning here (field_view x))
     so_far m.extends m.stands.typed (labelled-same c.in_ok-copy.field-0 x.name _ _ c.in_ok-copy.ensures m.stands.reads) in
     rw (c.in_ok-push.ensures.items, map_map-more (member_meaning here) field_view c.args.members.now c.loop-member.member-index x (omega arith) c.member-item.is) more

@@ -1,7 +1,7 @@
 use Rattle.std.proofs.Common.{◌≡◌, List, ℕ, [], ◌∷◌, ◌++◌, length, Some, ap, ◌∙◌}
 use Rattle.package_form.specs.Ids.{type_id}
 use Rattle.tables.specs.declared.tables.TypeId.{TypeId}
-use Rattle.component_reader.specs.Instance.{named, named_row, uses_with, types_with}
+use Rattle.component_reader.specs.Instance.{named_row, uses_with, types_with, with_name}
 use Rattle.component_reader.specs.Readers.{awaited_view, names_view}
 use Rattle.component_reader.proofs.Instances.{same-instance, names-inserted}
 use Rattle.component_reader.proofs.instance.InstanceReader.push_named.Goals as goal
@@ -22,9 +22,9 @@ returns c =
     (ap awaited_view (listed.same.1 ∙ c.requires.awaited))
     (ap names_view c.in_ok-insert.ensures.entries
     ∙ names-inserted c.list_type.new.self.names.entries key id
-    ∙ ap (λ m. named (names_view m.entries) key.items id) listed.same.2
-    ∙ ap (λ (n : List ℕ). named (names_view old.names.entries) n id) c.in_ok-from_slice.ensures.items
-    ∙ ap (named (names_view old.names.entries) c.args.name.now) placed)
+    ∙ ap (λ m. with_name (names_view m.entries) key.items id) listed.same.2
+    ∙ ap (λ (n : List ℕ). with_name (names_view old.names.entries) n id) c.in_ok-from_slice.ensures.items
+    ∙ ap (with_name (names_view old.names.entries) c.args.name.now) placed)
     (listed.uses ∙ ap (λ (t : TypeId). uses_with old.uses.items t c.args.kind) placed)
     (listed.types ∙ ap (λ (t : TypeId). types_with old.types.items t c.args.kind) placed)
     (ap (λ v. v.items) listed.same.3)

@@ -1,7 +1,7 @@
 use Rattle.std.proofs.Common.{◌≡◌, ◌+◌, ◌-◌, ◌<◌, length, map, take, drop, ap, ◌∙◌, subst, arith}
 use Rattle.canonical_abi.specs.Call.{Parties, World, exact}
 use Rattle.canonical_abi.specs.Session.{TakesStep}
-use Rattle.witcall.specs.Steps.{IsKnownAnswer, Runs, answer_of, step_of}
+use Rattle.witcall.specs.Steps.{IsKnownAnswer, answer_of, step_of, RunsSteps}
 use Rattle.witcall.proofs.SameRuns.{step_alike, same_runs_on, same_posts_on}
 use Rattle.witcall.proofs.SessionRuns.{one_more, to_the_end}
 use Rattle.witcall.proofs.session.Session.run.Goals as goal
@@ -35,7 +35,7 @@ loop-step-preserved g c =
     (step_alike g.C.Guest.allocates g.E.Guest.allocates runs runs_now posts posts_now i.1 i.2 g.C.Guest.releases exact (map (answer_of r) given) now (step_of r s) (answer_of r a) new told) in
     let known : IsKnownAnswer r a = subst (λ p. IsKnownAnswer p.resolve a) i.3 c.take_step-answer.ensures.known in
     let less : n < length steps = c.loop-step-test.true in
-    let more : Runs first g.C.Guest.releases r (take (n + 1) steps) before old c.push_reserved.new.self.items new =
+    let more : RunsSteps first g.C.Guest.releases r (take (n + 1) steps) before old c.push_reserved.new.self.items new =
     rw c.push_reserved.ensures.items (one_more first g.C.Guest.releases r steps before old n items now s a new less c.step-item.is i.0 taken known) in (
       more,
       same_runs_on runs runs_now (g.B.Body.runs c.take_step-answer.new.self.body) i.1 c.take_step-answer.ensures.same_runs,

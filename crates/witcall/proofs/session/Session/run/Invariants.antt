@@ -1,12 +1,12 @@
 use Rattle.std.proofs.Common.{◌≡◌, ◌+◌, ◌-◌, ◌≤◌, length, take}
 use Rattle.std.specs.Prelude.{vec_len, vec_capacity}
 use Rattle.canonical_abi.specs.Call.{AllowsSameRuns, AllowsSamePosts}
-use Rattle.witcall.specs.Steps.{Runs}
+use Rattle.witcall.specs.Steps.{RunsSteps}
 use Rattle.witcall.proofs.session.Session.run.Given as goal
 
 abbrev pub invariant-loop-step : goal.invariant-loop-step
 invariant-loop-step g l =
-    Runs (record { caller_allocates = g.C.Guest.allocates; callee_allocates = g.E.Guest.allocates; runs = g.B.Body.runs l.initial.self.body; posts = g.B.Body.posts l.initial.self.body })
+    RunsSteps (record { caller_allocates = g.C.Guest.allocates; callee_allocates = g.E.Guest.allocates; runs = g.B.Body.runs l.initial.self.body; posts = g.B.Body.posts l.initial.self.body })
     g.C.Guest.releases l.initial.self.package.now.resolve (take l.step-index l.steps) l.initial.answers.items
     (record { caller = g.C.Guest.memory l.initial.self.caller; callee = g.E.Guest.memory l.initial.self.callee; body = g.B.Body.state l.initial.self.body })
     l.answers.items
