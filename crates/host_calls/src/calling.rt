@@ -251,7 +251,7 @@ impl Half<'_> {
 }
 
 /// Tells what the first half will ask the callee for, in its order: as many requests as there is room for, and how many there are in all.
-/// 72 where the caller has 2^32 bytes or more; else the trap of the arguments.
+/// 72 bad block if the caller has 2^32 bytes or more; else the trap of the arguments. After a trap the slots of `requests` say nothing.
 pub fn enter_requests(
     types: &Types,
     func: FunctionId,
@@ -277,7 +277,8 @@ pub fn enter_requests(
     }
 }
 
-/// Tells what the second half will ask the caller for, in the same way: of what the core function answered, which lies in the callee.
+/// Tells what the second half will ask the caller for, in the same way: of what the core function answered, which lies in the callee. After a
+/// trap the slots of `requests` say nothing.
 pub fn leave_requests(
     types: &Types,
     func: FunctionId,

@@ -10,7 +10,7 @@ pub enum CallError {
     NoFunction,
     #[error("error 66 no memory")]
     NoMemory,
-    /// Of no package anything can be told.
+    /// The handle holds no package.
     #[error("error 70 not open")]
     NotOpen,
     /// How many things there has to be room for.

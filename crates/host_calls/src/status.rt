@@ -82,7 +82,7 @@ pub fn out_of_memory(number: u32) -> Status
 }
 
 impl Status {
-    /// Of what was done, with how many things were told, or of why it was not.
+    /// The status of a call that was done, with how many things it returned, or of why it was not done.
     pub fn of(done: Result<usize, CallError>) -> Status
         ensures { result ≡ status_of done }
     {

@@ -2,7 +2,7 @@
 use Rattle.std.proofs.Common.{◌≡◌, ◌∙◌, ◌≤◌, ◌==◌, ℕ, zero, suc, Bool, true, false, List, [], ◌∷◌, map, length, slice_get, Some, refl, ap, sym, subst, arith, true≢false, eq-eqb, eqb-true, All, IsTrue}
 use Rattle.std.proofs.Math.Bool.{Bool-set}
 use Rattle.std.proofs.Math.Logic.{∥∥₁_map, ∥∥₁_elim}
-use Rattle.std.specs.List.{list_any}
+use Rattle.std.specs.List.{list_any, items_where_true}
 use Rattle.std.proofs.lemmas.List.{length-take}
 use Rattle.std.proofs.lemmas.Option.{slice_get_within}
 use Rattle.atoms.specs.Label.{IsLabel}
@@ -12,7 +12,6 @@ use Rattle.package_form.specs.Form.{IsInPackageForm}
 use Rattle.package_form.proofs.OwnPackage.{some-package}
 use Rattle.package_sets.specs.Attached.{HasRoom, has_package, others, HasAll, LacksFirst, IsAttached}
 use Rattle.package_sets.specs.BehindImports.{IsBehindImports}
-use Rattle.set_rows.specs.Places.{kept}
 use Rattle.package_sets.specs.SetForm.{IsEmpty}
 use Rattle.package_sets.specs.declared.error.AttachError.TheVariants as attach
 use Rattle.package_sets.proofs.Alone.{attached-alone, behind-alone, no-imports-of, no-marks-of}
@@ -36,7 +35,7 @@ use Rattle.package_adding.specs.declared.error.AddError.{AddError}
 use Rattle.package_adding.specs.declared.error.AddError.TheVariants as add
 
 -- nothing is kept of nothing
-kept-none : {A : Type 0} (bs : List Bool) (xs : List A) → xs ≡ [] → kept bs xs ≡ []
+kept-none : {A : Type 0} (bs : List Bool) (xs : List A) → xs ≡ [] → items_where_true bs xs ≡ []
 kept-none [] xs e = refl
 kept-none (b ∷ bs) [] e = refl
 kept-none (b ∷ bs) (x ∷ xs) e = absurd (cc)

@@ -2,7 +2,7 @@
 use Rattle.std.proofs.Common.{◌≡◌, ◌≤◌, ◌<◌, ◌⊎◌, inl, inr, ℕ, zero, suc, ◌+◌, ◌-◌, Bool, true, false, List, [], ◌∷◌, ◌++◌, length, map, take, drop, get_or, slice_get, Option, None, Some, refl, ap, sym, subst, ◌∙◌, arith, true≢false, eqb-true, eq-eqb, nat_le}
 use Rattle.std.specs.Prelude.{Contains, flat_map}
 use Rattle.std.specs.Option.{option_map}
-use Rattle.std.specs.List.{list_all}
+use Rattle.std.specs.List.{list_all, items_where_true}
 use Rattle.std.specs.Str.{bytes_eq}
 use Rattle.std.proofs.lemmas.Bool.{ltb-true, lt-ltb, leb-true}
 use Rattle.std.proofs.lemmas.List.{get_or-map, get_or_default, get_or_append_left, length-append, length-map, length-take, length-drop, take-append-drop}
@@ -49,7 +49,7 @@ use Rattle.set_rows.specs.Moved.{Renaming, put_id, put_interface, put_item, put_
 use Rattle.package_sets.specs.NamedIn.{own_rows, own_reached, IsImportAt, AreNamedIn}
 use Rattle.set_rows.specs.Owners.{owner_of, owners, names, names_or}
 use Rattle.package_sets.specs.Part.{IsPart, IsTableOf}
-use Rattle.set_rows.specs.Places.{kept, place}
+use Rattle.set_rows.specs.Places.{place}
 use Rattle.set_rows.specs.Reaches.{Marks, is_marked, own_marks, given_marks, item_owners, owners_in, world_owners, owner_at, named_owners, OfPackage, OfInterfaces, Reaches, of_start, of_row, AreReached}
 use Rattle.set_rows.specs.Renamed.{renaming}
 use Rattle.package_sets.specs.Restricted.{IsReachedIn, AreNeeded, number_or, package_of_owner, IsNeeded}
@@ -227,7 +227,7 @@ module _ (s c : Resolve) (j : JoinedPlaces) (q : IsJoined s c j) (own : PackageP
   import-row-at : (t : ℕ) → t < j.imported → IsImportRow t
   import-row-at t l =
       let d = one-there im.definitions t (omega (arith, l, count-rows)) in
-      let u = map-unget (put_row (renaming moved)) (kept moved.rows s.definitions) t d.0 (ap (λ (ds : List Definition). slice_get ds t) (sym n.table.definitions) ∙ d.1) in
+      let u = map-unget (put_row (renaming moved)) (items_where_true moved.rows s.definitions) t d.0 (ap (λ (ds : List Definition). slice_get ds t) (sym n.table.definitions) ∙ d.1) in
       let w = was-kept moved.rows s.definitions t u.0 u.1 in
       record {
         one = u.0;
@@ -546,7 +546,7 @@ module _ (s c : Resolve) (j : JoinedPlaces) (q : IsJoined s c j) (own : PackageP
         let number : place moved.packages x.one.«package».0 ≡ i.«package».0 = ap (λ (y : Interface). y.«package».0) x.put_is in
         let mark = part.interfaces_needed x.from x.one x.marked x.stood in
         let p = package-there s.packages x.one.«package».0 (interface-in s x.from x.one x.stood) in
-        let within : place moved.packages x.one.«package».0 < length im.packages = omega (arith, ap length n.table.packages, slice_get_within (kept moved.packages s.packages) (place moved.packages x.one.«package».0) p.0 (kept-at moved.packages s.packages x.one.«package».0 p.0 mark p.1)) in
+        let within : place moved.packages x.one.«package».0 < length im.packages = omega (arith, ap length n.table.packages, slice_get_within (items_where_true moved.packages s.packages) (place moved.packages x.one.«package».0) p.0 (kept-at moved.packages s.packages x.one.«package».0 p.0 mark p.1)) in
         (ap package-places (sym number) ∙ needed-place x.one.«package».0 mark within, omega (arith, number, within))
 
     packages-images : AreImages needed package-places (length c.packages)
@@ -605,13 +605,13 @@ module _ (s c : Resolve) (j : JoinedPlaces) (q : IsJoined s c j) (own : PackageP
                 let last = ordering.own-interface s c j q own r put i behind (omega (arith, slice_get_within r.interfaces i x e, count-interfaces)) in
                 (length im.packages, omega (arith, count-packages), own-number (length im.packages) refl ∙ (sym last ∙ (number ∙ f)))
 
-    packages-again : kept needed r.packages ≡ c.packages
-    packages-again = same-lists (kept needed r.packages) c.packages (images-length needed package-places (length c.packages) packages-images r.packages b.count) each
+    packages-again : items_where_true needed r.packages ≡ c.packages
+    packages-again = same-lists (items_where_true needed r.packages) c.packages (images-length needed package-places (length c.packages) packages-images r.packages b.count) each
       where
-        is-kept : (t : ℕ) (p : PackageParts) → t < length c.packages → slice_get r.packages (package-places t) ≡ Some p → slice_get (kept needed r.packages) t ≡ Some p
-        is-kept t p l e = ap (slice_get (kept needed r.packages)) (sym (image-place needed package-places (length c.packages) packages-images t l)) ∙ kept-at needed r.packages (package-places t) p (packages-images.marked t l) e
+        is-kept : (t : ℕ) (p : PackageParts) → t < length c.packages → slice_get r.packages (package-places t) ≡ Some p → slice_get (items_where_true needed r.packages) t ≡ Some p
+        is-kept t p l e = ap (slice_get (items_where_true needed r.packages)) (sym (image-place needed package-places (length c.packages) packages-images t l)) ∙ kept-at needed r.packages (package-places t) p (packages-images.marked t l) e
 
-        each : (t : ℕ) (p : PackageParts) → slice_get c.packages t ≡ Some p → slice_get (kept needed r.packages) t ≡ Some p
+        each : (t : ℕ) (p : PackageParts) → slice_get c.packages t ≡ Some p → slice_get (items_where_true needed r.packages) t ≡ Some p
         each t p e = elim (cut t (length im.packages)) [
           | inl l ↦
               let x = package-at t l in

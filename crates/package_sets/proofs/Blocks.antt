@@ -13,8 +13,9 @@ use Rattle.tables.specs.declared.tables.WorldItemKind.{WorldItemKind}
 use Rattle.tables.specs.declared.tables.WorldItemKind.TheVariants as item
 use Rattle.std.proofs.lemmas.List.Elements.{Contains-append_left, Contains-append_right}
 use Rattle.package_form.proofs.Lists.{contains-map}
-use Rattle.set_rows.specs.Places.{kept, place}
+use Rattle.set_rows.specs.Places.{place}
 use Rattle.set_rows.proofs.Placing.{place-none, place-yes, place-no}
+use Rattle.std.specs.List.{items_where_true}
 
 -- the n marks from a on are all of this kind
 pub record AreAll (b : Bool) (bs : List Bool) (a n : ℕ) : Type 0 where
@@ -42,7 +43,7 @@ place-left bs a (suc n) h =
     ap (place bs) up ∙ (place-no bs (a + n) (h.each n (omega arith)) ∙ rest)
 
 -- rows that are all kept stand together there
-pub block-there : {A : Type 0} (bs : List Bool) (xs : List A) (a n : ℕ) → AreAll true bs a n → take n (drop (place bs a) (kept bs xs)) ≡ take n (drop a xs)
+pub block-there : {A : Type 0} (bs : List Bool) (xs : List A) (a n : ℕ) → AreAll true bs a n → take n (drop (place bs a) (items_where_true bs xs)) ≡ take n (drop a xs)
 block-there bs xs a zero h = refl
 block-there [] xs a (suc n) h = absurd (true≢false (sym (h.each 0 (omega arith))))
 block-there (b ∷ bs) [] zero (suc n) h = refl
@@ -53,7 +54,7 @@ block-there (b ∷ bs) [] (suc a) (suc n) h = none (place (b ∷ bs) (suc a))
     none (suc m) = refl
 block-there (true ∷ bs) (x ∷ xs) zero (suc n) h =
     let rest = block-there bs xs 0 n (record { each = λ k l. tail-marks true true bs (0 + suc k) (0 + k) (omega arith) (h.each (suc k) (omega (arith, l))) }) in
-    let front : take n (kept bs xs) ≡ take n xs = ap (λ m. take n (drop m (kept bs xs))) (sym (place-none bs)) ∙ rest in
+    let front : take n (items_where_true bs xs) ≡ take n xs = ap (λ m. take n (drop m (items_where_true bs xs))) (sym (place-none bs)) ∙ rest in
     ap (λ ys. x ∷ ys) front
 block-there (false ∷ bs) (x ∷ xs) zero (suc n) h = absurd (true≢false (sym (h.each 0 (omega arith))))
 block-there (true ∷ bs) (x ∷ xs) (suc a) (suc n) h =

@@ -2,7 +2,7 @@
 use Rattle.std.proofs.Common.{◌≡◌, ◌<◌, ◌⊎◌, inl, inr, ℕ, ◌+◌, Bool, true, false, not, List, [], ◌∷◌, length, get_or, slice_get, Option, None, Some, refl, ap, sym, subst, ◌∙◌, arith, true≢false, eqb-true}
 use Rattle.std.specs.Prelude.{Contains, flat_map, is_some}
 use Rattle.std.specs.Option.{option_map}
-use Rattle.std.specs.List.{list_all}
+use Rattle.std.specs.List.{list_all, items_where_true}
 use Rattle.std.proofs.lemmas.List.{get_or_default}
 use Rattle.std.proofs.lemmas.Option.{slice_get_within}
 use Rattle.package_form.specs.Postfix.{is_unnamed_row, IsPostfix}
@@ -25,7 +25,7 @@ use Rattle.tables.specs.declared.tables.Resolve.{Resolve}
 use Rattle.set_rows.specs.Moved.{Renaming, put_id, put_kind, put_name, put_row}
 use Rattle.set_rows.specs.Owners.{owners, names}
 use Rattle.package_sets.specs.Part.{IsPart, IsTableOf, of_world}
-use Rattle.set_rows.specs.Places.{kept, place}
+use Rattle.set_rows.specs.Places.{place}
 use Rattle.set_rows.specs.Reaches.{Start, IsStart, Reaches, of_start, of_row, owner_at, is_marked, AreReached}
 use Rattle.set_rows.specs.Renamed.{renaming}
 use Rattle.package_sets.specs.Set.{IsSet}
@@ -134,15 +134,15 @@ module _ (s : Resolve) (from : Start) (to : Moved) (p : IsPart s to) (a : AreRea
   row-there : (k : ℕ) (d : Definition) → slice_get s.definitions k ≡ Some d → get_or to.rows k false ≡ true → slice_get r.definitions (place to.rows k) ≡ Some (put_row (renaming to) d)
   row-there k d e h =
       ap (λ (ds : List Definition). slice_get ds (place to.rows k)) t.definitions
-      ∙ map-get (put_row (renaming to)) (kept to.rows s.definitions) (place to.rows k) d (kept-at to.rows s.definitions k d h e)
+      ∙ map-get (put_row (renaming to)) (items_where_true to.rows s.definitions) (place to.rows k) d (kept-at to.rows s.definitions k d h e)
 
   -- a used name that is kept reaches what it did
   use-reaches : (k : ℕ) (d : Definition) (u : TypeId) (h : HasName s.definitions u.0) → slice_get s.definitions k ≡ Some d → used_in d ≡ Some u → get_or to.rows k false ≡ true → get_or to.rows u.0 false ≡ true
       → Contains (reached r.definitions r.worlds) (place to.interfaces h.name.interface.0)
-  use-reaches k d u h e q kept named =
+  use-reaches k d u h e q stays named =
       contains-left (flat_map (reached_by_row r.definitions) r.definitions) (flat_map reached_by_world r.worlds) (place to.interfaces h.name.interface.0)
       (contains-flat (reached_by_row r.definitions) r.definitions (put_row (renaming to) d) (place to.interfaces h.name.interface.0)
-      (get-contains r.definitions (place to.rows k) (put_row (renaming to) d) (row-there k d e kept))
+      (get-contains r.definitions (place to.rows k) (put_row (renaming to) d) (row-there k d e stays))
       (subst (λ (ns : List ℕ). Contains ns (place to.interfaces h.name.interface.0)) (sym is) (contains-here (place to.interfaces h.name.interface.0) [])))
     where
       is : reached_by_row r.definitions (put_row (renaming to) d) ≡ place to.interfaces h.name.interface.0 ∷ []

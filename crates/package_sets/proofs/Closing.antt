@@ -2,7 +2,7 @@
 use Rattle.std.proofs.Common.{◌≡◌, ℕ, zero, suc, Bool, true, false, ◌&&◌, List, [], ◌∷◌, ◌++◌, length, map, get_or, slice_get, Option, None, Some, refl, ap, sym, subst, ◌∙◌, arith, true≢false, nat_lt}
 use Rattle.std.specs.Prelude.{Contains, filter}
 use Rattle.std.specs.Option.{option_map}
-use Rattle.std.specs.List.{list_all}
+use Rattle.std.specs.List.{list_all, items_where_true}
 use Rattle.std.proofs.lemmas.Bool.{ltb-true}
 use Rattle.std.proofs.lemmas.List.{length_push}
 use Rattle.std.proofs.lemmas.Option.{slice_get_within, slice_get-get_or, get_or_from_slice_get}
@@ -23,7 +23,7 @@ use Rattle.tables.specs.declared.tables.Definition.TheVariants as row
 use Rattle.tables.specs.declared.tables.Interface.{Interface}
 use Rattle.tables.specs.declared.tables.Resolve.{Resolve}
 use Rattle.tables.specs.declared.tables.Owner.{Owner}
-use Rattle.set_rows.specs.Places.{kept, place}
+use Rattle.set_rows.specs.Places.{place}
 use Rattle.set_rows.specs.Reaches.{is_marked}
 use Rattle.set_rows.specs.Renamed.{renaming}
 use Rattle.set_rows.specs.Moved.{put_val, put_field, put_case, put_parameter, put_kind, put_row, put_function, put_function_id, has_function, put_interface}
@@ -82,7 +82,7 @@ module _ (to : Moved) (old new : List ClosedType) (a : AgreesOr string_type to.r
   definition-closed (row.Function f) h = ap (λ ts. record_type (fields_of ts)) (params-closed f (split (list_all (λ q. here q.ty) f.params) (option_all here f.result) h).0)
 
 closed-kept : (has : Option Owner → Bool) (to : Moved) (bs : List Bool) (old new : List ClosedType) (ds : List Definition) → length bs ≡ length ds → ClosedAgrees to.rows old new
-    → AreMarksFrom to.rows (length old) bs → AllRight has to.rows (length old) ds → ClosedAgrees to.rows (closed_rows old ds) (closed_rows new (map (put_row (renaming to)) (kept bs ds)))
+    → AreMarksFrom to.rows (length old) bs → AllRight has to.rows (length old) ds → ClosedAgrees to.rows (closed_rows old ds) (closed_rows new (map (put_row (renaming to)) (items_where_true bs ds)))
 closed-kept has to bs old new [] count a marks right = subst (λ (xs : List Definition). ClosedAgrees to.rows old (closed_rows new (map (put_row (renaming to)) xs))) (sym (kept-none bs)) a
 closed-kept has to [] old new (d ∷ ds) count a marks right = absurd (omega (arith, count))
 closed-kept has to (true ∷ bs) old new (d ∷ ds) count a marks right =
@@ -101,7 +101,7 @@ closed-kept has to (false ∷ bs) old new (d ∷ ds) count a marks right =
     (marks-next to.rows (length old) (length (old ++ x ∷ [])) false bs one marks) (subst (λ n. AllRight has to.rows n ds) (sym one) right.1)
 
 -- an element that is kept stood among all, with a mark
-pub kept-from : {A : Type 0} (bs : List Bool) (xs : List A) (x : A) → Contains (kept bs xs) x → (k : ℕ) × (get_or bs k false ≡ true) × (slice_get xs k ≡ Some x)
+pub kept-from : {A : Type 0} (bs : List Bool) (xs : List A) (x : A) → Contains (items_where_true bs xs) x → (k : ℕ) × (get_or bs k false ≡ true) × (slice_get xs k ≡ Some x)
 kept-from [] xs x (k, h, e) = absurd (omega arith)
 kept-from (b ∷ bs) [] x (k, h, e) = absurd (omega arith)
 kept-from (true ∷ bs) (y ∷ xs) x (zero, h, e) = (0, refl, ap Some e)
@@ -130,7 +130,7 @@ functions-at ds i f h (k, l, e) =
     let q = split (list_all (is_type_id ds) i.types) (list_all (is_function_id ds) i.functions) p.1 in
     list-at (is_function_id ds) i.functions k f q.1 (slice_get-get_or i.functions k f l ∙ ap Some e)
 
-module _ (s : Resolve) (to : Moved) (n : IsPart s to) (r : Resolve) (is : r.interfaces ≡ map (put_interface (renaming to)) (kept to.interfaces s.interfaces)) (ds : r.definitions ≡ map (put_row (renaming to)) (kept to.rows s.definitions)) (names : (k : ℕ) (i : Interface) → get_or to.interfaces k false ≡ true → slice_get s.interfaces k ≡ Some i → full_name r (put_interface (renaming to) i) ≡ full_name s i) where
+module _ (s : Resolve) (to : Moved) (n : IsPart s to) (r : Resolve) (is : r.interfaces ≡ map (put_interface (renaming to)) (items_where_true to.interfaces s.interfaces)) (ds : r.definitions ≡ map (put_row (renaming to)) (items_where_true to.rows s.definitions)) (names : (k : ℕ) (i : Interface) → get_or to.interfaces k false ≡ true → slice_get s.interfaces k ≡ Some i → full_name r (put_interface (renaming to) i) ≡ full_name s i) where
   closed-agrees : ClosedAgrees to.rows (closed_types s) (closed_types r)
   closed-agrees = subst (λ (xs : List Definition). ClosedAgrees to.rows (closed_types s) (closed_rows [] xs)) (sym ds)
       (closed-kept (is_marked n.marks) to to.rows [] [] s.definitions (table.count-rows s to n) (record { count = sym (place-none to.rows); same = λ t h. absurd (omega arith) })
@@ -140,7 +140,7 @@ module _ (s : Resolve) (to : Moved) (n : IsPart s to) (r : Resolve) (is : r.inte
   at-there : (f : FunctionId) (g : Function) → slice_get s.definitions f.0 ≡ Some (row.Function g) → get_or to.rows f.0 false ≡ true → function_at r (put_function_id (renaming to) f) ≡ Some (put_function (renaming to) g)
   at-there f g d k =
       ap (λ (xs : List Definition). function_of (slice_get xs (place to.rows f.0))) ds
-      ∙ ap function_of (map-get (put_row (renaming to)) (kept to.rows s.definitions) (place to.rows f.0) (row.Function g) (kept-at to.rows s.definitions f.0 (row.Function g) k d))
+      ∙ ap function_of (map-get (put_row (renaming to)) (items_where_true to.rows s.definitions) (place to.rows f.0) (row.Function g) (kept-at to.rows s.definitions f.0 (row.Function g) k d))
 
   type-there : (f : FunctionId) (g : Function) → slice_get s.definitions f.0 ≡ Some (row.Function g) → get_or to.rows f.0 false ≡ true → function_type r (put_function_id (renaming to) f) ≡ function_type s f
   type-there f g d k =
@@ -161,7 +161,7 @@ module _ (s : Resolve) (to : Moved) (n : IsPart s to) (r : Resolve) (is : r.inte
   -- what a name stands for in the answer it stands for in the set, with the same type
   pub functions-same : (iface name : List ℕ) (f : FunctionId) → IsNamed r iface name f → (g : FunctionId) × IsNamed s iface name g × (function_type r f ≡ function_type s g)
   functions-same iface name f (i, c, e, (d, h)) =
-      let u = contains-unmap (put_interface (renaming to)) (kept to.interfaces s.interfaces) i (subst (λ (xs : List Interface). Contains xs i) is c) in
+      let u = contains-unmap (put_interface (renaming to)) (items_where_true to.interfaces s.interfaces) i (subst (λ (xs : List Interface). Contains xs i) is c) in
       let k = kept-from to.interfaces s.interfaces u.0 u.1 in
       let v = contains-unmap (put_function_id (renaming to)) (filter (has_function (renaming to)) u.0.functions) f (subst (λ (x : Interface). Contains x.functions f) (sym u.2) d) in
       let w = contains-kept (has_function (renaming to)) u.0.functions v.0 v.1 in

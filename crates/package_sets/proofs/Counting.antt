@@ -2,7 +2,7 @@
 use Rattle.std.proofs.Common.{◌≡◌, ◌≤◌, ◌<◌, ℕ, zero, suc, ◌+◌, Bool, true, false, List, [], ◌∷◌, ◌++◌, length, map, get_or, set as put, slice_get, Some, refl, sym, arith, true≢false}
 use Rattle.std.specs.Prelude.{sum}
 use Rattle.std.proofs.lemmas.List.Sums.{sum_by-cons}
-use Rattle.set_rows.specs.Places.{kept}
+use Rattle.std.specs.List.{items_where_true}
 
 sum-cons : (n : ℕ) (ns : List ℕ) → sum (n ∷ ns) ≡ n + sum ns
 sum-cons = sum_by-cons (λ m. m)
@@ -14,25 +14,25 @@ pub length-weighs : {A : Type 0} (xs : List A) → length xs ≡ sum (map (λ x.
 length-weighs [] = refl
 length-weighs (x ∷ xs) = one-more _ _ _ (length-weighs xs) (sum-cons 1 (map (λ x. 1) xs))
 
-none-kept : {A : Type 0} (f : A → ℕ) (bs : List Bool) (xs : List A) → ((k : ℕ) (x : A) → get_or bs k false ≡ true → slice_get xs k ≡ Some x → ⊥) → sum (map f (kept bs xs)) ≡ 0
+none-kept : {A : Type 0} (f : A → ℕ) (bs : List Bool) (xs : List A) → ((k : ℕ) (x : A) → get_or bs k false ≡ true → slice_get xs k ≡ Some x → ⊥) → sum (map f (items_where_true bs xs)) ≡ 0
 none-kept f [] xs h = refl
 none-kept f (b ∷ bs) [] h = refl
 none-kept f (true ∷ bs) (x ∷ xs) h = absurd (h 0 x refl refl)
 none-kept f (false ∷ bs) (x ∷ xs) h = none-kept f bs xs (λ k y e g. h (suc k) y e g)
 
 -- without one mark it weighs less by that element at most
-unset-weighs : {A : Type 0} (f : A → ℕ) (n : ℕ) (bs : List Bool) (xs : List A) (p : ℕ) → ((x : A) → slice_get xs p ≡ Some x → f x ≤ n) → sum (map f (kept bs xs)) ≤ n + sum (map f (kept (put bs p false) xs))
+unset-weighs : {A : Type 0} (f : A → ℕ) (n : ℕ) (bs : List Bool) (xs : List A) (p : ℕ) → ((x : A) → slice_get xs p ≡ Some x → f x ≤ n) → sum (map f (items_where_true bs xs)) ≤ n + sum (map f (items_where_true (put bs p false) xs))
 unset-weighs f n [] xs p h = omega arith
 unset-weighs f n (b ∷ bs) [] p h = omega arith
-unset-weighs f n (true ∷ bs) (x ∷ xs) zero h = here _ (f x) _ (sum-cons (f x) (map f (kept bs xs))) (h x refl)
+unset-weighs f n (true ∷ bs) (x ∷ xs) zero h = here _ (f x) _ (sum-cons (f x) (map f (items_where_true bs xs))) (h x refl)
   where
     here : (s m k : ℕ) → s ≡ m + k → m ≤ n → s ≤ n + k
     here s m k e l = omega arith
-unset-weighs f n (false ∷ bs) (x ∷ xs) zero h = here (sum (map f (kept bs xs)))
+unset-weighs f n (false ∷ bs) (x ∷ xs) zero h = here (sum (map f (items_where_true bs xs)))
   where
     here : (k : ℕ) → k ≤ n + k
     here k = omega arith
-unset-weighs f n (true ∷ bs) (x ∷ xs) (suc p) h = later _ _ (f x) _ _ (sum-cons (f x) (map f (kept bs xs))) (sum-cons (f x) (map f (kept (put bs p false) xs))) (unset-weighs f n bs xs p h)
+unset-weighs f n (true ∷ bs) (x ∷ xs) (suc p) h = later _ _ (f x) _ _ (sum-cons (f x) (map f (items_where_true bs xs))) (sum-cons (f x) (map f (items_where_true (put bs p false) xs))) (unset-weighs f n bs xs p h)
   where
     later : (s t m k l : ℕ) → s ≡ m + k → t ≡ m + l → k ≤ n + l → s ≤ n + t
     later s t m k l e g z = omega arith
@@ -48,7 +48,7 @@ unset-marked (b ∷ bs) (suc p) (suc k) e = let r = unset-marked bs p k e in (r.
 -- each element that is kept is one of those that these are put to, and weighs no more
 pub covered-weighs : {A B : Type 0} (f : A → ℕ) (g : B → ℕ) (to : ℕ → ℕ) (bs : List Bool) (xs : List A) (ys : List B)
     → ((t : ℕ) (y : B) (x : A) → slice_get ys t ≡ Some y → slice_get xs (to t) ≡ Some x → f x ≤ g y)
-    → ((k : ℕ) (x : A) → get_or bs k false ≡ true → slice_get xs k ≡ Some x → (t : ℕ) × (t < length ys) × (to t ≡ k)) → sum (map f (kept bs xs)) ≤ sum (map g ys)
+    → ((k : ℕ) (x : A) → get_or bs k false ≡ true → slice_get xs k ≡ Some x → (t : ℕ) × (t < length ys) × (to t ≡ k)) → sum (map f (items_where_true bs xs)) ≤ sum (map g ys)
 covered-weighs f g to bs xs [] weighs covered = none-left _ (none-kept f bs xs (λ k x e h. none (covered k x e h)))
   where
     none-left : (n : ℕ) → n ≡ 0 → n ≤ 0
@@ -71,7 +71,7 @@ covered-weighs {A = A} f g to bs xs (y ∷ ys) weighs covered =
 
 -- each element that is kept stands in the first list, and is kept of it
 pub front-weighs : {A : Type 0} (f : A → ℕ) (bs cs : List Bool) (xs ys : List A)
-    → ((k : ℕ) (x : A) → get_or bs k false ≡ true → slice_get (xs ++ ys) k ≡ Some x → (k < length xs) × (get_or cs k false ≡ true)) → sum (map f (kept bs (xs ++ ys))) ≤ sum (map f (kept cs xs))
+    → ((k : ℕ) (x : A) → get_or bs k false ≡ true → slice_get (xs ++ ys) k ≡ Some x → (k < length xs) × (get_or cs k false ≡ true)) → sum (map f (items_where_true bs (xs ++ ys))) ≤ sum (map f (items_where_true cs xs))
 front-weighs f bs cs [] ys h = none-left _ _ (none-kept f bs ys (λ k x e g. omega (arith, (h k x e g).0)))
   where
     none-left : (n m : ℕ) → n ≡ 0 → n ≤ m
@@ -81,11 +81,11 @@ front-weighs f (false ∷ bs) [] (x ∷ xs) ys h = front-weighs f bs [] xs ys (�
 front-weighs f (true ∷ bs) [] (x ∷ xs) ys h = absurd (true≢false (sym (h 0 x refl refl).1))
 front-weighs f (false ∷ bs) (false ∷ cs) (x ∷ xs) ys h = front-weighs f bs cs xs ys (λ k y e g. let r = h (suc k) y e g in (omega (arith, r.0), r.1))
 front-weighs f (true ∷ bs) (false ∷ cs) (x ∷ xs) ys h = absurd (true≢false (sym (h 0 x refl refl).1))
-front-weighs f (false ∷ bs) (true ∷ cs) (x ∷ xs) ys h = more _ _ _ (sum-cons (f x) (map f (kept cs xs))) (front-weighs f bs cs xs ys (λ k y e g. let r = h (suc k) y e g in (omega (arith, r.0), r.1)))
+front-weighs f (false ∷ bs) (true ∷ cs) (x ∷ xs) ys h = more _ _ _ (sum-cons (f x) (map f (items_where_true cs xs))) (front-weighs f bs cs xs ys (λ k y e g. let r = h (suc k) y e g in (omega (arith, r.0), r.1)))
   where
     more : (s n m : ℕ) → s ≡ f x + m → n ≤ m → n ≤ s
     more s n m e l = omega arith
-front-weighs f (true ∷ bs) (true ∷ cs) (x ∷ xs) ys h = more _ _ _ _ (sum-cons (f x) (map f (kept bs (xs ++ ys)))) (sum-cons (f x) (map f (kept cs xs))) (front-weighs f bs cs xs ys (λ k y e g. let r = h (suc k) y e g in (omega (arith, r.0), r.1)))
+front-weighs f (true ∷ bs) (true ∷ cs) (x ∷ xs) ys h = more _ _ _ _ (sum-cons (f x) (map f (items_where_true bs (xs ++ ys)))) (sum-cons (f x) (map f (items_where_true cs xs))) (front-weighs f bs cs xs ys (λ k y e g. let r = h (suc k) y e g in (omega (arith, r.0), r.1)))
   where
     more : (s t n m : ℕ) → s ≡ f x + n → t ≡ f x + m → n ≤ m → s ≤ t
     more s t n m e g l = omega arith

@@ -1,6 +1,6 @@
 -- Rows that stand package by package, with all worlds in the last package, are parted as those of a closed table.
 use Rattle.std.proofs.Common.{◌≡◌, ◌≤◌, ℕ, suc, ◌+◌, true, ◌&&◌, nat_le, nat_lt, List, [], ◌∷◌, length, map, slice_get, Some, refl, arith, eq-eqb}
-use Rattle.std.specs.List.{list_all}
+use Rattle.std.specs.List.{list_all, items_where_true}
 use Rattle.std.proofs.lemmas.Bool.{ltb-true, le-leb}
 use Rattle.package_form.specs.Ends.{end_of, rows_of, interfaces_end, world_end, world_rows, is_parted}
 use Rattle.package_form.specs.Form.{has_ids, is_local, has_items, is_world_row, are_interfaces, have_items}
@@ -9,7 +9,6 @@ use Rattle.tables.specs.declared.tables.Definition.{Definition}
 use Rattle.tables.specs.declared.tables.Interface.{Interface}
 use Rattle.tables.specs.declared.tables.World.{World}
 use Rattle.tables.specs.declared.tables.Resolve.{Resolve}
-use Rattle.set_rows.specs.Places.{kept}
 use Rattle.set_rows.specs.Renamed.{renaming}
 use Rattle.set_rows.specs.Moved.{put_row, put_interface, put_world}
 use Rattle.package_sets.specs.Part.{IsPart}
@@ -49,8 +48,8 @@ in-form rows _ _ _ _ _ (a_world start k (i ∷ is) j w ws a later rest) before =
     absurd (omega arith)
 
 module _ (s : Resolve) (to : Moved) (n : IsPart s to) where
-  pub rows-in-form : (r : Resolve) → r.interfaces ≡ map (put_interface (renaming to)) (kept to.interfaces s.interfaces) → r.worlds ≡ map (put_world (renaming to)) (kept to.worlds s.worlds)
-      → r.definitions ≡ map (put_row (renaming to)) (kept to.rows s.definitions) → IsSet s → AreBefore (map (put_interface (renaming to)) (kept to.interfaces s.interfaces)) (map (put_world (renaming to)) (kept to.worlds s.worlds)) → HasRowsInForm r
+  pub rows-in-form : (r : Resolve) → r.interfaces ≡ map (put_interface (renaming to)) (items_where_true to.interfaces s.interfaces) → r.worlds ≡ map (put_world (renaming to)) (items_where_true to.worlds s.worlds)
+      → r.definitions ≡ map (put_row (renaming to)) (items_where_true to.rows s.definitions) → IsSet s → AreBefore (map (put_interface (renaming to)) (items_where_true to.interfaces s.interfaces)) (map (put_world (renaming to)) (items_where_true to.worlds s.worlds)) → HasRowsInForm r
   rows-in-form r is ws ds h e =
-      let f = in-form (map (put_row (renaming to)) (kept to.rows s.definitions)) 0 0 (map (put_interface (renaming to)) (kept to.interfaces s.interfaces)) 0 (map (put_world (renaming to)) (kept to.worlds s.worlds)) (all-stand s to n h) e in
+      let f = in-form (map (put_row (renaming to)) (items_where_true to.rows s.definitions)) 0 0 (map (put_interface (renaming to)) (items_where_true to.interfaces s.interfaces)) 0 (map (put_world (renaming to)) (items_where_true to.worlds s.worlds)) (all-stand s to n h) e in
       record { parted = rw (is, ws, ds) f.parted; interfaces = rw (is, ds) f.interfaces; items = rw (is, ws, ds) f.items }

@@ -1,7 +1,7 @@
 -- A closed table that begins with what interfaces of a set reach has its imports in the set.
 use Rattle.std.proofs.Common.{◌≡◌, ◌<◌, inl, inr, ℕ, zero, suc, ◌+◌, Bool, true, false, ◌||◌, List, [], ◌∷◌, ◌++◌, length, map, take, get_or, slice_get, Option, None, Some, refl, ap, sym, subst, ◌∙◌, arith, eqb-true, nat_lt}
 use Rattle.std.specs.Prelude.{Contains}
-use Rattle.std.specs.List.{list_any}
+use Rattle.std.specs.List.{list_any, items_where_true}
 use Rattle.std.specs.Str.{bytes_eq}
 use Rattle.std.proofs.lemmas.Bool.{ltb-true}
 use Rattle.std.proofs.lemmas.List.{length-map}
@@ -25,7 +25,7 @@ use Rattle.tables.specs.declared.tables.Interface.{Interface}
 use Rattle.tables.specs.declared.tables.World.{World}
 use Rattle.tables.specs.declared.tables.Resolve.{Resolve}
 use Rattle.set_rows.specs.Owners.{owner_of, owners}
-use Rattle.set_rows.specs.Places.{kept, place}
+use Rattle.set_rows.specs.Places.{place}
 use Rattle.set_rows.specs.Reaches.{is_marked}
 use Rattle.set_rows.specs.Renamed.{renaming}
 use Rattle.set_rows.specs.Moved.{Renaming, put_row, put_interface}
@@ -108,7 +108,7 @@ module _ (s : Resolve) (to : Moved) (n : IsPart s to) (set : IsSet s) (apart : H
 
   pub one-of : (a : ℕ) (i : Interface) → slice_get r.interfaces a ≡ Some i → IsOne a i
   one-of a i e =
-      let u = map-unget (put_interface (renaming to)) (kept to.interfaces s.interfaces) a i (ap (λ (is : List Interface). slice_get is a) (sym t.interfaces) ∙ e) in
+      let u = map-unget (put_interface (renaming to)) (items_where_true to.interfaces s.interfaces) a i (ap (λ (is : List Interface). slice_get is a) (sym t.interfaces) ∙ e) in
       let w = was-kept to.interfaces s.interfaces a u.0 u.1 in
       record {
         one = u.0;
@@ -127,7 +127,7 @@ module _ (s : Resolve) (to : Moved) (n : IsPart s to) (set : IsSet s) (apart : H
       ap (λ (ps : List PackageParts). slice_get ps i.«package».0) b.packages_are
       ∙ (get-front r.packages (b.own ∷ []) i.«package».0 (interface-in r a i e)
       ∙ (ap (λ (ps : List PackageParts). slice_get ps i.«package».0) t.packages
-      ∙ (ap (slice_get (kept to.packages s.packages)) (sym number) ∙ kept-package s to n o.from o.one o.marked o.stood)))
+      ∙ (ap (slice_get (items_where_true to.packages s.packages)) (sym number) ∙ kept-package s to n o.from o.one o.marked o.stood)))
 
   first-is : (a : ℕ) (i : Interface) → slice_get r.interfaces a ≡ Some i → IsFirst (has_name_of s c i) s.interfaces (get_or places a 0)
   first-is a i e = record {
@@ -159,7 +159,7 @@ module _ (s : Resolve) (to : Moved) (n : IsPart s to) (set : IsSet s) (apart : H
 
   found-are : AreFound s c r.interfaces places
   found-are = record {
-    count = length-marked 0 to.interfaces s.interfaces (ap length n.interfaces_are ∙ n.count) ∙ (sym (length-map (kept to.interfaces s.interfaces) (put_interface (renaming to))) ∙ sym (ap length t.interfaces));
+    count = length-marked 0 to.interfaces s.interfaces (ap length n.interfaces_are ∙ n.count) ∙ (sym (length-map (items_where_true to.interfaces s.interfaces) (put_interface (renaming to))) ∙ sym (ap length t.interfaces));
     each = first-is;
   }
 
@@ -193,7 +193,7 @@ module _ (s : Resolve) (to : Moved) (n : IsPart s to) (set : IsSet s) (apart : H
 
   place-within : (u : ℕ) (d : Definition) → slice_get s.definitions u ≡ Some d → get_or to.rows u false ≡ true → place to.rows u < length r.definitions
   place-within u d e h =
-      omega (arith, ap length t.definitions, length-map (kept to.rows s.definitions) (put_row (renaming to)), slice_get_within (kept to.rows s.definitions) (place to.rows u) d (kept-at to.rows s.definitions u d h e))
+      omega (arith, ap length t.definitions, length-map (items_where_true to.rows s.definitions) (put_row (renaming to)), slice_get_within (items_where_true to.rows s.definitions) (place to.rows u) d (kept-at to.rows s.definitions u d h e))
 
   -- a row that is kept comes back to its place
   pub row-found : (u : ℕ) (d : Definition) → slice_get s.definitions u ≡ Some d → get_or to.rows u false ≡ true → J.rows (place to.rows u) ≡ u
@@ -215,8 +215,8 @@ module _ (s : Resolve) (to : Moved) (n : IsPart s to) (set : IsSet s) (apart : H
         arith,
         found-are.count,
         ap length t.interfaces,
-        length-map (kept to.interfaces s.interfaces) (put_interface (renaming to)),
-        slice_get_within (kept to.interfaces s.interfaces) (place to.interfaces k) i (kept-at to.interfaces s.interfaces k i h e),
+        length-map (items_where_true to.interfaces s.interfaces) (put_interface (renaming to)),
+        slice_get_within (items_where_true to.interfaces s.interfaces) (place to.interfaces k) i (kept-at to.interfaces s.interfaces k i h e),
       )
 
   -- whose it is comes back too
@@ -263,7 +263,7 @@ module _ (s : Resolve) (to : Moved) (n : IsPart s to) (set : IsSet s) (apart : H
 
   rows-there : AreRowsThere s J r.definitions
   rows-there a d e =
-      let u = map-unget (put_row (renaming to)) (kept to.rows s.definitions) a d (ap (λ (ds : List Definition). slice_get ds a) (sym t.definitions) ∙ e) in
+      let u = map-unget (put_row (renaming to)) (items_where_true to.rows s.definitions) a d (ap (λ (ds : List Definition). slice_get ds a) (sym t.definitions) ∙ e) in
       let w = was-kept to.rows s.definitions a u.0 u.1 in
       ap (λ k. slice_get s.definitions (J.rows k)) (sym w.is)
       ∙ (ap (slice_get s.definitions) (row-found w.from u.0 w.stood w.marked)

@@ -2,12 +2,13 @@
 use Rattle.std.proofs.Common.{◌≡◌, ◌≤◌, ◌<◌, inl, inr, ℕ, zero, suc, ◌+◌, ◌-◌, Bool, true, false, List, [], ◌∷◌, length, map, get_or, slice_get, Some, refl, ap, sym, ◌∙◌, arith, true≢false}
 use Rattle.std.proofs.lemmas.List.{length-map}
 use Rattle.std.proofs.lemmas.Option.{slice_get_within}
-use Rattle.set_rows.specs.Places.{kept, place}
+use Rattle.set_rows.specs.Places.{place}
 use Rattle.package_sets.proofs.Blocks.{AreAll, place-left}
 use Rattle.set_rows.proofs.Keeping.{kept-at, length-kept}
 use Rattle.package_sets.proofs.Lists.{map-get}
 use Rattle.package_sets.proofs.Owning.{cut}
 use Rattle.set_rows.proofs.Placing.{place-none, place-yes}
+use Rattle.std.specs.List.{items_where_true}
 
 -- just these places are marked, and each is behind the one before it
 pub record AreImages (bs : List Bool) (f : ℕ → ℕ) (n : ℕ) : Type 0 where
@@ -58,7 +59,7 @@ module _ (bs : List Bool) (f : ℕ → ℕ) (n : ℕ) (h : AreImages bs f n) whe
       behind : (u : ℕ) → t ≤ u → u < n → f t ≤ f u
       behind u k j = elim (cut t u) [ inl q ↦ (let r = h.rising t u q j in omega (arith, r)) | inr q ↦ (let e : u ≡ t = omega (arith, k, q) in omega (arith, ap f e)) ]
 
-  pub images-length : {A : Type 0} (xs : List A) → length bs ≡ length xs → length (kept bs xs) ≡ n
+  pub images-length : {A : Type 0} (xs : List A) → length bs ≡ length xs → length (items_where_true bs xs) ≡ n
   images-length xs e = length-kept bs xs (sym e) ∙ count-below n (length bs) (omega arith) (λ u k. mark-within bs (f u) (h.marked u k)) (λ u k j. absurd (omega (arith, k, j)))
 
 -- lists of one length that have the same elements
@@ -74,14 +75,14 @@ same-lists (x ∷ xs) (y ∷ ys) l h =
 
 module _ {A B : Type 0} (bs : List Bool) (xs : List A) (f : ℕ → ℕ) (ys : List B) (h : AreImages bs f (length ys)) (counted : length bs ≡ length xs) where
   -- what is kept is what stands at these places
-  pub kept-is : (put : A → B) → ((t : ℕ) (y : B) → slice_get ys t ≡ Some y → (x : A) × (slice_get xs (f t) ≡ Some x) × (put x ≡ y)) → map put (kept bs xs) ≡ ys
-  kept-is put told = same-lists (map put (kept bs xs)) ys (length-map (kept bs xs) put ∙ images-length bs f (length ys) h xs counted) each
+  pub kept-is : (put : A → B) → ((t : ℕ) (y : B) → slice_get ys t ≡ Some y → (x : A) × (slice_get xs (f t) ≡ Some x) × (put x ≡ y)) → map put (items_where_true bs xs) ≡ ys
+  kept-is put told = same-lists (map put (items_where_true bs xs)) ys (length-map (items_where_true bs xs) put ∙ images-length bs f (length ys) h xs counted) each
     where
-      each : (t : ℕ) (y : B) → slice_get ys t ≡ Some y → slice_get (map put (kept bs xs)) t ≡ Some y
+      each : (t : ℕ) (y : B) → slice_get ys t ≡ Some y → slice_get (map put (items_where_true bs xs)) t ≡ Some y
       each t y e =
           let l = slice_get_within ys t y e in
           let x = told t y e in
-          ap (slice_get (map put (kept bs xs))) (sym (image-place bs f (length ys) h t l)) ∙ (map-get put (kept bs xs) (place bs (f t)) x.0 (kept-at bs xs (f t) x.0 (h.marked t l) x.1) ∙ ap Some x.2)
+          ap (slice_get (map put (items_where_true bs xs))) (sym (image-place bs f (length ys) h t l)) ∙ (map-get put (items_where_true bs xs) (place bs (f t)) x.0 (kept-at bs xs (f t) x.0 (h.marked t l) x.1) ∙ ap Some x.2)
 
 -- a function whose places before m rise, as those that a function back from them gives, and behind which others stand one behind the other
 pub rising-by : (f back : ℕ → ℕ) (m base n : ℕ) → ((t : ℕ) → t < m → t < n → (f t < base) × (back (f t) ≡ t)) → ((x y : ℕ) → x ≤ y → back x ≤ back y) → ((t : ℕ) → m ≤ t → t < n → f t ≡ base + (t - m))

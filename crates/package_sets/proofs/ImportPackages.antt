@@ -1,6 +1,6 @@
 -- The packages of what is kept of a set.
 use Rattle.std.proofs.Common.{◌≡◌, ◌≤◌, ◌<◌, ◌⊎◌, inl, inr, ℕ, zero, suc, ◌+◌, Bool, true, false, not, ◌||◌, ◌&&◌, nat_le, nat_lt, List, [], ◌∷◌, length, get_or, slice_get, Some, refl, ap, sym, subst, ◌∙◌, arith, true≢false, IsTrue}
-use Rattle.std.specs.List.{list_all, list_any}
+use Rattle.std.specs.List.{list_all, list_any, items_where_true}
 use Rattle.std.proofs.lemmas.Bool.{leb-true, le-leb, ltb-true}
 use Rattle.std.proofs.lemmas.Option.{slice_get_within}
 use Rattle.package_form.specs.Closed.{is_same_package, are_apart, are_of_a_set, has_each_package}
@@ -11,7 +11,7 @@ use Rattle.tables.specs.PackageNames.{PackageParts}
 use Rattle.tables.proofs.Rows.{split, both}
 use Rattle.tables.specs.declared.tables.Interface.{Interface}
 use Rattle.tables.specs.declared.tables.Resolve.{Resolve}
-use Rattle.set_rows.specs.Places.{kept, place}
+use Rattle.set_rows.specs.Places.{place}
 use Rattle.set_rows.specs.Renamed.{renaming}
 use Rattle.set_rows.specs.Moved.{put_interface}
 use Rattle.package_sets.specs.Restricted.{IsReachedIn}
@@ -24,46 +24,46 @@ use Rattle.std.proofs.lemmas.List.{get_or_default}
 
 -- ---- names of packages that are kept
 
-kept-all : {A : Type 0} (f : A → Bool) (bs : List Bool) (xs : List A) → list_all f xs ≡ true → list_all f (kept bs xs) ≡ true
+kept-all : {A : Type 0} (f : A → Bool) (bs : List Bool) (xs : List A) → list_all f xs ≡ true → list_all f (items_where_true bs xs) ≡ true
 kept-all f [] xs h = refl
 kept-all f (b ∷ bs) [] h = refl
-kept-all f (true ∷ bs) (x ∷ xs) h = let p = split (f x) (list_all f xs) h in both (f x) (list_all f (kept bs xs)) p.0 (kept-all f bs xs p.1)
+kept-all f (true ∷ bs) (x ∷ xs) h = let p = split (f x) (list_all f xs) h in both (f x) (list_all f (items_where_true bs xs)) p.0 (kept-all f bs xs p.1)
 kept-all f (false ∷ bs) (x ∷ xs) h = kept-all f bs xs (split (f x) (list_all f xs) h).1
 
-kept-any : {A : Type 0} (f : A → Bool) (bs : List Bool) (xs : List A) → list_any f xs ≡ false → list_any f (kept bs xs) ≡ false
+kept-any : {A : Type 0} (f : A → Bool) (bs : List Bool) (xs : List A) → list_any f xs ≡ false → list_any f (items_where_true bs xs) ≡ false
 kept-any f [] xs h = refl
 kept-any f (b ∷ bs) [] h = refl
 kept-any f (false ∷ bs) (x ∷ xs) h = by (f x) refl (kept-any f bs xs)
   where
-    by : (b : Bool) → f x ≡ b → (list_any f xs ≡ false → list_any f (kept bs xs) ≡ false) → list_any f (kept bs xs) ≡ false
+    by : (b : Bool) → f x ≡ b → (list_any f xs ≡ false → list_any f (items_where_true bs xs) ≡ false) → list_any f (items_where_true bs xs) ≡ false
     by true e r = absurd (true≢false (sym (ap (λ (c : Bool). c || list_any f xs) e) ∙ h))
     by false e r = r (sym (ap (λ (c : Bool). c || list_any f xs) e) ∙ h)
 kept-any f (true ∷ bs) (x ∷ xs) h = by (f x) refl (kept-any f bs xs)
   where
-    by : (b : Bool) → f x ≡ b → (list_any f xs ≡ false → list_any f (kept bs xs) ≡ false) → list_any f (kept (true ∷ bs) (x ∷ xs)) ≡ false
+    by : (b : Bool) → f x ≡ b → (list_any f xs ≡ false → list_any f (items_where_true bs xs) ≡ false) → list_any f (items_where_true (true ∷ bs) (x ∷ xs)) ≡ false
     by true e r = absurd (true≢false (sym (ap (λ (c : Bool). c || list_any f xs) e) ∙ h))
-    by false e r = ap (λ (c : Bool). c || list_any f (kept bs xs)) e ∙ r (sym (ap (λ (c : Bool). c || list_any f xs) e) ∙ h)
+    by false e r = ap (λ (c : Bool). c || list_any f (items_where_true bs xs)) e ∙ r (sym (ap (λ (c : Bool). c || list_any f xs) e) ∙ h)
 
-kept-apart : (bs : List Bool) (ps : List PackageParts) → are_apart ps ≡ true → are_apart (kept bs ps) ≡ true
+kept-apart : (bs : List Bool) (ps : List PackageParts) → are_apart ps ≡ true → are_apart (items_where_true bs ps) ≡ true
 kept-apart [] ps h = refl
 kept-apart (b ∷ bs) [] h = refl
 kept-apart (false ∷ bs) (p ∷ ps) h = kept-apart bs ps (split (not (list_any (is_same_package p) ps)) (are_apart ps) h).1
 kept-apart (true ∷ bs) (p ∷ ps) h =
     let a = split (not (list_any (is_same_package p) ps)) (are_apart ps) h in
-    both (not (list_any (is_same_package p) (kept bs ps))) (are_apart (kept bs ps)) (ap not (kept-any (is_same_package p) bs ps (not-is (list_any (is_same_package p) ps) a.0))) (kept-apart bs ps a.1)
+    both (not (list_any (is_same_package p) (items_where_true bs ps))) (are_apart (items_where_true bs ps)) (ap not (kept-any (is_same_package p) bs ps (not-is (list_any (is_same_package p) ps) a.0))) (kept-apart bs ps a.1)
 
-pub kept-fewer : {A : Type 0} (bs : List Bool) (xs : List A) → length (kept bs xs) ≤ length xs
+pub kept-fewer : {A : Type 0} (bs : List Bool) (xs : List A) → length (items_where_true bs xs) ≤ length xs
 kept-fewer [] xs = omega arith
 kept-fewer (b ∷ bs) [] = omega arith
 kept-fewer (true ∷ bs) (x ∷ xs) = omega (arith, kept-fewer bs xs)
 kept-fewer (false ∷ bs) (x ∷ xs) = omega (arith, kept-fewer bs xs)
 
-pub kept-set : (bs : List Bool) (ps : List PackageParts) → are_of_a_set ps ≡ true → are_of_a_set (kept bs ps) ≡ true
+pub kept-set : (bs : List Bool) (ps : List PackageParts) → are_of_a_set ps ≡ true → are_of_a_set (items_where_true bs ps) ≡ true
 kept-set bs ps h =
     let a = split (nat_le (length ps) 64) (are_apart ps) h in
-    both (nat_le (length (kept bs ps)) 64) (are_apart (kept bs ps)) (le-leb (length (kept bs ps)) 64 (omega (arith, kept-fewer bs ps, leb-true (length ps) 64 a.0))) (kept-apart bs ps a.1)
+    both (nat_le (length (items_where_true bs ps)) 64) (are_apart (items_where_true bs ps)) (le-leb (length (items_where_true bs ps)) 64 (omega (arith, kept-fewer bs ps, leb-true (length ps) 64 a.0))) (kept-apart bs ps a.1)
 
-pub kept-names : (bs : List Bool) (ps : List PackageParts) → list_all is_package_name ps ≡ true → list_all is_package_name (kept bs ps) ≡ true
+pub kept-names : (bs : List Bool) (ps : List PackageParts) → list_all is_package_name ps ≡ true → list_all is_package_name (items_where_true bs ps) ≡ true
 kept-names bs ps h = kept-all is_package_name bs ps h
 
 -- ---- each package has an interface
@@ -152,7 +152,7 @@ module _ (s : Resolve) (to : Moved) (p : IsPart s to) (r : Resolve) (t : IsTable
             place to.interfaces i,
             put_interface (renaming to) x,
             ap (λ (is : List Interface). slice_get is (place to.interfaces i)) t.interfaces
-                ∙ map-get (put_interface (renaming to)) (kept to.interfaces s.interfaces) (place to.interfaces i) x (kept-at to.interfaces s.interfaces i x marked at),
+                ∙ map-get (put_interface (renaming to)) (items_where_true to.interfaces s.interfaces) (place to.interfaces i) x (kept-at to.interfaces s.interfaces i x marked at),
             ap (place to.packages) is ∙ e,
           )
 

@@ -18,7 +18,7 @@ use Rattle.tables.specs.declared.tables.Definition.{Definition}
 use Rattle.tables.specs.declared.tables.Interface.{Interface}
 use Rattle.tables.specs.declared.tables.World.{World}
 use Rattle.tables.specs.declared.tables.Resolve.{Resolve}
-use Rattle.set_rows.specs.Places.{kept, place}
+use Rattle.set_rows.specs.Places.{place}
 use Rattle.set_rows.specs.Renamed.{renaming}
 use Rattle.set_rows.specs.Moved.{put_id, put_function_id, put_row, put_interface, has_type, has_function, put_types, put_functions, put_world}
 use Rattle.package_sets.specs.Part.{IsPart, IsTableOf}
@@ -33,6 +33,7 @@ use Rattle.package_sets.proofs.SetScopes.{scopes-put, placed-id, placed-in}
 use Rattle.package_sets.proofs.Subnames.{IsWithin, distinct-none, within-distinct, within-append, names-within, label-within}
 use Rattle.package_sets.proofs.MarkedPlaces.{was-kept}
 use Rattle.package_sets.proofs.Found.{ids-kept}
+use Rattle.std.specs.List.{items_where_true}
 
 -- places of elements that are kept differ
 place-one : (bs : List Bool) (k l : ℕ) → get_or bs k false ≡ true → get_or bs l false ≡ true → place bs k ≡ place bs l → k ≡ l
@@ -42,13 +43,13 @@ place-one bs k l a b e = elim (compared k l) [
 ]
 
 -- what holds of all that elements tell holds of what those that are kept do
-all-kept : {A B : Type 0} (P : B → Type 0) (f : A → List B) (bs : List Bool) (xs : List A) → All P (flat_map f xs) → All P (flat_map f (kept bs xs))
+all-kept : {A B : Type 0} (P : B → Type 0) (f : A → List B) (bs : List Bool) (xs : List A) → All P (flat_map f xs) → All P (flat_map f (items_where_true bs xs))
 all-kept P f [] xs h = all-none P
 all-kept P f (b ∷ bs) [] h = all-none P
-all-kept P f (true ∷ bs) (x ∷ xs) h = all-append P (f x) (flat_map f (kept bs xs)) (all-left P (f x) (flat_map f xs) h) (all-kept P f bs xs (all-right P (f x) (flat_map f xs) h))
+all-kept P f (true ∷ bs) (x ∷ xs) h = all-append P (f x) (flat_map f (items_where_true bs xs)) (all-left P (f x) (flat_map f xs) h) (all-kept P f bs xs (all-right P (f x) (flat_map f xs) h))
 all-kept P f (false ∷ bs) (x ∷ xs) h = all-kept P f bs xs (all-right P (f x) (flat_map f xs) h)
 
-module _ (s : Resolve) (to : Moved) (n : IsPart s to) (set : IsSet s) (r : Resolve) (t : IsTableOf s to r) (meanings : worlds r ≡ kept to.worlds (worlds s)) (form : HasRowsInForm r) (postfix : IsPostfix r.definitions) (old : HasDistinctScopes s) where
+module _ (s : Resolve) (to : Moved) (n : IsPart s to) (set : IsSet s) (r : Resolve) (t : IsTableOf s to r) (meanings : worlds r ≡ items_where_true to.worlds (worlds s)) (form : HasRowsInForm r) (postfix : IsPostfix r.definitions) (old : HasDistinctScopes s) where
   -- the ids of an interface that is kept
   ids-there : (k : ℕ) (i : Interface) → slice_get s.interfaces k ≡ Some i → get_or to.interfaces k false ≡ true → ids_of (put_interface (renaming to) i) ≡ map (place to.rows) (ids_of i)
   ids-there k i e h =
@@ -75,7 +76,7 @@ module _ (s : Resolve) (to : Moved) (n : IsPart s to) (set : IsSet s) (r : Resol
 
   interface-distinct : (m : ℕ) (x : Interface) → slice_get r.interfaces m ≡ Some x → All AreDistinct (set_interface_scopes r.definitions x)
   interface-distinct m x e =
-      let u = map-unget (put_interface (renaming to)) (kept to.interfaces s.interfaces) m x (ap (λ (is : List Interface). slice_get is m) (sym t.interfaces) ∙ e) in
+      let u = map-unget (put_interface (renaming to)) (items_where_true to.interfaces s.interfaces) m x (ap (λ (is : List Interface). slice_get is m) (sym t.interfaces) ∙ e) in
       let w = was-kept to.interfaces s.interfaces m u.0 u.1 in
       subst (λ (y : Interface). All AreDistinct (set_interface_scopes r.definitions y)) u.2
       (subst (λ (ss : List (List (List ℕ))). All AreDistinct ss)
@@ -84,7 +85,7 @@ module _ (s : Resolve) (to : Moved) (n : IsPart s to) (set : IsSet s) (r : Resol
         d.0,
         d.1,
         ap (λ (ds : List Definition). slice_get ds (place to.rows k)) t.definitions
-            ∙ map-get (put_row (renaming to)) (kept to.rows s.definitions) (place to.rows k) d.0 (kept-at to.rows s.definitions k d.0 (ids-kept s to n set w.from u.0 w.stood w.marked k c) d.1),
+            ∙ map-get (put_row (renaming to)) (items_where_true to.rows s.definitions) (place to.rows k) d.0 (kept-at to.rows s.definitions k d.0 (ids-kept s to n set w.from u.0 w.stood w.marked k c) d.1),
       ))))
       (old.interfaces u.0 (w.from, slice_get_within s.interfaces w.from u.0 w.stood, get_or_from_slice_get s.interfaces w.from u.0 u.0 w.stood)))
 

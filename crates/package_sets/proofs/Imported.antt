@@ -13,7 +13,7 @@ use Rattle.tables.specs.declared.tables.Interface.{Interface}
 use Rattle.tables.specs.declared.tables.World.{World}
 use Rattle.tables.specs.declared.tables.Resolve.{Resolve}
 use Rattle.set_rows.specs.Owners.{owner_of}
-use Rattle.set_rows.specs.Places.{kept, place}
+use Rattle.set_rows.specs.Places.{place}
 use Rattle.set_rows.specs.Renamed.{renaming}
 use Rattle.set_rows.specs.Moved.{put_interface, put_world}
 use Rattle.package_sets.specs.Part.{IsTableOf}
@@ -28,7 +28,7 @@ use Rattle.package_sets.proofs.MarkedPlaces.{was-kept, kept-package}
 use Rattle.package_sets.proofs.Found.{fits-there, has-all}
 use Rattle.package_sets.proofs.ImportScopes.{table-scopes}
 use Rattle.package_sets.proofs.ImportPackages.{kept-set, kept-names, has-each}
-use Rattle.std.specs.List.{list_all}
+use Rattle.std.specs.List.{list_all, items_where_true}
 use Rattle.package_form.specs.Closed.{are_of_a_set}
 use Rattle.package_form.specs.Form.{is_package_name}
 use Rattle.set_rows.specs.declared.moved.Moved.{Moved}
@@ -58,12 +58,12 @@ given-there (suc n) (b ∷ bs) zero l h = h
 given-there (suc n) (b ∷ bs) (suc j) l h = given-there n bs j (omega (arith, l)) h
 
 module _ (s : Resolve) (packages interfaces : List Bool) (to : Moved) (n : IsImported s packages interfaces to) where
-  no-worlds : kept to.worlds s.worlds ≡ []
-  no-worlds = empty-list (kept to.worlds s.worlds) (λ w c. let k = kept-from to.worlds s.worlds w c in no-world s packages interfaces to n k.0 k.1)
+  no-worlds : items_where_true to.worlds s.worlds ≡ []
+  no-worlds = empty-list (items_where_true to.worlds s.worlds) (λ w c. let k = kept-from to.worlds s.worlds w c in no-world s packages interfaces to n k.0 k.1)
 
-  none-before : AreBefore (map (put_interface (renaming to)) (kept to.interfaces s.interfaces)) (map (put_world (renaming to)) (kept to.worlds s.worlds))
+  none-before : AreBefore (map (put_interface (renaming to)) (items_where_true to.interfaces s.interfaces)) (map (put_world (renaming to)) (items_where_true to.worlds s.worlds))
   none-before a b i w e f =
-      let v = contains-unmap (put_world (renaming to)) (kept to.worlds s.worlds) w (b, slice_get_within _ b w f, get_or_from_slice_get _ b w w f) in
+      let v = contains-unmap (put_world (renaming to)) (items_where_true to.worlds s.worlds) w (b, slice_get_within _ b w f, get_or_from_slice_get _ b w w f) in
       let k = kept-from to.worlds s.worlds v.0 v.1 in
       absurd (no-world s packages interfaces to n k.0 k.1)
 
@@ -89,7 +89,7 @@ module _ (s : Resolve) (packages interfaces : List Bool) (to : Moved) (n : IsImp
     -- the interface that is kept there, and its package
     kept-one : (k : ℕ) (x : Interface) → slice_get r.interfaces k ≡ Some x → (i : Interface) × (m : ℕ) × (slice_get s.interfaces m ≡ Some i) × (place to.interfaces m ≡ k) × (i.name ≡ x.name) × (slice_get r.packages x.«package».0 ≡ slice_get s.packages i.«package».0) × (get_or to.interfaces m false ≡ true)
     kept-one k x e =
-        let u = map-unget (put_interface (renaming to)) (kept to.interfaces s.interfaces) k x (ap (λ (is : List Interface). slice_get is k) (sym t.interfaces) ∙ e) in
+        let u = map-unget (put_interface (renaming to)) (items_where_true to.interfaces s.interfaces) k x (ap (λ (is : List Interface). slice_get is k) (sym t.interfaces) ∙ e) in
         let w = was-kept to.interfaces s.interfaces k u.0 u.1 in
         let number : place to.packages u.0.«package».0 ≡ x.«package».0 = ap (λ (z : Interface). z.«package».0) u.2 in (
           u.0,
@@ -98,7 +98,7 @@ module _ (s : Resolve) (packages interfaces : List Bool) (to : Moved) (n : IsImp
           w.is,
           ap (λ (z : Interface). z.name) u.2,
           ap (λ (ps : List PackageParts). slice_get ps x.«package».0) t.packages
-              ∙ (ap (slice_get (kept to.packages s.packages)) (sym number) ∙ kept-package s to (interfaces-part s packages interfaces to n) w.from u.0 w.marked w.stood),
+              ∙ (ap (slice_get (items_where_true to.packages s.packages)) (sym number) ∙ kept-package s to (interfaces-part s packages interfaces to n) w.from u.0 w.marked w.stood),
           w.marked,
         )
 

@@ -2,7 +2,7 @@
 use Rattle.std.proofs.Common.{◌≡◌, ◌≤◌, ◌<◌, ◌⊎◌, inl, inr, ℕ, zero, suc, ◌+◌, ◌-◌, Bool, true, false, not, ◌==◌, List, [], ◌∷◌, ◌++◌, length, map, take, drop, get_or, slice_get, Option, None, Some, refl, ap, sym, subst, ◌∙◌, arith, true≢false, eqb-true, eq-eqb}
 use Rattle.std.specs.Prelude.{Contains, flat_map, sum}
 use Rattle.std.specs.Option.{option_map}
-use Rattle.std.specs.List.{list_any}
+use Rattle.std.specs.List.{list_any, items_where_true}
 use Rattle.std.proofs.lemmas.Bool.Decides.{nat_tests}
 use Rattle.std.proofs.lemmas.List.{get_or-map, get_or_default, get_or-take, get_or_past, length-append, length-map, length-take}
 use Rattle.std.proofs.lemmas.Option.{slice_get_within, get_or_from_slice_get}
@@ -26,7 +26,6 @@ use Rattle.package_sets.proofs.Putting.{IsPut}
 use Rattle.package_sets.specs.Joining.{import_count, own_interfaces}
 use Rattle.set_rows.specs.Moved.{Renaming, put_interface, put_world, put_row}
 use Rattle.set_rows.specs.Owners.{owners, names}
-use Rattle.set_rows.specs.Places.{kept}
 use Rattle.set_rows.specs.Reaches.{Marks, is_marked, own_marks, owners_in, world_owners, owner_at, named_owners, OfPackage, Reaches, of_start, of_row, AreReached}
 use Rattle.package_sets.specs.Restricted.{number_or, package_of_owner}
 use Rattle.package_sets.specs.Set.{HasRowsInForm}
@@ -141,9 +140,9 @@ module _ (s c : Resolve) (j : JoinedPlaces) (q : IsJoined s c j) (own : PackageP
           let l = slice_get_within r.interfaces k x at in
           reached-here (Some (owner.Interface (record { 0 = k }))) (get_or_default m.interfaces k true false (omega (arith, l, h.count)) ∙ e) l
 
-      interfaces-few : length (kept m.interfaces r.interfaces) ≤ length c.interfaces
+      interfaces-few : length (items_where_true m.interfaces r.interfaces) ≤ length c.interfaces
       interfaces-few =
-          omega (arith, length-weighs (kept m.interfaces r.interfaces), length-weighs c.interfaces, covered-weighs (λ (x : Interface). 1) (λ (x : Interface). 1) to.interfaces m.interfaces r.interfaces c.interfaces (λ t y x e f. omega arith) one-interface)
+          omega (arith, length-weighs (items_where_true m.interfaces r.interfaces), length-weighs c.interfaces, covered-weighs (λ (x : Interface). 1) (λ (x : Interface). 1) to.interfaces m.interfaces r.interfaces c.interfaces (λ t y x e f. omega arith) one-interface)
 
       one-world : (k : ℕ) (x : World) → get_or (map (is_world_of new) r.worlds) k false ≡ true → slice_get r.worlds k ≡ Some x → (t : ℕ) × (t < length c.worlds) × (to.worlds t ≡ k)
       one-world k x e at =
@@ -160,7 +159,7 @@ module _ (s c : Resolve) (j : JoinedPlaces) (q : IsJoined s c j) (own : PackageP
           let same : put_world to y ≡ x = cc in
           omega (arith, ap world_entries same, world-put to y)
 
-      worlds-few : sum (map world_entries (kept (map (is_world_of new) r.worlds) r.worlds)) ≤ sum (map world_entries c.worlds)
+      worlds-few : sum (map world_entries (items_where_true (map (is_world_of new) r.worlds) r.worlds)) ≤ sum (map world_entries c.worlds)
       worlds-few = covered-weighs world_entries world_entries to.worlds (map (is_world_of new) r.worlds) r.worlds c.worlds world-weighs one-world
 
       one-row : (k : ℕ) (x : Definition) → get_or (map (is_marked m) (owners r.definitions)) k false ≡ true → slice_get r.definitions k ≡ Some x → (t : ℕ) × (t < length c.definitions) × (to.rows t ≡ k)
@@ -175,7 +174,7 @@ module _ (s c : Resolve) (j : JoinedPlaces) (q : IsJoined s c j) (own : PackageP
           let same : put_row to y ≡ x = cc in
           omega (arith, ap entries_of same, entries-put to y)
 
-      rows-few : sum (map entries_of (kept (map (is_marked m) (owners r.definitions)) r.definitions)) ≤ sum (map entries_of c.definitions)
+      rows-few : sum (map entries_of (items_where_true (map (is_marked m) (owners r.definitions)) r.definitions)) ≤ sum (map entries_of c.definitions)
       rows-few = covered-weighs entries_of entries_of to.rows (map (is_marked m) (owners r.definitions)) r.definitions c.definitions row-weighs one-row
 
   -- ---- an earlier package reaches what it did
@@ -343,20 +342,20 @@ module _ (s c : Resolve) (j : JoinedPlaces) (q : IsJoined s c j) (own : PackageP
                 ∙ complete (get_or (owners s.definitions) k None) (subst (λ (o : Option Owner). Reaches s (OfPackage id) o) (same-owner k x here) (back (get_or (owners r.definitions) k None) from)),
           )
 
-      interfaces-few : length (kept m.interfaces r.interfaces) ≤ length (kept set-marks.interfaces s.interfaces)
+      interfaces-few : length (items_where_true m.interfaces r.interfaces) ≤ length (items_where_true set-marks.interfaces s.interfaces)
       interfaces-few =
           let fewer = front-weighs (λ (x : Interface). 1) m.interfaces set-marks.interfaces s.interfaces own-put one-interface in
-          omega (arith, length-weighs (kept m.interfaces (s.interfaces ++ own-put)), length-weighs (kept set-marks.interfaces s.interfaces), fewer, ap (λ (is : List Interface). length (kept m.interfaces is)) put.interfaces)
+          omega (arith, length-weighs (items_where_true m.interfaces (s.interfaces ++ own-put)), length-weighs (items_where_true set-marks.interfaces s.interfaces), fewer, ap (λ (is : List Interface). length (items_where_true m.interfaces is)) put.interfaces)
 
-      worlds-few : sum (map world_entries (kept (map (is_world_of id) r.worlds) r.worlds)) ≤ sum (map world_entries (kept (map (is_world_of id) s.worlds) s.worlds))
+      worlds-few : sum (map world_entries (items_where_true (map (is_world_of id) r.worlds) r.worlds)) ≤ sum (map world_entries (items_where_true (map (is_world_of id) s.worlds) s.worlds))
       worlds-few =
           let fewer = front-weighs world_entries (map (is_world_of id) r.worlds) (map (is_world_of id) s.worlds) s.worlds worlds-put one-world in
-          omega (arith, fewer, ap (λ (ws : List World). sum (map world_entries (kept (map (is_world_of id) r.worlds) ws))) put.worlds)
+          omega (arith, fewer, ap (λ (ws : List World). sum (map world_entries (items_where_true (map (is_world_of id) r.worlds) ws))) put.worlds)
 
-      rows-few : sum (map entries_of (kept (map (is_marked m) (owners r.definitions)) r.definitions)) ≤ sum (map entries_of (kept (map (is_marked set-marks) (owners s.definitions)) s.definitions))
+      rows-few : sum (map entries_of (items_where_true (map (is_marked m) (owners r.definitions)) r.definitions)) ≤ sum (map entries_of (items_where_true (map (is_marked set-marks) (owners s.definitions)) s.definitions))
       rows-few =
           let fewer = front-weighs entries_of (map (is_marked m) (owners r.definitions)) (map (is_marked set-marks) (owners s.definitions)) s.definitions rows-put one-row in
-          omega (arith, fewer, ap (λ (ds : List Definition). sum (map entries_of (kept (map (is_marked m) (owners r.definitions)) ds))) put.definitions)
+          omega (arith, fewer, ap (λ (ds : List Definition). sum (map entries_of (items_where_true (map (is_marked m) (owners r.definitions)) ds))) put.definitions)
 
       earlier-entries : package_entries r id m ≤ 65535
       earlier-entries =

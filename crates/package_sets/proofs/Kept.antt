@@ -1,13 +1,13 @@
 -- What is true of all elements is true of those that are kept, as they are put elsewhere.
 use Rattle.std.proofs.Common.{◌≡◌, ◌≤◌, ◌<◌, ℕ, zero, suc, ◌+◌, Bool, true, false, ◌&&◌, nat_le, nat_lt, List, [], ◌∷◌, get_or, slice_get, map, Some, refl, subst, arith, IsTrue, length}
 use Rattle.std.specs.Prelude.{filter}
-use Rattle.std.specs.List.{list_all}
+use Rattle.std.specs.List.{list_all, items_where_true}
 use Rattle.std.proofs.lemmas.Bool.{ltb-true, lt-ltb, leb-true, le-leb}
 use Rattle.std.proofs.lemmas.Option.{slice_get_within, get_or_from_slice_get}
 use Rattle.tables.specs.Tables.{are_grouped, are_worlds_grouped, is_placed_world, are_placed_worlds}
 use Rattle.tables.proofs.Rows.{split, both}
 use Rattle.tables.proofs.Earlier.{grouped-at}
-use Rattle.set_rows.specs.Places.{kept, place}
+use Rattle.set_rows.specs.Places.{place}
 use Rattle.set_rows.proofs.Keeping.{place-order}
 use Rattle.tables.specs.declared.tables.Definition.{Definition}
 use Rattle.tables.specs.declared.tables.Interface.{Interface}
@@ -20,14 +20,14 @@ list-at f (y ∷ xs) zero x h e = let same : y ≡ x = cc in subst (λ z. f z �
 list-at f (y ∷ xs) (suc k) x h e = list-at f xs k x (split (f y) (list_all f xs) h).1 e
 
 pub list-kept : {A B : Type 0} (put : A → B) (g : B → Bool) (bs : List Bool) (xs : List A) → ((k : ℕ) (x : A) → get_or bs k false ≡ true → slice_get xs k ≡ Some x → g (put x) ≡ true)
-    → list_all g (map put (kept bs xs)) ≡ true
+    → list_all g (map put (items_where_true bs xs)) ≡ true
 list-kept put g [] xs h = refl
 list-kept put g (b ∷ bs) [] h = refl
 list-kept put g (true ∷ bs) (x ∷ xs) h = both _ _ (h 0 x refl refl) (list-kept put g bs xs (λ k y e f. h (suc k) y e f))
 list-kept put g (false ∷ bs) (x ∷ xs) h = list-kept put g bs xs (λ k y e f. h (suc k) y e f)
 
 pub map-kept-as : {A B C : Type 0} (put : A → B) (f : A → C) (g : B → C) (bs : List Bool) (xs : List A)
-    → ((k : ℕ) (x : A) → get_or bs k false ≡ true → slice_get xs k ≡ Some x → g (put x) ≡ f x) → map g (map put (kept bs xs)) ≡ kept bs (map f xs)
+    → ((k : ℕ) (x : A) → get_or bs k false ≡ true → slice_get xs k ≡ Some x → g (put x) ≡ f x) → map g (map put (items_where_true bs xs)) ≡ items_where_true bs (map f xs)
 map-kept-as put f g [] xs h = refl
 map-kept-as put f g (b ∷ bs) [] h = refl
 map-kept-as put f g (true ∷ bs) (x ∷ xs) h = let e = h 0 x refl refl in let r = map-kept-as put f g bs xs (λ k y e f. h (suc k) y e f) in cc
@@ -62,7 +62,7 @@ weaker count first m (i ∷ is) h g =
 
 pub grouped-kept : (put : Interface → Interface) (ps : List Bool) (counted : ℕ) (bs : List Bool) (is : List Interface) (count first : ℕ) → ((i : Interface) → (put i).«package».0 ≡ place ps i.«package».0)
     → ((k : ℕ) (i : Interface) → get_or bs k false ≡ true → slice_get is k ≡ Some i → place ps i.«package».0 < counted) → IsTrue (are_grouped count first is)
-    → IsTrue (are_grouped counted (place ps first) (map put (kept bs is)))
+    → IsTrue (are_grouped counted (place ps first) (map put (items_where_true bs is)))
 grouped-kept put ps counted [] is count first at within g = refl
 grouped-kept put ps counted (b ∷ bs) [] count first at within g = refl
 grouped-kept put ps counted (true ∷ bs) (i ∷ is) count first at within g =
@@ -87,7 +87,7 @@ weaker-worlds count first m (w ∷ ws) h g =
 
 pub worlds-grouped-kept : (put : World → World) (ps : List Bool) (counted : ℕ) (bs : List Bool) (ws : List World) (count first : ℕ) → ((w : World) → (put w).«package».0 ≡ place ps w.«package».0)
     → ((k : ℕ) (w : World) → get_or bs k false ≡ true → slice_get ws k ≡ Some w → place ps w.«package».0 < counted) → IsTrue (are_worlds_grouped count first ws)
-    → IsTrue (are_worlds_grouped counted (place ps first) (map put (kept bs ws)))
+    → IsTrue (are_worlds_grouped counted (place ps first) (map put (items_where_true bs ws)))
 worlds-grouped-kept put ps counted [] ws count first at within g = refl
 worlds-grouped-kept put ps counted (b ∷ bs) [] count first at within g = refl
 worlds-grouped-kept put ps counted (true ∷ bs) (w ∷ ws) count first at within g =

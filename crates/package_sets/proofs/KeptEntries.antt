@@ -5,7 +5,6 @@ use Rattle.std.proofs.lemmas.List.{length-map}
 use Rattle.package_form.specs.Entries.{entries_under, entries_of, entries_at, item_entries, world_entries, type_entries, table_of, labels_of}
 use Rattle.set_rows.specs.Moved.{Renaming, put_name, put_kind, put_row, put_item, put_item_kind, put_world, put_interface}
 use Rattle.package_sets.specs.Part.{IsTableOf}
-use Rattle.set_rows.specs.Places.{kept}
 use Rattle.set_rows.specs.Renamed.{renaming}
 use Rattle.package_sets.specs.Tower.{kept_entries}
 use Rattle.set_rows.specs.declared.moved.Moved.{Moved}
@@ -19,6 +18,7 @@ use Rattle.tables.specs.declared.tables.ValType.TheVariants as val
 use Rattle.tables.specs.declared.tables.World.{World}
 use Rattle.tables.specs.declared.tables.WorldItem.{WorldItem}
 use Rattle.tables.specs.declared.tables.WorldItemKind.{WorldItemKind}
+use Rattle.std.specs.List.{items_where_true}
 use Rattle.tables.specs.declared.tables.WorldItemKind.TheVariants as item
 
 -- ---- type entries
@@ -56,12 +56,12 @@ world-put to w = ap (λ (ns : List ℕ). 1 + sum ns) (map-put (put_item to) entr
 -- what is kept of a set has the type entries of what is kept
 pub entries-kept : (set : Resolve) (to : Moved) (r : Resolve) → IsTableOf set to r → type_entries (table_of r) ≡ kept_entries set to.interfaces to.worlds to.rows
 entries-kept set to r t =
-    let interfaces : length (labels_of r.interfaces) ≡ length (kept to.interfaces set.interfaces) =
-    length-map r.interfaces (λ i. i.name) ∙ (ap length t.interfaces ∙ length-map (kept to.interfaces set.interfaces) (put_interface (renaming to))) in
-    let worlds : map world_entries r.worlds ≡ map world_entries (kept to.worlds set.worlds) =
-    ap (map world_entries) t.worlds ∙ map-put (put_world (renaming to)) world_entries (world-put (renaming to)) (kept to.worlds set.worlds) in
-    let rows : map entries_of r.definitions ≡ map entries_of (kept to.rows set.definitions) =
-    ap (map entries_of) t.definitions ∙ map-put (put_row (renaming to)) entries_of (entries-put (renaming to)) (kept to.rows set.definitions) in
+    let interfaces : length (labels_of r.interfaces) ≡ length (items_where_true to.interfaces set.interfaces) =
+    length-map r.interfaces (λ i. i.name) ∙ (ap length t.interfaces ∙ length-map (items_where_true to.interfaces set.interfaces) (put_interface (renaming to))) in
+    let worlds : map world_entries r.worlds ≡ map world_entries (items_where_true to.worlds set.worlds) =
+    ap (map world_entries) t.worlds ∙ map-put (put_world (renaming to)) world_entries (world-put (renaming to)) (items_where_true to.worlds set.worlds) in
+    let rows : map entries_of r.definitions ≡ map entries_of (items_where_true to.rows set.definitions) =
+    ap (map entries_of) t.definitions ∙ map-put (put_row (renaming to)) entries_of (entries-put (renaming to)) (items_where_true to.rows set.definitions) in
     ap (λ (n : ℕ). 1 + n + (sum (map world_entries r.worlds) + sum (map entries_of r.definitions))) interfaces
-    ∙ (ap (λ (ns : List ℕ). 1 + length (kept to.interfaces set.interfaces) + (sum ns + sum (map entries_of r.definitions))) worlds
-    ∙ ap (λ (ns : List ℕ). 1 + length (kept to.interfaces set.interfaces) + (sum (map world_entries (kept to.worlds set.worlds)) + sum ns)) rows)
+    ∙ (ap (λ (ns : List ℕ). 1 + length (items_where_true to.interfaces set.interfaces) + (sum ns + sum (map entries_of r.definitions))) worlds
+    ∙ ap (λ (ns : List ℕ). 1 + length (items_where_true to.interfaces set.interfaces) + (sum (map world_entries (items_where_true to.worlds set.worlds)) + sum ns)) rows)

@@ -1,20 +1,20 @@
 -- Lists that grow: what is true of all their elements, and places one behind the other.
 use Rattle.std.proofs.Common.{◌≡◌, ◌≤◌, ◌<◌, ◌⊎◌, inl, inr, ℕ, zero, suc, ◌+◌, ◌-◌, List, [], ◌∷◌, ◌++◌, length, map, take, drop, get_or, slice_get, Bool, true, None, Some, refl, ap, sym, subst, ◌∙◌, arith, false, not, true≢false}
 use Rattle.std.specs.Prelude.{flat_map, Contains}
-use Rattle.std.specs.List.{list_all}
+use Rattle.std.specs.List.{list_all, range_with_len}
 use Rattle.std.proofs.lemmas.Option.{slice_get_within, slice_get-get_or, get_or_from_slice_get}
 use Rattle.std.proofs.lemmas.List.{get_or_append_left, get_or-append-add, length-take}
 use Rattle.canonical_abi.proofs.Images.{slice_get-take}
 use Rattle.package_form.proofs.Lists.{contains-here, contains-later, contains-either}
 use Rattle.tables.proofs.Rows.{split, both}
-use Rattle.package_sets.specs.Joining.{numbers_from, all_places}
+use Rattle.package_sets.specs.Joining.{all_places}
 
-pub places-push : (first count : ℕ) → numbers_from first (count + 1) ≡ numbers_from first count ++ (first + count) ∷ []
+pub places-push : (first count : ℕ) → range_with_len first (count + 1) ≡ range_with_len first count ++ (first + count) ∷ []
 places-push first zero = one first
   where
     one : (n : ℕ) → n ∷ [] ≡ (n + 0) ∷ []
     one n = ap (λ m. m ∷ []) (omega arith)
-places-push first (suc count) = ap (numbers_from first) (up count) ∙ ap (λ xs. first ∷ xs) (places-push (first + 1) count ∙ ap (λ n. numbers_from (first + 1) count ++ n ∷ []) (next first count))
+places-push first (suc count) = ap (range_with_len first) (up count) ∙ ap (λ xs. first ∷ xs) (places-push (first + 1) count ∙ ap (λ n. range_with_len (first + 1) count ++ n ∷ []) (next first count))
   where
     up : (n : ℕ) → suc n + 1 ≡ suc (n + 1)
     up n = omega arith
@@ -22,17 +22,17 @@ places-push first (suc count) = ap (numbers_from first) (up count) ∙ ap (λ xs
     next : (n m : ℕ) → n + 1 + m ≡ n + suc m
     next n m = omega arith
 
-pub places-more : (first place : ℕ) → first ≤ place → numbers_from first (place + 1 - first) ≡ numbers_from first (place - first) ++ place ∷ []
+pub places-more : (first place : ℕ) → first ≤ place → range_with_len first (place + 1 - first) ≡ range_with_len first (place - first) ++ place ∷ []
 places-more first place h =
     let one : place + 1 - first ≡ place - first + 1 = omega arith in
     let last : first + (place - first) ≡ place = omega arith in
-    ap (numbers_from first) one ∙ (places-push first (place - first) ∙ ap (λ n. numbers_from first (place - first) ++ n ∷ []) last)
+    ap (range_with_len first) one ∙ (places-push first (place - first) ∙ ap (λ n. range_with_len first (place - first) ++ n ∷ []) last)
 
-pub length-places : (first count : ℕ) → length (numbers_from first count) ≡ count
+pub length-places : (first count : ℕ) → length (range_with_len first count) ≡ count
 length-places first zero = refl
 length-places first (suc count) = ap suc (length-places (first + 1) count)
 
-pub place-get : (first count k : ℕ) → k < count → get_or (numbers_from first count) k 0 ≡ first + k
+pub place-get : (first count k : ℕ) → k < count → get_or (range_with_len first count) k 0 ≡ first + k
 place-get first zero k h = absurd (omega arith)
 place-get first (suc count) zero h = omega arith
 place-get first (suc count) (suc k) h = place-get (first + 1) count k (omega (arith, h)) ∙ next first k
@@ -95,10 +95,10 @@ each-all P xs n h before k y e = before k y (slice_get-take n xs k (omega (arith
 -- ---- places of a whole list
 
 pub front-place : (front : List ℕ) (behind count k : ℕ) → k < length front → get_or (all_places front behind count) k 0 ≡ get_or front k 0
-front-place front behind count k h = get_or_append_left front (numbers_from behind (count - length front)) 0 k h
+front-place front behind count k h = get_or_append_left front (range_with_len behind (count - length front)) 0 k h
 
 pub behind-place : (front : List ℕ) (behind count k : ℕ) → length front + k < count → get_or (all_places front behind count) (length front + k) 0 ≡ behind + k
-behind-place front behind count k h = get_or-append-add front (numbers_from behind (count - length front)) k 0 ∙ place-get behind (count - length front) k (omega arith)
+behind-place front behind count k h = get_or-append-add front (range_with_len behind (count - length front)) k 0 ∙ place-get behind (count - length front) k (omega arith)
 
 -- ---- what is true of all
 

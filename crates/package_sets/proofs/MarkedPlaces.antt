@@ -8,10 +8,10 @@ use Rattle.tables.specs.declared.tables.FunctionId.{FunctionId}
 use Rattle.tables.specs.declared.tables.Interface.{Interface}
 use Rattle.tables.specs.declared.tables.World.{World}
 use Rattle.tables.specs.declared.tables.Resolve.{Resolve}
-use Rattle.set_rows.specs.Places.{kept, place}
+use Rattle.set_rows.specs.Places.{place}
 use Rattle.set_rows.specs.Renamed.{renaming}
 use Rattle.set_rows.specs.Moved.{put_interface}
-use Rattle.package_sets.specs.Joining.{numbers_from, end_in, row_places}
+use Rattle.package_sets.specs.Joining.{end_in, row_places}
 use Rattle.package_sets.specs.Part.{IsPart}
 use Rattle.package_sets.specs.Set.{AreRowsOf, ArePackageByPackage, behind_all, an_interface, a_world, AreWorldsApart}
 use Rattle.set_rows.specs.declared.moved.Moved.{Moved}
@@ -24,6 +24,7 @@ use Rattle.package_sets.proofs.Belonging.{one-later, plus-none, none-plus}
 use Rattle.package_sets.proofs.Standing.{interface-step, interface-marks, interface-mark, world-marks, world-mark}
 use Rattle.package_sets.proofs.Owning.{cut}
 use Rattle.package_sets.proofs.Kept.{interface-in}
+use Rattle.std.specs.List.{items_where_true, range_with_len}
 
 -- ---- the places with a mark
 
@@ -42,7 +43,7 @@ marked-at n (true ∷ bs) (suc k) h =
     ap (λ m. get_or (n ∷ marked_places (n + 1) bs) m 0) up ∙ (marked-at (n + 1) bs k h ∙ one-later n k)
 marked-at n (false ∷ bs) (suc k) h = marked-at (n + 1) bs k h ∙ one-later n k
 
-pub length-marked : {A : Type 0} (n : ℕ) (bs : List Bool) (xs : List A) → length bs ≡ length xs → length (marked_places n bs) ≡ length (kept bs xs)
+pub length-marked : {A : Type 0} (n : ℕ) (bs : List Bool) (xs : List A) → length bs ≡ length xs → length (marked_places n bs) ≡ length (items_where_true bs xs)
 length-marked n [] xs h = refl
 length-marked n (b ∷ bs) [] h = absurd (omega (arith, h))
 length-marked n (true ∷ bs) (x ∷ xs) h = ap suc (length-marked (n + 1) bs xs (omega (arith, h)))
@@ -55,7 +56,7 @@ pub record WasKept {A : Type 0} (bs : List Bool) (xs : List A) (a : ℕ) (x : A)
   pub stood : slice_get xs from ≡ Some x
   pub is : place bs from ≡ a
 
-pub was-kept : {A : Type 0} (bs : List Bool) (xs : List A) (a : ℕ) (x : A) → slice_get (kept bs xs) a ≡ Some x → WasKept bs xs a x
+pub was-kept : {A : Type 0} (bs : List Bool) (xs : List A) (a : ℕ) (x : A) → slice_get (items_where_true bs xs) a ≡ Some x → WasKept bs xs a x
 was-kept [] xs a x e = absurd (cc)
 was-kept (b ∷ bs) [] a x e = absurd (cc)
 was-kept (true ∷ bs) (y ∷ xs) zero x e = record { from = 0; marked = refl; stood = e; is = refl }
@@ -73,7 +74,7 @@ was-kept (false ∷ bs) (y ∷ xs) a x e =
 
 -- the package of an interface that is kept
 pub kept-package : (s : Resolve) (to : Moved) → IsPart s to → (k : ℕ) (i : Interface) → get_or to.interfaces k false ≡ true → slice_get s.interfaces k ≡ Some i
-    → slice_get (kept to.packages s.packages) (place to.packages i.«package».0) ≡ slice_get s.packages i.«package».0
+    → slice_get (items_where_true to.packages s.packages) (place to.packages i.«package».0) ≡ slice_get s.packages i.«package».0
 kept-package s to n k i h e =
     let p = package-there s.packages i.«package».0 (interface-in s k i e) in
     kept-at to.packages s.packages i.«package».0 p.0 (n.interfaces_needed k i h e) p.1 ∙ sym p.1
@@ -105,7 +106,7 @@ fewer-all b bs a n m l h = record { each = λ x k. h.each x (omega (arith, k, l)
 module _ (s : Resolve) (to : Moved) (n : IsPart s to) (apart : AreWorldsApart s) (none : (k : ℕ) → get_or to.worlds k false ≡ true → ⊥) where
   -- the place of a row that is kept, among the places of those of these interfaces
   abbrev found : ℕ → ℕ → List Interface → List Bool → ℕ → ℕ
-  found base k is bs u = get_or (row_places s base (map (put_interface (renaming to)) (kept bs is)) (marked_places k bs)) (place to.rows u - base) 0
+  found base k is bs u = get_or (row_places s base (map (put_interface (renaming to)) (items_where_true bs is)) (marked_places k bs)) (place to.rows u - base) 0
 
   abbrev IsFoundFrom : ℕ → ℕ → List Interface → List Bool → Type 0
   IsFoundFrom start k is bs = (base u : ℕ) → base ≡ place to.rows start → start ≤ u → u < length s.definitions → get_or to.rows u false ≡ true → found base k is bs u ≡ u
@@ -133,12 +134,12 @@ module _ (s : Resolve) (to : Moved) (n : IsPart s to) (apart : AreWorldsApart s)
       count : end_of base (put_interface (renaming to) i) - base ≡ end_of start i - start
       count = omega (arith, end-there)
 
-      list-is : row_places s base (map (put_interface (renaming to)) (kept (true ∷ bs) (i ∷ is))) (marked_places k (true ∷ bs))
-          ≡ numbers_from (end_of 0 i - (end_of start i - start)) (end_of start i - start) ++ row_places s (end_of base (put_interface (renaming to) i)) (map (put_interface (renaming to)) (kept bs is)) (marked_places (k + 1) bs)
+      list-is : row_places s base (map (put_interface (renaming to)) (items_where_true (true ∷ bs) (i ∷ is))) (marked_places k (true ∷ bs))
+          ≡ range_with_len (end_of 0 i - (end_of start i - start)) (end_of start i - start) ++ row_places s (end_of base (put_interface (renaming to) i)) (map (put_interface (renaming to)) (items_where_true bs is)) (marked_places (k + 1) bs)
       list-is =
-          ap (λ (o : Option Interface). numbers_from (end_in o - (end_of base (put_interface (renaming to) i) - base)) (end_of base (put_interface (renaming to) i) - base)
-          ++ row_places s (end_of base (put_interface (renaming to) i)) (map (put_interface (renaming to)) (kept bs is)) (marked_places (k + 1) bs)) at
-          ∙ ap (λ x. numbers_from (end_of 0 i - x) x ++ row_places s (end_of base (put_interface (renaming to) i)) (map (put_interface (renaming to)) (kept bs is)) (marked_places (k + 1) bs)) count
+          ap (λ (o : Option Interface). range_with_len (end_in o - (end_of base (put_interface (renaming to) i) - base)) (end_of base (put_interface (renaming to) i) - base)
+          ++ row_places s (end_of base (put_interface (renaming to) i)) (map (put_interface (renaming to)) (items_where_true bs is)) (marked_places (k + 1) bs)) at
+          ∙ ap (λ x. range_with_len (end_of 0 i - x) x ++ row_places s (end_of base (put_interface (renaming to) i)) (map (put_interface (renaming to)) (items_where_true bs is)) (marked_places (k + 1) bs)) count
 
       by : (u < end_of start i) ⊎ (end_of start i ≤ u) → found base k (i ∷ is) (true ∷ bs) u ≡ u
       by (inl b) =
@@ -149,18 +150,18 @@ module _ (s : Resolve) (to : Moved) (n : IsPart s to) (apart : AreWorldsApart s)
           let from-base : place to.rows u - base ≡ u - start = omega (arith, placed) in
           let end-is = end-same start i (omega (arith, b, l)) in
           ap (λ (xs : List ℕ). get_or xs (place to.rows u - base) 0) list-is
-          ∙ (ap (λ x. get_or (numbers_from (end_of 0 i - (end_of start i - start)) (end_of start i - start)
-          ++ row_places s (end_of base (put_interface (renaming to) i)) (map (put_interface (renaming to)) (kept bs is)) (marked_places (k + 1) bs)) x 0) from-base
-          ∙ (get_or_append_left (numbers_from (end_of 0 i - (end_of start i - start)) (end_of start i - start)) _ 0 (u - start) (omega (arith, b, l, length-places (end_of 0 i - (end_of start i - start)) (end_of start i - start)))
+          ∙ (ap (λ x. get_or (range_with_len (end_of 0 i - (end_of start i - start)) (end_of start i - start)
+          ++ row_places s (end_of base (put_interface (renaming to) i)) (map (put_interface (renaming to)) (items_where_true bs is)) (marked_places (k + 1) bs)) x 0) from-base
+          ∙ (get_or_append_left (range_with_len (end_of 0 i - (end_of start i - start)) (end_of start i - start)) _ 0 (u - start) (omega (arith, b, l, length-places (end_of 0 i - (end_of start i - start)) (end_of start i - start)))
           ∙ (place-get (end_of 0 i - (end_of start i - start)) (end_of start i - start) (u - start) (omega (arith, b, l)) ∙ omega (arith, end-is, b, l, a.begins))))
       by (inr g) =
           let later = place-order to.rows (end_of start i) u g in
-          let index : place to.rows u - base ≡ length (numbers_from (end_of 0 i - (end_of start i - start)) (end_of start i - start)) + (place to.rows u - end_of base (put_interface (renaming to) i)) =
+          let index : place to.rows u - base ≡ length (range_with_len (end_of 0 i - (end_of start i - start)) (end_of start i - start)) + (place to.rows u - end_of base (put_interface (renaming to) i)) =
           omega (arith, length-places (end_of 0 i - (end_of start i - start)) (end_of start i - start), grown, later, end-there) in
           ap (λ (xs : List ℕ). get_or xs (place to.rows u - base) 0) list-is
-          ∙ (ap (λ x. get_or (numbers_from (end_of 0 i - (end_of start i - start)) (end_of start i - start)
-          ++ row_places s (end_of base (put_interface (renaming to) i)) (map (put_interface (renaming to)) (kept bs is)) (marked_places (k + 1) bs)) x 0) index
-          ∙ (get_or-append-add (numbers_from (end_of 0 i - (end_of start i - start)) (end_of start i - start)) _ (place to.rows u - end_of base (put_interface (renaming to) i)) 0
+          ∙ (ap (λ x. get_or (range_with_len (end_of 0 i - (end_of start i - start)) (end_of start i - start)
+          ++ row_places s (end_of base (put_interface (renaming to) i)) (map (put_interface (renaming to)) (items_where_true bs is)) (marked_places (k + 1) bs)) x 0) index
+          ∙ (get_or-append-add (range_with_len (end_of 0 i - (end_of start i - start)) (end_of start i - start)) _ (place to.rows u - end_of base (put_interface (renaming to) i)) 0
           ∙ rest (end_of base (put_interface (renaming to) i)) u (end-there ∙ sym grown) g m kept-u))
 
   -- .. and one that isn't
@@ -204,9 +205,9 @@ module _ (s : Resolve) (to : Moved) (n : IsPart s to) (apart : AreWorldsApart s)
       no-mark true e = absurd (none j e)
 
   pub rows-found : ArePackageByPackage s.definitions 0 0 s.interfaces 0 s.worlds → (u : ℕ) → u < length s.definitions → get_or to.rows u false ≡ true
-      → get_or (row_places s 0 (map (put_interface (renaming to)) (kept to.interfaces s.interfaces)) (marked_places 0 to.interfaces)) (place to.rows u) 0 ≡ u
+      → get_or (row_places s 0 (map (put_interface (renaming to)) (items_where_true to.interfaces s.interfaces)) (marked_places 0 to.interfaces)) (place to.rows u) 0 ≡ u
   rows-found h u l m =
-      ap (λ x. get_or (row_places s 0 (map (put_interface (renaming to)) (kept to.interfaces s.interfaces)) (marked_places 0 to.interfaces)) x 0) (less-none (place to.rows u))
+      ap (λ x. get_or (row_places s 0 (map (put_interface (renaming to)) (items_where_true to.interfaces s.interfaces)) (marked_places 0 to.interfaces)) x 0) (less-none (place to.rows u))
       ∙ rows-found-from 0 0 s.interfaces 0 s.worlds h to.interfaces (λ k. ap (λ j. get_or to.interfaces j false) (none-plus k)) (omega arith) (ap length n.interfaces_are ∙ n.count) (omega arith)
       (λ k x e. ap (slice_get s.interfaces) (none-plus k) ∙ e) 0 u (sym (place-none to.rows)) (omega arith) l m
     where

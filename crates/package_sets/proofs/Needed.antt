@@ -7,7 +7,7 @@ use Rattle.tables.specs.Package.{worlds}
 use Rattle.tables.specs.declared.tables.Interface.{Interface}
 use Rattle.tables.specs.declared.tables.World.{World}
 use Rattle.tables.specs.declared.tables.Resolve.{Resolve}
-use Rattle.set_rows.specs.Places.{kept, place}
+use Rattle.set_rows.specs.Places.{place}
 use Rattle.set_rows.specs.Renamed.{renaming}
 use Rattle.set_rows.specs.Moved.{put_interface, put_world}
 use Rattle.package_sets.specs.Part.{IsTableOf}
@@ -21,13 +21,14 @@ use Rattle.package_sets.proofs.Lasting.{last-own}
 use Rattle.package_sets.proofs.Parts.{package-part, world-own}
 use Rattle.package_sets.proofs.Postfixing.{postfix-kept, blocks}
 use Rattle.package_sets.proofs.Telling.{interfaces-same, definitions-same, worlds-same, name-same}
+use Rattle.std.specs.List.{items_where_true}
 
 module _ (s : Resolve) (own : ℕ) (to : Moved) (n : IsNeeded s own to) where
-  pub before-there : NamesEarlierPackages s → AreBefore (map (put_interface (renaming to)) (kept to.interfaces s.interfaces)) (map (put_world (renaming to)) (kept to.worlds s.worlds))
+  pub before-there : NamesEarlierPackages s → AreBefore (map (put_interface (renaming to)) (items_where_true to.interfaces s.interfaces)) (map (put_world (renaming to)) (items_where_true to.worlds s.worlds))
   before-there h a b i w e f =
-      let u = contains-unmap (put_interface (renaming to)) (kept to.interfaces s.interfaces) i (a, slice_get_within _ a i e, get_or_from_slice_get _ a i i e) in
+      let u = contains-unmap (put_interface (renaming to)) (items_where_true to.interfaces s.interfaces) i (a, slice_get_within _ a i e, get_or_from_slice_get _ a i i e) in
       let x = kept-from to.interfaces s.interfaces u.0 u.1 in
-      let v = contains-unmap (put_world (renaming to)) (kept to.worlds s.worlds) w (b, slice_get_within _ b w f, get_or_from_slice_get _ b w w f) in
+      let v = contains-unmap (put_world (renaming to)) (items_where_true to.worlds s.worlds) w (b, slice_get_within _ b w f, get_or_from_slice_get _ b w w f) in
       let y = kept-from to.worlds s.worlds v.0 v.1 in
       let needed = (package-part s own to n).interfaces_needed x.0 u.0 x.1 x.2 in
       let low : u.0.«package».0 ≤ own = last-own s own to n h u.0.«package».0 (n.packages_are.only u.0.«package».0 needed) in
@@ -44,7 +45,7 @@ module _ (s : Resolve) (own : ℕ) (to : Moved) (n : IsNeeded s own to) where
         record {
           interfaces_are = interfaces-same s to p r t.packages t.interfaces t.worlds t.definitions;
           definitions_are = definitions-same s to p r t.packages t.interfaces t.worlds t.definitions;
-          worlds_are = worlds-same s to p r t.packages t.interfaces t.worlds t.definitions ∙ ap (λ (bs : List Bool). kept bs (worlds s)) n.worlds_are;
+          worlds_are = worlds-same s to p r t.packages t.interfaces t.worlds t.definitions ∙ ap (λ (bs : List Bool). items_where_true bs (worlds s)) n.worlds_are;
           own_is_last = λ h k e. last-own s own to n h k (n.packages_are.only k e);
           in_form = λ h e. rows-in-form s to p r t.interfaces t.worlds t.definitions h (before-there e);
           functions_are = functions-same s to p r t.interfaces t.definitions (name-same s to p r t.packages t.interfaces t.worlds t.definitions);

@@ -2,7 +2,7 @@
 use Rattle.std.proofs.Common.{◌≡◌, ◌≤◌, ◌<◌, ◌⊎◌, inl, inr, ℕ, zero, suc, ◌+◌, ◌-◌, true, ◌&&◌, not, nat_le, List, [], ◌∷◌, length, take, drop, slice_get, Option, None, Some, refl, ap, sym, subst, ◌∙◌, arith, true≢false, eqb-true}
 use Rattle.std.specs.Prelude.{is_some}
 use Rattle.std.specs.Option.{option_map}
-use Rattle.std.specs.List.{list_all}
+use Rattle.std.specs.List.{list_all, range_with_len}
 use Rattle.std.proofs.lemmas.Bool.{leb-true}
 use Rattle.std.proofs.lemmas.List.{length-append}
 use Rattle.std.proofs.lemmas.Option.{slice_get_within}
@@ -23,7 +23,7 @@ use Rattle.tables.specs.declared.tables.World.{World}
 use Rattle.tables.specs.declared.tables.Resolve.{Resolve}
 use Rattle.set_rows.specs.Owners.{owner_of}
 use Rattle.package_sets.specs.Set.{ArePackageByPackage, behind_all, an_interface, a_world, IsPackageByPackage}
-use Rattle.package_sets.specs.Joining.{row_places, numbers_from, end_in}
+use Rattle.package_sets.specs.Joining.{row_places, end_in}
 use Rattle.package_sets.proofs.Lists.{length-places}
 use Rattle.package_sets.proofs.Kept.{list-at}
 use Rattle.package_sets.proofs.Renaming.{IsOwnedWithin, AreOwnedWithin}
@@ -168,7 +168,7 @@ length-rows set count start (suc n) (i ∷ is) ws (j ∷ js) h l =
     end_in-of set j count = end_in (slice_get set.interfaces j) - count
 
     places-of : Resolve → ℕ → ℕ → List ℕ
-    places-of set j count = numbers_from (end_in-of set j count) count
+    places-of set j count = range_with_len (end_in-of set j count) count
 
 -- ---- sets
 

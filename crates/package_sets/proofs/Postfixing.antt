@@ -2,7 +2,7 @@
 use Rattle.std.proofs.Common.{◌≡◌, ◌≤◌, ◌<◌, ℕ, suc, ◌+◌, Bool, true, false, List, [], ◌∷◌, ◌++◌, length, get_or, slice_get, map, Option, None, Some, refl, ap, sym, subst, ◌∙◌, arith, true≢false, if◌then◌else◌, nat_lt}
 use Rattle.std.specs.Prelude.{flat_map}
 use Rattle.std.specs.Option.{option_map}
-use Rattle.std.specs.List.{list_all}
+use Rattle.std.specs.List.{list_all, items_where_true}
 use Rattle.std.proofs.lemmas.List.{map-append, length_push, length-map, get_or_default}
 use Rattle.std.proofs.Math.ListN.{get_or-map as get_or-mapped}
 use Rattle.std.proofs.lemmas.Bool.{ltb-true}
@@ -12,7 +12,7 @@ use Rattle.tables.proofs.Rows.{split}
 use Rattle.set_rows.specs.Owners.{owners}
 use Rattle.set_rows.specs.Reaches.{is_marked}
 use Rattle.package_sets.specs.Part.{IsPart}
-use Rattle.set_rows.specs.Places.{kept, place}
+use Rattle.set_rows.specs.Places.{place}
 use Rattle.set_rows.specs.Renamed.{renaming}
 use Rattle.set_rows.specs.Moved.{Renaming, put_val, put_field, put_case, put_parameter, put_kind, put_row}
 use Rattle.set_rows.specs.declared.moved.Moved.{Moved}
@@ -31,7 +31,7 @@ use Rattle.tables.specs.declared.tables.Definition.{Definition}
 use Rattle.tables.specs.declared.tables.Definition.TheVariants as row
 
 -- the kept rows of these, with one more that is kept or not
-kept-push : {A : Type 0} (bs : List Bool) (xs : List A) (x : A) → get_or bs (length xs) false ≡ true → kept bs (xs ++ x ∷ []) ≡ kept bs xs ++ x ∷ []
+kept-push : {A : Type 0} (bs : List Bool) (xs : List A) (x : A) → get_or bs (length xs) false ≡ true → items_where_true bs (xs ++ x ∷ []) ≡ items_where_true bs xs ++ x ∷ []
 kept-push [] xs x h = absurd (true≢false (sym h))
 kept-push (true ∷ []) [] x h = refl
 kept-push (true ∷ b ∷ bs) [] x h = refl
@@ -39,7 +39,7 @@ kept-push (false ∷ bs) [] x h = absurd (true≢false (sym h))
 kept-push (true ∷ bs) (y ∷ xs) x h = ap (λ ys. y ∷ ys) (kept-push bs xs x h)
 kept-push (false ∷ bs) (y ∷ xs) x h = kept-push bs xs x h
 
-kept-drop : {A : Type 0} (bs : List Bool) (xs : List A) (x : A) → get_or bs (length xs) false ≡ false → kept bs (xs ++ x ∷ []) ≡ kept bs xs
+kept-drop : {A : Type 0} (bs : List Bool) (xs : List A) (x : A) → get_or bs (length xs) false ≡ false → items_where_true bs (xs ++ x ∷ []) ≡ items_where_true bs xs
 kept-drop [] xs x h = refl
 kept-drop (true ∷ bs) [] x h = absurd (true≢false h)
 kept-drop (false ∷ []) [] x h = refl
@@ -47,7 +47,7 @@ kept-drop (false ∷ b ∷ bs) [] x h = refl
 kept-drop (true ∷ bs) (y ∷ xs) x h = ap (λ ys. y ∷ ys) (kept-drop bs xs x h)
 kept-drop (false ∷ bs) (y ∷ xs) x h = kept-drop bs xs x h
 
-pub kept-length : {A : Type 0} (bs : List Bool) (xs : List A) → length xs ≤ length bs → length (kept bs xs) ≡ place bs (length xs)
+pub kept-length : {A : Type 0} (bs : List Bool) (xs : List A) → length xs ≤ length bs → length (items_where_true bs xs) ≡ place bs (length xs)
 kept-length [] [] h = refl
 kept-length [] (x ∷ xs) h = absurd (omega arith)
 kept-length (b ∷ bs) [] h = refl
@@ -167,24 +167,24 @@ default-true : (bs : List Bool) (k : ℕ) (b : Bool) → k < length bs → get_o
 default-true bs k b h e = get_or_default bs k false true h ∙ e
 
 unnamed-at : (to : Moved) (rows : List Definition) (t : ℕ) → is_kept to.rows (length rows) (val.Id (record { 0 = t })) ≡ true
-    → is_unnamed_row (slice_get (map (put_row (renaming to)) (kept to.rows rows)) (place to.rows t)) ≡ is_unnamed_row (slice_get rows t)
+    → is_unnamed_row (slice_get (map (put_row (renaming to)) (items_where_true to.rows rows)) (place to.rows t)) ≡ is_unnamed_row (slice_get rows t)
 unnamed-at to rows t h = by (slice_get rows t) refl
   where
     p : (nat_lt t (length rows) ≡ true) × (get_or to.rows t false ≡ true)
     p = split (nat_lt t (length rows)) (get_or to.rows t false) h
 
-    by : (o : Option Definition) → slice_get rows t ≡ o → is_unnamed_row (slice_get (map (put_row (renaming to)) (kept to.rows rows)) (place to.rows t)) ≡ is_unnamed_row (slice_get rows t)
+    by : (o : Option Definition) → slice_get rows t ≡ o → is_unnamed_row (slice_get (map (put_row (renaming to)) (items_where_true to.rows rows)) (place to.rows t)) ≡ is_unnamed_row (slice_get rows t)
     by None e = absurd (none-within rows t (ltb-true t (length rows) p.0) e)
     by (Some d) e =
-        ap is_unnamed_row (map-get (put_row (renaming to)) (kept to.rows rows) (place to.rows t) d (kept-at to.rows rows t d p.1 e))
+        ap is_unnamed_row (map-get (put_row (renaming to)) (items_where_true to.rows rows) (place to.rows t) d (kept-at to.rows rows t d p.1 e))
         ∙ (unnamed-same (renaming to) d ∙ sym (ap is_unnamed_row e))
 
 abbrev left-there : Moved → List Definition → List ℕ → List ℕ
 left-there to rows unused = if get_or to.rows (length rows) true then map (place to.rows) unused else []
 
 inner-step : (to : Moved) (rows : List Definition) (unused : List ℕ) (k : TypeDefKind) → is_inner k ≡ true → AreBlocks to (rows ++ inner_row k ∷ [])
-    → Leaves (map (put_row (renaming to)) (kept to.rows rows)) (left-there to rows (unused ++ parts rows k))
-    → Leaves (map (put_row (renaming to)) (kept to.rows (rows ++ inner_row k ∷ []))) (left-there to (rows ++ inner_row k ∷ []) (unused ++ length rows ∷ []))
+    → Leaves (map (put_row (renaming to)) (items_where_true to.rows rows)) (left-there to rows (unused ++ parts rows k))
+    → Leaves (map (put_row (renaming to)) (items_where_true to.rows (rows ++ inner_row k ∷ []))) (left-there to (rows ++ inner_row k ∷ []) (unused ++ length rows ∷ []))
 inner-step to rows unused k i h l = by (get_or to.rows (length rows) true) refl
   where
     within : length rows < length to.rows
@@ -196,59 +196,59 @@ inner-step to rows unused k i h l = by (get_or to.rows (length rows) true) refl
         suc-push : length (rows ++ inner_row k ∷ []) ≡ length rows + 1 → suc (length rows) ≡ length (rows ++ inner_row k ∷ [])
         suc-push e = omega arith
 
-    by : (b : Bool) → get_or to.rows (length rows) true ≡ b → Leaves (map (put_row (renaming to)) (kept to.rows (rows ++ inner_row k ∷ []))) (left-there to (rows ++ inner_row k ∷ []) (unused ++ length rows ∷ []))
+    by : (b : Bool) → get_or to.rows (length rows) true ≡ b → Leaves (map (put_row (renaming to)) (items_where_true to.rows (rows ++ inner_row k ∷ []))) (left-there to (rows ++ inner_row k ∷ []) (unused ++ length rows ∷ []))
     by true e =
         let here = default-true to.rows (length rows) true within e in
         let all = h.named (length rows) (inner_row k) (last-get rows (inner_row k)) here in
-        let K = map (put_row (renaming to)) (kept to.rows rows) in
+        let K = map (put_row (renaming to)) (items_where_true to.rows rows) in
         let same = row-parts (renaming to) rows K (is_kept to.rows (length rows)) (unnamed-at to rows) (inner_row k) all in
         let held : Leaves K (map (place to.rows) unused ++ parts K (put_kind (renaming to) k)) =
         subst (Leaves K) (taken-all _ _ e ∙ (map-append (place to.rows) unused (parts rows k) ∙ ap (λ ts. map (place to.rows) unused ++ ts) (sym same))) l in
         let made : Leaves (K ++ inner_row (put_kind (renaming to) k) ∷ []) (map (place to.rows) unused ++ length K ∷ []) = inner K (map (place to.rows) unused) (put_kind (renaming to) k) (inner-same (renaming to) k ∙ i) held in
-        let size : length K ≡ place to.rows (length rows) = length-map (kept to.rows rows) (put_row (renaming to)) ∙ kept-length to.rows rows (omega (arith, within)) in
-        let rows-are : K ++ inner_row (put_kind (renaming to) k) ∷ [] ≡ map (put_row (renaming to)) (kept to.rows (rows ++ inner_row k ∷ [])) =
-        sym (map-append (put_row (renaming to)) (kept to.rows rows) (inner_row k ∷ [])) ∙ sym (ap (map (put_row (renaming to))) (kept-push to.rows rows (inner_row k) here)) in
+        let size : length K ≡ place to.rows (length rows) = length-map (items_where_true to.rows rows) (put_row (renaming to)) ∙ kept-length to.rows rows (omega (arith, within)) in
+        let rows-are : K ++ inner_row (put_kind (renaming to) k) ∷ [] ≡ map (put_row (renaming to)) (items_where_true to.rows (rows ++ inner_row k ∷ [])) =
+        sym (map-append (put_row (renaming to)) (items_where_true to.rows rows) (inner_row k ∷ [])) ∙ sym (ap (map (put_row (renaming to))) (kept-push to.rows rows (inner_row k) here)) in
         let unused-are : map (place to.rows) unused ++ length K ∷ [] ≡ left-there to (rows ++ inner_row k ∷ []) (unused ++ length rows ∷ []) =
         ap (λ n. map (place to.rows) unused ++ n ∷ []) size ∙ (sym (map-append (place to.rows) unused (length rows ∷ [])) ∙ sym (taken-all _ _ (sym next ∙ e))) in
-        subst (λ (ts : List ℕ). Leaves (map (put_row (renaming to)) (kept to.rows (rows ++ inner_row k ∷ []))) ts) unused-are (subst (λ (ds : List Definition). Leaves ds (map (place to.rows) unused ++ length K ∷ [])) rows-are made)
+        subst (λ (ts : List ℕ). Leaves (map (put_row (renaming to)) (items_where_true to.rows (rows ++ inner_row k ∷ []))) ts) unused-are (subst (λ (ds : List Definition). Leaves ds (map (place to.rows) unused ++ length K ∷ [])) rows-are made)
     by false e =
         let here = default-true to.rows (length rows) false within e in
-        let held : Leaves (map (put_row (renaming to)) (kept to.rows rows)) [] = subst (Leaves (map (put_row (renaming to)) (kept to.rows rows))) (taken-none _ _ e) l in
-        subst (λ (ts : List ℕ). Leaves (map (put_row (renaming to)) (kept to.rows (rows ++ inner_row k ∷ []))) ts) (sym (taken-none _ _ (sym next ∙ e)))
+        let held : Leaves (map (put_row (renaming to)) (items_where_true to.rows rows)) [] = subst (Leaves (map (put_row (renaming to)) (items_where_true to.rows rows))) (taken-none _ _ e) l in
+        subst (λ (ts : List ℕ). Leaves (map (put_row (renaming to)) (items_where_true to.rows (rows ++ inner_row k ∷ []))) ts) (sym (taken-none _ _ (sym next ∙ e)))
         (subst (λ (ds : List Definition). Leaves (map (put_row (renaming to)) ds) []) (sym (kept-drop to.rows rows (inner_row k) here)) held)
 
 whole-step : (to : Moved) (rows : List Definition) (d : Definition) → is_unnamed d ≡ false → aliased_by rows d ≡ [] → AreBlocks to (rows ++ d ∷ [])
-    → Leaves (map (put_row (renaming to)) (kept to.rows rows)) (left-there to rows (parts_of rows d))
-    → Leaves (map (put_row (renaming to)) (kept to.rows (rows ++ d ∷ []))) (left-there to (rows ++ d ∷ []) [])
-whole-step to rows d u a h l = subst (λ (ts : List ℕ). Leaves (map (put_row (renaming to)) (kept to.rows (rows ++ d ∷ []))) ts) (sym (none-left (get_or to.rows (length (rows ++ d ∷ [])) true) to)) (by (get_or to.rows (length rows) true) refl)
+    → Leaves (map (put_row (renaming to)) (items_where_true to.rows rows)) (left-there to rows (parts_of rows d))
+    → Leaves (map (put_row (renaming to)) (items_where_true to.rows (rows ++ d ∷ []))) (left-there to (rows ++ d ∷ []) [])
+whole-step to rows d u a h l = subst (λ (ts : List ℕ). Leaves (map (put_row (renaming to)) (items_where_true to.rows (rows ++ d ∷ []))) ts) (sym (none-left (get_or to.rows (length (rows ++ d ∷ [])) true) to)) (by (get_or to.rows (length rows) true) refl)
   where
     within : length rows < length to.rows
     within = omega (arith, h.count, length_push rows d)
 
-    by : (b : Bool) → get_or to.rows (length rows) true ≡ b → Leaves (map (put_row (renaming to)) (kept to.rows (rows ++ d ∷ []))) []
+    by : (b : Bool) → get_or to.rows (length rows) true ≡ b → Leaves (map (put_row (renaming to)) (items_where_true to.rows (rows ++ d ∷ []))) []
     by true e =
         let here = default-true to.rows (length rows) true within e in
         let all = h.named (length rows) d (last-get rows d) here in
-        let K = map (put_row (renaming to)) (kept to.rows rows) in
+        let K = map (put_row (renaming to)) (items_where_true to.rows rows) in
         let same = row-parts (renaming to) rows K (is_kept to.rows (length rows)) (unnamed-at to rows) d all in
         let none = row-aliased (renaming to) rows K (is_kept to.rows (length rows)) (unnamed-at to rows) d all in
         let held : Leaves K (parts_of K (put_row (renaming to) d)) = subst (Leaves K) (taken-all _ _ e ∙ sym same) l in
         let made : Leaves (K ++ put_row (renaming to) d ∷ []) [] = whole K (put_row (renaming to) d) (unnamed-same (renaming to) d ∙ u) (none ∙ ap (map (place to.rows)) a) held in
-        subst (λ (ds : List Definition). Leaves ds []) (sym (map-append (put_row (renaming to)) (kept to.rows rows) (d ∷ [])) ∙ sym (ap (map (put_row (renaming to))) (kept-push to.rows rows d here))) made
+        subst (λ (ds : List Definition). Leaves ds []) (sym (map-append (put_row (renaming to)) (items_where_true to.rows rows) (d ∷ [])) ∙ sym (ap (map (put_row (renaming to))) (kept-push to.rows rows d here))) made
     by false e =
         let here = default-true to.rows (length rows) false within e in
-        let held : Leaves (map (put_row (renaming to)) (kept to.rows rows)) [] = subst (Leaves (map (put_row (renaming to)) (kept to.rows rows))) (taken-none _ _ e) l in
+        let held : Leaves (map (put_row (renaming to)) (items_where_true to.rows rows)) [] = subst (Leaves (map (put_row (renaming to)) (items_where_true to.rows rows))) (taken-none _ _ e) l in
         subst (λ (ds : List Definition). Leaves (map (put_row (renaming to)) ds) []) (sym (kept-drop to.rows rows d here)) held
 
-leaves-kept : (to : Moved) (rows : List Definition) (unused : List ℕ) → Leaves rows unused → AreBlocks to rows → Leaves (map (put_row (renaming to)) (kept to.rows rows)) (left-there to rows unused)
+leaves-kept : (to : Moved) (rows : List Definition) (unused : List ℕ) → Leaves rows unused → AreBlocks to rows → Leaves (map (put_row (renaming to)) (items_where_true to.rows rows)) (left-there to rows unused)
 leaves-kept to _ _ begin h =
-    subst (λ (ts : List ℕ). Leaves (map (put_row (renaming to)) (kept to.rows [])) ts) (sym (none-left (get_or to.rows 0 true) to))
+    subst (λ (ts : List ℕ). Leaves (map (put_row (renaming to)) (items_where_true to.rows [])) ts) (sym (none-left (get_or to.rows 0 true) to))
     (subst (λ (ds : List Definition). Leaves (map (put_row (renaming to)) ds) []) (sym (kept-none to.rows)) begin)
 leaves-kept to _ _ (inner rows unused k i l) h = inner-step to rows unused k i h (leaves-kept to rows (unused ++ parts rows k) l (front to rows (inner_row k) h))
 leaves-kept to _ _ (whole rows d u a l) h = whole-step to rows d u a h (leaves-kept to rows (parts_of rows d) l (front to rows d h))
 
-pub postfix-kept : (to : Moved) (rows : List Definition) → AreBlocks to rows → IsPostfix rows → IsPostfix (map (put_row (renaming to)) (kept to.rows rows))
-postfix-kept to rows h l = subst (Leaves (map (put_row (renaming to)) (kept to.rows rows))) (none-left (get_or to.rows (length rows) true) to) (leaves-kept to rows [] l h)
+pub postfix-kept : (to : Moved) (rows : List Definition) → AreBlocks to rows → IsPostfix rows → IsPostfix (map (put_row (renaming to)) (items_where_true to.rows rows))
+postfix-kept to rows h l = subst (Leaves (map (put_row (renaming to)) (items_where_true to.rows rows))) (none-left (get_or to.rows (length rows) true) to) (leaves-kept to rows [] l h)
 
 -- ---- the blocks of a table
 

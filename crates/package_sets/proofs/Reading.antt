@@ -1,14 +1,14 @@
 -- What rows mean that are kept: what they meant.
 use Rattle.std.proofs.Common.{◌≡◌, ◌<◌, ◌⊎◌, inl, inr, ℕ, suc, ◌+◌, Bool, true, false, ◌&&◌, List, [], ◌∷◌, ◌++◌, length, map, get_or, if◌then◌else◌, nat_lt, Option, None, Some, refl, ap, sym, subst, ◌∙◌, arith, true≢false}
 use Rattle.std.specs.Option.{option_map}
-use Rattle.std.specs.List.{list_all}
+use Rattle.std.specs.List.{list_all, items_where_true}
 use Rattle.std.proofs.lemmas.Bool.{ltb-true}
 use Rattle.std.proofs.lemmas.List.{get_or_append_left, length_push}
 use Rattle.std.proofs.Math.Seq.{get_or-append_seam}
 use Rattle.tables.specs.Tables.{is_below, option_all, kind_all, definition_all}
 use Rattle.tables.specs.Package.{Tree, TextTree, VariantTree, RecordTree, Plain, AsResult, IsUse, IsType, Meaning, Choices, no_choices, read_val, read_choice, read_tuple, read_fields, read_params, read_cases, read_kind, meaning_of, reference, reference_by, references, key_of, named_by, named_function, definition_of, definitions_from, Reference}
 use Rattle.tables.proofs.Rows.{split}
-use Rattle.set_rows.specs.Places.{kept, place}
+use Rattle.set_rows.specs.Places.{place}
 use Rattle.set_rows.specs.Owners.{owner_of}
 use Rattle.set_rows.specs.Renamed.{renaming}
 use Rattle.set_rows.specs.Moved.{put_val, put_field, put_case, put_parameter, put_kind, put_name, put_owner, put_row}
@@ -222,7 +222,7 @@ marks-next rows n m b bs e h = λ k. ap (λ j. get_or rows j false) (at k) ∙ h
 -- what rows mean that are kept is what they meant
 pub definitions-kept : (has : Option Owner → Bool) (to : Moved) (ns ms : List (List ℕ)) → NamesAgree has to ns ms → (bs : List Bool) (old new : List Tree) (ds : List Definition) → length bs ≡ length ds
     → Agrees to.rows old new → AreMarksFrom to.rows (length old) bs → AllRight has to.rows (length old) ds
-    → definitions_from ms new (map (put_row (renaming to)) (kept bs ds)) ≡ definitions_where has ns old ds
+    → definitions_from ms new (map (put_row (renaming to)) (items_where_true bs ds)) ≡ definitions_where has ns old ds
 definitions-kept has to ns ms e bs old new [] count a marks right = ap (λ (xs : List Definition). definitions_from ms new (map (put_row (renaming to)) xs)) (kept-none bs)
 definitions-kept has to ns ms e [] old new (d ∷ ds) count a marks right = absurd (omega (arith, count))
 definitions-kept has to ns ms e (true ∷ bs) old new (d ∷ ds) count a marks right =
@@ -234,7 +234,7 @@ definitions-kept has to ns ms e (true ∷ bs) old new (d ∷ ds) count a marks r
     let rest = definitions-kept has to ns ms e bs (old ++ x ∷ []) (new ++ y ∷ []) ds (omega (arith, count)) (agrees-kept TextTree to.rows old new x y a here same)
     (marks-next to.rows (length old) (length (old ++ x ∷ [])) true bs one marks) (subst (λ n. AllRight has to.rows n ds) (sym one) right.1) in
     let first = definition-same has to ns ms old new e a d (right.0.owned here) (right.0.named here) in
-    ap (λ ys. ys ++ definitions_from ms (new ++ y ∷ []) (map (put_row (renaming to)) (kept bs ds))) (first ∙ sym (taken has ns old d (right.0.owned here)))
+    ap (λ ys. ys ++ definitions_from ms (new ++ y ∷ []) (map (put_row (renaming to)) (items_where_true bs ds))) (first ∙ sym (taken has ns old d (right.0.owned here)))
     ∙ ap (λ ys. (if has (owner_of d) then definition_of ns old d else []) ++ ys) rest
 definitions-kept has to ns ms e (false ∷ bs) old new (d ∷ ds) count a marks right =
     let here = marks-here to.rows (length old) false bs marks in
@@ -247,7 +247,7 @@ definitions-kept has to ns ms e (false ∷ bs) old new (d ∷ ds) count a marks 
 -- .. and so are their trees
 pub trees-kept : (has : Option Owner → Bool) (to : Moved) (ns ms : List (List ℕ)) → NamesAgree has to ns ms → (bs : List Bool) (old new : List Tree) (ds : List Definition) → length bs ≡ length ds
     → Agrees to.rows old new → AreMarksFrom to.rows (length old) bs → AllRight has to.rows (length old) ds
-    → Agrees to.rows (references ns old ds) (references ms new (map (put_row (renaming to)) (kept bs ds)))
+    → Agrees to.rows (references ns old ds) (references ms new (map (put_row (renaming to)) (items_where_true bs ds)))
 trees-kept has to ns ms e bs old new [] count a marks right = subst (λ (xs : List Definition). Agrees to.rows old (references ms new (map (put_row (renaming to)) xs))) (sym (kept-none bs)) a
 trees-kept has to ns ms e [] old new (d ∷ ds) count a marks right = absurd (omega (arith, count))
 trees-kept has to ns ms e (true ∷ bs) old new (d ∷ ds) count a marks right =

@@ -1,7 +1,7 @@
 -- What is kept of a set is a table, and what it tells.
 use Rattle.std.proofs.Common.{◌≡◌, ◌≤◌, ◌<◌, inl, inr, ℕ, suc, ◌+◌, Bool, true, false, ◌&&◌, nat_lt, List, [], ◌∷◌, length, get_or, slice_get, map, Option, None, Some, refl, ap, sym, subst, ◌∙◌, arith, true≢false, IsTrue, eqb-true, eq-eqb}
 use Rattle.std.specs.Prelude.{Contains}
-use Rattle.std.specs.List.{list_all}
+use Rattle.std.specs.List.{list_all, items_where_true}
 use Rattle.std.proofs.lemmas.Bool.{ltb-true, lt-ltb}
 use Rattle.std.proofs.lemmas.List.{get_or-map, get_or_default, length-map}
 use Rattle.std.proofs.lemmas.Option.{slice_get_within, get_or_from_slice_get}
@@ -28,7 +28,7 @@ use Rattle.tables.specs.declared.tables.WorldItemKind.{WorldItemKind}
 use Rattle.tables.specs.declared.tables.WorldItemKind.TheVariants as item
 use Rattle.tables.specs.declared.tables.Resolve.{Resolve}
 use Rattle.set_rows.specs.Owners.{owner_of, owners, names}
-use Rattle.set_rows.specs.Places.{kept, place}
+use Rattle.set_rows.specs.Places.{place}
 use Rattle.set_rows.specs.Reaches.{is_marked, item_owners, owners_in, owner_at}
 use Rattle.set_rows.specs.Renamed.{renaming}
 use Rattle.set_rows.specs.Moved.{put_id, put_val, put_owner, put_row, put_function_id, has_type, has_function, put_interface, put_item, put_item_kind, put_world}
@@ -107,7 +107,7 @@ module _ (s : Resolve) (to : Moved) (n : IsPart s to) where
   -- ---- the table's own facts, of these parts
 
   abbrev rows-there : List Definition
-  rows-there = map (put_row (renaming to)) (kept to.rows s.definitions)
+  rows-there = map (put_row (renaming to)) (items_where_true to.rows s.definitions)
 
   pub type-there : (t : TypeId) → is_type_id s.definitions t ≡ true → get_or to.rows t.0 false ≡ true → is_type_id rows-there (put_id (renaming to) t) ≡ true
   type-there t h k = by (slice_get s.definitions t.0) refl h
@@ -115,7 +115,7 @@ module _ (s : Resolve) (to : Moved) (n : IsPart s to) where
       by : (o : Option Definition) → slice_get s.definitions t.0 ≡ o → is_some (type_of o) ≡ true → is_type_id rows-there (put_id (renaming to) t) ≡ true
       by None e q = absurd (true≢false (sym q))
       by (Some (row.Function f)) e q = absurd (true≢false (sym q))
-      by (Some (row.Type d)) e q = rw (map-get (put_row (renaming to)) (kept to.rows s.definitions) (place to.rows t.0) (row.Type d) (kept-at to.rows s.definitions t.0 (row.Type d) k e)) refl
+      by (Some (row.Type d)) e q = rw (map-get (put_row (renaming to)) (items_where_true to.rows s.definitions) (place to.rows t.0) (row.Type d) (kept-at to.rows s.definitions t.0 (row.Type d) k e)) refl
 
   pub function-there : (f : FunctionId) → is_function_id s.definitions f ≡ true → get_or to.rows f.0 false ≡ true → is_function_id rows-there (put_function_id (renaming to) f) ≡ true
   function-there f h k = by (slice_get s.definitions f.0) refl h
@@ -123,7 +123,7 @@ module _ (s : Resolve) (to : Moved) (n : IsPart s to) where
       by : (o : Option Definition) → slice_get s.definitions f.0 ≡ o → is_some (function_of o) ≡ true → is_function_id rows-there (put_function_id (renaming to) f) ≡ true
       by None e q = absurd (true≢false (sym q))
       by (Some (row.Type d)) e q = absurd (true≢false (sym q))
-      by (Some (row.Function g)) e q = rw (map-get (put_row (renaming to)) (kept to.rows s.definitions) (place to.rows f.0) (row.Function g) (kept-at to.rows s.definitions f.0 (row.Function g) k e)) refl
+      by (Some (row.Function g)) e q = rw (map-get (put_row (renaming to)) (items_where_true to.rows s.definitions) (place to.rows f.0) (row.Function g) (kept-at to.rows s.definitions f.0 (row.Function g) k e)) refl
 
   pub typed : name_types rows-there ≡ true
   typed = list-kept (put_row (renaming to)) (definition_all (is_type rows-there)) to.rows s.definitions each
@@ -141,7 +141,7 @@ module _ (s : Resolve) (to : Moved) (n : IsPart s to) where
   pub standard : are_standard rows-there ≡ true
   standard = list-kept (put_row (renaming to)) is_standard to.rows s.definitions (λ k d h e. standard-put (renaming to) d (list-at is_standard s.definitions k d s.standard e))
 
-  pub placed : are_placed rows-there (map (put_interface (renaming to)) (kept to.interfaces s.interfaces)) ≡ true
+  pub placed : are_placed rows-there (map (put_interface (renaming to)) (items_where_true to.interfaces s.interfaces)) ≡ true
   placed = list-kept (put_interface (renaming to)) (is_placed rows-there) to.interfaces s.interfaces each
     where
       each : (k : ℕ) (i : Interface) → get_or to.interfaces k false ≡ true → slice_get s.interfaces k ≡ Some i → is_placed rows-there (put_interface (renaming to) i) ≡ true
@@ -161,20 +161,20 @@ module _ (s : Resolve) (to : Moved) (n : IsPart s to) where
   pub world-within : (k : ℕ) (w : World) → slice_get s.worlds k ≡ Some w → w.«package».0 < length s.packages
   world-within k w e = worlds-grouped-at (length s.packages) 0 s.worlds k w s.worlds_grouped e
 
-  count-packages : length (kept to.packages s.packages) ≡ place to.packages (length to.packages)
+  count-packages : length (items_where_true to.packages s.packages) ≡ place to.packages (length to.packages)
   count-packages = length-kept to.packages s.packages (sym n.count_packages)
 
-  package-there : (p : ℕ) → p < length s.packages → get_or to.packages p false ≡ true → place to.packages p < length (kept to.packages s.packages)
+  package-there : (p : ℕ) → p < length s.packages → get_or to.packages p false ≡ true → place to.packages p < length (items_where_true to.packages s.packages)
   package-there p h e = omega (arith, count-packages, place-before to.packages p (length to.packages) (omega (arith, n.count_packages)) e)
 
-  pub grouped : IsTrue (are_grouped (length (kept to.packages s.packages)) 0 (map (put_interface (renaming to)) (kept to.interfaces s.interfaces)))
-  grouped = subst (λ m. IsTrue (are_grouped (length (kept to.packages s.packages)) m (map (put_interface (renaming to)) (kept to.interfaces s.interfaces)))) (place-none to.packages)
-      (grouped-kept (put_interface (renaming to)) to.packages (length (kept to.packages s.packages)) to.interfaces s.interfaces (length s.packages) 0 (λ i. refl)
+  pub grouped : IsTrue (are_grouped (length (items_where_true to.packages s.packages)) 0 (map (put_interface (renaming to)) (items_where_true to.interfaces s.interfaces)))
+  grouped = subst (λ m. IsTrue (are_grouped (length (items_where_true to.packages s.packages)) m (map (put_interface (renaming to)) (items_where_true to.interfaces s.interfaces)))) (place-none to.packages)
+      (grouped-kept (put_interface (renaming to)) to.packages (length (items_where_true to.packages s.packages)) to.interfaces s.interfaces (length s.packages) 0 (λ i. refl)
       (λ k i h e. package-there i.«package».0 (interface-within k i e) (n.interfaces_needed k i h e)) s.grouped)
 
-  pub worlds-grouped : IsTrue (are_worlds_grouped (length (kept to.packages s.packages)) 0 (map (put_world (renaming to)) (kept to.worlds s.worlds)))
-  worlds-grouped = subst (λ m. IsTrue (are_worlds_grouped (length (kept to.packages s.packages)) m (map (put_world (renaming to)) (kept to.worlds s.worlds)))) (place-none to.packages)
-      (worlds-grouped-kept (put_world (renaming to)) to.packages (length (kept to.packages s.packages)) to.worlds s.worlds (length s.packages) 0 (λ w. refl)
+  pub worlds-grouped : IsTrue (are_worlds_grouped (length (items_where_true to.packages s.packages)) 0 (map (put_world (renaming to)) (items_where_true to.worlds s.worlds)))
+  worlds-grouped = subst (λ m. IsTrue (are_worlds_grouped (length (items_where_true to.packages s.packages)) m (map (put_world (renaming to)) (items_where_true to.worlds s.worlds)))) (place-none to.packages)
+      (worlds-grouped-kept (put_world (renaming to)) to.packages (length (items_where_true to.packages s.packages)) to.worlds s.worlds (length s.packages) 0 (λ w. refl)
       (λ k w h e. package-there w.«package».0 (world-within k w e) (n.worlds_needed k w h e)) s.worlds_grouped)
 
   -- ---- rows name earlier rows
@@ -187,7 +187,7 @@ module _ (s : Resolve) (to : Moved) (n : IsPart s to) where
       lt-ltb (place to.rows t.0) (place to.rows k) (place-before to.rows t.0 k (ltb-true t.0 k p.0) p.1)
 
   earlier-from : (bs : List Bool) (k : ℕ) (ds : List Definition) → AreMarksFrom to.rows k bs → ((j : ℕ) (d : Definition) → slice_get ds j ≡ Some d → slice_get s.definitions (k + j) ≡ Some d)
-      → are_earlier (place to.rows k) (map (put_row (renaming to)) (kept bs ds)) ≡ true
+      → are_earlier (place to.rows k) (map (put_row (renaming to)) (items_where_true bs ds)) ≡ true
   earlier-from [] k ds m at = refl
   earlier-from (b ∷ bs) k [] m at = refl
   earlier-from (true ∷ bs) k (d ∷ ds) m at =
@@ -196,12 +196,12 @@ module _ (s : Resolve) (to : Moved) (n : IsPart s to) where
       let next : place to.rows k + 1 ≡ place to.rows (k + 1) = sym (place-yes to.rows k here) ∙ ap (place to.rows) (omega arith) in
       let rest = earlier-from bs (k + 1) ds (marks-next to.rows k (k + 1) true bs refl m) (λ j c e. ap (slice_get s.definitions) (one-later k j) ∙ at (suc j) c e) in
       both _ _ (definition-put (renaming to) (is_kept to.rows k) (is_below (place to.rows k)) (below-there k) d (kept-all k k d (omega arith) this here))
-      (subst (λ x. are_earlier x (map (put_row (renaming to)) (kept bs ds)) ≡ true) (sym next) rest)
+      (subst (λ x. are_earlier x (map (put_row (renaming to)) (items_where_true bs ds)) ≡ true) (sym next) rest)
   earlier-from (false ∷ bs) k (d ∷ ds) m at =
       let here = marks-here to.rows k false bs m in
       let next : place to.rows (k + 1) ≡ place to.rows k = ap (place to.rows) (omega arith) ∙ place-no to.rows k here in
       let rest = earlier-from bs (k + 1) ds (marks-next to.rows k (k + 1) false bs refl m) (λ j c e. ap (slice_get s.definitions) (one-later k j) ∙ at (suc j) c e) in
-      subst (λ x. are_earlier x (map (put_row (renaming to)) (kept bs ds)) ≡ true) next rest
+      subst (λ x. are_earlier x (map (put_row (renaming to)) (items_where_true bs ds)) ≡ true) next rest
 
   pub earlier : are_earlier 0 rows-there ≡ true
   earlier = subst (λ x. are_earlier x rows-there ≡ true) (place-none to.rows)
@@ -237,16 +237,16 @@ module _ (s : Resolve) (to : Moved) (n : IsPart s to) where
   pub interface-there : (j : ℕ) → j < length s.interfaces → is_marked n.marks (Some (owner.Interface (record { 0 = j }))) ≡ true → get_or to.interfaces j false ≡ true
   interface-there j h e = ap (λ (bs : List Bool). get_or bs j false) n.interfaces_are ∙ (get_or_default n.marks.interfaces j false true (omega (arith, n.count)) ∙ e)
 
-  length-interfaces : length (map (put_interface (renaming to)) (kept to.interfaces s.interfaces)) ≡ place to.interfaces (length to.interfaces)
-  length-interfaces = length-map (kept to.interfaces s.interfaces) (put_interface (renaming to)) ∙ length-kept to.interfaces s.interfaces (sym count-interfaces)
+  length-interfaces : length (map (put_interface (renaming to)) (items_where_true to.interfaces s.interfaces)) ≡ place to.interfaces (length to.interfaces)
+  length-interfaces = length-map (items_where_true to.interfaces s.interfaces) (put_interface (renaming to)) ∙ length-kept to.interfaces s.interfaces (sym count-interfaces)
 
   item-placed : (k : ℕ) (w : World) (i : WorldItem) → get_or to.worlds k false ≡ true → slice_get s.worlds k ≡ Some w → Contains w.items i
       → is_placed_item s.definitions (length s.interfaces) k i.kind ≡ true
-      → is_placed_item rows-there (length (map (put_interface (renaming to)) (kept to.interfaces s.interfaces))) (place to.worlds k) (put_item_kind (renaming to) i.kind) ≡ true
+      → is_placed_item rows-there (length (map (put_interface (renaming to)) (items_where_true to.interfaces s.interfaces))) (place to.worlds k) (put_item_kind (renaming to) i.kind) ≡ true
   item-placed k w i h e c p = by i.kind refl p
     where
       by : (x : WorldItemKind) → i.kind ≡ x → is_placed_item s.definitions (length s.interfaces) k x ≡ true
-          → is_placed_item rows-there (length (map (put_interface (renaming to)) (kept to.interfaces s.interfaces))) (place to.worlds k) (put_item_kind (renaming to) x) ≡ true
+          → is_placed_item rows-there (length (map (put_interface (renaming to)) (items_where_true to.interfaces s.interfaces))) (place to.worlds k) (put_item_kind (renaming to) x) ≡ true
       by (item.Interface j) q r =
           let within : j.0 < length s.interfaces = ltb-true j.0 (length s.interfaces) r in
           lt-ltb _ _ (omega (arith, length-interfaces, count-interfaces, place-before to.interfaces j.0 (length to.interfaces) (omega (arith, count-interfaces)) (interface-there j.0 within (item-interface k w i j h e c q))))
@@ -257,18 +257,18 @@ module _ (s : Resolve) (to : Moved) (n : IsPart s to) where
           function (Some (row.Type t)) d z = absurd (true≢false (sym z))
           function (Some (row.Function g)) d z =
               let there = kept-at to.rows s.definitions f.0 (row.Function g) (item-function k w f g h e d z) d in
-              rw (map-get (put_row (renaming to)) (kept to.rows s.definitions) (place to.rows f.0) (row.Function g) there) (owned g.owner z)
+              rw (map-get (put_row (renaming to)) (items_where_true to.rows s.definitions) (place to.rows f.0) (row.Function g) there) (owned g.owner z)
             where
               owned : (o : Owner) → is_owner_world k o ≡ true → is_owner_world (place to.worlds k) (put_owner (renaming to) o) ≡ true
               owned (owner.Interface j) y = absurd (true≢false (sym y))
               owned (owner.World v) y = eq-eqb _ _ (ap (place to.worlds) (eqb-true v.0 k y))
 
   items-placed : (k : ℕ) (w : World) → get_or to.worlds k false ≡ true → slice_get s.worlds k ≡ Some w → is_placed_world s.definitions (length s.interfaces) k w ≡ true
-      → is_placed_world rows-there (length (map (put_interface (renaming to)) (kept to.interfaces s.interfaces))) (place to.worlds k) (put_world (renaming to) w) ≡ true
+      → is_placed_world rows-there (length (map (put_interface (renaming to)) (items_where_true to.interfaces s.interfaces))) (place to.worlds k) (put_world (renaming to) w) ≡ true
   items-placed k w h e p = each w.items (λ i c. c) p
     where
       each : (is : List WorldItem) → ((i : WorldItem) → Contains is i → Contains w.items i) → list_all (λ i. is_placed_item s.definitions (length s.interfaces) k i.kind) is ≡ true
-          → list_all (λ i. is_placed_item rows-there (length (map (put_interface (renaming to)) (kept to.interfaces s.interfaces))) (place to.worlds k) i.kind) (map (put_item (renaming to)) is) ≡ true
+          → list_all (λ i. is_placed_item rows-there (length (map (put_interface (renaming to)) (items_where_true to.interfaces s.interfaces))) (place to.worlds k) i.kind) (map (put_item (renaming to)) is) ≡ true
       each [] sub q = refl
       each (i ∷ is) sub q =
           let r = split (is_placed_item s.definitions (length s.interfaces) k i.kind) (list_all (λ x. is_placed_item s.definitions (length s.interfaces) k x.kind) is) q in
@@ -276,7 +276,7 @@ module _ (s : Resolve) (to : Moved) (n : IsPart s to) where
 
   worlds-placed-from : (bs : List Bool) (k : ℕ) (ws : List World) → AreMarksFrom to.worlds k bs → ((j : ℕ) (w : World) → slice_get ws j ≡ Some w → slice_get s.worlds (k + j) ≡ Some w)
       → are_placed_worlds s.definitions (length s.interfaces) k ws ≡ true
-      → are_placed_worlds rows-there (length (map (put_interface (renaming to)) (kept to.interfaces s.interfaces))) (place to.worlds k) (map (put_world (renaming to)) (kept bs ws)) ≡ true
+      → are_placed_worlds rows-there (length (map (put_interface (renaming to)) (items_where_true to.interfaces s.interfaces))) (place to.worlds k) (map (put_world (renaming to)) (items_where_true bs ws)) ≡ true
   worlds-placed-from [] k ws m at p = refl
   worlds-placed-from (b ∷ bs) k [] m at p = refl
   worlds-placed-from (true ∷ bs) k (w ∷ ws) m at p =
@@ -286,14 +286,14 @@ module _ (s : Resolve) (to : Moved) (n : IsPart s to) where
       let q = split (is_placed_world s.definitions (length s.interfaces) k w) (are_placed_worlds s.definitions (length s.interfaces) (k + 1) ws) p in
       let rest = worlds-placed-from bs (k + 1) ws (marks-next to.worlds k (k + 1) true bs refl m) (λ j c e. ap (slice_get s.worlds) (one-later k j) ∙ at (suc j) c e) q.1 in
       both _ _ (items-placed k w here this q.0)
-      (subst (λ x. are_placed_worlds rows-there (length (map (put_interface (renaming to)) (kept to.interfaces s.interfaces))) x (map (put_world (renaming to)) (kept bs ws)) ≡ true) (sym next) rest)
+      (subst (λ x. are_placed_worlds rows-there (length (map (put_interface (renaming to)) (items_where_true to.interfaces s.interfaces))) x (map (put_world (renaming to)) (items_where_true bs ws)) ≡ true) (sym next) rest)
   worlds-placed-from (false ∷ bs) k (w ∷ ws) m at p =
       let here = marks-here to.worlds k false bs m in
       let next : place to.worlds (k + 1) ≡ place to.worlds k = ap (place to.worlds) (omega arith) ∙ place-no to.worlds k here in
       let q = split (is_placed_world s.definitions (length s.interfaces) k w) (are_placed_worlds s.definitions (length s.interfaces) (k + 1) ws) p in
       let rest = worlds-placed-from bs (k + 1) ws (marks-next to.worlds k (k + 1) false bs refl m) (λ j c e. ap (slice_get s.worlds) (one-later k j) ∙ at (suc j) c e) q.1 in
-      subst (λ x. are_placed_worlds rows-there (length (map (put_interface (renaming to)) (kept to.interfaces s.interfaces))) x (map (put_world (renaming to)) (kept bs ws)) ≡ true) next rest
+      subst (λ x. are_placed_worlds rows-there (length (map (put_interface (renaming to)) (items_where_true to.interfaces s.interfaces))) x (map (put_world (renaming to)) (items_where_true bs ws)) ≡ true) next rest
 
-  pub worlds-placed : are_placed_worlds rows-there (length (map (put_interface (renaming to)) (kept to.interfaces s.interfaces))) 0 (map (put_world (renaming to)) (kept to.worlds s.worlds)) ≡ true
-  worlds-placed = subst (λ x. are_placed_worlds rows-there (length (map (put_interface (renaming to)) (kept to.interfaces s.interfaces))) x (map (put_world (renaming to)) (kept to.worlds s.worlds)) ≡ true) (place-none to.worlds)
+  pub worlds-placed : are_placed_worlds rows-there (length (map (put_interface (renaming to)) (items_where_true to.interfaces s.interfaces))) 0 (map (put_world (renaming to)) (items_where_true to.worlds s.worlds)) ≡ true
+  worlds-placed = subst (λ x. are_placed_worlds rows-there (length (map (put_interface (renaming to)) (items_where_true to.interfaces s.interfaces))) x (map (put_world (renaming to)) (items_where_true to.worlds s.worlds)) ≡ true) (place-none to.worlds)
       (worlds-placed-from to.worlds 0 s.worlds (λ k. ap (λ j. get_or to.worlds j false) (omega arith)) (λ j w e. ap (slice_get s.worlds) (omega arith) ∙ e) s.worlds_placed)

@@ -2,7 +2,7 @@
 use Rattle.std.proofs.Common.{◌≡◌, ◌≤◌, ◌<◌, ℕ, zero, suc, ◌+◌, ◌-◌, Bool, true, false, not, ◌&&◌, List, [], ◌∷◌, ◌++◌, length, take, drop, get_or, slice_get, map, Option, None, Some, refl, ap, sym, subst, ◌∙◌, arith, true≢false, eqb-true, eq-eqb, nat_lt, IsTrue}
 use Rattle.std.specs.Prelude.{filter, flat_map, Contains, is_some}
 use Rattle.std.specs.Option.{option_map}
-use Rattle.std.specs.List.{list_all}
+use Rattle.std.specs.List.{list_all, items_where_true}
 use Rattle.std.specs.Str.{bytes_eq}
 use Rattle.std.proofs.lemmas.Bool.{ltb-true, lt-ltb}
 use Rattle.std.proofs.lemmas.List.{map-append, length-map, length-take, length-drop, get_or_default}
@@ -31,7 +31,7 @@ use Rattle.tables.specs.declared.tables.WorldItemKind.{WorldItemKind}
 use Rattle.tables.specs.declared.tables.WorldItemKind.TheVariants as item
 use Rattle.tables.specs.declared.tables.Resolve.{Resolve}
 use Rattle.set_rows.specs.Owners.{owner_of, names}
-use Rattle.set_rows.specs.Places.{kept, place}
+use Rattle.set_rows.specs.Places.{place}
 use Rattle.set_rows.specs.Reaches.{is_marked}
 use Rattle.set_rows.specs.Renamed.{renaming}
 use Rattle.set_rows.specs.Moved.{put_id, put_function_id, put_kind, put_name, put_owner, put_row, has_type, has_function, put_package_id, put_interface, put_item, put_item_kind, put_world}
@@ -120,7 +120,7 @@ module _ (to : Moved) where
 
 module _ (s : Resolve) (to : Moved) (n : IsPart s to) where
   abbrev there : List Definition
-  there = map (put_row (renaming to)) (kept to.rows s.definitions)
+  there = map (put_row (renaming to)) (items_where_true to.rows s.definitions)
 
   -- all rows of an interface are kept, or none
   pub interface-marks : (start k : ℕ) (i : Interface) (b : Bool) → AreRowsOf s.definitions start k i → is_marked n.marks (Some (owner.Interface (record { 0 = k }))) ≡ b → AreAll b to.rows start (end_of start i - start)
@@ -136,8 +136,8 @@ module _ (s : Resolve) (to : Moved) (n : IsPart s to) where
       let whole : start + (end - start) ≡ end = omega arith in
       let size : place to.rows end - place to.rows start ≡ end - start = omega (arith, place-all to.rows start (end - start) a, ap (place to.rows) whole) in
       ap (λ m. take m (drop (place to.rows start) there)) size
-      ∙ (ap (take (end - start)) (drop-map (put_row (renaming to)) (place to.rows start) (kept to.rows s.definitions))
-      ∙ (take-mapped (put_row (renaming to)) (end - start) (drop (place to.rows start) (kept to.rows s.definitions)) ∙ ap (map (put_row (renaming to))) (block-there to.rows s.definitions start (end - start) a)))
+      ∙ (ap (take (end - start)) (drop-map (put_row (renaming to)) (place to.rows start) (items_where_true to.rows s.definitions))
+      ∙ (take-mapped (put_row (renaming to)) (end - start) (drop (place to.rows start) (items_where_true to.rows s.definitions)) ∙ ap (map (put_row (renaming to))) (block-there to.rows s.definitions start (end - start) a)))
 
   -- ---- rows of an interface, put there
 
@@ -147,7 +147,7 @@ module _ (s : Resolve) (to : Moved) (n : IsPart s to) where
       by : (o : Option Definition) → slice_get s.definitions t.0 ≡ o → is_own_type k (type_of o) ≡ true → is_own there (place to.interfaces k) (put_id (renaming to) t) ≡ true
       by None d q = absurd (true≢false (sym q))
       by (Some (row.Function f)) d q = absurd (true≢false (sym q))
-      by (Some (row.Type x)) d q = rw (map-get (put_row (renaming to)) (kept to.rows s.definitions) (place to.rows t.0) (row.Type x) (kept-at to.rows s.definitions t.0 (row.Type x) e d)) (named x.name q)
+      by (Some (row.Type x)) d q = rw (map-get (put_row (renaming to)) (items_where_true to.rows s.definitions) (place to.rows t.0) (row.Type x) (kept-at to.rows s.definitions t.0 (row.Type x) e d)) (named x.name q)
         where
           named : (m : Option TypeName) → is_own_name k m ≡ true → is_own_name (place to.interfaces k) (option_map (put_name (renaming to)) m) ≡ true
           named None z = refl
@@ -159,7 +159,7 @@ module _ (s : Resolve) (to : Moved) (n : IsPart s to) where
       by : (o : Option Definition) → slice_get s.definitions t.0 ≡ o → is_earlier_type k (type_of o) ≡ true → is_earlier there (place to.interfaces k) (put_id (renaming to) t) ≡ true
       by None d q = absurd (true≢false (sym q))
       by (Some (row.Function f)) d q = absurd (true≢false (sym q))
-      by (Some (row.Type x)) d q = rw (map-get (put_row (renaming to)) (kept to.rows s.definitions) (place to.rows t.0) (row.Type x) (kept-at to.rows s.definitions t.0 (row.Type x) e d)) (named x.name refl q)
+      by (Some (row.Type x)) d q = rw (map-get (put_row (renaming to)) (items_where_true to.rows s.definitions) (place to.rows t.0) (row.Type x) (kept-at to.rows s.definitions t.0 (row.Type x) e d)) (named x.name refl q)
         where
           named : (m : Option TypeName) → x.name ≡ m → is_earlier_name k m ≡ true → is_earlier_name (place to.interfaces k) (option_map (put_name (renaming to)) m) ≡ true
           named None y z = absurd (true≢false (sym z))
@@ -229,11 +229,11 @@ module _ (s : Resolve) (to : Moved) (n : IsPart s to) where
           none : slice_get s.definitions t.0 ≡ None → ⊥
           none z = let x = slice_get-get_or s.definitions t.0 (row.Type (record { name = None; kind = kind.Enum [] })) l in absurd (cc)
       by (Some d) z =
-          ap (λ (o : Option Definition). is_use_type (type_of o)) (map-get (put_row (renaming to)) (kept to.rows s.definitions) (place to.rows t.0) d (kept-at to.rows s.definitions t.0 d e z))
+          ap (λ (o : Option Definition). is_use_type (type_of o)) (map-get (put_row (renaming to)) (items_where_true to.rows s.definitions) (place to.rows t.0) d (kept-at to.rows s.definitions t.0 d e z))
           ∙ (rows-same d ∙ sym (ap (λ (o : Option Definition). is_use_type (type_of o)) z))
 
   count-there : length there ≡ place to.rows (length s.definitions)
-  count-there = length-map (kept to.rows s.definitions) (put_row (renaming to)) ∙ kept-length to.rows s.definitions (omega (arith, table.count-rows s to n))
+  count-there = length-map (items_where_true to.rows s.definitions) (put_row (renaming to)) ∙ kept-length to.rows s.definitions (omega (arith, table.count-rows s to n))
 
   block-length : (start end : ℕ) → start ≤ end → end ≤ length s.definitions → length (take (end - start) (drop start s.definitions)) ≡ end - start
   block-length start end l m = omega (arith, length-take (end - start) (drop start s.definitions), length-drop start s.definitions)
@@ -348,7 +348,7 @@ module _ (s : Resolve) (to : Moved) (n : IsPart s to) where
       by : (o : Option Definition) → slice_get s.definitions t.0 ≡ o → is_nameless_type (type_of o) ≡ true → is_nameless there (put_id (renaming to) t) ≡ true
       by None d q = absurd (true≢false (sym q))
       by (Some (row.Function f)) d q = absurd (true≢false (sym q))
-      by (Some (row.Type x)) d q = rw (map-get (put_row (renaming to)) (kept to.rows s.definitions) (place to.rows t.0) (row.Type x) (kept-at to.rows s.definitions t.0 (row.Type x) e d)) (named x.name q)
+      by (Some (row.Type x)) d q = rw (map-get (put_row (renaming to)) (items_where_true to.rows s.definitions) (place to.rows t.0) (row.Type x) (kept-at to.rows s.definitions t.0 (row.Type x) e d)) (named x.name q)
 
   world-row-there : (x k : ℕ) (d : Definition) → slice_get s.definitions x ≡ Some d → get_or to.rows x false ≡ true → is_world_row s.definitions k d ≡ true → is_world_row there (place to.worlds k) (put_row (renaming to) d) ≡ true
   world-row-there x k d at e h =
@@ -429,7 +429,7 @@ module _ (s : Resolve) (to : Moved) (n : IsPart s to) where
   interface-mark k l = get_or_default n.marks.interfaces k true false (omega (arith, l, n.count)) ∙ ap (λ (bs : List Bool). get_or bs k false) (sym n.interfaces_are)
 
   later-kept : (p : ℕ) (bs : List Bool) (is : List Interface) → get_or to.packages p false ≡ true → list_all (λ i. nat_lt p i.«package».0) is ≡ true
-      → list_all (λ i. nat_lt (place to.packages p) i.«package».0) (map (put_interface (renaming to)) (kept bs is)) ≡ true
+      → list_all (λ i. nat_lt (place to.packages p) i.«package».0) (map (put_interface (renaming to)) (items_where_true bs is)) ≡ true
   later-kept p bs is e h = list-kept (put_interface (renaming to)) (λ i. nat_lt (place to.packages p) i.«package».0) bs is
       (λ k x m q. lt-ltb _ _ (place-before to.packages p x.«package».0 (ltb-true p x.«package».0 (list-at (λ i. nat_lt p i.«package».0) is k x h q)) e))
 
@@ -438,9 +438,9 @@ module _ (s : Resolve) (to : Moved) (n : IsPart s to) where
       → (bs : List Bool) → AreMarksFrom to.interfaces k bs → k + length is ≡ length s.interfaces → length bs ≡ length is
       → (cs : List Bool) → AreMarksFrom to.worlds j cs → j + length ws ≡ length s.worlds → length cs ≡ length ws
       → ((m : ℕ) (w : World) → slice_get ws m ≡ Some w → slice_get s.worlds (j + m) ≡ Some w)
-      → ArePackageByPackage there (place to.rows start) (place to.interfaces k) (map (put_interface (renaming to)) (kept bs is)) (place to.worlds j) (map (put_world (renaming to)) (kept cs ws))
+      → ArePackageByPackage there (place to.rows start) (place to.interfaces k) (map (put_interface (renaming to)) (items_where_true bs is)) (place to.worlds j) (map (put_world (renaming to)) (items_where_true cs ws))
   stands-there apart _ _ _ _ _ (behind_all start k j e) bs ms u v cs ns x y at =
-      subst (λ (is : List Interface). ArePackageByPackage there (place to.rows start) (place to.interfaces k) (map (put_interface (renaming to)) is) (place to.worlds j) (map (put_world (renaming to)) (kept cs []))) (sym (kept-none bs))
+      subst (λ (is : List Interface). ArePackageByPackage there (place to.rows start) (place to.interfaces k) (map (put_interface (renaming to)) is) (place to.worlds j) (map (put_world (renaming to)) (items_where_true cs []))) (sym (kept-none bs))
       (subst (λ (ws : List World). ArePackageByPackage there (place to.rows start) (place to.interfaces k) [] (place to.worlds j) (map (put_world (renaming to)) ws)) (sym (kept-none cs))
       (behind_all (place to.rows start) (place to.interfaces k) (place to.worlds j) (ap (place to.rows) e ∙ sym count-there)))
   stands-there apart _ _ _ _ _ (an_interface start k i is j ws a rest) [] ms u v cs ns x y at = absurd (omega (arith, v))
@@ -450,9 +450,9 @@ module _ (s : Resolve) (to : Moved) (n : IsPart s to) where
       let step = interface-step start k i within a (interface-marks start k i true a (interface-mark k within ∙ here)) in
       let next : place to.interfaces k + 1 ≡ place to.interfaces (k + 1) = sym (place-yes to.interfaces k here) ∙ ap (place to.interfaces) (one-more k) in
       let r = stands-there apart (end_of start i) (k + 1) is j ws rest bs (marks-next to.interfaces k (k + 1) true bs refl ms) (omega (arith, u)) (omega (arith, v)) cs ns x y at in
-      an_interface (place to.rows start) (place to.interfaces k) (put_interface (renaming to) i) (map (put_interface (renaming to)) (kept bs is)) (place to.worlds j) (map (put_world (renaming to)) (kept cs ws)) step.0
-      (subst (λ e. ArePackageByPackage there e (place to.interfaces k + 1) (map (put_interface (renaming to)) (kept bs is)) (place to.worlds j) (map (put_world (renaming to)) (kept cs ws))) (sym step.1)
-      (subst (λ e. ArePackageByPackage there (place to.rows (end_of start i)) e (map (put_interface (renaming to)) (kept bs is)) (place to.worlds j) (map (put_world (renaming to)) (kept cs ws))) (sym next) r))
+      an_interface (place to.rows start) (place to.interfaces k) (put_interface (renaming to) i) (map (put_interface (renaming to)) (items_where_true bs is)) (place to.worlds j) (map (put_world (renaming to)) (items_where_true cs ws)) step.0
+      (subst (λ e. ArePackageByPackage there e (place to.interfaces k + 1) (map (put_interface (renaming to)) (items_where_true bs is)) (place to.worlds j) (map (put_world (renaming to)) (items_where_true cs ws))) (sym step.1)
+      (subst (λ e. ArePackageByPackage there (place to.rows (end_of start i)) e (map (put_interface (renaming to)) (items_where_true bs is)) (place to.worlds j) (map (put_world (renaming to)) (items_where_true cs ws))) (sym next) r))
   stands-there apart _ _ _ _ _ (an_interface start k i is j ws a rest) (false ∷ bs) ms u v cs ns x y at =
       let here = marks-here to.interfaces k false bs ms in
       let within : k < length s.interfaces = omega (arith, u) in
@@ -461,8 +461,8 @@ module _ (s : Resolve) (to : Moved) (n : IsPart s to) where
       let same : place to.rows (end_of start i) ≡ place to.rows start = ap (place to.rows) (sym whole) ∙ place-left to.rows start (end_of start i - start) marks in
       let next : place to.interfaces (k + 1) ≡ place to.interfaces k = ap (place to.interfaces) (sym (one-more k)) ∙ place-no to.interfaces k here in
       let r = stands-there apart (end_of start i) (k + 1) is j ws rest bs (marks-next to.interfaces k (k + 1) false bs refl ms) (omega (arith, u)) (omega (arith, v)) cs ns x y at in
-      subst (λ e. ArePackageByPackage there e (place to.interfaces k) (map (put_interface (renaming to)) (kept bs is)) (place to.worlds j) (map (put_world (renaming to)) (kept cs ws))) same
-      (subst (λ e. ArePackageByPackage there (place to.rows (end_of start i)) e (map (put_interface (renaming to)) (kept bs is)) (place to.worlds j) (map (put_world (renaming to)) (kept cs ws))) next r)
+      subst (λ e. ArePackageByPackage there e (place to.interfaces k) (map (put_interface (renaming to)) (items_where_true bs is)) (place to.worlds j) (map (put_world (renaming to)) (items_where_true cs ws))) same
+      (subst (λ e. ArePackageByPackage there (place to.rows (end_of start i)) e (map (put_interface (renaming to)) (items_where_true bs is)) (place to.worlds j) (map (put_world (renaming to)) (items_where_true cs ws))) next r)
   stands-there apart _ _ _ _ _ (a_world start k is j w ws a later rest) bs ms u v [] ns x y at = absurd (omega (arith, y))
   stands-there apart _ _ _ _ _ (a_world start k is j w ws a later rest) bs ms u v (true ∷ cs) ns x y at =
       let here = marks-here to.worlds j true cs ns in
@@ -472,10 +472,10 @@ module _ (s : Resolve) (to : Moved) (n : IsPart s to) where
       let next : place to.worlds j + 1 ≡ place to.worlds (j + 1) = sym (place-yes to.worlds j here) ∙ ap (place to.worlds) (one-more j) in
       let r = stands-there apart (world_end start w) k is (j + 1) ws rest bs ms u v cs (marks-next to.worlds j (j + 1) true cs refl ns) (omega (arith, x)) (omega (arith, y))
       (λ m c e. ap (slice_get s.worlds) (one-later j m) ∙ at (suc m) c e) in
-      a_world (place to.rows start) (place to.interfaces k) (map (put_interface (renaming to)) (kept bs is)) (place to.worlds j) (put_world (renaming to) w) (map (put_world (renaming to)) (kept cs ws)) step.0
+      a_world (place to.rows start) (place to.interfaces k) (map (put_interface (renaming to)) (items_where_true bs is)) (place to.worlds j) (put_world (renaming to) w) (map (put_world (renaming to)) (items_where_true cs ws)) step.0
       (later-kept w.«package».0 bs is (n.worlds_needed j w here this) later)
-      (subst (λ e. ArePackageByPackage there e (place to.interfaces k) (map (put_interface (renaming to)) (kept bs is)) (place to.worlds j + 1) (map (put_world (renaming to)) (kept cs ws))) (sym step.1)
-      (subst (λ e. ArePackageByPackage there (place to.rows (world_end start w)) (place to.interfaces k) (map (put_interface (renaming to)) (kept bs is)) e (map (put_world (renaming to)) (kept cs ws))) (sym next) r))
+      (subst (λ e. ArePackageByPackage there e (place to.interfaces k) (map (put_interface (renaming to)) (items_where_true bs is)) (place to.worlds j + 1) (map (put_world (renaming to)) (items_where_true cs ws))) (sym step.1)
+      (subst (λ e. ArePackageByPackage there (place to.rows (world_end start w)) (place to.interfaces k) (map (put_interface (renaming to)) (items_where_true bs is)) e (map (put_world (renaming to)) (items_where_true cs ws))) (sym next) r))
   stands-there apart _ _ _ _ _ (a_world start k is j w ws a later rest) bs ms u v (false ∷ cs) ns x y at =
       let here = marks-here to.worlds j false cs ns in
       let within : j < length s.worlds = omega (arith, x) in
@@ -485,13 +485,13 @@ module _ (s : Resolve) (to : Moved) (n : IsPart s to) where
       let next : place to.worlds (j + 1) ≡ place to.worlds j = ap (place to.worlds) (sym (one-more j)) ∙ place-no to.worlds j here in
       let r = stands-there apart (world_end start w) k is (j + 1) ws rest bs ms u v cs (marks-next to.worlds j (j + 1) false cs refl ns) (omega (arith, x)) (omega (arith, y))
       (λ m c e. ap (slice_get s.worlds) (one-later j m) ∙ at (suc m) c e) in
-      subst (λ e. ArePackageByPackage there e (place to.interfaces k) (map (put_interface (renaming to)) (kept bs is)) (place to.worlds j) (map (put_world (renaming to)) (kept cs ws))) same
-      (subst (λ e. ArePackageByPackage there (place to.rows (world_end start w)) (place to.interfaces k) (map (put_interface (renaming to)) (kept bs is)) e (map (put_world (renaming to)) (kept cs ws))) next r)
+      subst (λ e. ArePackageByPackage there e (place to.interfaces k) (map (put_interface (renaming to)) (items_where_true bs is)) (place to.worlds j) (map (put_world (renaming to)) (items_where_true cs ws))) same
+      (subst (λ e. ArePackageByPackage there (place to.rows (world_end start w)) (place to.interfaces k) (map (put_interface (renaming to)) (items_where_true bs is)) e (map (put_world (renaming to)) (items_where_true cs ws))) next r)
 
-  pub all-stand : IsSet s → ArePackageByPackage there 0 0 (map (put_interface (renaming to)) (kept to.interfaces s.interfaces)) 0 (map (put_world (renaming to)) (kept to.worlds s.worlds))
+  pub all-stand : IsSet s → ArePackageByPackage there 0 0 (map (put_interface (renaming to)) (items_where_true to.interfaces s.interfaces)) 0 (map (put_world (renaming to)) (items_where_true to.worlds s.worlds))
   all-stand h =
       let r = stands-there h.apart 0 0 s.interfaces 0 s.worlds h.stands to.interfaces (λ k. ap (λ m. get_or to.interfaces m false) (none-plus k)) (omega arith) (table.count-interfaces s to n)
       to.worlds (λ k. ap (λ m. get_or to.worlds m false) (none-plus k)) (omega arith) n.count_worlds (λ m w e. ap (slice_get s.worlds) (none-plus m) ∙ e) in
-      subst (λ x. ArePackageByPackage there x 0 (map (put_interface (renaming to)) (kept to.interfaces s.interfaces)) 0 (map (put_world (renaming to)) (kept to.worlds s.worlds))) (place-none to.rows)
-      (subst (λ x. ArePackageByPackage there (place to.rows 0) x (map (put_interface (renaming to)) (kept to.interfaces s.interfaces)) 0 (map (put_world (renaming to)) (kept to.worlds s.worlds))) (place-none to.interfaces)
-      (subst (λ x. ArePackageByPackage there (place to.rows 0) (place to.interfaces 0) (map (put_interface (renaming to)) (kept to.interfaces s.interfaces)) x (map (put_world (renaming to)) (kept to.worlds s.worlds))) (place-none to.worlds) r))
+      subst (λ x. ArePackageByPackage there x 0 (map (put_interface (renaming to)) (items_where_true to.interfaces s.interfaces)) 0 (map (put_world (renaming to)) (items_where_true to.worlds s.worlds))) (place-none to.rows)
+      (subst (λ x. ArePackageByPackage there (place to.rows 0) x (map (put_interface (renaming to)) (items_where_true to.interfaces s.interfaces)) 0 (map (put_world (renaming to)) (items_where_true to.worlds s.worlds))) (place-none to.interfaces)
+      (subst (λ x. ArePackageByPackage there (place to.rows 0) (place to.interfaces 0) (map (put_interface (renaming to)) (items_where_true to.interfaces s.interfaces)) x (map (put_world (renaming to)) (items_where_true to.worlds s.worlds))) (place-none to.worlds) r))

@@ -18,7 +18,7 @@ use Rattle.package_sets.specs.Joining.{own_interfaces}
 use Rattle.set_rows.specs.Moved.{Renaming, put_interface, put_world, put_row}
 use Rattle.set_rows.specs.Owners.{owners}
 use Rattle.package_sets.specs.Part.{IsTableOf}
-use Rattle.set_rows.specs.Places.{kept, place}
+use Rattle.set_rows.specs.Places.{place}
 use Rattle.set_rows.specs.Reaches.{Marks, is_marked, OfPackage, AreReached}
 use Rattle.set_rows.specs.Renamed.{renaming}
 use Rattle.package_sets.specs.Restricted.{IsReachedIn, AreNeeded, IsNeeded}
@@ -34,6 +34,7 @@ use Rattle.package_sets.proofs.Ordering as ordering
 use Rattle.set_rows.proofs.Owned.{length-owners}
 use Rattle.package_sets.proofs.Kept.{interface-in}
 use Rattle.package_form.specs.Closed.{is_world_of}
+use Rattle.std.specs.List.{items_where_true}
 
 -- ---- marks that agree
 
@@ -58,14 +59,14 @@ same-place (false ∷ bs) (false ∷ cs) h (suc k) = same-place bs cs (same-rest
 same-place (true ∷ bs) (false ∷ cs) h (suc k) = absurd (true≢false (h 0))
 same-place (false ∷ bs) (true ∷ cs) h (suc k) = absurd (true≢false (sym (h 0)))
 
-keeps-none : {A : Type 0} (bs : List Bool) (xs : List A) → AreSameMarks bs [] → kept bs xs ≡ []
+keeps-none : {A : Type 0} (bs : List Bool) (xs : List A) → AreSameMarks bs [] → items_where_true bs xs ≡ []
 keeps-none [] xs h = refl
 keeps-none (b ∷ bs) [] h = refl
 keeps-none (false ∷ bs) (x ∷ xs) h = keeps-none bs xs (λ k. h (suc k))
 keeps-none (true ∷ bs) (x ∷ xs) h = absurd (true≢false (h 0))
 
 -- no more is kept of a longer list
-keeps-front : {A : Type 0} (bs cs : List Bool) (xs ys : List A) → AreSameMarks bs cs → length cs ≡ length xs → kept bs (xs ++ ys) ≡ kept cs xs
+keeps-front : {A : Type 0} (bs cs : List Bool) (xs ys : List A) → AreSameMarks bs cs → length cs ≡ length xs → items_where_true bs (xs ++ ys) ≡ items_where_true cs xs
 keeps-front bs [] [] ys h l = keeps-none bs ys h
 keeps-front bs (c ∷ cs) [] ys h l = absurd (omega (arith, l))
 keeps-front bs [] (x ∷ xs) ys h l = absurd (omega (arith, l))
@@ -254,14 +255,14 @@ module _ (s c : Resolve) (j : JoinedPlaces) (q : IsJoined s c j) (own : PackageP
 
   pub stays : (t u : Resolve) → IsTableOf r now t → IsTableOf s then u → IsSamePackage t u
   stays t u f g = record {
-    packages = f.packages ∙ (ap (kept now.packages) put.packages ∙ (keeps-front now.packages then.packages s.packages (own ∷ []) packages-same e.count ∙ sym g.packages));
+    packages = f.packages ∙ (ap (items_where_true now.packages) put.packages ∙ (keeps-front now.packages then.packages s.packages (own ∷ []) packages-same e.count ∙ sym g.packages));
     interfaces = f.interfaces
-        ∙ (ap (λ (p : Renaming). map (put_interface p) (kept now.interfaces r.interfaces)) renamed
-        ∙ (ap (map (put_interface (renaming then))) (ap (kept now.interfaces) put.interfaces ∙ keeps-front now.interfaces then.interfaces s.interfaces _ interfaces-same (ap length y.interfaces_are ∙ d.count)) ∙ sym g.interfaces));
+        ∙ (ap (λ (p : Renaming). map (put_interface p) (items_where_true now.interfaces r.interfaces)) renamed
+        ∙ (ap (map (put_interface (renaming then))) (ap (items_where_true now.interfaces) put.interfaces ∙ keeps-front now.interfaces then.interfaces s.interfaces _ interfaces-same (ap length y.interfaces_are ∙ d.count)) ∙ sym g.interfaces));
     worlds = f.worlds
-        ∙ (ap (λ (p : Renaming). map (put_world p) (kept now.worlds r.worlds)) renamed
-        ∙ (ap (map (put_world (renaming then))) (ap (kept now.worlds) put.worlds ∙ keeps-front now.worlds then.worlds s.worlds _ worlds-same (ap length y.worlds_are ∙ length-map s.worlds (is_world_of id))) ∙ sym g.worlds));
+        ∙ (ap (λ (p : Renaming). map (put_world p) (items_where_true now.worlds r.worlds)) renamed
+        ∙ (ap (map (put_world (renaming then))) (ap (items_where_true now.worlds) put.worlds ∙ keeps-front now.worlds then.worlds s.worlds _ worlds-same (ap length y.worlds_are ∙ length-map s.worlds (is_world_of id))) ∙ sym g.worlds));
     definitions = f.definitions
-        ∙ (ap (λ (p : Renaming). map (put_row p) (kept now.rows r.definitions)) renamed
-        ∙ (ap (map (put_row (renaming then))) (ap (kept now.rows) put.definitions ∙ keeps-front now.rows then.rows s.definitions rows-put rows-same (ap length y.rows_are ∙ (length-map (owners s.definitions) (is_marked n) ∙ length-owners s.definitions))) ∙ sym g.definitions));
+        ∙ (ap (λ (p : Renaming). map (put_row p) (items_where_true now.rows r.definitions)) renamed
+        ∙ (ap (map (put_row (renaming then))) (ap (items_where_true now.rows) put.definitions ∙ keeps-front now.rows then.rows s.definitions rows-put rows-same (ap length y.rows_are ∙ (length-map (owners s.definitions) (is_marked n) ∙ length-owners s.definitions))) ∙ sym g.definitions));
   }

@@ -4,7 +4,7 @@ use Rattle.std.proofs.lemmas.List.{get_or_default}
 use Rattle.package_form.specs.Scope.{lowered, AreDistinct, IsMetBefore}
 use Rattle.package_form.proofs.Lists.{contains-later}
 use Rattle.package_form.proofs.OneRow.{distinct-back}
-use Rattle.set_rows.specs.Places.{kept}
+use Rattle.std.specs.List.{items_where_true}
 
 -- some of these names, in their order
 pub data IsWithin : List (List ℕ) → List (List ℕ) → Type 0 where
@@ -58,12 +58,12 @@ within-append _ _ vs ws (over n xs ys a) w = over n (xs ++ vs) (ys ++ ws) (withi
 
 -- where each element tells in one scope what it did in another, or nothing
 pub names-within : {A : Type 0} (put : A → A) (f g : A → List (List ℕ)) (bs : List Bool) (xs : List A)
-    → ((k : ℕ) (x : A) → get_or bs k false ≡ true → slice_get xs k ≡ Some x → (f (put x) ≡ []) ⊎ (f (put x) ≡ g x)) → IsWithin (flat_map f (map put (kept bs xs))) (flat_map g xs)
+    → ((k : ℕ) (x : A) → get_or bs k false ≡ true → slice_get xs k ≡ Some x → (f (put x) ≡ []) ⊎ (f (put x) ≡ g x)) → IsWithin (flat_map f (map put (items_where_true bs xs))) (flat_map g xs)
 names-within put f g [] xs h = none-of (flat_map g xs)
 names-within put f g (b ∷ bs) [] h = none
-names-within put f g (false ∷ bs) (x ∷ xs) h = within-append [] (g x) (flat_map f (map put (kept bs xs))) (flat_map g xs) (none-of (g x)) (names-within put f g bs xs (λ k y e i. h (suc k) y e i))
+names-within put f g (false ∷ bs) (x ∷ xs) h = within-append [] (g x) (flat_map f (map put (items_where_true bs xs))) (flat_map g xs) (none-of (g x)) (names-within put f g bs xs (λ k y e i. h (suc k) y e i))
 names-within put f g (true ∷ bs) (x ∷ xs) h =
-    within-append (f (put x)) (g x) (flat_map f (map put (kept bs xs))) (flat_map g xs) (one (h 0 x refl refl)) (names-within put f g bs xs (λ k y e i. h (suc k) y e i))
+    within-append (f (put x)) (g x) (flat_map f (map put (items_where_true bs xs))) (flat_map g xs) (one (h 0 x refl refl)) (names-within put f g bs xs (λ k y e i. h (suc k) y e i))
   where
     one : (f (put x) ≡ []) ⊎ (f (put x) ≡ g x) → IsWithin (f (put x)) (g x)
     one (inl e) = subst (λ (ns : List (List ℕ)). IsWithin ns (g x)) (sym e) (none-of (g x))

@@ -2,7 +2,7 @@
 use Rattle.std.proofs.Common.{◌≡◌, ◌≤◌, ◌<◌, ◌⊎◌, inl, inr, ℕ, Bool, true, false, List, [], length, get_or, slice_get, map, Option, None, Some, refl, ap, sym, subst, ◌∙◌, arith, true≢false}
 use Rattle.std.specs.Prelude.{Contains}
 use Rattle.std.specs.Option.{option_map}
-use Rattle.std.specs.List.{list_all}
+use Rattle.std.specs.List.{list_all, items_where_true}
 use Rattle.std.proofs.lemmas.List.{get_or_default, get_or_past, length-map}
 use Rattle.std.proofs.lemmas.Option.{slice_get_within, slice_get-get_or, get_or_from_slice_get}
 use Rattle.tables.specs.Tables.{option_all, function_of, is_function_of, is_placed_item, is_placed_world}
@@ -21,7 +21,7 @@ use Rattle.tables.specs.declared.tables.WorldItem.{WorldItem}
 use Rattle.tables.specs.declared.tables.WorldItemKind.{WorldItemKind}
 use Rattle.tables.specs.declared.tables.WorldItemKind.TheVariants as item
 use Rattle.tables.specs.declared.tables.Resolve.{Resolve}
-use Rattle.set_rows.specs.Places.{kept, place}
+use Rattle.set_rows.specs.Places.{place}
 use Rattle.set_rows.specs.Reaches.{is_marked}
 use Rattle.set_rows.specs.Renamed.{renaming}
 use Rattle.set_rows.specs.Moved.{put_row, put_function, put_interface, put_item, put_item_kind, put_world}
@@ -39,26 +39,26 @@ use Rattle.package_sets.proofs.Lists.{map-get}
 length-trees : (s : Resolve) → length (trees s) ≡ length s.definitions
 length-trees s = omega (arith, length-references (interface_names s) [] s.definitions)
 
-module _ (s : Resolve) (to : Moved) (n : IsPart s to) (r : Resolve) (ps : r.packages ≡ kept to.packages s.packages) (is : r.interfaces ≡ map (put_interface (renaming to)) (kept to.interfaces s.interfaces)) (ws : r.worlds ≡ map (put_world (renaming to)) (kept to.worlds s.worlds)) (ds : r.definitions ≡ map (put_row (renaming to)) (kept to.rows s.definitions)) where
+module _ (s : Resolve) (to : Moved) (n : IsPart s to) (r : Resolve) (ps : r.packages ≡ items_where_true to.packages s.packages) (is : r.interfaces ≡ map (put_interface (renaming to)) (items_where_true to.interfaces s.interfaces)) (ws : r.worlds ≡ map (put_world (renaming to)) (items_where_true to.worlds s.worlds)) (ds : r.definitions ≡ map (put_row (renaming to)) (items_where_true to.rows s.definitions)) where
   package-same : (p : ℕ) (name : List ℕ) → p < length s.packages → get_or to.packages p false ≡ true → full_name_in (slice_get r.packages (place to.packages p)) name ≡ full_name_in (slice_get s.packages p) name
   package-same p name h e =
       ap (λ (o : Option PackageParts). full_name_in o name) (ap (λ (xs : List PackageParts). slice_get xs (place to.packages p)) ps ∙ found (slice_get s.packages p) refl)
     where
-      found : (o : Option PackageParts) → slice_get s.packages p ≡ o → slice_get (kept to.packages s.packages) (place to.packages p) ≡ slice_get s.packages p
+      found : (o : Option PackageParts) → slice_get s.packages p ≡ o → slice_get (items_where_true to.packages s.packages) (place to.packages p) ≡ slice_get s.packages p
       found None q = absurd (none-within q)
         where
           none-within : slice_get s.packages p ≡ None → ⊥
           none-within z = let d = slice_get-get_or s.packages p (record { namespace = []; name = []; version = None }) h in absurd (cc)
       found (Some x) q = kept-at to.packages s.packages p x e q ∙ sym q
 
-  pub interfaces-same : interface_names r ≡ kept n.marks.interfaces (interface_names s)
+  pub interfaces-same : interface_names r ≡ items_where_true n.marks.interfaces (interface_names s)
   interfaces-same =
       ap (map (full_name r)) is
       ∙ (map-kept-as (put_interface (renaming to)) (full_name s) (full_name r) to.interfaces s.interfaces (λ k i h e. package-same i.«package».0 i.name (table.interface-within s to n k i e) (n.interfaces_needed k i h e))
-      ∙ ap (λ (bs : List Bool). kept bs (interface_names s)) n.interfaces_are)
+      ∙ ap (λ (bs : List Bool). items_where_true bs (interface_names s)) n.interfaces_are)
 
-  names-agree : NamesAgree (is_marked n.marks) to (interface_names s) (kept n.marks.interfaces (interface_names s))
-  names-agree i h = ap (λ (bs : List Bool). get_or (kept n.marks.interfaces (interface_names s)) (place bs i) []) n.interfaces_are ∙ by (total i (length s.interfaces))
+  names-agree : NamesAgree (is_marked n.marks) to (interface_names s) (items_where_true n.marks.interfaces (interface_names s))
+  names-agree i h = ap (λ (bs : List Bool). get_or (items_where_true n.marks.interfaces (interface_names s)) (place bs i) []) n.interfaces_are ∙ by (total i (length s.interfaces))
     where
       total : (a b : ℕ) → (a < b) ⊎ (b ≤ a)
       total a b = grind arith
@@ -66,7 +66,7 @@ module _ (s : Resolve) (to : Moved) (n : IsPart s to) (r : Resolve) (ps : r.pack
       count : length (interface_names s) ≡ length s.interfaces
       count = length-map s.interfaces (full_name s)
 
-      by : (i < length s.interfaces) ⊎ (length s.interfaces ≤ i) → get_or (kept n.marks.interfaces (interface_names s)) (place n.marks.interfaces i) [] ≡ get_or (interface_names s) i []
+      by : (i < length s.interfaces) ⊎ (length s.interfaces ≤ i) → get_or (items_where_true n.marks.interfaces (interface_names s)) (place n.marks.interfaces i) [] ≡ get_or (interface_names s) i []
       by (inl l) = kept-get n.marks.interfaces (interface_names s) i [] (get_or_default n.marks.interfaces i false true (omega (arith, n.count)) ∙ h) (omega (arith, count))
       by (inr l) = kept-past n.marks.interfaces (interface_names s) i [] (omega (arith, n.count)) ∙ sym (get_or_past (interface_names s) i [] (omega (arith, count)))
 
@@ -76,16 +76,16 @@ module _ (s : Resolve) (to : Moved) (n : IsPart s to) (r : Resolve) (ps : r.pack
   pub definitions-same : definitions r ≡ definitions_where (is_marked n.marks) (interface_names s) [] s.definitions
   definitions-same =
       ap (λ (xs : List Definition). definitions_from (interface_names r) [] xs) ds
-      ∙ (ap (λ (ms : List (List ℕ)). definitions_from ms [] (map (put_row (renaming to)) (kept to.rows s.definitions))) interfaces-same
-      ∙ definitions-kept (is_marked n.marks) to (interface_names s) (kept n.marks.interfaces (interface_names s)) names-agree to.rows [] [] s.definitions (table.count-rows s to n) start
+      ∙ (ap (λ (ms : List (List ℕ)). definitions_from ms [] (map (put_row (renaming to)) (items_where_true to.rows s.definitions))) interfaces-same
+      ∙ definitions-kept (is_marked n.marks) to (interface_names s) (items_where_true n.marks.interfaces (interface_names s)) names-agree to.rows [] [] s.definitions (table.count-rows s to n) start
       (λ k. ap (λ j. get_or to.rows j false) (omega arith)) (table.rights s to n))
 
-  trees-there : trees r ≡ references (kept n.marks.interfaces (interface_names s)) [] (map (put_row (renaming to)) (kept to.rows s.definitions))
-  trees-there = ap (λ (xs : List Definition). references (interface_names r) [] xs) ds ∙ ap (λ (ms : List (List ℕ)). references ms [] (map (put_row (renaming to)) (kept to.rows s.definitions))) interfaces-same
+  trees-there : trees r ≡ references (items_where_true n.marks.interfaces (interface_names s)) [] (map (put_row (renaming to)) (items_where_true to.rows s.definitions))
+  trees-there = ap (λ (xs : List Definition). references (interface_names r) [] xs) ds ∙ ap (λ (ms : List (List ℕ)). references ms [] (map (put_row (renaming to)) (items_where_true to.rows s.definitions))) interfaces-same
 
   trees-agree : Agrees to.rows (trees s) (trees r)
   trees-agree = subst (λ (ts : List Tree). Agrees to.rows (trees s) ts) (sym trees-there)
-      (trees-kept (is_marked n.marks) to (interface_names s) (kept n.marks.interfaces (interface_names s)) names-agree to.rows [] [] s.definitions (table.count-rows s to n) start
+      (trees-kept (is_marked n.marks) to (interface_names s) (items_where_true n.marks.interfaces (interface_names s)) names-agree to.rows [] [] s.definitions (table.count-rows s to n) start
       (λ k. ap (λ j. get_or to.rows j false) (omega arith)) (table.rights s to n))
 
   -- a function that is kept reads as it did
@@ -93,7 +93,7 @@ module _ (s : Resolve) (to : Moved) (n : IsPart s to) (r : Resolve) (ps : r.pack
       → function_item (trees r) way (function_of (slice_get r.definitions (place to.rows f.0))) ≡ function_item (trees s) way (function_of (slice_get s.definitions f.0))
   function-told f g way d k =
       let there : slice_get r.definitions (place to.rows f.0) ≡ Some (put_row (renaming to) (row.Function g)) =
-      ap (λ (xs : List Definition). slice_get xs (place to.rows f.0)) ds ∙ map-get (put_row (renaming to)) (kept to.rows s.definitions) (place to.rows f.0) (row.Function g) (kept-at to.rows s.definitions f.0 (row.Function g) k d) in
+      ap (λ (xs : List Definition). slice_get xs (place to.rows f.0)) ds ∙ map-get (put_row (renaming to)) (items_where_true to.rows s.definitions) (place to.rows f.0) (row.Function g) (kept-at to.rows s.definitions f.0 (row.Function g) k d) in
       let all = table.kept-all s to n f.0 (length (trees s)) (row.Function g) (omega (arith, length-trees s, slice_get_within s.definitions f.0 (row.Function g) d)) d k in
       let p = split (list_all (λ q. is_kept to.rows (length (trees s)) q.ty) g.params) (option_all (is_kept to.rows (length (trees s))) g.result) all in
       let x = params-same to (trees s) (trees r) trees-agree g.params p.0 in
@@ -129,7 +129,7 @@ module _ (s : Resolve) (to : Moved) (n : IsPart s to) (r : Resolve) (ps : r.pack
       placed : is_placed_world s.definitions (length s.interfaces) k w ≡ true
       placed = subst (λ m. is_placed_world s.definitions (length s.interfaces) m w ≡ true) (omega arith) (placed-at s.definitions (length s.interfaces) 0 s.worlds k w s.worlds_placed e)
 
-  pub worlds-same : worlds r ≡ kept to.worlds (worlds s)
+  pub worlds-same : worlds r ≡ items_where_true to.worlds (worlds s)
   worlds-same =
       ap (map (λ w. world_meaning (interface_names r) (trees r) r.definitions (world_name r w) w)) ws
       ∙ map-kept-as (put_world (renaming to)) (λ w. world_meaning (interface_names s) (trees s) s.definitions (world_name s w) w) (λ w. world_meaning (interface_names r) (trees r) r.definitions (world_name r w) w) to.worlds s.worlds

@@ -1,7 +1,7 @@
 -- The table of one package of a set is in the form of packages.
 use Rattle.std.proofs.Common.{◌≡◌, ◌≤◌, ◌<◌, ◌⊎◌, inl, inr, ℕ, zero, suc, ◌+◌, Bool, true, false, not, ◌||◌, ◌==◌, List, [], ◌∷◌, length, map, get_or, slice_get, Some, All, refl, ap, sym, subst, ◌∙◌, arith, eqb-true, eq-eqb}
 use Rattle.std.specs.Prelude.{Contains, flat_map}
-use Rattle.std.specs.List.{list_any, list_all}
+use Rattle.std.specs.List.{list_any, list_all, items_where_true}
 use Rattle.std.proofs.lemmas.Bool.Decides.{nat_tests}
 use Rattle.std.proofs.lemmas.List.{get_or-map}
 use Rattle.std.proofs.lemmas.List.Folds.{Any-from_list_any, list_any-from_Any}
@@ -26,7 +26,7 @@ use Rattle.tables.specs.declared.tables.WorldItemKind.TheVariants as item
 use Rattle.set_rows.specs.Moved.{put_interface, put_item, put_world}
 use Rattle.set_rows.specs.Owners.{owners}
 use Rattle.package_sets.specs.Part.{IsTableOf}
-use Rattle.set_rows.specs.Places.{kept, place}
+use Rattle.set_rows.specs.Places.{place}
 use Rattle.set_rows.specs.Reaches.{is_marked, own_marks, item_owners, owners_in, OfPackage, IsStart, of_start}
 use Rattle.set_rows.specs.Renamed.{renaming}
 use Rattle.package_sets.specs.Restricted.{IsNeeded}
@@ -130,12 +130,12 @@ module _ (s : Resolve) (own : ℕ) (to : Moved) (n : IsNeeded s own to) (tower :
   interface-at : (k : ℕ) (i : Interface) → get_or to.interfaces k false ≡ true → slice_get s.interfaces k ≡ Some i → slice_get r.interfaces (place to.interfaces k) ≡ Some (put_interface (renaming to) i)
   interface-at k i h e =
       ap (λ (is : List Interface). slice_get is (place to.interfaces k)) t.interfaces
-      ∙ map-get (put_interface (renaming to)) (kept to.interfaces s.interfaces) (place to.interfaces k) i (kept-at to.interfaces s.interfaces k i h e)
+      ∙ map-get (put_interface (renaming to)) (items_where_true to.interfaces s.interfaces) (place to.interfaces k) i (kept-at to.interfaces s.interfaces k i h e)
 
   world-at : (k : ℕ) (w : World) → get_or to.worlds k false ≡ true → slice_get s.worlds k ≡ Some w → slice_get r.worlds (place to.worlds k) ≡ Some (put_world (renaming to) w)
   world-at k w h e =
       ap (λ (ws : List World). slice_get ws (place to.worlds k)) t.worlds
-      ∙ map-get (put_world (renaming to)) (kept to.worlds s.worlds) (place to.worlds k) w (kept-at to.worlds s.worlds k w h e)
+      ∙ map-get (put_world (renaming to)) (items_where_true to.worlds s.worlds) (place to.worlds k) w (kept-at to.worlds s.worlds k w h e)
 
   -- its interfaces and its worlds are kept
   own-kept : (k : ℕ) (i : Interface) → slice_get s.interfaces k ≡ Some i → i.«package».0 ≡ own → get_or to.interfaces k false ≡ true
@@ -171,7 +171,7 @@ module _ (s : Resolve) (own : ℕ) (to : Moved) (n : IsNeeded s own to) (tower :
     where
       by : (w : World) → (k : ℕ) × (slice_get r.worlds k ≡ Some w) → is_world_of (own_package r.packages) w ≡ true
       by w (k, e) =
-          let u = map-unget (put_world (renaming to)) (kept to.worlds s.worlds) k w (ap (λ (ws : List World). slice_get ws k) (sym t.worlds) ∙ e) in
+          let u = map-unget (put_world (renaming to)) (items_where_true to.worlds s.worlds) k w (ap (λ (ws : List World). slice_get ws k) (sym t.worlds) ∙ e) in
           let v = was-kept to.worlds s.worlds k u.0 u.1 in
           let same : u.0.«package».0 ≡ own = eqb-true u.0.«package».0 own (world-own s own to n v.from u.0 v.marked v.stood) in
           let is : place to.packages u.0.«package».0 ≡ w.«package».0 = ap (λ (x : World). x.«package».0) u.2 in
@@ -228,7 +228,7 @@ module _ (s : Resolve) (own : ℕ) (to : Moved) (n : IsNeeded s own to) (tower :
     where
       by : (j : ℕ) (x : Interface) → slice_get r.interfaces j ≡ Some x → (x.«package».0 ≡ own_package r.packages) ⊎ Contains (reached r.definitions r.worlds) (0 + j)
       by j x e =
-          let u = map-unget (put_interface (renaming to)) (kept to.interfaces s.interfaces) j x (ap (λ (is : List Interface). slice_get is j) (sym t.interfaces) ∙ e) in
+          let u = map-unget (put_interface (renaming to)) (items_where_true to.interfaces s.interfaces) j x (ap (λ (is : List Interface). slice_get is j) (sym t.interfaces) ∙ e) in
           let w = was-kept to.interfaces s.interfaces j u.0 u.1 in
           let number : place to.packages u.0.«package».0 ≡ x.«package».0 = ap (λ (z : Interface). z.«package».0) u.2 in
           of w.from u.0 w.stood w.is number

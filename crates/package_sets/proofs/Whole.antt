@@ -19,7 +19,7 @@ use Rattle.package_form.specs.Scope.{AreDistinct}
 use Rattle.set_rows.specs.Moved.{put_interface, put_world, put_row}
 use Rattle.set_rows.specs.Owners.{owner_of, owners}
 use Rattle.set_rows.proofs.Owned.{length-owners}
-use Rattle.set_rows.specs.Places.{kept, place}
+use Rattle.set_rows.specs.Places.{place}
 use Rattle.set_rows.specs.Renamed.{renaming}
 use Rattle.set_rows.specs.Reaches.{Marks, is_marked, own_marks, OfPackage, of_start, AreReached}
 use Rattle.set_rows.specs.declared.moved.Moved.{Moved}
@@ -34,6 +34,7 @@ use Rattle.package_sets.proofs.Renaming.{in_place}
 use Rattle.package_sets.proofs.Roundtrip.{IsBack}
 use Rattle.package_sets.proofs.TowerForm.{table-form, table-distinct}
 use Rattle.package_form.specs.Reached.{is_interface_of}
+use Rattle.std.specs.List.{items_where_true}
 
 -- ---- lists all of whose marks are set
 
@@ -43,7 +44,7 @@ AllSet bs = (k : ℕ) → k < length bs → get_or bs k false ≡ true
 later : (b : Bool) (bs : List Bool) → AllSet (b ∷ bs) → AllSet bs
 later b bs h k l = h (suc k) (omega (arith, l))
 
-all-kept : {A : Type 0} (bs : List Bool) (xs : List A) → length bs ≡ length xs → AllSet bs → kept bs xs ≡ xs
+all-kept : {A : Type 0} (bs : List Bool) (xs : List A) → length bs ≡ length xs → AllSet bs → items_where_true bs xs ≡ xs
 all-kept [] [] e h = refl
 all-kept [] (x ∷ xs) e h = absurd (omega (arith, e))
 all-kept (b ∷ bs) [] e h = absurd (omega (arith, e))

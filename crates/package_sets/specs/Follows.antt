@@ -10,7 +10,6 @@ use Rattle.package_sets.specs.Attached.{others, HasAll, Fits}
 use Rattle.package_sets.specs.Imports.{IsImportsOf}
 use Rattle.package_sets.specs.Joining.{own_interfaces}
 use Rattle.set_rows.specs.Owners.{owner_of}
-use Rattle.set_rows.specs.Places.{kept}
 use Rattle.package_sets.specs.Restricted.{definitions_where, reached_definitions, package_of_owner, IsReachedIn, NamesEarlierPackages, IsRestricted}
 use Rattle.package_sets.specs.Set.{IsPackageByPackage, IsSet, HasRowsInForm}
 use Rattle.package_sets.specs.SetForm.{HasNamesApart, IsInSetForm}
@@ -26,6 +25,7 @@ use Rattle.tables.specs.declared.tables.Owner.{Owner}
 use Rattle.tables.specs.declared.tables.Owner.TheVariants as owner
 use Rattle.tables.specs.declared.tables.Resolve.{Resolve}
 use Rattle.tables.specs.declared.tables.World.{World}
+use Rattle.std.specs.List.{items_where_true}
 
 -- ---- the table of imports
 
@@ -53,7 +53,7 @@ pub record IsFoundIn (set closed : Resolve) : Type 0 where
 
 pub record OfImports (set : Resolve) (packages interfaces : List Bool) (r : Resolve) (n : IsImportsOf set packages interfaces r) : Type 0 where
   -- it is as the set's names tell it
-  pub interfaces_are : interface_names r ≡ kept n.kept.marks.interfaces (interface_names set)
+  pub interfaces_are : interface_names r ≡ items_where_true n.kept.marks.interfaces (interface_names set)
   pub definitions_are : definitions r ≡ reached_definitions set n.kept.marks
   pub worlds_are : r.worlds ≡ []
   -- the rows of a set's package are as those of a package in form
@@ -81,9 +81,9 @@ pub record OfImports (set : Resolve) (packages interfaces : List Bool) (r : Reso
 
 pub record OfRestricted (set : Resolve) (own : ℕ) (r : Resolve) (n : IsRestricted set own r) : Type 0 where
   -- it is as the set's names tell it
-  pub interfaces_are : interface_names r ≡ kept n.needed.marks.interfaces (interface_names set)
+  pub interfaces_are : interface_names r ≡ items_where_true n.needed.marks.interfaces (interface_names set)
   pub definitions_are : definitions r ≡ reached_definitions set n.needed.marks
-  pub worlds_are : worlds r ≡ kept (map (is_world_of own) set.worlds) (worlds set)
+  pub worlds_are : worlds r ≡ items_where_true (map (is_world_of own) set.worlds) (worlds set)
   -- where each package stands behind those that it names, none that is needed stands behind the own one
   pub own_is_last : NamesEarlierPackages set → (k : ℕ) → slice_index_or n.to.packages k false ≡ true → k ≤ own
   -- the rows of a set's package are as those of a package in form

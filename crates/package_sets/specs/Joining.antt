@@ -1,5 +1,5 @@
 -- Where what a closed table has stands in a set with its package: its imports where the set has them, its own behind all of the set.
-use Rattle.std.specs.Prelude.{◌≡◌, ◌<◌, ◌+◌, ◌-◌, ◌&&◌, ℕ, zero, suc, Bool, true, false, List, [], ◌∷◌, ◌++◌, take, drop, length, slice_get, slice_index_or, Option, None, Some, if◌then◌else◌}
+use Rattle.std.specs.Prelude.{◌≡◌, ◌<◌, ◌+◌, ◌-◌, ◌&&◌, ℕ, Bool, true, false, List, [], ◌∷◌, ◌++◌, take, drop, length, slice_get, slice_index_or, Option, None, Some, if◌then◌else◌}
 use Rattle.std.specs.Str.{bytes_eq}
 use Rattle.package_form.specs.Ends.{end_of}
 use Rattle.package_form.specs.Closed.{own_package, is_same_package}
@@ -9,6 +9,7 @@ use Rattle.tables.specs.declared.tables.Interface.{Interface}
 use Rattle.tables.specs.declared.tables.Definition.{Definition}
 use Rattle.tables.specs.declared.tables.Resolve.{Resolve}
 use Rattle.package_form.specs.Reached.{is_interface_of}
+use Rattle.std.specs.List.{range_with_len}
 
 -- ---- imports
 
@@ -48,11 +49,6 @@ pub record AreFound (set closed : Resolve) (is : List Interface) (places : List 
   pub count : length places ≡ length is
   pub each : (k : ℕ) (i : Interface) → slice_get is k ≡ Some i → IsFirst (has_name_of set closed i) set.interfaces (slice_index_or places k 0)
 
--- so many places, one behind the other
-abbrev pub numbers_from : ℕ → ℕ → List ℕ
-numbers_from first zero = []
-numbers_from first (suc count) = first ∷ numbers_from (first + 1) count
-
 abbrev pub end_in : Option Interface → ℕ
 end_in None = 0
 end_in (Some x) = end_of 0 x
@@ -62,14 +58,14 @@ abbrev pub row_places : Resolve → ℕ → List Interface → List ℕ → List
 row_places set start [] js = []
 row_places set start (i ∷ is) [] = []
 row_places set start (i ∷ is) (j ∷ js) =
-    numbers_from (end_in (slice_get set.interfaces j) - (end_of start i - start)) (end_of start i - start) ++ row_places set (end_of start i) is js
+    range_with_len (end_in (slice_get set.interfaces j) - (end_of start i - start)) (end_of start i - start) ++ row_places set (end_of start i) is js
 
 abbrev pub import_rows : Resolve → Resolve → List ℕ → List ℕ
 import_rows set closed js = row_places set 0 (imports closed) js
 
 -- the places of a whole list, whose first elements have these places, and the others stand behind so many
 abbrev pub all_places : List ℕ → ℕ → ℕ → List ℕ
-all_places front behind count = front ++ numbers_from behind (count - length front)
+all_places front behind count = front ++ range_with_len behind (count - length front)
 
 abbrev pub place_in : List ℕ → ℕ → ℕ
 place_in places k = slice_index_or places k 0

@@ -1,7 +1,6 @@
 -- A part of a set that names nothing outside itself, and the table of it.
 use Rattle.std.specs.Prelude.{◌≡◌, ◌<◌, ℕ, true, false, map, flat_map, length, slice_get, slice_index_or, Option, None, Some, Contains}
 use Rattle.set_rows.specs.Owners.{owners}
-use Rattle.set_rows.specs.Places.{kept}
 use Rattle.set_rows.specs.Renamed.{renaming}
 use Rattle.set_rows.specs.Moved.{put_interface, put_world, put_row}
 use Rattle.set_rows.specs.Reaches.{Marks, is_marked, owners_in, named_owners}
@@ -13,6 +12,7 @@ use Rattle.tables.specs.declared.tables.Definition.{Definition}
 use Rattle.tables.specs.declared.tables.Interface.{Interface}
 use Rattle.tables.specs.declared.tables.World.{World}
 use Rattle.tables.specs.declared.tables.Resolve.{Resolve}
+use Rattle.std.specs.List.{items_where_true}
 
 abbrev pub of_world : ℕ → Option Owner
 of_world k = Some (owner.World (record { 0 = k }))
@@ -35,7 +35,7 @@ pub record IsPart (set : Resolve) (to : Moved) : Type 0 where
 
 -- the table of it
 pub record IsTableOf (set : Resolve) (to : Moved) (r : Resolve) : Type 0 where
-  pub packages : r.packages ≡ kept to.packages set.packages
-  pub interfaces : r.interfaces ≡ map (put_interface (renaming to)) (kept to.interfaces set.interfaces)
-  pub worlds : r.worlds ≡ map (put_world (renaming to)) (kept to.worlds set.worlds)
-  pub definitions : r.definitions ≡ map (put_row (renaming to)) (kept to.rows set.definitions)
+  pub packages : r.packages ≡ items_where_true to.packages set.packages
+  pub interfaces : r.interfaces ≡ map (put_interface (renaming to)) (items_where_true to.interfaces set.interfaces)
+  pub worlds : r.worlds ≡ map (put_world (renaming to)) (items_where_true to.worlds set.worlds)
+  pub definitions : r.definitions ≡ map (put_row (renaming to)) (items_where_true to.rows set.definitions)

@@ -1,12 +1,11 @@
 -- A set as one table, in which each package is a place: what is asked of it so that each package's own table is one that packages have.
 use Rattle.std.specs.Prelude.{◌≡◌, ◌≤◌, ◌<◌, ℕ, ◌+◌, Bool, true, List, ◌||◌, map, sum, length, All}
-use Rattle.std.specs.List.{list_any}
+use Rattle.std.specs.List.{list_any, items_where_true}
 use Rattle.package_form.specs.Entries.{entries_of, world_entries}
 use Rattle.package_form.specs.Form.{IsInPackageForm}
 use Rattle.package_form.specs.Naming.{package_scopes}
 use Rattle.package_form.specs.Scope.{AreDistinct}
 use Rattle.set_rows.specs.Owners.{owners}
-use Rattle.set_rows.specs.Places.{kept}
 use Rattle.set_rows.specs.Reaches.{Marks, is_marked, OfPackage, AreReached}
 use Rattle.package_sets.specs.Attached.{IsAttached}
 use Rattle.package_sets.specs.BehindImports.{IsBehindImports}
@@ -20,7 +19,7 @@ use Rattle.package_form.specs.Reached.{is_interface_of}
 -- the type entries of what is kept of a set
 abbrev pub kept_entries : Resolve → List Bool → List Bool → List Bool → ℕ
 kept_entries set interfaces worlds rows =
-    1 + length (kept interfaces set.interfaces) + (sum (map world_entries (kept worlds set.worlds)) + sum (map entries_of (kept rows set.definitions)))
+    1 + length (items_where_true interfaces set.interfaces) + (sum (map world_entries (items_where_true worlds set.worlds)) + sum (map entries_of (items_where_true rows set.definitions)))
 
 -- .. of what the package at this place reaches, by its marks
 abbrev pub package_entries : Resolve → ℕ → Marks → ℕ

@@ -2,10 +2,11 @@
 ghost use Rattle.std.specs.Prelude.{◌≡◌, ◌++◌, ℕ, ◌≤◌, List, length, take, drop, IfOk, IfErr, OnOk, MatchOption, slice_get, ◌⊎◌};
 ghost use Rattle.package_form.specs.Ends.{end_of};
 ghost use Rattle.package_form.specs.Closed.{is_same_package};
-ghost use Rattle.package_sets.specs.Joining.{import_count, imports, own_interfaces, has_name_of, place_in, IsFirst, AreFound, numbers_from, end_in, row_places, import_rows, all_places};
+ghost use Rattle.package_sets.specs.Joining.{import_count, imports, own_interfaces, has_name_of, place_in, IsFirst, AreFound, end_in, row_places, import_rows, all_places};
 ghost use Rattle.package_sets.specs.Attached.{has_package};
 ghost use Rattle.package_sets.specs.Joined.{joined_places, AreJoined};
 ghost use Rattle.package_sets.specs.declared.error.AttachError.TheVariants.{NotThisShape, NoMemory};
+ghost use Rattle.std.specs.List.{range_with_len};
 
 use crate::error::AttachError;
 use package_form::{end_of, is_same_version, own_package};
@@ -171,7 +172,7 @@ fn found(
 
 /// So many places more, one behind the other. 46 where there is no id for one.
 fn push_places(places: &mut Vec<u32>, first: usize, count: usize) -> Result<(), AttachError>
-    ensures ok { OnOk result (places.new.items ≡ places.old.items ++ numbers_from first count) }
+    ensures ok { OnOk result (places.new.items ≡ places.old.items ++ range_with_len first count) }
     ensures err { IfErr result (λ e. e ≡ NoMemory) }
 {
     let Some(end) = first.checked_add(count) else {

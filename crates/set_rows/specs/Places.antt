@@ -1,13 +1,6 @@
 -- Some elements of a list, and where they stand among themselves.
 use Rattle.std.specs.Prelude.{ℕ, zero, suc, ◌+◌, Bool, true, false, List, [], ◌∷◌}
 
--- the elements with a mark
-abbrev pub kept : {A : Type 0} → List Bool → List A → List A
-kept [] xs = []
-kept (b ∷ bs) [] = []
-kept (true ∷ bs) (x ∷ xs) = x ∷ kept bs xs
-kept (false ∷ bs) (x ∷ xs) = kept bs xs
-
 -- the place of the element at place k among those: how many marks stand before it
 abbrev pub place : List Bool → ℕ → ℕ
 place [] k = 0

@@ -1,7 +1,7 @@
 //! What a table has, as it stands in another table.
 ghost use Rattle.std.specs.Prelude.{◌≡◌, ◌++◌, IfOk, OnOk, map, option_map, filter};
-ghost use Rattle.set_rows.specs.Places.{kept};
 ghost use Rattle.set_rows.specs.Moved.{put_id, put_function_id, put_interface_id, put_package_id, put_val, put_owner, put_kind, put_name, put_type, put_field, put_case, put_parameter, put_function, put_row, put_interface, put_item, put_world, has_type, has_function};
+ghost use Rattle.std.specs.List.{items_where_true};
 
 use crate::places::Places;
 use atoms::Label;
@@ -139,7 +139,7 @@ pub fn moved_types<P: Placed>(
     Ok(Sequence::new(moved))
 }
 
-/// .. of its functions.
+/// The ids of an interface's functions, of which those of rows that are kept stay.
 pub fn moved_functions<P: Placed>(
     alloc: Global,
     ids: &Sequence<FunctionId>,
@@ -163,7 +163,7 @@ pub trait Movable: Sized {
 
     ghost put: { Renaming → Self → Self };
 
-    /// The same there.
+    /// The same value in the other table.
     fn moved<P: Placed>(&self, alloc: Global, to: &P) -> Result<Self, AllocError>
         ensures { IfOk result (λ x. x ≡ put (P.renaming to.now) self.now) };
 }
@@ -204,7 +204,7 @@ pub fn moved_kept<T: Movable + Drop, P: Placed>(
     places: &Places,
     to: &P,
 ) -> Result<Sequence<T>, AllocError>
-    ensures { IfOk result (λ xs. xs ≡ map (T.put (P.renaming to.now)) (kept places.now items.now)) }
+    ensures { IfOk result (λ xs. xs ≡ map (T.put (P.renaming to.now)) (items_where_true places.now items.now)) }
 {
     let mut moved = Vec::new(alloc);
     for (place, item) in items.as_slice().iter().enumerate() {

@@ -2,7 +2,7 @@
 use Rattle.std.proofs.Common.{◌≡◌, ℕ, ◌+◌, ◌<◌, ◌≤◌, Bool, true, false, nat_lt, List, [], ◌∷◌, ◌++◌, map, flat_map, length, slice_index, Option, None, Some, refl, sym, subst, append_assoc, arith}
 use Rattle.std.proofs.lemmas.Bool.Decides.{nat_tests}
 use Rattle.std.proofs.lemmas.List.{length-map}
-use Rattle.std.specs.Option.{option_map}
+use Rattle.std.specs.Option.{option_map, option_len}
 use Rattle.ctype_format.specs.Raw.{Defined, Decl}
 use Rattle.ctype_format.specs.View.{decls_of}
 use Rattle.ctype_format.specs.Formed.{All}
@@ -22,7 +22,7 @@ use Rattle.package_form.specs.Postfix.{is_inner}
 use Rattle.package_form.specs.Ids.{is_use}
 use Rattle.package_form.specs.Entries.{entries_under, entries_of}
 use Rattle.package_form.specs.References.{type_references, references_if, field_references, case_references, parameter_references, kind_references, row_references}
-use Rattle.wit_component.specs.Rows.{Place, valtype_of, field_of, parameter_of, case_of, signature_of, defined_of, definition_declared, definition_index, type_export, row_declarations, defined_types, exported_types, place_after}
+use Rattle.wit_component.specs.Rows.{Place, valtype_of, field_of, parameter_of, case_of, signature_of, defined_of, definition_declared, definition_index, type_export, row_declarations, defined_types, place_after}
 use Rattle.wit_component.specs.Component.{instance_export, row_alias}
 use Rattle.package_form.specs.Reached.{used_by, name_at}
 
@@ -126,7 +126,7 @@ module _ (count instances : ℕ) (at : Place) where
   index-range (kind.Enum ns) h = omega arith
   index-range (kind.Flags ns) h = omega arith
 
-  export-range : (o : Option TypeName) (types i : ℕ) (rest : List Decl) → i < types → Ranged (types + exported_types o) rest → Ranged types (type_export o i ++ rest)
+  export-range : (o : Option TypeName) (types i : ℕ) (rest : List Decl) → i < types → Ranged (types + option_len o) rest → Ranged types (type_export o i ++ rest)
   unfolding DeclsInRange
   export-range None types i rest lt r = at-count (types + 0) types rest (omega arith) r
   export-range (Some n) types i rest lt r = (lt, r)
@@ -134,11 +134,11 @@ module _ (count instances : ℕ) (at : Place) where
   pub row-range : (d : Definition) (rest : List Decl) → All (IsKnown at.indices at.types) (row_references d) → (is_use_def d ≡ true → at.used < count) → Ranged (place_after at d).types rest → Ranged at.types (row_declarations at d ++ rest)
   unfolding DeclsInRange
   row-range (row.Type d) rest h used r =
-      let all : at.types + (defined_types d.kind + exported_types d.name) ≡ at.types + defined_types d.kind + exported_types d.name = omega arith in
+      let all : at.types + (defined_types d.kind + option_len d.name) ≡ at.types + defined_types d.kind + option_len d.name = omega arith in
       subst (λ (ds : List Decl). Ranged at.types ds) (sym (append_assoc (definition_declared at d.kind) (type_export d.name (definition_index at d.kind)) rest))
       (definition-range d.kind (type_export d.name (definition_index at d.kind) ++ rest) h used
       (export-range d.name (at.types + defined_types d.kind) (definition_index at d.kind) rest (index-range d.kind h)
-      (at-count (at.types + (defined_types d.kind + exported_types d.name)) (at.types + defined_types d.kind + exported_types d.name) rest all r)))
+      (at-count (at.types + (defined_types d.kind + option_len d.name)) (at.types + defined_types d.kind + option_len d.name) rest all r)))
   row-range (row.Function f) rest h used r = (signature-range at.indices at.types f h, (omega arith, r))
 
 -- ---- counts

@@ -15,13 +15,14 @@ use Rattle.tables.specs.declared.tables.Definition.{Definition}
 use Rattle.tables.specs.declared.tables.Definition.TheVariants as row
 use Rattle.package_form.specs.Postfix.{is_unnamed, is_unnamed_row, one_if, is_inner}
 use Rattle.package_form.specs.References.{row_references}
-use Rattle.wit_component.specs.Rows.{Place, defined_types, exported_types, row_types, export_offset, row_offset, place_after}
+use Rattle.wit_component.specs.Rows.{Place, defined_types, row_types, export_offset, row_offset, place_after}
 use Rattle.package_form.specs.Reached.{name_of}
 use Rattle.package_form.specs.Form.{is_own_name, is_own_type, is_own, uses_earlier, is_owned}
 use Rattle.package_form.specs.Unused.{unnamed_at, inner_rows, closes, unused_after}
 use Rattle.package_form.proofs.Fronts.{stands_before}
 use Rattle.tables.proofs.Rows.{split}
 use Rattle.wit_component.proofs.AcceptedRows.{all-split, StandsSo, CanStand, IsKnown}
+use Rattle.std.specs.Option.{option_len}
 
 -- ---- lists
 
@@ -55,7 +56,7 @@ inner-types (kind.Variant cs) h = absurd (cc)
 inner-types (kind.Enum ns) h = absurd (cc)
 inner-types (kind.Flags ns) h = absurd (cc)
 
-type-offset : (o : Option TypeName) (k : TypeDefKind) → StandsSo o k → export_offset o k < defined_types k + exported_types o
+type-offset : (o : Option TypeName) (k : TypeDefKind) → StandsSo o k → export_offset o k < defined_types k + option_len o
 type-offset None k h = let one = inner-types k (h refl) in omega (arith, one)
 type-offset (Some n) k h = omega arith
 

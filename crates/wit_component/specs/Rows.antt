@@ -1,6 +1,6 @@
 -- Binary.md, "Type Definitions": the declarations of an instance type for the rows of an interface.
 use Rattle.std.specs.Prelude.{ℕ, ◌+◌, List, [], ◌∷◌, ◌++◌, map, slice_index, Option, None, Some, if◌then◌else◌}
-use Rattle.std.specs.Option.{option_map}
+use Rattle.std.specs.Option.{option_map, option_len}
 use Rattle.ctype_format.specs.Raw.{Defined, Prim, Record, Variant, ListOf, Tuple, FlagSet, Enumeration, OptionOf, ResultOf, BinaryFunction, Define, Func, Decl, Entry, Alias, Export}
 use Rattle.ctype_format.specs.declared.raw.Primitive.{Primitive as RawPrimitive}
 use Rattle.ctype_format.specs.declared.raw.Primitive.TheVariants as raw
@@ -111,12 +111,8 @@ abbrev pub defined_types : TypeDefKind → ℕ
 defined_types (kind.Alias (val.Id t)) = 0
 defined_types _ = 1
 
-abbrev pub exported_types : Option TypeName → ℕ
-exported_types None = 0
-exported_types (Some n) = 1
-
 abbrev pub row_types : Definition → ℕ
-row_types (row.Type d) = defined_types d.kind + exported_types d.name
+row_types (row.Type d) = defined_types d.kind + option_len d.name
 row_types (row.Function f) = 1
 
 -- a type with a name is referred to by the index that its export took, one without by its definition's

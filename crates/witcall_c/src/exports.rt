@@ -72,7 +72,7 @@ fn open(alloc: Global, inputs: &[&[u8]], handle: &mut Handle) -> Status
     }
 }
 
-/// Opens a package. The handle is written in any case, and stands for nothing where there was no memory for it (66). What it stood for is forgotten.
+/// Opens a package. The handle is written in any case; after 66 no memory it holds nothing. It does not free what the handle held before: close that first.
 #[unsafe(no_mangle)]
 pub extern "C" fn witcall_open(alloc: Global, bytes: &[u8], handle: &mut Handle) -> Status
     ensures { Opens (bytes.now ∷ []) (stands_for handle.new) result }

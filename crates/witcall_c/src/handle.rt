@@ -16,7 +16,7 @@ pub struct Handle {
     ghost closed: { (is_open ≡ 0) ↔ (kept.held ≡ None) },
 }
 
-/// Asks that a value may go to another thread.
+/// Compiles only if `T` is `Send`.
 fn crosses_threads<T: Send>(_value: &T) {}
 
 impl Handle {
@@ -44,7 +44,7 @@ impl Handle {
         Some(kept.into_box(alloc))
     }
 
-    /// Lets it stand for this. What it stood for is forgotten.
+    /// Lets it hold this. It does not free what it held before: take that first.
     pub fn put(&mut self, held: Box<Held>)
         ensures { self.new.kept.held ≡ Some held.value }
     {
@@ -64,7 +64,7 @@ impl Handle {
         }
     }
 
-    /// Lets it stand for nothing. What it stood for is forgotten.
+    /// Lets it hold nothing. It does not free what it held before: take that first.
     pub fn clear(&mut self)
         ensures { self.new.kept.held ≡ None }
     {

@@ -1,6 +1,6 @@
 use Rattle.std.proofs.Common.{◌∙◌}
 use Rattle.std.proofs.lemmas.List.{map-id}
-use Rattle.set_rows.specs.Places.{kept}
+use Rattle.std.specs.List.{items_where_true}
 use Rattle.package_sets.proofs.Restricting as table
 use Rattle.package_sets.proofs.part.part_table.Goals as goal
 
@@ -9,7 +9,7 @@ invariant_of-result c =
     let s = c.args.set.now in
     let to = c.args.to.now in
     let n = c.requires in
-    let packages = c.in_ok-moved_kept.ensures ∙ map-id (kept to.packages s.packages) in
+    let packages = c.in_ok-moved_kept.ensures ∙ map-id (items_where_true to.packages s.packages) in
     let interfaces = c.in_ok-moved_kept-2.ensures in
     let worlds = c.in_ok-moved_kept-3.ensures in
     let rows = c.in_ok-moved_kept-4.ensures in
@@ -28,7 +28,7 @@ returns c =
     let s = c.args.set.now in
     let to = c.args.to.now in
     record {
-      packages = c.in_ok-moved_kept.ensures ∙ map-id (kept to.packages s.packages);
+      packages = c.in_ok-moved_kept.ensures ∙ map-id (items_where_true to.packages s.packages);
       interfaces = c.in_ok-moved_kept-2.ensures;
       worlds = c.in_ok-moved_kept-3.ensures;
       definitions = c.in_ok-moved_kept-4.ensures;
