@@ -261,7 +261,7 @@ impl ComponentReader {
 }
 
 /// Whether a package has the name in a full name.
-fn has_name(package: &PackageName, name: FullNameParts<'_>) -> bool
+fn is_same_package(package: &PackageName, name: FullNameParts<'_>) -> bool
     ensures { result ≡ is_same_package «package».now (package_parts (parts_view name.entry)) }
 {
     package.namespace.as_bytes() == name.namespace
@@ -270,11 +270,11 @@ fn has_name(package: &PackageName, name: FullNameParts<'_>) -> bool
 }
 
 /// Whether the last of these packages has the name in a full name.
-fn is_of_last(packages: &[PackageName], name: FullNameParts<'_>) -> bool
+fn has_name(packages: &[PackageName], name: FullNameParts<'_>) -> bool
     ensures { result ≡ has_name (slice_get packages.now (length packages.now - 1)) (package_parts (parts_view name.entry)) }
 {
     match packages.last() {
-        Some(package) => has_name(package, name),
+        Some(package) => is_same_package(package, name),
         None => false,
     }
 }
@@ -311,7 +311,7 @@ fn package_of(
     ensures packages { OnOk result (packages.new.items ≡ with_package packages.old.items (package_in_name (full_name_text (parts_view name.entry)))) }
     ensures last { IfOk result (λ id. id ≡ last_package packages.new.items) }
 {
-    if !is_of_last(packages, name) {
+    if !has_name(packages, name) {
         packages.push(package_name(alloc, name)?)?;
     }
     last_package(packages)

@@ -12,7 +12,7 @@ use tables::{Definition, InterfaceId, Name, Owner, PackageId, Resolve, WorldId};
 use values::Types;
 
 /// Where a row has its name, if it has one.
-pub(crate) fn owner_of(definition: &Definition) -> Option<Owner>
+pub(crate) fn stated_owner(definition: &Definition) -> Option<Owner>
     ensures { result ≡ stated_owner definition.now }
 {
     match definition {

@@ -7,7 +7,7 @@ ghost use Rattle.host_lists.specs.Told.{TellsOfTable};
 
 use crate::kinds::type_number;
 use crate::members::member_count;
-use crate::owners::{owner_numbers, owner_of};
+use crate::owners::{owner_numbers, stated_owner};
 use host_calls::{CallError, told};
 use tables::{Definition, TypeDefKind, TypeId, ValType};
 use values::Types;
@@ -86,7 +86,7 @@ fn row_at(types: &Types, number: u32) -> Option<RowInfo>
 {
     let definitions = types.resolve().definitions.as_slice();
     let definition = definitions.get(number as usize)?;
-    let (owner_kind, owner) = owner_numbers(owner_of(definition));
+    let (owner_kind, owner) = owner_numbers(stated_owner(definition));
     Some(RowInfo {
         ty: type_info(types, Some(ValType::Id(TypeId(number)))),
         target: type_info(types, target_of(definition)),

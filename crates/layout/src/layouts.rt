@@ -17,7 +17,7 @@ use crate::error::LayoutError;
 use crate::kinds::Kinds;
 use crate::parts::Parts;
 use crate::queries::{CaseInfo, FieldInfo, Shape};
-use crate::rows::{Row, count_in, end_of, extent_in, lay_definition, look, row_in};
+use crate::rows::{Row, count_in, final_type, extent_in, lay_definition, look, row_in};
 use crate::signature::{
     CoreSignature, are_lowered, lifted_of, lowered_of, passed_count, result_of,
 };
@@ -244,13 +244,13 @@ impl Layouts {
     }
 
     /// What a type stands for in the end.
-    fn end(&self, ty: ValType) -> ValType
+    fn final_type(&self, ty: ValType) -> ValType
         requires { IsTrue (is_below (length self.now.rows) ty) }
         ensures value { result ≡ final_type self.now.parts ty }
         ensures below { IsTrue (is_below (length self.now.rows) result) }
         ensures end { IsTrue (is_end self.now.parts result) }
     {
-        end_of(self.parts.as_slice(), ty)
+        final_type(self.parts.as_slice(), ty)
     }
 
     fn shape_of(&self, end: ValType) -> Shape
@@ -290,7 +290,7 @@ impl Layouts {
         requires { IsTrue (is_below (length self.now.rows) ty) }
         ensures { (r : Resolve) → self.now ≡ layouts_of r → IsShaped (closed_type r) (length self.now.rows) (closed_type r ty) result }
     {
-        self.shape_of(self.end(ty))
+        self.shape_of(self.final_type(ty))
     }
 
     /// A field of a record or a tuple, with its place; None where the type has no such field.
@@ -298,7 +298,7 @@ impl Layouts {
         requires { IsTrue (is_below (length self.now.rows) ty) }
         ensures { (r : Resolve) → self.now ≡ layouts_of r → TellsField (closed_type r) (length self.now.rows) (closed_type r ty) index result }
     {
-        self.field_of(self.end(ty), index)
+        self.field_of(self.final_type(ty), index)
     }
 
     /// The place of a field in bytes; None where the type has no such field.
@@ -317,6 +317,6 @@ impl Layouts {
         requires { IsTrue (is_below (length self.now.rows) ty) }
         ensures { (r : Resolve) → self.now ≡ layouts_of r → TellsCase (closed_type r) (length self.now.rows) (closed_type r ty) index result }
     {
-        self.case_of(self.end(ty), index)
+        self.case_of(self.final_type(ty), index)
     }
 }

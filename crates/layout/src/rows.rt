@@ -398,7 +398,7 @@ fn lay_variant<C: Choice>(
 }
 
 /// What a type stands for in the end.
-pub(crate) fn end_of(parts: &[Parts], ty: ValType) -> ValType
+pub(crate) fn final_type(parts: &[Parts], ty: ValType) -> ValType
     requires { IsTrue (is_below (length parts.now) ty) }
     ensures { result ≡ final_type parts.now ty }
 {
@@ -431,7 +431,7 @@ fn lay_name(
     let row = limited(look(rows, target, steps))?;
     Ok(Laid {
         row,
-        parts: Parts::Same(end_of(parts, target)),
+        parts: Parts::Same(final_type(parts, target)),
     })
 }
 

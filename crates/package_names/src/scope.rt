@@ -14,7 +14,7 @@ use tables::{Name, ResolveError};
 pub const FEW: usize = 16;
 
 /// A name in lower case.
-fn lower_case(alloc: Global, name: &str) -> Result<String, AllocError>
+fn lowered(alloc: Global, name: &str) -> Result<String, AllocError>
     ensures { IfOk result (λ s. string_bytes s ≡ lowered name.now) }
 {
     let mut lower = String::from_str(alloc, name)?;
@@ -53,7 +53,7 @@ impl NameTable {
         ensures ok { OnOk result (self.new ≡ self.old ++ lowered name ∷ []) }
         ensures err { IfErr result (λ e. (e ≡ ResolveError.NoMemory) ⊎ ((e ≡ ResolveError.Duplicate name) × Contains self.old (lowered name))) }
     {
-        if self.insert(lower_case(alloc, name.as_str())?)? {
+        if self.insert(lowered(alloc, name.as_str())?)? {
             Ok(())
         } else {
             Err(ResolveError::Duplicate(name))
@@ -144,6 +144,6 @@ impl<'a> Scope<'a> {
             self.few.push(name);
             return Ok(true);
         }
-        self.many.insert(lower_case(alloc, name)?)
+        self.many.insert(lowered(alloc, name)?)
     }
 }

@@ -25,8 +25,8 @@ returns c =
     let at = there r c.resolve.result.now c.as_slice-definitions.result.now c.args.number d c.as_slice-definitions.ensures c.resolve.ensures read.3.0 read.1 in
     let ty = c.type_info.ensures in
     let target = c.type_info-2.ensures ∙ ap (type_info r) c.target_of.ensures in
-    let kind = c.owner_numbers-owner_kind.ensures.kind ∙ ap owner_kind c.owner_of.ensures in
-    let owner = c.owner_numbers-owner_kind.ensures.number ∙ ap owner_number c.owner_of.ensures in
+    let kind = c.owner_numbers-owner_kind.ensures.kind ∙ ap owner_kind c.stated_owner.ensures in
+    let owner = c.owner_numbers-owner_kind.ensures.number ∙ ap owner_number c.stated_owner.ensures in
     let members = c.told.ensures ∙ ap told c.member_count.ensures in
     let found : RowInfo = record { ty = c.type_info.result; target = c.type_info-2.result; owner_kind = c.owner_numbers-owner_kind.result.0; owner = c.owner_numbers-owner_kind.result.1; members = c.told.result } in
     let same : found ≡ row_info r c.args.number d = cc (ty, target, kind, owner, members) in

@@ -3,5 +3,5 @@ use Rattle.layout.proofs.layouts.Layouts.shape.Goals as goal
 
 pub returns : goal.returns
 returns c = λ r e.
-    let end : IsEndOf c.args.self.now c.args.ty c.end.result = record { is = c.end.ensures.value; within = c.requires; below = c.end.ensures.below; end = c.end.ensures.end } in
-    shape-answer r c.args.self.now e c.args.ty c.end.result _ end c.shape_of.ensures
+    let end : IsEndOf c.args.self.now c.args.ty c.final_type.result = record { is = c.final_type.ensures.value; within = c.requires; below = c.final_type.ensures.below; end = c.final_type.ensures.end } in
+    shape-answer r c.args.self.now e c.args.ty c.final_type.result _ end c.shape_of.ensures

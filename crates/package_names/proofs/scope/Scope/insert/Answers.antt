@@ -13,7 +13,7 @@ returns-clause-new c =
     let few = c.self.inside.few.items in
     let many = c.self.inside.many in
     let low = lowered c.args.name.now in
-    let is : string_bytes c.in_ok-lower_case.field-0 ≡ low = c.in_ok-lower_case.ensures in
+    let is : string_bytes c.in_ok-lowered.field-0 ≡ low = c.in_ok-lowered.ensures in
     let not_few : ¬ Contains (map lowered_name few) low =
     subst (λ (ns : List (Bor (List ℕ))). ¬ Contains (map lowered_name ns) low) c.as_slice.ensures.value (c.is_among.ensures.no c.if-is_among.false) in
     kept c.insert.result _ _ (λ b h t. new-in-both few many c.args.self.now c.self.view_is low not_few (subst (λ (n : List ℕ). ¬ Contains many n) is (h t))) c.insert.ensures.new
@@ -23,5 +23,5 @@ returns-clause-met_before c =
     let few = c.self.inside.few.items in
     let many = c.self.inside.many in
     let low = lowered c.args.name.now in
-    let is : string_bytes c.in_ok-lower_case.field-0 ≡ low = c.in_ok-lower_case.ensures in
+    let is : string_bytes c.in_ok-lowered.field-0 ≡ low = c.in_ok-lowered.ensures in
     kept c.insert.result _ _ (λ b h f. met-in-many few many c.args.self.now c.self.view_is low (subst (λ (n : List ℕ). Contains many n) is (h f))) c.insert.ensures.met_before
