@@ -1,5 +1,6 @@
 //! Decoding a whole input.
-ghost use Rattle.std.specs.Prelude.{◌≡◌, ◌≤◌, ℕ, List, true, false, length, IfOk, IfErr, IfSome, MatchResult, Err};
+ghost use Rattle.std.specs.Prelude.{◌≡◌, ◌≢◌, ◌≤◌, ℕ, List, true, false, length, IfOk, IfErr, IfSome, MatchResult, Err};
+ghost use Rattle.std.specs.Io.KnownBytes.{Consumes};
 ghost use Rattle.atoms.specs.Streams.{ReadsUpTo, ConsumesMany};
 ghost use Rattle.ctype_format.specs.File.{component_file, fault_placed, FaultyBinary, Decodes, DecodesOrReads};
 ghost use Rattle.ctype_format.specs.Raw.{BinaryFile};
@@ -60,6 +61,8 @@ pub fn decode_from<R: Source>(alloc: Global, reader: &mut R) -> Result<RawCompon
     ensures failed { R.has_failed reader.new ≡ true → (n : ℕ) × (result ≡ Err (BinError.Read n)) }
     ensures read { (n : ℕ) → result ≡ Err (BinError.Read n) →
         ((R.has_failed reader.new ≡ true) × ConsumesMany (R.remaining reader.old) (R.remaining reader.new) n) }
+    ensures rest { R.has_failed reader.new ≡ false → result ≢ Err BinError.NoMemory
+        → (bytes : List ℕ) × ReadsUpTo 1048576 (R.remaining reader.old) bytes × Consumes (R.remaining reader.old) (R.remaining reader.new) bytes }
 {
     match read_up_to(alloc, reader, MAX_LENGTH) {
         Ok(bytes) => decode(alloc, &bytes),

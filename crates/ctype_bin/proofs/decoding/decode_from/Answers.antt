@@ -17,3 +17,6 @@ returns-in-Err-Failed-clause-cut g c = some_read raw_component_view (Err NoMemor
 
 pub returns-in-Err-NoMemory-clause-cut : goal.returns-in-Err-NoMemory-clause-cut
 returns-in-Err-NoMemory-clause-cut g c = some_read raw_component_view (Err NoMemory) (g.R.Source.remaining c.args.reader.now) (λ bytes. tt)
+
+pub returns-in-Ok-clause-rest : goal.returns-in-Ok-clause-rest
+returns-in-Ok-clause-rest g c = λ lasts there. (c.in-Ok.bytes.items, c.in-Ok.ensures.bytes, c.in-Ok.ensures.rest)
