@@ -10,6 +10,13 @@ use Rattle.memory.specs.Growth.{most_bytes}
 abbrev pub of_kind : ℕ → Memory → Memory
 of_kind kind memory = record { bytes = memory.bytes; live = memory.live; state = kind ∷ memory.state }
 
+-- the numbers of the kinds
+abbrev pub bump_kind : ℕ
+bump_kind = 0
+
+abbrev pub first_fit_kind : ℕ
+first_fit_kind = 1
+
 -- its kind and its most bytes are given when it is made
 abbrev pub kind_and_most_bytes : List ℕ → List ℕ
 kind_and_most_bytes [] = []
@@ -27,11 +34,11 @@ ReleasesAs kind releases old at size answer new =
 -- the steps of each kind; a further kind is one more alternative
 abbrev pub SpaceAllocates : Allocation
 SpaceAllocates old align size answer new =
-    AllocatesAs 0 BumpAllocates old align size answer new ⊎ AllocatesAs 1 FirstFitAllocates old align size answer new
+    AllocatesAs bump_kind BumpAllocates old align size answer new ⊎ AllocatesAs first_fit_kind FirstFitAllocates old align size answer new
 
 abbrev pub SpaceReleases : Release
 SpaceReleases old at size answer new =
-    ReleasesAs 0 BumpReleases old at size answer new ⊎ ReleasesAs 1 FirstFitReleases old at size answer new
+    ReleasesAs bump_kind BumpReleases old at size answer new ⊎ ReleasesAs first_fit_kind FirstFitReleases old at size answer new
 
 -- a call between two such memories, on a body that may make these runs
 abbrev pub spaces : Run → PostRun → Parties

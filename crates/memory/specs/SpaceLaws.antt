@@ -4,7 +4,7 @@ use Rattle.std.proofs.Common.{sym, ap, ◌∙◌, arith, inl, inr}
 use Rattle.canonical_abi.specs.Guest.{Memory, Allocation, Release, IsAlignment, IsGrant, IsRelease, IsHonest, IsLimited, KeepsLimit}
 use Rattle.memory.specs.BumpLaws.{BumpIsHonest, BumpKeepsLimit}
 use Rattle.memory.specs.FirstFitLaws.{FirstFitIsHonest, FirstFitKeepsLimit}
-use Rattle.memory.specs.Space.{of_kind, AllocatesAs, ReleasesAs, SpaceAllocates, SpaceReleases}
+use Rattle.memory.specs.Space.{of_kind, AllocatesAs, ReleasesAs, SpaceAllocates, SpaceReleases, bump_kind, first_fit_kind}
 
 -- a grant of the kind's allocator is a grant
 grants : (kind : ℕ) (allocates : Allocation) (releases : Release) → IsHonest allocates releases → (old : Memory) (align size at : ℕ) (new : Memory) → IsAlignment align → AllocatesAs kind allocates old align size (Some at) new → IsGrant old align size at new
@@ -57,7 +57,7 @@ either_is_honest allocates others releases returns one two = record {
 
 -- a `Space` is honest, whichever kind it has
 pub SpaceIsHonest : IsHonest SpaceAllocates SpaceReleases
-SpaceIsHonest = either_is_honest _ _ _ _ (kind_is_honest 0 _ _ BumpIsHonest) (kind_is_honest 1 _ _ FirstFitIsHonest)
+SpaceIsHonest = either_is_honest _ _ _ _ (kind_is_honest bump_kind _ _ BumpIsHonest) (kind_is_honest first_fit_kind _ _ FirstFitIsHonest)
 
 -- a memory of any kind whose allocator keeps the limit keeps it
 pub kind_keeps_limit : (kind : ℕ) (allocates : Allocation) → KeepsLimit allocates → KeepsLimit (AllocatesAs kind allocates)
@@ -67,5 +67,5 @@ kind_keeps_limit kind allocates keeps old new align size at (before, after, old_
     let kept : IsLimited after = keeps before after align size at step (omega arith) in omega arith
 
 pub SpaceKeepsLimit : KeepsLimit SpaceAllocates
-SpaceKeepsLimit old new align size at (inl step) few = kind_keeps_limit 0 _ BumpKeepsLimit old new align size at step few
-SpaceKeepsLimit old new align size at (inr step) few = kind_keeps_limit 1 _ FirstFitKeepsLimit old new align size at step few
+SpaceKeepsLimit old new align size at (inl step) few = kind_keeps_limit bump_kind _ BumpKeepsLimit old new align size at step few
+SpaceKeepsLimit old new align size at (inr step) few = kind_keeps_limit first_fit_kind _ FirstFitKeepsLimit old new align size at step few

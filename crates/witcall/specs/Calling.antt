@@ -5,7 +5,7 @@ use Rattle.canonical_abi.specs.Guest.{Memory}
 use Rattle.canonical_abi.specs.Call.{Run, PostRun, World, exact}
 use Rattle.canonical_abi.specs.Session.{TypedCall}
 use Rattle.memory.specs.Holes.{all_free}
-use Rattle.memory.specs.Space.{of_kind, spaces}
+use Rattle.memory.specs.Space.{of_kind, spaces, first_fit_kind}
 use Rattle.tables.specs.Closed.{function_at, function_type}
 use Rattle.tables.specs.Names.{IsNamed}
 use Rattle.tables.specs.declared.tables.FunctionId.{FunctionId}
@@ -21,7 +21,7 @@ use Rattle.witcall.specs.Signature.{function_signature, IsMissing}
 
 -- a memory of so many zeros that may grow to so many, and takes blocks back; all that is usable is one hole
 unfoldable pub fresh : ℕ → ℕ → Memory
-fresh len max = of_kind 1 (all_free len max)
+fresh len max = of_kind first_fit_kind (all_free len max)
 
 -- the compact JSON of the value and a newline
 abbrev pub IsLineOf : Resolve → ValType → Value → List ℕ → Type 0
