@@ -20,41 +20,41 @@ IsOfValues trap.Full = ⊥
 IsOfValues trap.Body = ⊥
 IsOfValues _ = Unit {0}
 
--- the allocator refused a request
-abbrev pub HasRefused : Allocation → Type 0
-HasRefused allocates = (old new : Memory) × (align size : ℕ) × allocates old align size None new
+-- the allocator may refuse a request
+abbrev pub MayRefuse : Allocation → Type 0
+MayRefuse allocates = (old new : Memory) × (align size : ℕ) × allocates old align size None new
 
--- the allocator gave an address that is no multiple of the alignment
-abbrev pub HasMisaligned : Allocation → Type 0
-HasMisaligned allocates = (old new : Memory) × (align size at : ℕ) × allocates old align size (Some at) new × (at % align ≢ 0)
+-- the allocator may give an address that is no multiple of the alignment
+abbrev pub MayMisalign : Allocation → Type 0
+MayMisalign allocates = (old new : Memory) × (align size at : ℕ) × allocates old align size (Some at) new × (at % align ≢ 0)
 
--- the allocator gave a block that ends past the memory
-abbrev pub HasPassed : Allocation → Type 0
-HasPassed allocates = (old new : Memory) × (align size at : ℕ) × allocates old align size (Some at) new × (length new.bytes < at + size)
+-- the allocator may give a block that ends past the memory
+abbrev pub MayPass : Allocation → Type 0
+MayPass allocates = (old new : Memory) × (align size at : ℕ) × allocates old align size (Some at) new × (length new.bytes < at + size)
 
--- what an allocator did where a trap of this kind tells of a request; no other kind does
+-- what an allocator has to allow for a trap of this kind to tell of a request; no other kind does
 abbrev pub IsOfAllocator : Allocation → TrapKind → Type 0
-IsOfAllocator allocates trap.Full = HasRefused allocates
-IsOfAllocator allocates trap.Align = HasMisaligned allocates
-IsOfAllocator allocates trap.Bounds = HasPassed allocates
+IsOfAllocator allocates trap.Full = MayRefuse allocates
+IsOfAllocator allocates trap.Align = MayMisalign allocates
+IsOfAllocator allocates trap.Bounds = MayPass allocates
 IsOfAllocator allocates _ = ⊥
 
--- the body, or its post-return, stopped by itself
-abbrev pub BodyHasStopped : Run → Type 0
-BodyHasStopped runs = (state : List ℕ) × (memory : Memory) × (flats : List Flat) × (state' : List ℕ) × (memory' : Memory) × runs state memory flats state' memory' None
+-- the body, or its post-return, may stop by itself
+abbrev pub BodyMayStop : Run → Type 0
+BodyMayStop runs = (state : List ℕ) × (memory : Memory) × (flats : List Flat) × (state' : List ℕ) × (memory' : Memory) × runs state memory flats state' memory' None
 
-abbrev pub PostHasStopped : PostRun → Type 0
-PostHasStopped posts = (state : List ℕ) × (memory : Memory) × (flats : List Flat) × (state' : List ℕ) × (memory' : Memory) × posts state memory flats state' memory' None
+abbrev pub PostMayStop : PostRun → Type 0
+PostMayStop posts = (state : List ℕ) × (memory : Memory) × (flats : List Flat) × (state' : List ℕ) × (memory' : Memory) × posts state memory flats state' memory' None
 
 -- the cause of a trap of a call, by its step
 abbrev pub HasCause : Parties → Step → TrapKind → Type 0
 HasCause parties step.LiftArgs k = IsOfValues k
 HasCause parties step.LowerArgs k = IsOfAllocator parties.callee_allocates k
-HasCause parties step.Body k = (k ≡ trap.Body) × BodyHasStopped parties.runs
+HasCause parties step.Body k = (k ≡ trap.Body) × BodyMayStop parties.runs
 HasCause parties step.LiftResult k = IsOfValues k
 -- the return area that the call was given is tested in this step too
 HasCause parties step.LowerResult k = IsOfValues k ⊎ IsOfAllocator parties.caller_allocates k
-HasCause parties step.Post k = (k ≡ trap.Body) × PostHasStopped parties.posts
+HasCause parties step.Post k = (k ≡ trap.Body) × PostMayStop parties.posts
 -- a text or a list of more bytes than any may have is not asked for
 HasCause parties step.Place k = (k ≡ trap.Bounds) ⊎ IsOfAllocator parties.caller_allocates k
 HasCause parties step.Take k = IsOfValues k

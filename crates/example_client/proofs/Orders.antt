@@ -1,6 +1,6 @@
 -- What the promise says of an order.
 use Rattle.std.proofs.Common.{◌≡◌, inl, inr, ℕ, zero, suc, ◌+◌, ◌-◌, ◌%◌, ◌^◌, ◌<◌, ◌≤◌, true, List, [], ◌∷◌, length, map, drop, get_or-drop, slice_range, Option, Some, Result, Ok, Err, String, Global, string_bytes, refl, sym, ap, ◌∙◌, subst, arith, rules}
-use Rattle.std.specs.Prelude.{OnOk}
+use Rattle.std.specs.Prelude.{IfOk, option_map}
 use Rattle.std.specs.Str.{is_utf8}
 use Rattle.canonical_abi.specs.Types.{int32, boolean, unsigned, signed, scalar_value, ClosedType, prim_type, string_type, list_type, record_type, variant_type, flags_type, Fields, no_field, field, Cases, no_case, plain_case, case_with, FunctionType}
 use Rattle.canonical_abi.specs.Values.{string_value, unsigned_value, HasType, HaveTypes, IsOfCase}
@@ -122,7 +122,7 @@ stands m item count flats (kinds, inr (fits, held)) = absurd (cc)
 
 module _ (runs : Run) (posts : PostRun) (f : FunctionType) (item : List ℕ) (count : ℕ) (old new : World) where
   pub found : (result : Result (Option Val) Fault) → TakesOrder f → KeepsPromise (spaces runs posts) exact f (string_value item ∷ unsigned_value int32 count ∷ []) old (typed_answer result) new
-      → OnOk result (FindsOrder item count runs posts old.body new.body new.callee)
+      → IfOk result (λ v. FindsOrder item count f (option_map value_of v) runs posts old.body new.body new.callee)
   found (Ok v) is promise =
       let ran = promise.lifts.1 in
       let once = promise.lifts.2 in
@@ -139,6 +139,7 @@ module _ (runs : Run) (posts : PostRun) (f : FunctionType) (item : List ℕ) (co
         memory_after = ran.callee;
         answer = promise.lifts.0;
         run = subst (λ s. runs s once.entered.callee once.handed ran.body ran.callee (Some promise.lifts.0)) once.same_body once.run;
+        lifted = promise.lifts.3.lifted;
         post = promise.lifts.4;
       }
   found (Err e) is promise = tt

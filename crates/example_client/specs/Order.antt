@@ -1,6 +1,9 @@
 -- An order: what its body finds, and what its caller keeps.
-use Rattle.std.specs.Prelude.{◌≡◌, ℕ, ◌+◌, ◌≤◌, true, List, [], ◌∷◌, Some, length, map, slice_range}
-use Rattle.canonical_abi.specs.Types.{int32, unsigned, prim_type, string_type, no_field, field, FunctionType}
+use Rattle.std.specs.Prelude.{◌≡◌, ℕ, ◌+◌, ◌≤◌, true, List, [], ◌∷◌, Some, length, map, slice_range, Option, option_to_list}
+use Rattle.canonical_abi.specs.Types.{int32, unsigned, prim_type, string_type, no_field, field, FunctionType, result_fields}
+use Rattle.canonical_abi.specs.Values.{Value}
+use Rattle.canonical_abi.specs.Layout.{max_flat_results}
+use Rattle.canonical_abi.specs.Flat.{Denotes}
 use Rattle.canonical_abi.specs.Reading.{kind_of, low_bits, number_of}
 use Rattle.canonical_abi.specs.Guest.{Memory, IsWithin}
 use Rattle.canonical_abi.specs.Call.{Run, PostRun}
@@ -16,8 +19,9 @@ abbrev pub word : List Flat → ℕ → ℕ
 word flats i = low_bits (map number_of flats) i 32
 
 -- The body made one run, from its state and to an answer, on three core values. In the memory that it found, just the item's bytes stand at the
--- address in the first, as many as the second says; the third is the count. After it came post-return alone, which left body and memory as they are.
-pub record FindsOrder (item : List ℕ) (count : ℕ) (runs : Run) (posts : PostRun) (state kept : List ℕ) (left : Memory) : Type 0 where
+-- address in the first, as many as the second says; the third is the count. What it answered denotes the result in the memory that it left. After it
+-- came post-return alone, which left body and memory as they are.
+pub record FindsOrder (item : List ℕ) (count : ℕ) (f : FunctionType) (result : Option Value) (runs : Run) (posts : PostRun) (state kept : List ℕ) (left : Memory) : Type 0 where
   pub memory : Memory
   pub flats : List Flat
   pub kinds : map kind_of flats ≡ I32 ∷ I32 ∷ I32 ∷ []
@@ -28,6 +32,7 @@ pub record FindsOrder (item : List ℕ) (count : ℕ) (runs : Run) (posts : Post
   pub memory_after : Memory
   pub answer : List Flat
   pub run : runs state memory flats state_after memory_after (Some answer)
+  pub lifted : Denotes max_flat_results (result_fields f.result) memory_after.bytes answer (option_to_list result)
   pub post : posts state_after memory_after answer kept left (Some tt)
 
 -- each range that was live before is live, with the same bytes

@@ -2,9 +2,10 @@
 //! it knows what `Session::call` promises, and of the body nothing.
 #![tactic(auto)]
 
-ghost use Rattle.std.specs.Prelude.{◌≡◌, ◌↔◌, IsTrue, OnOk, string_bytes};
+ghost use Rattle.std.specs.Prelude.{◌≡◌, ◌↔◌, IsTrue, IfOk, option_map, string_bytes};
 ghost use Rattle.memory.specs.SpaceView.{space_memory};
 ghost use Rattle.tables.specs.Closed.{IsFunction, function_type};
+ghost use Rattle.values.specs.Val.{value_of};
 ghost use Rattle.example_client.specs.Order.{FindsOrder, KeepsLiveRanges, TakesOrder};
 
 use memory::spaces_are_limited;
@@ -19,7 +20,7 @@ pub fn takes_order(alloc: Global, package: &Package, func: FunctionId) -> bool
     package.takes(func, &[Val::String(String::new(alloc)), Val::U32(0)])
 }
 
-/// Orders an item. Where it answers, the body found just this item and this count, and was run once on them. Whatever the
+/// Orders an item. If it answers, the body found just this item and this count, was run once on them, and answered this. Whatever the
 /// body did and however the call ended, what was live in the caller before it has the same bytes.
 pub fn order<B: Body<Space>>(
     alloc: Global,
@@ -30,7 +31,8 @@ pub fn order<B: Body<Space>>(
 ) -> Result<Option<Val>, Fault>
     requires function { IsFunction session.old.package.now.resolve func }
     requires takes { TakesOrder (function_type session.old.package.now.resolve func) }
-    ensures found { OnOk result (FindsOrder (string_bytes item) count (B.runs session.old.body) (B.posts session.old.body)
+    ensures found { IfOk result (λ v. FindsOrder (string_bytes item) count
+        (function_type session.old.package.now.resolve func) (option_map value_of v) (B.runs session.old.body) (B.posts session.old.body)
         (B.state session.old.body) (B.state session.new.body) (space_memory session.new.callee)) }
     ensures kept { KeepsLiveRanges (space_memory session.old.caller) (space_memory session.new.caller) }
 {

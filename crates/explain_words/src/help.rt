@@ -15,16 +15,16 @@ usage: wit-explain check [--json] PATH..
 
 A PATH is a file, a folder with `.wit` files and its dependencies in `deps`, or `-` for standard input.
 --color auto|always|never says when faults are colored. `auto` is if standard output is a terminal and the environment
-variable NO_COLOR is not set.
+variable NO_COLOR is empty or not set.
 Exit status: 0 if all is well, 1 after a fault or a trap, 2 if the words are no command.
 ";
 
 static CHECK: &str = "\
 usage: wit-explain check [--json] [--color WHEN] PATH..
 
-Checks the packages of these files, each after those that it depends on. Prints the first fault of each file: the file,
-line and column, the error's number and words, the line with the place marked, and a hint. Prints nothing if all is
-well.
+Checks the packages of these files, each after those that it depends on. Prints the first fault of the text of each
+file, or, if no text has one, the first fault of each package: the file, line and column, the error's number and words,
+the line with the place marked, and a hint. Prints nothing if all is well.
 With --json, prints the faults as an array of objects.
 ";
 
