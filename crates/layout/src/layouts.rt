@@ -17,7 +17,7 @@ use crate::error::LayoutError;
 use crate::kinds::Kinds;
 use crate::parts::Parts;
 use crate::queries::{CaseInfo, FieldInfo, Shape};
-use crate::rows::{Row, count_in, final_type, extent_in, lay_definition, look, row_in};
+use crate::rows::{Row, count_in, extent_in, final_type, lay_definition, look, row_in};
 use crate::signature::{
     CoreSignature, are_lowered, lifted_of, lowered_of, passed_count, result_of,
 };
