@@ -1,6 +1,7 @@
 -- Worked examples: labels, full names, versions and LEB128 numbers, and what is none of them.
 use Rattle.std.proofs.Common.{◌≡◌, ℕ, ◌<◌, ◌≤◌, ◌++◌, true, false, List, [], ◌∷◌, length, replicate, get_or, Option, Some, None, Ok, Err, codes, refl, ap, arith}
-use Rattle.std.specs.Prelude.{⊤}
+use Rattle.std.specs.Prelude.{⊤, is_ok}
+use Rattle.semver.specs.Parse.{version_parts}
 use Rattle.semver.proofs.OnLiterals.{semver_on_literals}
 use Rattle.atoms.specs.Label.{is_label, is_word, are_words, is_lower, is_upper, is_digit, is_hyphen, IsLabel}
 use Rattle.atoms.specs.FullName.{NameParts, is_package_label, is_version, is_version_or_none, version_suffix, name_text, package_text, full_name_text, IsName, IsFullName}
@@ -23,7 +24,7 @@ label-lower = refl
 -- each word has a case of its own
 label-both : IsLabel (codes "AZ09-a-Z")
 unfolding names_on_literals
-label-both = tt
+label-both = refl
 
 label-mixed : is_label (codes "getAll") ≡ false
 unfolding names_on_literals
@@ -43,7 +44,7 @@ label-hyphen-first = refl
 
 label-hyphen-last : IsLabel (codes "a-") → ⊥
 unfolding names_on_literals
-label-hyphen-last h = h
+label-hyphen-last h = let e : false ≡ true = h in cc
 
 label-digit-first : is_label (codes "1a") ≡ false
 unfolding names_on_literals
@@ -109,9 +110,10 @@ version-v : is_version (codes "v1.0.0") ≡ false
 unfolding names_on_literals
 version-v = refl
 
-version-255 : is_version (codes "1.0.0-" ++ replicate 249 97) ≡ true
+-- 255 bytes are not too many
+version-255 : (text : List ℕ) → length text ≡ 255 → is_version text ≡ is_ok (version_parts text)
 unfolding names_on_literals
-version-255 = refl
+version-255 text h = rw h refl
 
 version-256 : is_version (codes "1.0.0-" ++ replicate 250 97) ≡ false
 unfolding names_on_literals
@@ -127,43 +129,43 @@ some-version = refl
 -- ---- full names
 
 abbrev parts : Option (List ℕ) → NameParts
-parts v = record { namespace = codes "wasi"; package_name = codes "io-2"; name = codes "Poll"; version = v }
+parts v = record { namespace = codes "wasi"; package_name = codes "io-x2"; name = codes "POLL"; version = v }
 
-full-name : IsFullName (codes "wasi:io-2/Poll") (parts None)
+full-name : IsFullName (codes "wasi:io-x2/POLL") (parts None)
 unfolding names_on_literals
-full-name = record { spelt = refl; namespace = tt; package_name = tt; name = record { spelt = refl; label = tt; reads = tt } }
+full-name = record { spelt = refl; namespace = refl; package_name = refl; name = record { spelt = refl; label = refl; reads = refl } }
 
-full-name-version : IsFullName (codes "wasi:io-2/Poll@0.2.0") (parts (Some (codes "0.2.0")))
+full-name-version : IsFullName (codes "wasi:io-x2/POLL@0.2.0") (parts (Some (codes "0.2.0")))
 unfolding names_on_literals
-full-name-version = record { spelt = refl; namespace = tt; package_name = tt; name = record { spelt = refl; label = tt; reads = tt } }
+full-name-version = record { spelt = refl; namespace = refl; package_name = refl; name = record { spelt = refl; label = refl; reads = refl } }
 
-full-name-pieces : (version_suffix (Some (codes "0.2.0")) ≡ codes "@0.2.0") × (name_text (parts (Some (codes "0.2.0"))) ≡ codes "Poll@0.2.0") × (package_text (parts None) ≡ codes "io-2/Poll") × (full_name_text (parts None) ≡ codes "wasi:io-2/Poll")
+full-name-pieces : (version_suffix (Some (codes "0.2.0")) ≡ codes "@0.2.0") × (name_text (parts (Some (codes "0.2.0"))) ≡ codes "POLL@0.2.0") × (package_text (parts None) ≡ codes "io-x2/POLL") × (full_name_text (parts None) ≡ codes "wasi:io-x2/POLL")
 full-name-pieces = (refl, refl, refl, refl)
 
 -- the name of another interface
-full-name-other : IsFullName (codes "wasi:io-2/Pole") (parts None) → ⊥
-full-name-other h = let e : get_or (codes "wasi:io-2/Pole") 13 0 ≡ get_or (full_name_text (parts None)) 13 0 = ap (λ (t : List ℕ). get_or t 13 0) h.spelt in omega (arith, e)
+full-name-other : IsFullName (codes "wasi:io-x2/POLE") (parts None) → ⊥
+full-name-other h = let e : get_or (codes "wasi:io-x2/POLE") 14 0 ≡ get_or (full_name_text (parts None)) 14 0 = ap (λ (t : List ℕ). get_or t 14 0) h.spelt in omega (arith, e)
 
 -- a version is a part of the name
-full-name-unversioned : IsFullName (codes "wasi:io-2/Poll") (parts (Some (codes "0.2.0"))) → ⊥
-full-name-unversioned h = let e : length (codes "wasi:io-2/Poll") ≡ length (full_name_text (parts (Some (codes "0.2.0")))) = ap (λ (t : List ℕ). length t) h.spelt in omega (arith, e)
+full-name-unversioned : IsFullName (codes "wasi:io-x2/POLL") (parts (Some (codes "0.2.0"))) → ⊥
+full-name-unversioned h = let e : length (codes "wasi:io-x2/POLL") ≡ length (full_name_text (parts (Some (codes "0.2.0")))) = ap (λ (t : List ℕ). length t) h.spelt in omega (arith, e)
 
 -- a namespace and a package have no upper case
-full-name-upper-namespace : (p : List ℕ) → IsFullName (codes "A:b/c") (record { namespace = codes "A"; package_name = codes "b"; name = codes "c"; version = None }) → ⊥
+full-name-upper-namespace : IsFullName (codes "A:b/c") (record { namespace = codes "A"; package_name = codes "b"; name = codes "c"; version = None }) → ⊥
 unfolding names_on_literals
-full-name-upper-namespace p h = h.namespace
+full-name-upper-namespace h = let e : false ≡ true = h.namespace in cc
 
 full-name-upper-package : IsFullName (codes "a:B/c") (record { namespace = codes "a"; package_name = codes "B"; name = codes "c"; version = None }) → ⊥
 unfolding names_on_literals
-full-name-upper-package h = h.package_name
+full-name-upper-package h = let e : false ≡ true = h.package_name in cc
 
 full-name-bad-name : IsFullName (codes "a:b/c_d") (record { namespace = codes "a"; package_name = codes "b"; name = codes "c_d"; version = None }) → ⊥
 unfolding names_on_literals
-full-name-bad-name h = h.name.label
+full-name-bad-name h = let e : false ≡ true = h.name.label in cc
 
 full-name-bad-version : IsFullName (codes "a:b/c@1") (record { namespace = codes "a"; package_name = codes "b"; name = codes "c"; version = Some (codes "1") }) → ⊥
 unfolding names_on_literals
-full-name-bad-version h = h.name.reads
+full-name-bad-version h = let e : false ≡ true = h.name.reads in cc
 
 -- the parts of a program's value
 full-name-value : (n : FullName) → n.namespace ≡ codes "a" → n.«package» ≡ codes "b" → n.name ≡ codes "C" → n.version ≡ None → full_name_text (name_parts_of n) ≡ codes "a:b/C"

@@ -1,4 +1,5 @@
 pub mod KindLemmas
+pub mod Examples
 pub mod FaultLemmas
 pub mod Exactness
 pub mod Limits
