@@ -1,10 +1,10 @@
 -- Worked examples: what bytes spell, which fault is the first where they spell nothing, and what is written.
-use Rattle.std.proofs.Common.{◌≡◌, inl, inr, ℕ, zero, suc, ◌+◌, ◌<◌, ◌==◌, List, [], ◌∷◌, ◌++◌, map, replicate, length, Option, Some, None, Result, Ok, Err, Bool, true, false, codes, refl, ap, arith, sym, ◌∙◌}
+use Rattle.std.proofs.Common.{◌≡◌, inl, inr, ℕ, zero, suc, ◌+◌, ◌<◌, ◌==◌, List, [], ◌∷◌, ◌++◌, map, replicate, length, take, Some, None, Result, Ok, Err, true, false, codes, refl, ap, arith, sym, ◌∙◌}
 use Rattle.std.specs.Prelude.{⊤, nat_lt}
 use Rattle.std.specs.Global.{Vec}
 use Rattle.std.specs.Str.{is_utf8, chars}
 use Rattle.std.specs.Char.{encode_utf8}
-use Rattle.atoms.specs.Leb128.{groups_at}
+use Rattle.atoms.specs.Leb128.{groups_at, SpellsU32}
 use Rattle.atoms.specs.Label.{is_label}
 use Rattle.atoms.specs.FullName.{is_package_label, is_version, full_name_text}
 use Rattle.productions.specs.Production.{give, times, run}
@@ -20,16 +20,17 @@ use Rattle.ctype_format.specs.declared.raw.RawAlias.TheVariants as aliases
 use Rattle.ctype_format.specs.declared.raw.RawDescription.TheVariants as descriptions
 use Rattle.ctype_format.specs.declared.opcode.Opcode.TheVariants as op
 use Rattle.ctype_format.specs.declared.scope.Scope.{Scope}
-use Rattle.ctype_format.specs.Raw.{Defined, Prim, Record, Variant, ListOf, Tuple, FlagSet, Enumeration, OptionOf, ResultOf, Definition, Define, Func, Component, Instance, Decl, Entry, Alias, Import, Export, Decls, none, then, Exported, BinaryFile}
-use Rattle.ctype_format.specs.Bytes.{Bytes, byte, several, remaining, u32, s33, sized, choose}
+use Rattle.ctype_format.specs.Raw.{Prim, Record, Variant, ListOf, Tuple, FlagSet, Enumeration, OptionOf, ResultOf, Definition, Define, Func, Component, Instance, Decl, Entry, Alias, Import, Export, Decls, none, then, BinaryFile}
+use Rattle.ctype_format.specs.Bytes.{Bytes, NoNumber, byte, several, remaining, u32, s33, sized, choose}
 use Rattle.ctype_format.specs.Names.{cut_at, name_view, is_full_name, is_extern_name}
 use Rattle.ctype_format.specs.Opcodes.{primitive_of, opcode_of}
 use Rattle.ctype_format.specs.Grammar.{index, some, some_upto, zero_byte, flag_byte, max_flags, max_cases, label, utf8, extern_name, primitive, type_index, valtype, optional_valtype, field, case, record_type, variant_type, list_type, tuple_type, flags_type, enum_type, option_type, result_entry, outcome, function_entry, plain_entry, opcode, instance_alias, outer_type, alias_entry, description, external, decl, scope_of, type, new_scope}
 use Rattle.ctype_format.specs.File.{exactly, max_length, Decodes, custom_content, custom, head, section, trailing, entry_of_type, type_section, exported, export_section, component_file, decoded}
-use Rattle.ctype_format.specs.declared.error.BinError.{BinError}
 use Rattle.ctype_format.specs.declared.name.ExternName.TheVariants as ext
 use Rattle.ctype_format.specs.declared.raw.RawExport.{RawExport}
 use Rattle.ctype_format.specs.declared.raw.RawField.{RawField}
+use Rattle.ctype_format.specs.declared.raw.RawCase.{RawCase}
+use Rattle.atoms.specs.declared.label.Label.{Label}
 use Rattle.ctype_format.specs.declared.raw.RawDefinedType.TheVariants as v
 use Rattle.ctype_format.specs.declared.raw.RawType.{RawType}
 use Rattle.ctype_format.specs.declared.raw.RawType as t
@@ -40,7 +41,7 @@ use Rattle.atoms.specs.declared.full_name.FullName.{FullName}
 use Rattle.ctype_format.specs.View.{decls_of, type_view, decl_view, parts_file}
 use Rattle.ctype_format.proofs.Views.{view-Component, view-Instance}
 use Rattle.ctype_format.specs.Shortest.{groups}
-use Rattle.ctype_format.specs.Writing.{file_bytes, type_bytes}
+use Rattle.ctype_format.specs.Writing.{file_bytes, type_bytes, decl_bytes}
 
 -- what unfolds in bytes that are written out
 unfoldable pub bytes_written_out : ⊤
@@ -157,6 +158,21 @@ u32-spelled = record { ends = (omega arith, omega arith, (omega arith, omega ari
 
 u32-fails-early : u32.fails (0x80 ∷ []) End
 u32-fails-early = inl ((0 ∷ [], 0, omega arith, record { ends = (omega arith, omega arith, omega arith); short = omega arith; fifth = omega arith; value = refl }), refl)
+
+-- no front of these bytes is a number, and no more bytes make one
+overlong_front : (n k : ℕ) → SpellsU32 (take k (0xff ∷ 0xff ∷ 0xff ∷ 0xff ∷ 0x1f ∷ [])) n → ⊥
+overlong_front n zero s = s.ends
+overlong_front n (suc zero) s = let e : 255 < 128 = s.ends in omega (arith, e)
+overlong_front n (suc (suc zero)) s = let e : 255 < 128 = s.ends.2 in omega (arith, e)
+overlong_front n (suc (suc (suc zero))) s = let e : 255 < 128 = s.ends.2.2 in omega (arith, e)
+overlong_front n (suc (suc (suc (suc zero)))) s = let e : 255 < 128 = s.ends.2.2.2 in omega (arith, e)
+overlong_front n (suc (suc (suc (suc (suc k))))) s = let e : 0x1f < 16 = s.fifth in omega (arith, e)
+
+u32-fails-overlong : u32.fails (0xff ∷ 0xff ∷ 0xff ∷ 0xff ∷ 0x1f ∷ []) (At Overlong 5)
+u32-fails-overlong = inr ((overlong_front, λ early. let e : 0x1f < 16 = early.3.fifth in omega (arith, e)), refl)
+
+u32-number-here : NoNumber SpellsU32 (0x05 ∷ []) → ⊥
+u32-number-here h = h.0 5 1 (record { ends = omega arith; short = omega arith; fifth = omega arith; value = refl })
 
 u32-not-open : u32.spells (0x80 ∷ []) 0 → ⊥
 u32-not-open s = let e : 0x80 < 128 = s.ends in omega (arith, e)
@@ -350,6 +366,15 @@ zero-mark = refl
 
 no-zero-mark : zero_byte.read (1 ∷ []) ≡ Err (At (UnknownOpcode 1) 1)
 no-zero-mark = refl
+
+zero-mark-spelled : zero_byte.spells (0 ∷ []) 0
+zero-mark-spelled = ((refl, refl), λ all. refl)
+
+zero-mark-fails : zero_byte.fails (1 ∷ 9 ∷ []) (At (UnknownOpcode 1) 2)
+zero-mark-fails = inr (1 ∷ [], 9 ∷ [], 1, refl, (refl, refl), refl)
+
+one-no-zero-mark : zero_byte.spells (1 ∷ []) 1 → ⊥
+one-no-zero-mark s = let e = s.1 [] in cc
 
 flag-one : flag_byte.read (1 ∷ []) ≡ Ok (1, [])
 flag-one = refl
@@ -1074,6 +1099,56 @@ small-no-fault h = let e : Ok small_file ≡ Err (errors.At Truncated 21) = sym 
 small-no-reader : Decodes (λ f. f) (Err (errors.Read 21)) small → ⊥
 small-no-reader h = h
 
+-- ---- what is written: each number in its shortest spelling
+
+u8-written : type_bytes (Define (Prim prim.U8)) ≡ 0x7d ∷ []
+unfolding bytes_written_out
+u8-written = refl
+
+record-written : type_bytes (Define (Record (record { label = codes "ab"; ty = valtypes.Index 2 } ∷ []))) ≡ 0x72 ∷ 0x01 ∷ 0x02 ∷ codes "ab" ++ 0x02 ∷ []
+unfolding bytes_written_out
+record-written = refl
+
+variant-written : type_bytes (Define (Variant (record { label = codes "a"; payload = None } ∷ record { label = codes "b"; payload = Some (valtypes.Primitive prim.S8) } ∷ [])))
+    ≡ 0x71 ∷ 0x02 ∷ 0x01 ∷ codes "a" ++ (0x00 ∷ 0x00 ∷ 0x01 ∷ codes "b" ++ 0x01 ∷ 0x7e ∷ 0x00 ∷ [])
+unfolding bytes_written_out
+variant-written = refl
+
+index-written : map type_bytes (Define (ListOf (valtypes.Index 63)) ∷ Define (OptionOf (valtypes.Index 64)) ∷ []) ≡ (0x70 ∷ 0x3f ∷ []) ∷ (0x6b ∷ 0xc0 ∷ 0x00 ∷ []) ∷ []
+unfolding bytes_written_out
+index-written = refl
+
+index-not-negative : type_bytes (Define (OptionOf (valtypes.Index 64))) ≡ 0x6b ∷ 0x40 ∷ [] → ⊥
+unfolding bytes_written_out
+index-not-negative e = let same : 3 ≡ 2 = ap (λ bytes. length bytes) e in omega (arith, same)
+
+tuple-written : type_bytes (Define (Tuple (valtypes.Primitive prim.U16 ∷ valtypes.Index 0 ∷ []))) ≡ 0x6f ∷ 0x02 ∷ 0x7b ∷ 0x00 ∷ []
+unfolding bytes_written_out
+tuple-written = refl
+
+labels-written : map type_bytes (Define (FlagSet (codes "a" ∷ codes "b" ∷ [])) ∷ Define (Enumeration (codes "a" ∷ [])) ∷ [])
+    ≡ (0x6e ∷ 0x02 ∷ 0x01 ∷ codes "a" ++ 0x01 ∷ codes "b") ∷ (0x6d ∷ 0x01 ∷ 0x01 ∷ codes "a") ∷ []
+unfolding bytes_written_out
+labels-written = refl
+
+result-written : type_bytes (Define (ResultOf (Some (valtypes.Primitive prim.U64)) None)) ≡ 0x6a ∷ 0x01 ∷ 0x77 ∷ 0x00 ∷ []
+unfolding bytes_written_out
+result-written = refl
+
+action-written : type_bytes (Func (record { params = []; outcome = None })) ≡ 0x40 ∷ 0x00 ∷ 0x01 ∷ 0x00 ∷ []
+unfolding bytes_written_out
+action-written = refl
+
+decls-written : map decl_bytes (Alias (aliases.InstanceExport 1 (codes "t")) ∷ Alias (aliases.Outer 1 200) ∷ Import (codes "f") (descriptions.Function 2) ∷ Export (codes "t") (descriptions.TypeEqual 3) ∷ Export (codes "w") (descriptions.Component 4) ∷ [])
+    ≡ (0x02 ∷ 0x03 ∷ 0x00 ∷ 0x01 ∷ 0x01 ∷ codes "t")
+    ∷ (0x02 ∷ 0x03 ∷ 0x02 ∷ 0x01 ∷ 0xc8 ∷ 0x01 ∷ [])
+    ∷ (0x03 ∷ 0x00 ∷ 0x01 ∷ codes "f" ++ 0x01 ∷ 0x02 ∷ [])
+    ∷ (0x04 ∷ 0x00 ∷ 0x01 ∷ codes "t" ++ 0x03 ∷ 0x00 ∷ 0x03 ∷ [])
+    ∷ (0x04 ∷ 0x00 ∷ 0x01 ∷ codes "w" ++ 0x04 ∷ 0x04 ∷ [])
+    ∷ []
+unfolding bytes_written_out
+decls-written = refl
+
 -- ---- what the values of the crate's types stand for
 
 types-viewed : map type_view (t.Defined (v.Primitive prim.Bool) ∷ t.Defined (v.List (valtypes.Index 1)) ∷ t.Defined (v.Option (valtypes.Index 2)) ∷ t.Defined (v.Result None (Some (valtypes.Index 3))) ∷ [])
@@ -1084,6 +1159,22 @@ types-viewed = refl
 record-viewed : (fs : Vec RawField) → type_view (t.Defined (v.Record fs)) ≡ Define (Record fs.items)
 unfolding type_view
 record-viewed fs = refl
+
+variant-viewed : (cs : Vec RawCase) → type_view (t.Defined (v.Variant cs)) ≡ Define (Variant cs.items)
+unfolding type_view
+variant-viewed cs = refl
+
+tuple-viewed : (es : Vec RawValType) → type_view (t.Defined (v.Tuple es)) ≡ Define (Tuple es.items)
+unfolding type_view
+tuple-viewed es = refl
+
+labels-viewed : (ls : Vec Label) → (type_view (t.Defined (v.Flags ls)) ≡ Define (FlagSet ls.items)) × (type_view (t.Defined (v.Enum ls)) ≡ Define (Enumeration ls.items))
+unfolding type_view
+labels-viewed ls = (refl, refl)
+
+error-no-ok : (x : RawValType) → type_view (t.Defined (v.Result None (Some x))) ≡ Define (ResultOf (Some x) None) → ⊥
+unfolding type_view
+error-no-ok x e = cc
 
 function-viewed : (fs : Vec RawField) → type_view (t.Function (record { params = fs; result = Some (valtypes.Index 3) })) ≡ Func (record { params = fs.items; outcome = Some (valtypes.Index 3) })
 unfolding type_view

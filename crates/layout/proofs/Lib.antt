@@ -10,3 +10,4 @@ pub mod Laid
 pub mod Standing
 pub mod Told
 pub mod Steps
+pub mod Examples
