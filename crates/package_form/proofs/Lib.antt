@@ -15,3 +15,4 @@ pub mod Scopes
 pub mod OwnPackage
 pub mod OneFunction
 pub mod DistinctTypes
+pub mod Examples

@@ -1,2 +1,3 @@
 pub mod OrderSteps
 pub mod Settling
+pub mod Examples

@@ -3,3 +3,4 @@ pub mod Marking
 pub mod Owned
 pub mod Padding
 pub mod Placing
+pub mod Examples

@@ -4,3 +4,4 @@ mod Unfolded
 pub mod Earlier
 pub mod Standards
 pub mod Erased
+pub mod Examples

@@ -23,3 +23,4 @@ pub mod WorldMeanings
 pub mod ItemNames
 pub mod Alone
 pub mod PathNames
+pub mod Examples
