@@ -3,11 +3,11 @@ use Rattle.std.proofs.Common.{◌≡◌, ℕ, ◌<◌, ◌≤◌, ◌++◌, true
 use Rattle.std.specs.Prelude.{⊤, is_ok}
 use Rattle.semver.specs.Parse.{version_parts}
 use Rattle.semver.proofs.OnLiterals.{semver_on_literals}
-use Rattle.atoms.specs.Label.{is_label, is_word, are_words, is_lower, is_upper, is_digit, is_hyphen, IsLabel}
-use Rattle.atoms.specs.FullName.{NameParts, is_package_label, is_version, is_version_or_none, version_suffix, name_text, package_text, full_name_text, IsName, IsFullName}
+use Rattle.atoms.specs.Label.{is_label, IsLabel}
+use Rattle.atoms.specs.FullName.{NameParts, is_package_label, is_version, is_version_or_none, version_suffix, name_text, package_text, full_name_text, IsFullName}
 use Rattle.atoms.specs.FullNameView.{name_parts_of}
 use Rattle.atoms.specs.declared.full_name.FullName.{FullName}
-use Rattle.atoms.specs.Leb128.{EndsBelow, EndsEarly, sum_from, Spells, SpellsU32, SpellsS33, groups_at}
+use Rattle.atoms.specs.Leb128.{EndsEarly, sum_from, SpellsU32, SpellsS33, groups_at}
 use Rattle.atoms.specs.declared.error.AtomError.TheVariants.{Truncated, Overlong}
 
 -- what an example unfolds to compute labels, names and versions that are written out

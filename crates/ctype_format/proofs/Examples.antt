@@ -20,7 +20,7 @@ use Rattle.ctype_format.specs.declared.raw.RawAlias.TheVariants as aliases
 use Rattle.ctype_format.specs.declared.raw.RawDescription.TheVariants as descriptions
 use Rattle.ctype_format.specs.declared.opcode.Opcode.TheVariants as op
 use Rattle.ctype_format.specs.declared.scope.Scope.{Scope}
-use Rattle.ctype_format.specs.Raw.{Prim, Record, Variant, ListOf, Tuple, FlagSet, Enumeration, OptionOf, ResultOf, Definition, Define, Func, Component, Instance, Decl, Entry, Alias, Import, Export, Decls, none, then, BinaryFile}
+use Rattle.ctype_format.specs.Raw.{Prim, Record, Variant, ListOf, Tuple, FlagSet, Enumeration, OptionOf, ResultOf, Define, Func, Component, Instance, Decl, Entry, Alias, Import, Export, Decls, none, then, BinaryFile, TypeEntry}
 use Rattle.ctype_format.specs.Bytes.{Bytes, NoNumber, byte, several, remaining, u32, s33, sized, choose}
 use Rattle.ctype_format.specs.Names.{cut_at, name_view, is_full_name, is_extern_name}
 use Rattle.ctype_format.specs.Opcodes.{primitive_of, opcode_of}
@@ -64,10 +64,10 @@ p1_mark = 0x00 ∷ 0x61 ∷ 0x73 ∷ 0x6d ∷ 0x0d ∷ 0x00 ∷ 0x01 ∷ 0x00 �
 abbrev p1 : List ℕ
 p1 = p1_mark ++ (0x07 ∷ 0x1e ∷ p1_types ++ (0x0b ∷ 0x0d ∷ p1_exports))
 
-abbrev p1_function : Definition
+abbrev p1_function : TypeEntry
 p1_function = Func (record { params = record { label = codes "x"; ty = valtypes.Primitive prim.U32 } ∷ []; outcome = Some (valtypes.Primitive prim.U32) })
 
-abbrev p1_interface : Definition
+abbrev p1_interface : TypeEntry
 p1_interface = Instance (decls_of (Entry p1_function ∷ Export (codes "f") (descriptions.Function 0) ∷ []))
 
 abbrev p1_file : BinaryFile
@@ -562,11 +562,11 @@ payload-two = refl
 abbrev here : Scope
 here = record { types = 3; instances = 2; entries = 5 }
 
-abbrev read_type : List ℕ → Result ((Definition × ℕ) × List ℕ) Stuck
+abbrev read_type : List ℕ → Result ((TypeEntry × ℕ) × List ℕ) Stuck
 read_type bytes = (type 4 [] here).read bytes
 
 -- a definition that takes one type entry, with nothing after it
-abbrev is_read : Definition → Result ((Definition × ℕ) × List ℕ) Stuck
+abbrev is_read : TypeEntry → Result ((TypeEntry × ℕ) × List ℕ) Stuck
 is_read d = Ok ((d, 6), [])
 
 type-string : read_type (0x73 ∷ []) ≡ is_read (Define (Prim prim.String))

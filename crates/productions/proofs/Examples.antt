@@ -1,5 +1,5 @@
 -- Worked examples: productions over numbers. A fault is told as the items from the one met on.
-use Rattle.std.proofs.Common.{◌≡◌, ℕ, suc, Bool, true, false, List, [], ◌∷◌, ◌++◌, length, Option, Some, None, Ok, Err, refl, ap, inl, inr, arith}
+use Rattle.std.proofs.Common.{◌≡◌, ℕ, Bool, true, false, List, [], ◌∷◌, ◌++◌, length, Option, Some, None, Ok, Err, refl, ap, inr, arith}
 use Rattle.std.specs.Prelude.{◌==◌, ◌+◌, ⊤, if◌then◌else◌}
 use Rattle.productions.specs.Production.{Production, give, never, ◌>>=◌, one, only, when, times, run, optional, unless_some, many, separator, listed, comma_or, entries, at_end, by_option, all}
 

@@ -1,5 +1,5 @@
 -- Worked examples: which elements are kept and where they stand then, whose the rows of a table are, and what is reached in a set.
-use Rattle.std.specs.List.{list_all}
+use Rattle.std.specs.List.{list_all, items_where_true}
 use Rattle.std.specs.Option.{unwrap_or}
 use Rattle.std.proofs.Common.{◌≡◌, inl, inr, ℕ, zero, suc, Bool, true, false, not, ◌&&◌, ◌||◌, List, [], ◌∷◌, map, slice_get, slice_index_or, Some, None, Option, codes, refl, ap, sym, subst, arith, Contains, true≢false}
 use Rattle.tables.specs.declared.tables.ValType.TheVariants as val
@@ -13,7 +13,7 @@ use Rattle.tables.specs.declared.tables.Resolve.{Resolve}
 use Rattle.tables.specs.PackageNames.{PackageParts}
 use Rattle.tables.proofs.Rows.{split}
 use Rattle.tables.proofs.Examples.{type_id, in_interface, in_world, id, named_row, unnamed_row, field_of, parameter_of, function_in, function_of_world, interface_of, imports_interface, imports_function, world_of, u8, u32, item_row, put_row, a_b, c_d}
-use Rattle.set_rows.specs.Places.{kept, place}
+use Rattle.set_rows.specs.Places.{place}
 use Rattle.set_rows.specs.Owners.{owners, names}
 use Rattle.set_rows.specs.Moved.{Renaming, put_kind, put_row as move_row, put_interface, put_world}
 use Rattle.set_rows.specs.Renamed.{renaming}
@@ -21,14 +21,14 @@ use Rattle.set_rows.specs.Reaches.{Marks, is_marked, own_marks, given_marks, wor
 
 -- ---- what is kept of a list, and where it is then
 
-kept-two : kept {A = ℕ} (true ∷ false ∷ true ∷ []) (7 ∷ 8 ∷ 9 ∷ []) ≡ 7 ∷ 9 ∷ []
+kept-two : items_where_true {X = ℕ} (true ∷ false ∷ true ∷ []) (7 ∷ 8 ∷ 9 ∷ []) ≡ 7 ∷ 9 ∷ []
 kept-two = refl
 
 -- an element without a mark is not kept
-kept-first : kept {A = ℕ} (true ∷ []) (7 ∷ 8 ∷ 9 ∷ []) ≡ 7 ∷ []
+kept-first : items_where_true {X = ℕ} (true ∷ []) (7 ∷ 8 ∷ 9 ∷ []) ≡ 7 ∷ []
 kept-first = refl
 
-kept-none : (kept {A = ℕ} (false ∷ false ∷ []) (7 ∷ 8 ∷ []) ≡ []) × (kept {A = ℕ} (true ∷ true ∷ []) (7 ∷ []) ≡ 7 ∷ [])
+kept-none : (items_where_true {X = ℕ} (false ∷ false ∷ []) (7 ∷ 8 ∷ []) ≡ []) × (items_where_true {X = ℕ} (true ∷ true ∷ []) (7 ∷ []) ≡ 7 ∷ [])
 kept-none = (refl, refl)
 
 places-of-two : map (place (true ∷ false ∷ true ∷ [])) (0 ∷ 1 ∷ 2 ∷ 3 ∷ 4 ∷ []) ≡ 0 ∷ 1 ∷ 1 ∷ 2 ∷ 2 ∷ []
@@ -115,10 +115,10 @@ to = renaming (record {
 abbrev moved_coin : Definition
 moved_coin = named_row 1 (codes "coin") (kind.Use (type_id 0))
 
-moved-rows : map (move_row to) (kept (true ∷ false ∷ true ∷ false ∷ false ∷ []) rows_of_set) ≡ money_row ∷ moved_coin ∷ []
+moved-rows : map (move_row to) (items_where_true (true ∷ false ∷ true ∷ false ∷ false ∷ []) rows_of_set) ≡ money_row ∷ moved_coin ∷ []
 moved-rows = refl
 
-moved-interfaces : map (put_interface to) (kept (true ∷ false ∷ true ∷ []) set.interfaces) ≡ money ∷ interface_of 1 (codes "till") (1 ∷ []) [] [] ∷ []
+moved-interfaces : map (put_interface to) (items_where_true (true ∷ false ∷ true ∷ []) set.interfaces) ≡ money ∷ interface_of 1 (codes "till") (1 ∷ []) [] [] ∷ []
 moved-interfaces = refl
 
 -- ids of rows that are not kept don't stay

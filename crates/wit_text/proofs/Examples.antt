@@ -14,13 +14,12 @@ use Rattle.wit_tokens.specs.declared.error.Expected.TheVariants as want
 use Rattle.wit_tokens.specs.declared.error.Feature.TheVariants as feature
 use Rattle.wit_tokens.specs.declared.error.TextError.{TextError}
 use Rattle.wit_tokens.specs.declared.error.TextError.TheVariants as error
-use Rattle.wit_tokens.specs.Lexing.{limit}
 use Rattle.wit_tokens.specs.Tokens.{Lexeme, lexemes}
 use Rattle.wit_tokens.proofs.Walked.{tokens_on_literals, walked, lexed, spoilt, within, faulty}
 use Rattle.wit_tokens.proofs.Unique.{one_lexing}
 use Rattle.wit_syntax.specs.declared.ast.Primitive.TheVariants as primitive
 use Rattle.wit_syntax.specs.declared.ast.Direction.TheVariants as direction
-use Rattle.wit_syntax.specs.Syntax.{Ty, Prim, Named, ListOf, OptionOf, TupleOf, ResultOf, Absent, Present, tys_of, depth, Member, CaseOf, UsedAs, Alias, Record, Variant, Enumeration, FlagSet, PathTo, Local, Foreign, Entry, Uses, Defines, Declares, WorldEntry, Whole, Single, FileEntry, AnInterface, AWorld, File}
+use Rattle.wit_syntax.specs.Syntax.{Ty, Prim, Named, ListOf, OptionOf, TupleOf, ResultOf, Absent, Present, tys_of, Member, CaseOf, UsedAs, Alias, Record, Variant, Enumeration, FlagSet, Local, Foreign, Entry, Uses, Defines, Declares, WorldEntry, Whole, Single, FileEntry, AnInterface, AWorld, File, ty_depth}
 use Rattle.wit_grammar.specs.Faults.{Fails}
 use Rattle.wit_grammar.specs.Grammar.{file, nesting}
 use Rattle.wit_grammar.specs.Grammar as g
@@ -194,7 +193,7 @@ nested-65 : Refused (nested 64) (error.Depth (span 356 358))
 unfolding texts_on_literals
 nested-65 = refused refl refl
 
-depths : (depth (Prim primitive.U8) ≡ 1) × (depth (Named (codes "a")) ≡ 1) × (depth (lists 3) ≡ 4) × (depth (OptionOf (lists 1)) ≡ 3) × (depth (TupleOf (tys_of (Prim primitive.U8 ∷ lists 2 ∷ Prim primitive.U8 ∷ []))) ≡ 4) × (depth (ResultOf Absent Absent) ≡ 1) × (depth (ResultOf (Present (lists 1)) (Present (lists 4))) ≡ 6) × (depth (ResultOf (Present (lists 4)) Absent) ≡ 6)
+depths : (ty_depth (Prim primitive.U8) ≡ 1) × (ty_depth (Named (codes "a")) ≡ 1) × (ty_depth (lists 3) ≡ 4) × (ty_depth (OptionOf (lists 1)) ≡ 3) × (ty_depth (TupleOf (tys_of (Prim primitive.U8 ∷ lists 2 ∷ Prim primitive.U8 ∷ []))) ≡ 4) × (ty_depth (ResultOf Absent Absent) ≡ 1) × (ty_depth (ResultOf (Present (lists 1)) (Present (lists 4))) ≡ 6) × (ty_depth (ResultOf (Present (lists 4)) Absent) ≡ 6)
 depths = (refl, refl, refl, refl, refl, refl, refl, refl)
 
 -- ---- error 32 and 33: the package and the items of a file
