@@ -1,4 +1,4 @@
-use Rattle.std.proofs.Common.{Err}
+use Rattle.std.proofs.Common.{◌≡◌, true, false, Err, ap, sym, ◌∙◌}
 use Rattle.ctype_format.specs.declared.error.BinError.TheVariants.{NoMemory}
 use Rattle.ctype_bin.specs.FileView.{raw_component_view}
 use Rattle.ctype_bin.proofs.Cut.{of_known, of_read, some_read}
@@ -20,3 +20,8 @@ returns-in-Err-NoMemory-clause-cut g c = some_read raw_component_view (Err NoMem
 
 pub returns-in-Ok-clause-rest : goal.returns-in-Ok-clause-rest
 returns-in-Ok-clause-rest g c = λ lasts there. (c.in-Ok.bytes.items, c.in-Ok.ensures.bytes, c.in-Ok.ensures.rest)
+
+pub returns-in-Err-Failed-clause-rest : goal.returns-in-Err-Failed-clause-rest
+returns-in-Err-Failed-clause-rest g c = λ lasts there.
+    let failed = c.in-Err-Failed.ensures.failed c.in-Err-Failed.count (ap Err c.in-Err-Failed.field-0-is) in
+    let bad : true ≡ false = sym failed.0 ∙ lasts in absurd (cc)
