@@ -734,6 +734,16 @@ entries-of-all : read_type (0x42 ∷ 0x03 ∷ 0x01 ∷ 0x7d ∷ 0x02 ∷ 0x03 �
 unfolding bytes_written_out
 entries-of-all = refl
 
+-- a component type may have imports, and an instance type none
+component-imports : read_type (0x41 ∷ 0x02 ∷ 0x01 ∷ 0x40 ∷ 0x00 ∷ 0x01 ∷ 0x00 ∷ 0x03 ∷ 0x00 ∷ 0x01 ∷ codes "f" ++ 0x01 ∷ 0x00 ∷ [])
+    ≡ Ok ((Component (decls_of (Entry (Func (record { params = []; outcome = None })) ∷ Import (codes "f") (descriptions.Function 0) ∷ [])), 7), [])
+unfolding bytes_written_out
+component-imports = refl
+
+instance-imports : read_type (0x42 ∷ 0x02 ∷ 0x01 ∷ 0x40 ∷ 0x00 ∷ 0x01 ∷ 0x00 ∷ 0x03 ∷ 0x00 ∷ 0x01 ∷ codes "f" ++ 0x01 ∷ 0x00 ∷ []) ≡ Err (At (UnknownOpcode 3) 6)
+unfolding bytes_written_out
+instance-imports = refl
+
 -- the types of a new scope are none of those around it
 new-types : read_type (0x42 ∷ 0x01 ∷ 0x01 ∷ 0x70 ∷ 0x00 ∷ []) ≡ Err (At BadIndex 1)
 unfolding bytes_written_out
@@ -950,6 +960,16 @@ outer-of-file = refl
 outer-of-itself : decoded (a_file (0x07 ∷ 0x09 ∷ 0x02 ∷ 0x7d ∷ 0x41 ∷ 0x01 ∷ 0x02 ∷ 0x03 ∷ 0x02 ∷ 0x01 ∷ 0x01 ∷ a_section)) ≡ Err (errors.At BadIndex 18)
 unfolding bytes_written_out
 outer-of-itself = refl
+
+-- four component types in one another, and five
+four-in-file : decoded (a_file (0x07 ∷ 0x0c ∷ 0x01 ∷ 0x41 ∷ 0x01 ∷ 0x01 ∷ 0x41 ∷ 0x01 ∷ 0x01 ∷ 0x41 ∷ 0x01 ∷ 0x01 ∷ 0x41 ∷ 0x00 ∷ a_section))
+    ≡ Ok (record { types = Component (then (Entry (Component (then (Entry (Component (then (Entry (Component none)) none))) none))) none) ∷ []; exports = record { name = codes "a"; type = 0 } ∷ [] })
+unfolding bytes_written_out
+four-in-file = refl
+
+five-in-file : decoded (a_file (0x07 ∷ 0x0f ∷ 0x01 ∷ 0x41 ∷ 0x01 ∷ 0x01 ∷ 0x41 ∷ 0x01 ∷ 0x01 ∷ 0x41 ∷ 0x01 ∷ 0x01 ∷ 0x41 ∷ 0x01 ∷ 0x01 ∷ 0x41 ∷ 0x00 ∷ a_section)) ≡ Err (errors.At Limit 23)
+unfolding bytes_written_out
+five-in-file = refl
 
 -- custom sections are dropped, before, between and after the two
 abbrev x_section : List ℕ

@@ -34,3 +34,4 @@ pub mod AcceptedWorlds
 pub mod AcceptedFile
 pub mod Candidates
 pub mod Refusing
+pub mod Examples
