@@ -1,5 +1,5 @@
 -- Worked examples: what bytes spell, which fault is the first where they spell nothing, and what is written.
-use Rattle.std.proofs.Common.{◌≡◌, inl, inr, ℕ, zero, suc, ◌+◌, ◌<◌, ◌==◌, List, [], ◌∷◌, ◌++◌, map, replicate, length, take, Some, None, Result, Ok, Err, true, false, codes, refl, ap, arith, sym, ◌∙◌}
+use Rattle.std.proofs.Common.{◌≡◌, inl, inr, ℕ, zero, suc, ◌<◌, ◌==◌, List, [], ◌∷◌, ◌++◌, map, replicate, length, take, Some, None, Result, Ok, Err, true, false, codes, refl, ap, arith, sym, ◌∙◌}
 use Rattle.std.specs.Prelude.{⊤, nat_lt}
 use Rattle.std.specs.Global.{Vec}
 use Rattle.std.specs.Str.{is_utf8, chars}

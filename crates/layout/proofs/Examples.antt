@@ -1,5 +1,5 @@
 -- Worked examples: the rows of a small package, types at the limits of size and depth, and the definition that is refused first.
-use Rattle.std.proofs.Common.{◌≡◌, ℕ, zero, suc, ◌+◌, ◌<◌, ◌≤◌, List, [], ◌∷◌, ◌++◌, map, replicate, Some, None, Bool, true, false, ◌&&◌, nat_le, slice_index_or, codes, refl, subst, arith}
+use Rattle.std.proofs.Common.{◌≡◌, ℕ, zero, suc, ◌<◌, ◌≤◌, List, [], ◌∷◌, ◌++◌, map, replicate, Some, None, Bool, true, false, ◌&&◌, nat_le, slice_index_or, codes, refl, subst, arith}
 use Rattle.std.proofs.lemmas.Bool.{and_parts, leb-true}
 use Rattle.canonical_abi.specs.Types.{ClosedType, string_type, depth}
 use Rattle.canonical_abi.specs.Layout.{size, align}

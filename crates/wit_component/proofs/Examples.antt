@@ -1,5 +1,5 @@
 -- Worked examples: the component of a package, and its bytes.
-use Rattle.std.proofs.Common.{◌≡◌, ℕ, ◌+◌, List, [], ◌∷◌, ◌++◌, map, length, take, slice_index, Option, Some, None, true, false, codes, refl, ap, sym, ◌∙◌, arith}
+use Rattle.std.proofs.Common.{◌≡◌, ℕ, List, [], ◌∷◌, ◌++◌, map, length, slice_index, Option, Some, None, true, false, codes, refl, ap, sym, ◌∙◌, arith}
 use Rattle.std.specs.Prelude.{⊤}
 use Rattle.ctype_format.specs.Raw.{Prim, Record, Variant, ListOf, Tuple, FlagSet, Enumeration, OptionOf, ResultOf, Define, Func, Component, Instance, Decl, Entry, Alias, Import, Export, none, BinaryFile}
 use Rattle.ctype_format.specs.View.{decls_of}
