@@ -43,7 +43,7 @@ use Rattle.ctype_format.proofs.Views.{view-Component, view-Instance}
 use Rattle.ctype_format.specs.Shortest.{groups}
 use Rattle.ctype_format.specs.Writing.{file_bytes, type_bytes, decl_bytes}
 
--- what unfolds in bytes that are written out
+-- what a proof unfolds to compute on bytes that are written out
 unfoldable pub bytes_written_out : ⊤
 unfolding is_utf8 chars encode_utf8 groups_at is_label is_package_label times run sized is_full_name is_extern_name primitive_of opcode_of label utf8 extern_name primitive type_index valtype optional_valtype field case record_type variant_type list_type tuple_type flags_type enum_type option_type result_entry outcome function_entry plain_entry opcode instance_alias outer_type alias_entry description external decl scope_of type exactly custom_content custom head section trailing entry_of_type type_section exported export_section component_file decoded groups file_bytes type_bytes
 bytes_written_out = tt
@@ -90,7 +90,7 @@ p1-cut = refl
 
 -- ---- bytes
 
--- one byte, the least, and the end
+-- one byte, and none
 byte-one : byte.read (5 ∷ 6 ∷ []) ≡ Ok (5, 6 ∷ [])
 byte-one = refl
 
