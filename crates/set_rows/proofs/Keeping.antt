@@ -4,7 +4,7 @@ use Rattle.std.proofs.lemmas.List.{map-append}
 use Rattle.set_rows.specs.Places.{place}
 use Rattle.std.specs.List.{items_where_true}
 
-pub kept-none : {A : Type 0} (bs : List Bool) → items_where_true {A = A} bs [] ≡ []
+pub kept-none : {A : Type 0} (bs : List Bool) → items_where_true {X = A} bs [] ≡ []
 kept-none [] = refl
 kept-none (b ∷ bs) = refl
 
