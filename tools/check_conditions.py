@@ -4,7 +4,7 @@
 usage: tools/check_conditions.py [--list]
 
 A function with conditions is one with a `requires` that a crate exports: by a `pub use` or a `pub mod` of its lib.rt, as a `pub` method of a type
-or a method of a trait that is exported so, or to C. The column `call` of the page's tables has to name each of them, as `name` or as `Type::name`,
+or a method of a trait that is exported so, or to C. Modules in folders or in blocks are not read, and the check fails if there are such. The column `call` of the page's tables has to name each of them, as `name` or as `Type::name`,
 and nothing else, and none more often than it has conditions. A cell has parts with a `;` between them. In a part that says of what its names are,
 as `field` of `Layouts` or of `Types`: `size_of`, each name without `::` is of that type, crate or module. A name has to be of one function alone.
 The page says as well how many such functions and conditions there are, so that a new condition of a function that it names is found too.
@@ -23,10 +23,15 @@ PAGE = ROOT / "docs" / "guarantees" / "conditions.md"
 USE = re.compile(r"^pub use ([^;]+);", re.M)
 MODULE = re.compile(r"^pub mod (\w+);", re.M)
 TYPE = re.compile(r"^pub (?:struct|enum|trait|union|type) (\w+)", re.M)
+# another name of a type
+ALIAS = re.compile(r"^pub type (\w+)[^=;]*= *([\w:]+)", re.M)
+# what may hold a `requires` or a brace that means nothing
+COMMENT = re.compile(r'"(?:[^"\\\n]|\\.)*"|//.*')
 # the line of a function, and of the block that it is in
-HEAD = re.compile(r"( *)(?:pub\(\w+\) |(pub ))?(?:const )?(?:unsafe )?(extern \"C\" )?fn (\w+)")
-BLOCK = re.compile(r"(?:pub )?(?:unsafe )?(impl|trait)\b")
-REQUIRES = re.compile(r" +requires\b ?(\w*)")
+HEAD = re.compile(r"( *)(?:pub\(\w+\) |(pub ))?(?:const )?(?:unsafe )?(extern \"C\" |extern )?fn (\w+)")
+BLOCK = re.compile(r"(?:pub(?:\(\w+\))? )?(?:unsafe )?(impl|trait)\b")
+REQUIRES = re.compile(r"(?:^|[\s)>\]])requires\b ?(\w*)")
+INNER = re.compile(r"^ *(?:pub(?:\(\w+\))? )?mod \w+ *\{", re.M)
 OF = re.compile(r"\bof `([\w:]+)`")
 NAME = re.compile(r"`([\w:]+)`")
 
@@ -34,23 +39,56 @@ NAME = re.compile(r"`([\w:]+)`")
 Function = collections.namedtuple("Function", "places type name clauses")
 
 
+def code(path):
+    """The text of a file without its comments and what its strings hold."""
+    return COMMENT.sub(lambda found: '""' if found[0].startswith('"') else "", path.read_text())
+
+
+def parts(text):
+    """What stands between the commas of a text that are in no braces."""
+    depth, found = 0, [""]
+    for letter in text:
+        depth += {"{": 1, "}": -1}.get(letter, 0)
+        if letter == "," and not depth:
+            found.append("")
+        else:
+            found[-1] += letter
+    return [it.strip() for it in found if it.strip()]
+
+
+def leaves(tree, before=()):
+    """The paths of a `use`, each with the name that it gives what is there."""
+    path, brace, inner = tree.partition("{")
+    whole, _, alias = path.partition(" as ")
+    names = [*before, *(it.strip() for it in whole.split("::") if it.strip() not in ("", "crate", "self"))]
+    if brace:
+        for part in parts(inner.rpartition("}")[0]):
+            yield from leaves(part, names)
+    else:
+        yield names, alias.strip() or names[-1]
+
+
 def used(text):
-    """The modules and the names of what a file exports by `pub use`."""
-    for path in USE.findall(text):
-        path = re.sub(r" as \w+|\s|crate::", "", path)
-        module, _, names = path.rpartition("::{") if path.endswith("}") else path.rpartition("::")
-        yield from ((module, name) for name in names.strip("}").split(",") if name)
+    """What a file exports by `pub use`: the module, its name there, and the name that it has by the file."""
+    for tree in USE.findall(text):
+        yield from (("::".join(path[:-1]), path[-1], name) for path, name in leaves(tree))
 
 
 def exported(src):
-    """The modules of a crate with the names that it exports of each, or None for all; and by which modules it exports a name."""
-    there = {"lib": None, **{module: None for module in MODULE.findall((src / "lib.rt").read_text())}}
-    by = collections.defaultdict(set)
-    for public in list(there):
-        for module, name in used((src / f"{public}.rt").read_text()):
-            if there.setdefault(module, set()) is not None:
+    """The modules of a crate with the names that it exports of each, or None for all; and by which modules and names it exports each."""
+    there = {"lib": None, **{module: None for module in MODULE.findall(code(src / "lib.rt"))}}
+    by, left = collections.defaultdict(set), list(there)
+    while left:
+        public = left.pop()
+        for module, name, given in used(code(src / f"{public}.rt")):
+            inner = name if not module else module if name == "*" else None
+            if inner and (src / f"{inner}.rt").is_file() and there.get(inner, ()) is not None:
+                there[inner] = None
+                left.append(inner)
+            elif not inner and there.setdefault(module, set()) is not None:
                 there[module].add(name)
-            by[module, name].add(public)
+            if not inner:
+                by[module, name].add((public, given))
     return there, by
 
 
@@ -59,21 +97,32 @@ def type_of(line):
     line = line.replace("->", "")
     while re.search(r"<[^<>]*>", line):
         line = re.sub(r"<[^<>]*>", "", line)
-    return None if " for " in line else re.search(r"\b(?:impl|trait) (\w+)", line)[1]
+    return None if " for " in line else re.search(r"\b(?:impl|trait)\s+(?:\w+::)*(\w+)", line)[1]
 
 
 def conditions(path):
     """The functions of a file that have conditions: the type, the name, whether it is public, whether it is one for C, and the conditions."""
     found, block, kind = [], None, None
-    for line in path.read_text().splitlines():
+    lines = code(path).splitlines()
+    for number, line in enumerate(lines):
         if head := BLOCK.match(line):
-            block, kind = type_of(line), head[1]
+            block, kind = type_of(" ".join(lines[number:]).partition("{")[0]), head[1]
         if head := HEAD.match(line):
             public = bool(head[2]) or bool(head[1]) and kind == "trait"
             found.append((block if head[1] else "", head[4], public, bool(head[3]), []))
-        elif found and (clause := REQUIRES.match(line)):
-            found[-1][4].append(clause[1])
+        if found:
+            found[-1][4].extend(REQUIRES.findall(line))
     return [it for it in found if it[0] is not None and it[4]]
+
+
+def types_of(files, there):
+    """The types that a crate exports of its modules, and what those of them are that are other names of types."""
+    found = set()
+    for module, path in files.items():
+        text, names = code(path), there.get(module, ())
+        found.update(it for it in TYPE.findall(text) if names is None or it in names)
+        found.update(path.rpartition("::")[2] for it, path in ALIAS.findall(text) if names is None or it in names)
+    return found
 
 
 def functions():
@@ -82,16 +131,23 @@ def functions():
         there, by = exported(lib.parent)
         crate = lib.parent.parent.name
         files = {path.stem: path for path in sorted(lib.parent.glob("*.rt"))}
-        types = {it for module, names in there.items() if module in files
-                 for it in TYPE.findall(files[module].read_text()) if names is None or it in names}
+        types = types_of(files, there)
         for module, path in files.items():
             names = there.get(module, ())
             for type_, name, public, for_c, clauses in conditions(path):
                 if type_ and public and type_ in types:
                     yield Function({type_}, type_, name, clauses)
                 elif not type_ and public and (for_c or names is None or name in names):
-                    places = {f"{crate}::{it}" for it in by.get((module, name), {module})}
-                    yield Function({crate, *places}, "", name, clauses)
+                    given = by.get((module, name), {(module, name)})
+                    places = {f"{crate}::{it}" for it, _ in given}
+                    yield Function({crate, *places}, "", min(it for _, it in given), clauses)
+
+
+def unread():
+    """The modules that the check doesn't read."""
+    for path in sorted((ROOT / "crates").glob("*/src/**/*.rt")):
+        if path.parent.name != "src" or INNER.search(code(path)):
+            yield f"{path.relative_to(ROOT)}: a module in a folder or in a block is not read"
 
 
 def called(cell):
@@ -126,9 +182,9 @@ def main():
         for it in known:
             print(min(it.places), it.name, *(clause or "-" for clause in it.clauses))
         return
-    found = list(faults(known))
+    found = [*unread(), *(f"{PAGE.relative_to(ROOT)}{fault}" for fault in faults(known))]
     for fault in found:
-        print(f"{PAGE.relative_to(ROOT)}{fault}")
+        print(fault)
     sys.exit(bool(found))
 
 
