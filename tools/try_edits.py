@@ -58,8 +58,9 @@ def copied(room, crate, names):
 
 
 def edited(edit, folder):
-    """The texts of the files that the edit changes, by their path, or None where it can't be applied."""
+    """The texts of the files that the edit changes, by their path, or None where it can't be applied or changes nothing."""
     texts, path, old = {}, None, None
+    changes = 0
     for line in edit.read_text().splitlines():
         word, _, rest = line.partition(": ")
         if word == "file":
@@ -68,10 +69,11 @@ def edited(edit, folder):
         elif word == "old":
             old = rest
         elif word == "new":
-            if texts[path].count(old) != 1:
+            if None in (path, old) or old == rest or texts[path].count(old) != 1:
                 return None
             texts[path] = texts[path].replace(old, rest)
-    return texts
+            changes += 1
+    return texts if changes else None
 
 
 def told(output, status):
@@ -132,6 +134,10 @@ def main():
     unknown = [it for it in names if it not in below]
     if unknown:
         sys.exit(f"no crate {unknown[0]}")
+    there = {it.stem for name in names or below for it in edits_of(name, only)}
+    lacking = sorted(set(only.split(",") if only else []) - there)
+    if lacking or not there:
+        sys.exit(f"no edit {lacking[0] if lacking else ''}".rstrip())
     sys.exit(0 if all([tried(name, below[name], only) for name in names or list(below)]) else 1)
 
 
