@@ -3,35 +3,56 @@
 
 usage: tools/check_names.py
 
-A name is a word in backquotes, or words joined by `::`, that could be one of Rust or of a definition: with a capital letter within it, an
-underscore, or `::`. Each of its parts has to stand in a file of crates/ or in a header of include/, or be the name of a crate, of a file,
-of an edit or of a script. A clause that is named beside its function, as `open`: ok, written, has to be one of that function. Words in backquotes
-behind a crate `rows_..` or `vectors` are names of rows, and each has to be a line of the output of that crate, or the name in a line of its input.
+What is checked of the pages:
+
+- A name is a word in backquotes, or words joined by `::`, that could be one of Rust or of a definition: with a capital letter before a small
+  one, an underscore, or `::`. So is what stands before the `(` of a call. Each of its parts has to stand in a file of crates/ or in a header of
+  include/, out of comments, or be the name of a crate, of a file, of an edit or of a script. The names in blocks of Rust and C have to as well.
+- A function that is named with its type, its module or its crate, as `Package::takes`, has to be one of it. The forms in the column `expected` of
+  a table need not be there.
+- A path in backquotes or in a block of `sh` that begins with a folder of FOLDERS has to be there, and `specs/NAME`, `proofs/NAME` and `src/NAME`
+  in some crate or example. What is built, and paths with a word in capitals for a name, are left out.
+- Clauses that are named beside functions, as `open`: ok, written, have to be ones of such a function.
+- Words in backquotes behind a crate `rows_..` or `vectors` are names of rows. Each has to be a line of the output of that crate, or the name in
+  a line of its input.
 
 In the tables of docs/guarantees/ the cells of the column `clause` hold functions and clauses alone, as `open_set`: ok, only; `Package::takes`,
 each of which has to be there; a function without a clause has one that has no name. Those of the column `edit` hold must-fail edits alone, and
-docs/guarantees/edits.md has to name every one. The text that an edit replaces has to be there once. The exit status is 1 where something
-isn't there.
+docs/guarantees/edits.md has to name every one beside its crate. The text that an edit replaces has to be there once, and to change by it. The exit
+status is 1 where something isn't there.
 """
 import json
 import pathlib
 import re
 import sys
 
+from check_pages import prose, without_blocks
 from try_edits import edited
 
 ROOT = pathlib.Path(__file__).resolve().parent.parent
 NAME = re.compile(r"[A-Za-z_][A-Za-z0-9_]*(::[A-Za-z_][A-Za-z0-9_]*)*")
 WORD = re.compile(r"[A-Za-z_][A-Za-z0-9_]*")
-# a row of a table that names functions and the clauses of their contracts
-CLAUSES = re.compile(r"\| ((?:`[A-Za-z_:]+`(?:, )?)+): ([a-z_0-9]+(?:, [a-z_0-9]+)*) \|")
+# functions, and clauses of their contracts
+CLAUSES = re.compile(r"((?:`[\w:]+`(?:, and | and |, )?)+)(?: \(`\w+`\))?: ([a-z_0-9]+(?:, [a-z_0-9]+)*)(?=[;|.)]| \||, part| \()")
+# a word in backquotes, a call, and a path
+SPAN = re.compile(r"`([^`]+)`")
+CALL = re.compile(r"([A-Za-z_:]\w[\w:]*)\(.*\)")
+PATH = re.compile(r"(?:\./)?[\w.*-]+(?:/[\w.*-]+)*/?")
+FOLDERS = (".ci", "bench", "crates", "docs", "edits", "examples", "include", "packaging", "release", "tests", "tools")
+INNER = ("specs", "proofs", "src")
+# blocks of code, and what in them is no code
+BLOCKS = re.compile(r"^```(rust|c|sh)\n(.*?)^```$", re.M | re.S)
+PLACEHOLDER = re.compile(r"[A-Z]_")
+NO_CODE = re.compile(r'"(?:[^"\\\n]|\\.)*"|//.*|/\*.*?\*/', re.S)
+COMMENTS = {".antt": re.compile(r"--.*"), ".rt": re.compile(r"//.*"), ".h": re.compile(r"/\*.*?\*/", re.S)}
 # names of rows behind their crate
 ROWS = re.compile(r"`(rows_[a-z]+|vectors)` ((?:`[^`]+`(?:, )?)+)")
 # a clause that has a name (tools/pictures.py)
 LABEL = re.compile(r"\bensures ([a-z_0-9]+) \{")
 # the line of a function, of the block that it is in, and its clauses, of which some have no name
 HEAD = re.compile(r"( *)(?:pub(?:\(\w+\))? )?(?:const )?(?:unsafe )?(?:extern \"C\" )?fn (\w+)")
-BLOCK = re.compile(r"(?:pub )?(?:unsafe )?(?:impl|trait)\b")
+BLOCK = re.compile(r"(?:pub(?:\(\w+\))? )?(?:unsafe )?(?:impl|trait)\b")
+REQUIRES = re.compile(r"\brequires (\w+)")
 ENSURES = re.compile(r"\bensures (\w*) ?\{")
 # a cell of docs/guarantees/: functions, and the clauses that all of them have
 GROUP = re.compile(r"((?:`[\w:]+`(?:, )?)+)(?:: ([a-z_0-9]+(?:, [a-z_0-9]+)*))?(?:, parts? (?:`\w+`(?:, )?)+)?")
@@ -46,52 +67,60 @@ def sources():
     yield from sorted((ROOT / "include").glob("*.h"))
 
 
+def code(path):
+    """The text of a file of `sources` without its comments."""
+    return COMMENTS[path.suffix].sub("", path.read_text())
+
+
 def known():
-    """Every word of the sources and of file names."""
+    """Every word of the sources, out of comments, and of file names."""
     words = set()
     for path in sources():
-        words.update(WORD.findall(path.read_text()))
+        words.update(WORD.findall(code(path)))
     for path in (ROOT / "crates").glob("rows_*/**/*"):
         if path.suffix == ".rows" or path.name == "stdin":
             words.update(WORD.findall(path.read_text()))
-    for folder in ("crates", "edits", "tools", "bench", "examples", "docs"):
+    for folder in FOLDERS:
         for path in (ROOT / folder).rglob("*"):
             if "out" not in path.parts:
                 words.update(WORD.findall(path.name))
             # what the programs of hosts name
-            if folder == "examples" and path.suffix in (".c", ".h", ".mjs", ".rs"):
+            if folder == "examples" and path.suffix in (".c", ".h", ".mjs", ".rs", ".txt"):
                 words.update(WORD.findall(path.read_text()))
     return words
 
 
 def contracts():
-    """The functions of crates/ by their names: of each the names that it may be qualified by, and its clauses, of which some have no name."""
+    """The functions of crates/ by their names: of each the names that it may be qualified by, its clauses, of which some have no name, and the
+    names of its conditions."""
     found, traits = {}, {}
     for path in sources():
         if path.suffix != ".rt":
             continue
-        block, clauses = "", []
-        for line in path.read_text().splitlines():
+        block, clauses, conditions = "", [], []
+        for line in code(path).splitlines():
             if BLOCK.match(line):
                 block = line
             if head := HEAD.match(line):
                 around = block if head[1] else ""
-                owners, clauses = {path.relative_to(ROOT).parts[1], path.stem, *WORD.findall(around)}, []
-                found.setdefault(head[2], []).append((owners, clauses))
+                owners, clauses, conditions = {path.relative_to(ROOT).parts[1], path.stem, *WORD.findall(around)}, [], []
+                found.setdefault(head[2], []).append((owners, clauses, conditions))
                 if "trait" in around.split():
                     traits[head[2]] = traits.get(head[2], []) + [(owners, clauses)]
             clauses.extend(ENSURES.findall(line))
+            conditions.extend(REQUIRES.findall(line))
     # where a trait is implemented, its contract holds
     for name, given in traits.items():
-        for owners, clauses in found[name]:
+        for owners, clauses, _ in found[name]:
             if "for" in owners and not clauses:
                 clauses.extend(it for others, theirs in given if others & owners - {"for"} for it in theirs)
     return found
 
 
 def edits():
-    """The names of all must-fail edits."""
-    return {path.stem for path in [*ROOT.glob("crates/*/must-fail/*.edit"), *ROOT.glob("edits/*/*.edit")]}
+    """All must-fail edits, each with its crate."""
+    return {(path.parent.name, path.stem) for path in ROOT.glob("edits/*/*.edit")} | {
+        (path.parent.parent.name, path.stem) for path in ROOT.glob("crates/*/must-fail/*.edit")}
 
 
 def stale_edits():
@@ -99,7 +128,7 @@ def stale_edits():
     for path in sorted([*ROOT.glob("crates/*/must-fail/*.edit"), *ROOT.glob("edits/*/*.edit")]):
         name = path.parent.name if path.parent.parent.name == "edits" else path.parent.parent.name
         if edited(path, ROOT / "crates" / name) is None:
-            yield f"{path.relative_to(ROOT)}: the text of an `old:` line isn't there once"
+            yield f"{path.relative_to(ROOT)}: the text of an `old:` line isn't there once, or nothing changes"
 
 
 def columns(text):
@@ -124,7 +153,7 @@ def wrong_clauses(cell, known_contracts):
             continue
         for name in re.findall(r"`([^`]+)`", found[1]):
             *owners, last = name.split("::")
-            there = [clauses for around, clauses in known_contracts.get(last, []) if around.issuperset(owners)]
+            there = [clauses for around, clauses, _ in known_contracts.get(last, []) if around.issuperset(owners)]
             if found[2] is None and [""] not in there:
                 yield f"{name} has not one clause without a name"
             for clause in (found[2] or "").split(", "):
@@ -132,23 +161,96 @@ def wrong_clauses(cell, known_contracts):
                     yield f"{name} has no clause {clause}"
 
 
-def wrong_cells(page, all_contracts, all_edits):
+def wrong_cells(text, all_contracts, all_edits):
     """What is wrong with the tables of a page of docs/guarantees/."""
-    named = set()
-    for number, head, cell in columns(page.read_text()):
+    for number, head, cell in columns(text):
         if head == "clause" and set(cell) != set("-") and not NOTE.fullmatch(cell):
             yield from ((number, fault) for fault in wrong_clauses(cell, all_contracts))
         if head in ("edit", "edits"):
-            names = re.findall(r"`([^`]+)`", cell)
-            named.update(names)
-            yield from ((number, f"{name} is no edit") for name in names if name not in all_edits)
-    if page.name == "edits.md":
-        yield from ((1, f"{name} is not named") for name in sorted(all_edits - named))
+            yield from ((number, f"{name} is no edit") for name in SPAN.findall(cell) if name not in {edit for _, edit in all_edits})
+
+
+def unnamed_edits(text, all_edits):
+    """The edits that docs/guarantees/edits.md doesn't name in a row of their crate, and what it names there that is none of the crate."""
+    crate, named = "", set()
+    for number, head, cell in columns(text):
+        if head == "crate":
+            crate = cell.strip("`") or crate
+        for name in SPAN.findall(cell) if head in ("edits", "in the gate") else ():
+            named.add((crate, name))
+            if (crate, name) not in all_edits:
+                yield number, f"{name} is no edit of {crate}"
+    yield from ((1, f"{name} of {crate} is not named") for crate, name in sorted(all_edits - named))
 
 
 def is_told(name):
     """Whether a word in backquotes is a name rather than a value, a keyword or a text."""
-    return bool(NAME.fullmatch(name)) and ("_" in name.strip("_") or "::" in name or bool(re.search(r"[a-z][A-Z]", name)))
+    return bool(NAME.fullmatch(name)) and ("_" in name.strip("_") or "::" in name or bool(re.search(r"[a-z][A-Z]|^[A-Z][a-z]", name)))
+
+
+def spans(text):
+    """The words in backquotes of a page, each on one line, with the number of its line."""
+    return [(text.count("\n", 0, found.start()) + 1, " ".join(found[1].split())) for found in SPAN.finditer(text)]
+
+
+def missing_names(text, words, all_contracts):
+    """The names in backquotes that aren't there, and the functions that aren't of what they are named with."""
+    of_repository = {*(it.name for it in (ROOT / "crates").iterdir()), *(owner for it in all_contracts.values() for owners, *_ in it for owner in owners)}
+    expected = {number for number, head, _ in columns(text) if head == "expected"}
+    for number, span in spans(text):
+        call = CALL.fullmatch(span)
+        name = call[1] if call else span
+        *owners, last = name.split("::")
+        if is_told(name) and not PLACEHOLDER.match(name) and any(part not in words for part in (*owners, last)):
+            yield number, name
+        elif is_told(name) and owners and last in all_contracts and of_repository.issuperset(owners) and number not in expected:
+            if not any(around.issuperset(owners) for around, *_ in all_contracts[last]) and not is_exported(owners, last):
+                yield number, f"{last} is no function of {'::'.join(owners)}"
+
+
+def is_exported(owners, name):
+    """Whether a crate exports a name of another one, or a part of it has it otherwise than as a function."""
+    files = [ROOT / "crates" / owners[0] / "src" / f"{it}.rt" for it in (*owners[1:], "lib")]
+    return any(name in WORD.findall(code(path)) for path in files if path.is_file())
+
+
+def missing_in_blocks(page_text, words):
+    """The names in blocks of Rust and C that aren't there; of C those that begin as the library's do."""
+    for found in BLOCKS.finditer(page_text):
+        number = page_text.count("\n", 0, found.start()) + 1
+        for name in NAME.finditer(NO_CODE.sub('""', found[2])) if found[1] != "sh" else ():
+            is_meant = is_told(name[0]) if found[1] == "rust" else name[0].lower().startswith(("wit_", "witcall_"))
+            if is_meant and any(part not in words for part in name[0].split("::")):
+                yield number, f"{name[0]}, in a block"
+
+
+def missing_paths(page_text):
+    """The paths in backquotes and in blocks of `sh` that aren't there."""
+    named = [(number, span) for number, span in spans(without_blocks(page_text))]
+    for found in BLOCKS.finditer(page_text):
+        if found[1] == "sh":
+            named += [(page_text.count("\n", 0, found.start()) + 1, word) for word in found[2].split()]
+    for number, path in named:
+        first, _, rest = path.removeprefix("./").partition("/")
+        is_built = "out" in path.split("/") or re.search(r"\b[A-Z]{2,}\b", path)
+        if not PATH.fullmatch(path) or not rest or is_built or first not in (*FOLDERS, *INNER):
+            continue
+        pattern = path.removeprefix("./").rstrip("/")
+        places = (pattern,) if first in FOLDERS else (f"crates/*/{pattern}", f"examples/*/{pattern}")
+        if not any(any(ROOT.glob(place)) for place in places):
+            yield number, f"nothing is at {path}"
+
+
+def untrue_clauses(text, all_contracts):
+    """The clauses and conditions that no function has that they are named beside."""
+    for found in CLAUSES.finditer(text):
+        names = [it.split("::") for it in SPAN.findall(found[1])]
+        meant = [it for *owners, last in names for it in all_contracts.get(last, []) if it[0].issuperset(owners)]
+        there = {clause for _, clauses, conditions in meant for clause in clauses + conditions}
+        # a law has premises, which a page may say there are none of
+        for clause in found[2].split(", "):
+            if clause not in there and clause != "none":
+                yield text.count("\n", 0, found.start()) + 1, f"{found[1]} has no clause {clause}"
 
 
 def missing_rows(line):
@@ -164,33 +266,34 @@ def missing_rows(line):
                 yield f"{crate} has no row {name}"
 
 
+def wrong_rows(text):
+    """The names of rows on a page that their crates don't have."""
+    for number, line in enumerate(text.splitlines(), 1):
+        yield from ((number, fault) for fault in missing_rows(line))
+
+
+def faults_of(page, words, all_contracts, all_edits):
+    """What is wrong with a page, each with the number of its line."""
+    whole, text = page.read_text(), prose(page)
+    yield from missing_names(text, words, all_contracts)
+    yield from missing_in_blocks(whole, words)
+    yield from missing_paths(whole)
+    yield from untrue_clauses(text, all_contracts)
+    yield from wrong_rows(text)
+    if page.parent.name == "guarantees":
+        yield from wrong_cells(text, all_contracts, all_edits)
+    if page.name == "edits.md":
+        yield from unnamed_edits(text, all_edits)
+
+
 def main():
     words, all_contracts, all_edits = known(), contracts(), edits()
-    missing = 0
-    for fault in stale_edits():
-        missing += 1
-        print(fault)
+    faults = list(stale_edits())
     for page in [ROOT / "README.md", *sorted((ROOT / "docs").rglob("*.md"))]:
-        if page.parent.name == "guarantees":
-            for number, fault in wrong_cells(page, all_contracts, all_edits):
-                missing += 1
-                print(f"{page.relative_to(ROOT)}:{number}: {fault}")
-        for number, line in enumerate(page.read_text().splitlines(), 1):
-            for name in re.findall(r"`([^`]+)`", line):
-                if is_told(name) and any(part not in words for part in name.split("::")):
-                    missing += 1
-                    print(f"{page.relative_to(ROOT)}:{number}: {name}")
-            for fault in missing_rows(line):
-                missing += 1
-                print(f"{page.relative_to(ROOT)}:{number}: {fault}")
-            for functions, clauses in CLAUSES.findall(line):
-                names = [it.split("::")[-1] for it in re.findall(r"`([^`]+)`", functions)]
-                there = {clause for it in names for _, clauses in all_contracts.get(it, []) for clause in clauses}
-                for clause in clauses.split(", "):
-                    if clause not in there:
-                        missing += 1
-                        print(f"{page.relative_to(ROOT)}:{number}: {functions} has no clause {clause}")
-    sys.exit(missing > 0)
+        faults += [f"{page.relative_to(ROOT)}:{number}: {fault}" for number, fault in faults_of(page, words, all_contracts, all_edits)]
+    for fault in faults:
+        print(fault)
+    sys.exit(bool(faults))
 
 
 if __name__ == "__main__":

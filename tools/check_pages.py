@@ -24,9 +24,14 @@ CELL = re.compile(r"(?<!\\)\|")
 END = re.compile(r"(?<=[.?!])\)?\*{0,2} (?=[A-Z`\[(*0-9])")
 
 
+def without_blocks(text):
+    """Returns a text without its blocks of code, whose lines are empty."""
+    return BLOCK.sub(lambda block: "\n" * block.group().count("\n"), text)
+
+
 def prose(path):
-    """Returns a page's text without its blocks of code, whose lines are empty."""
-    return BLOCK.sub(lambda block: "\n" * block.group().count("\n"), path.read_text(encoding="utf-8"))
+    """Returns a page's text without its blocks of code."""
+    return without_blocks(path.read_text(encoding="utf-8"))
 
 
 def anchors(path):
