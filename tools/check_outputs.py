@@ -8,18 +8,24 @@ What is checked:
 - Blocks of `sh`. Below a command stands what it prints, on standard output or standard error, each line after `# ` (or `#` alone, if it is
   empty). The commands of COMMANDS are run, one after another, in a folder that has `examples` and `witcall`, and print just that. The others
   need a toolchain or change the machine, and --verbose names them. A block in which no command of COMMANDS has a line is not run at all.
-- docs/ERRORS.md: each example, run if it is a text or a call, is answered as the page says, and so is its row in errors.rows.
-- docs/FORMATS.md: each example of the table of JSON is read as a value of its type and written as it stands.
-- Blocks without a language of the pages of HOSTS: if one line of a block is one of a stored run of an example, all are, one after another.
+- docs/ERRORS.md: each line that has an example is the one that answers it. If the example is a text or a call, it is run; otherwise errors.rows
+  has its answer.
+- docs/FORMATS.md: each example of the table of JSON is read as a value of its type and written as it stands. The rows in blocks without a
+  language are stored rows. A row may be broken into lines, of which each but the first begins with a space.
+- Blocks without a language of the pages of HOSTS: the lines are those of a stored run of an example, one after another.
 
-The program is the one that was built, crates/program/out/program, if no other is named. The exit status is 1 if a page is wrong.
+The program is the one that was built, crates/program/out/program, if no other is named. The exit status is 1 if a page is wrong, and if one of
+these has nothing to compare.
 """
 import argparse
+import collections
 import pathlib
 import re
 import subprocess
 import sys
 import tempfile
+
+from check_names import columns
 
 ROOT = pathlib.Path(__file__).resolve().parent.parent
 COMMANDS = ("witcall", "./witcall", "~/.local/bin/witcall", "cd", "cat", "echo", "printf", "wc")
@@ -29,14 +35,17 @@ BLOCK = re.compile(r"^```(\w*)\n(.*?)^```$", re.M | re.S)
 EXAMPLE = re.compile(r"`(package [^`]*)`( twice)?: `(error [^`]*)`")
 CALL = re.compile(r"`(f: [^`]*)`, ARGS `([^`]*)`: `([^`]*)`")
 SHELL = re.compile(r"`(witcall [^`]*)`")
-JSON = re.compile(r"^\| [^|]* \| .* \| `([^`]*)`: ((?:`[^`]*`(?:, )?)+) \|$", re.M)
+JSON = re.compile(r"`([^`]*)`: ((?:`[^`]*`(?:, )?)+)")
+# a row of a text file, and one of JSON
+ROW = re.compile(r"let \w+ = |[^:|]+: .*=>|\{\"", re.M)
+EXAMPLES = "example, and its answer"
 
 
 class Pages:
     """The pages as they are checked: the program, a folder to run in, and what was found wrong."""
 
     def __init__(self, program, folder, verbose):
-        self.folder, self.verbose, self.faults, self.checked = folder, verbose, 0, 0
+        self.folder, self.verbose, self.faults, self.checked = folder, verbose, 0, collections.Counter()
         home = folder / ".local" / "bin"
         home.mkdir(parents=True)
         (home / "witcall").symlink_to(program)
@@ -44,9 +53,9 @@ class Pages:
         (folder / "examples").symlink_to(ROOT / "examples")
         self.environment = {"PATH": f"{home}:/usr/bin:/bin", "HOME": str(folder), "LC_ALL": "C.UTF-8"}
 
-    def expect(self, place, what, found, said):
-        """Counts one comparison, and prints it if the two differ."""
-        self.checked += 1
+    def expect(self, kind, place, what, found, said):
+        """Counts one comparison of a kind, and prints it if the two differ."""
+        self.checked[kind] += 1
         if found != said:
             self.faults += 1
             print(f"{place}: {what}\n  the page says: {said!r}\n  it prints:     {found!r}")
@@ -96,56 +105,89 @@ def check_shell(pages, name, text):
         if not any(output for _, output in commands):
             continue
         for (command, said), printed in zip(commands, pages.shell([it[0] for it in commands])):
-            pages.expect(place, command, printed, said)
+            pages.expect("sh", place, command, printed, said)
+
+
+def examples(text):
+    """The rows of the tables of docs/ERRORS.md that have examples: the number of each, its line of an error, and the example."""
+    line = ""
+    for number, head, cell in columns(text):
+        if head == "line":
+            line = cell.strip("`")
+        if head == EXAMPLES and set(cell) != {"-"}:
+            yield number, line, cell
+
+
+def is_line(line, answer):
+    """Whether an answer is one that the page has this line for, in which words in capitals stand for something."""
+    return re.fullmatch(re.sub(r"\b[A-Z]+\b", ".+", re.escape(line)), answer) is not None
 
 
 def check_errors(pages, name, text):
-    """The examples of docs/ERRORS.md, by the program and by their rows."""
+    """The examples of docs/ERRORS.md, by the program or by their rows."""
     rows = (ROOT / "crates" / "rows_texts" / "data" / "errors.rows").read_text()
     answers = {line.partition(" => ")[2] for line in rows.splitlines() if not line.startswith("#")}
     file = pages.folder / "example.wit"
-    for number, line in enumerate(text.splitlines(), 1):
-        place, cells = f"{name}:{number}", line.strip("|").split(" | ")
-        if len(cells) != 4 or not line.startswith("| `error "):
+    for number, line, example in examples(text):
+        place = f"{name}:{number}"
+        if found := SHELL.search(example):
+            pages.expect("errors", place, found[1], pages.shell([found[1]])[0], [line])
             continue
-        if found := EXAMPLE.search(cells[2]):
+        if found := EXAMPLE.search(example):
             file.write_text(found[1])
             first = ["--with", file.name] if found[2] else []
-            pages.expect(place, found[1], pages.witcall("show", *first, file.name), found[3])
-        elif found := CALL.search(cells[2]):
+            pages.expect("errors", place, found[1], pages.witcall("show", *first, file.name), found[3])
+        elif found := CALL.search(example):
             file.write_text(f"package a:b; interface c {{ {found[1]}; }}")
             reply = "[0]" if "->" in found[1] else "[]"
-            pages.expect(place, found[1], pages.witcall("call", file.name, "a:b/c", "f", found[2], reply), found[3])
-        elif found := SHELL.search(cells[2]):
-            pages.expect(place, found[1], pages.shell([found[1]])[0], [cells[0].strip(" `")])
-            continue
-        said = re.findall(r"`(error [^`]*)`", cells[2])[-1:]
-        pages.expect(place, "a row of errors.rows", [it for it in said if it in answers], said)
+            pages.expect("errors", place, found[1], pages.witcall("call", file.name, "a:b/c", "f", found[2], reply), found[3])
+        said = re.findall(r"`(error [^`]*)`", example)[-1:] or ["no answer"]
+        pages.expect("errors", place, "an answer to its line, and a row of errors.rows", [it for it in said if it in answers and is_line(line, it)], said)
 
 
 def check_json(pages, text):
     """The examples of the table of JSON in docs/FORMATS.md."""
     file = pages.folder / "example.wit"
-    table = text[text.index("## JSON\n"):]
-    for shape, examples in JSON.findall(table[:table.index("\n## ")]):
+    section = text[text.index("## JSON\n"):]
+    cells = [cell for _, head, cell in columns(section[:section.index("\n## ")]) if head == "example" and set(cell) != {"-"}]
+    for cell in cells:
+        found = JSON.fullmatch(cell)
+        if not found:
+            pages.expect("json", "docs/FORMATS.md", "an example", None, cell)
+            continue
+        shape, said_of_it = found.groups()
         kind, _, members = shape.partition(" ")
         item, name = (f"{kind} t {members}", "t") if members.startswith("{") else ("", shape)
         file.write_text(f"package a:b; interface c {{ {item} f: func(x: {name}) -> {name}; }}")
-        for said in re.findall(r"`([^`]*)`", examples):
-            pages.expect("docs/FORMATS.md", shape, pages.witcall("call", file.name, "a:b/c", "f", f"[{said}]", f"[{said}]"), said)
+        for said in re.findall(r"`([^`]*)`", said_of_it):
+            pages.expect("json", "docs/FORMATS.md", shape, pages.witcall("call", file.name, "a:b/c", "f", f"[{said}]", f"[{said}]"), said)
+
+
+def plain_blocks(name, text):
+    """The lines of each block without a language, with its place."""
+    for found in BLOCK.finditer(text):
+        if not found[1]:
+            yield f"{name}:{text.count(chr(10), 0, found.start()) + 1}", found[2].splitlines()
+
+
+def check_rows(pages, name, text):
+    """The rows in blocks of docs/FORMATS.md."""
+    crates = ROOT / "crates"
+    files = [*crates.glob("rows_*/data/*.rows"), crates / "vectors" / "stdin", crates / "vectors" / "stdout"]
+    stored = {line for it in files for line in it.read_text().splitlines()}
+    for place, lines in plain_blocks(name, text):
+        if ROW.match("\n".join(lines)):
+            whole = re.sub(r"\n +", "", "\n".join(lines)).splitlines()
+            pages.expect("rows", place, "stored rows", [line for line in whole if not line or line in stored], whole)
 
 
 def check_hosts(pages, name, text):
-    """Blocks without a language that show what an example prints."""
+    """Blocks without a language, which show what an example prints."""
     stored = [*ROOT.glob("crates/example_*/stdout"), *ROOT.glob("examples/**/*.expected")]
     runs = [it.read_text().splitlines() for it in stored]
-    for found in BLOCK.finditer(text):
-        lines = found[2].splitlines()
-        if found[1] or not any(line in run for run in runs for line in lines):
-            continue
-        place = f"{name}:{text.count(chr(10), 0, found.start()) + 1}"
+    for place, lines in plain_blocks(name, text):
         there = any(run[at:at + len(lines)] == lines for run in runs for at in range(len(run)))
-        pages.expect(place, "a stored run of an example", lines if there else None, lines)
+        pages.expect("hosts", place, "a stored run of an example", lines if there else None, lines)
 
 
 def main():
@@ -166,8 +208,12 @@ def main():
                 check_errors(pages, name, text)
             if page.name == "FORMATS.md":
                 check_json(pages, text)
-    print(f"{pages.checked} outputs of pages compared, {pages.faults} differ")
-    sys.exit(pages.faults > 0)
+                check_rows(pages, name, text)
+    nothing = [kind for kind in ("sh", "errors", "json", "rows", "hosts") if not pages.checked[kind]]
+    if nothing:
+        print(f"nothing is compared of: {', '.join(nothing)}")
+    print(f"{sum(pages.checked.values())} outputs of pages compared, {pages.faults} differ")
+    sys.exit(pages.faults > 0 or bool(nothing))
 
 
 main()
