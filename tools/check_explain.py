@@ -5,10 +5,12 @@ usage: tools/check_explain.py [--program WIT-EXPLAIN]..
 
 tests/explain/runs has one run after another: a line `$ wit-explain WORDS`, what the program prints, and a line `status NUMBER`. Words are
 parted by single spaces. A run reads the files of tests/explain/files, and has no input. If the status is 2, the text is what goes to
-standard error. Each program named is run, by default those that the gate built by both compilers. Each block of docs/EXPLAIN.md that begins
-with such a line has to be a stored run. The exit status is 1 if a run or a block differs.
+standard error, and nothing may go to standard output; otherwise it is the other way round. Each program named is run, by default those that the
+gate built by both compilers, both of which have to be there. Each block of `console` of README.md and docs/ has to be a stored run, and
+docs/pictures/shapes.svg what the run of PICTURE prints. The exit status is 1 if one of them differs.
 """
 import argparse
+import collections
 import difflib
 import pathlib
 import re
@@ -21,8 +23,9 @@ ROOT = pathlib.Path(__file__).resolve().parent.parent
 FOLDER = ROOT / "tests" / "explain"
 BUILT = [ROOT / "crates" / "explain" / "out" / name for name in ("explain", "explain.by-rattle")]
 PROMPT = "$ wit-explain"
-PAGE = ROOT / "docs" / "EXPLAIN.md"
-BLOCK = re.compile(r"^```console\n\$ wit-explain ([^\n]*)\n(.*?)^```$", re.M | re.S)
+PAGES = [ROOT / "README.md", *sorted((ROOT / "docs").rglob("*.md"))]
+PICTURE = "layout --svg - shapes.wit"
+BLOCK = re.compile(r"^```console\n([^\n]*)\n(.*?)^```$", re.M | re.S)
 
 
 def stored_runs():
@@ -41,8 +44,9 @@ def printed(program, words, folder):
     done = subprocess.run(
         [program, *words], cwd=folder, stdin=subprocess.DEVNULL, capture_output=True, env={"PATH": "/usr/bin:/bin", "LC_ALL": "C.UTF-8"}
     )
-    said = done.stderr if done.returncode == 2 else done.stdout
-    return f"{said.decode()}status {done.returncode}"
+    said, other = (done.stderr, done.stdout) if done.returncode == 2 else (done.stdout, done.stderr)
+    beside = f"on the other stream: {other.decode()}" if other else ""
+    return f"{said.decode()}{beside}status {done.returncode}"
 
 
 def differing(program):
@@ -60,25 +64,42 @@ def differing(program):
     return found
 
 
-def untrue_blocks():
-    """How many blocks of the page are no stored runs. Each is told."""
-    stored = {" ".join(words): text.rpartition("status ")[0] for words, text in stored_runs()}
-    found = [words for words, text in BLOCK.findall(PAGE.read_text()) if stored.get(words.replace("'", "")) != text]
+def untrue_pages(stored):
+    """How many blocks of pages are no stored runs, and pictures not what one prints. Each is told. There has to be a block."""
+    blocks = [(page, *found) for page in PAGES for found in BLOCK.findall(page.read_text())]
+    found = [(page, line) for page, line, text in blocks if stored.get(line.replace("'", "").removeprefix(f"{PROMPT} ")) != text]
+    for page, line in found:
+        print(f"{page.relative_to(ROOT)}: {line}: this isn't what tests/explain/runs has")
+    picture = ROOT / "docs" / "pictures" / "shapes.svg"
+    is_current = picture.read_text() == stored.get(PICTURE)
+    if not is_current:
+        print(f"{picture.relative_to(ROOT)} isn't what `wit-explain {PICTURE}` prints by tests/explain/runs")
+    if not blocks:
+        print("no page has a block of `console`")
+    return len(found) + (not is_current) + (not blocks)
+
+
+def stored_twice(runs):
+    """How many runs are stored twice. Each is told."""
+    found = [words for words, number in collections.Counter(" ".join(words) for words, _ in runs).items() if number > 1]
     for words in found:
-        print(f"{PAGE.relative_to(ROOT)}: {PROMPT} {words}: this isn't what tests/explain/runs has")
+        print(f"tests/explain/runs: {PROMPT} {words}: there are two of these")
     return len(found)
 
 
 def main():
     options = argparse.ArgumentParser(usage=__doc__.split("\n\n")[1].removeprefix("usage: "))
     options.add_argument("--program", action="append", type=pathlib.Path)
-    programs = options.parse_args().program or [it for it in BUILT if it.is_file()]
-    if not programs:
-        sys.exit("tools/check_explain.py: the gate has not built wit-explain here")
-    found = sum(differing(program.resolve()) for program in programs) + untrue_blocks()
-    if found:
-        sys.exit(f"{found} runs or blocks differ")
-    print(f"{len(stored_runs())} runs of wit-explain are as they are stored, of {len(programs)} builds")
+    programs = options.parse_args().program or BUILT
+    missing = [it for it in programs if not it.is_file()]
+    if missing:
+        sys.exit(f"tools/check_explain.py: there is no {missing[0]}: run the gate, or name a program by --program")
+    runs = stored_runs()
+    stored = {" ".join(words): text.rpartition("status ")[0] for words, text in runs}
+    found = sum(differing(program.resolve()) for program in programs) + untrue_pages(stored) + stored_twice(runs)
+    if found or not runs:
+        sys.exit(f"{found} runs, blocks or pictures differ, of {len(runs)} runs")
+    print(f"{len(runs)} runs of wit-explain are as they are stored, of {len(programs)} builds")
 
 
 if __name__ == "__main__":

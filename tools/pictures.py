@@ -10,8 +10,8 @@ usage: tools/pictures.py [--check] [--program WITCALL]
   header. Each call that it names has to be one of include/witcall.h.
 - crates.svg (docs/ARCHITECTURE.md): which crates depend on which, of crates.txt, in the groups of docs/crate-facts.txt.
 
-With --check nothing is written, and the exit status is 1 if a picture is not current. The program is the one that was built,
-crates/program/out/program, if no other is named.
+With --check nothing is written, and the exit status is 1 if a picture is not current, or one is there that no script makes (OTHERS are those of
+tools/check_explain.py). The program is the one that was built, crates/program/out/program, if no other is named.
 """
 import argparse
 import json
@@ -34,6 +34,7 @@ PLAIN = (("#ffffff", "#57606a", "#1f2328"), ("#0d1117", "#8b949e", "#e6edf3"))
 HUES = (210, 130, 30, 280, 60, 330, 175, 0, 245, 95, 15, 300)
 # groups of docs/crate-facts.txt that the picture of crates leaves out, since nothing depends on them
 TESTS = ("Programs that answer rows", "Tests")
+OTHERS = {"shapes.svg"}
 ROW = "lists: padding of the target stays too"
 HALVES = "strings: random 5"
 
@@ -429,6 +430,9 @@ def main():
             (folder / name).write_text(svg)
         elif not (folder / name).is_file() or (folder / name).read_text() != svg:
             stale.append(name)
+    unknown = sorted({it.name for it in folder.iterdir()} - set(pictures) - OTHERS)
+    if unknown and given.check:
+        sys.exit(f"tools/pictures.py: no script makes {', '.join(unknown)}")
     if stale:
         sys.exit(f"tools/pictures.py: not current: {', '.join(stale)}; run tools/pictures.py")
 
