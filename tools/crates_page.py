@@ -5,7 +5,7 @@ usage: tools/crates_page.py [--check]
 
 The crates and what they depend on are those of crates.txt. What a crate holds is the head (`//!`) of its src/lib.rt or src/main.rt. The
 groups and what is proved are the lines of docs/crate-facts.txt. With --check nothing is written, and the exit status is 1 if the page is not
-current. It is 1 as well if a crate has no head or no line.
+current. It is 1 as well if a crate has no head or no line, if a line is of no crate, and if crates.txt and crates/ don't have the same crates.
 """
 import fnmatch
 import pathlib
@@ -45,6 +45,20 @@ def crates():
     return found
 
 
+def fits(line_name, name, own):
+    """Whether a line of docs/crate-facts.txt is one of a crate; `own` are the names that have lines of their own."""
+    return name == line_name or "*" in line_name and name not in own and fnmatch.fnmatch(name, line_name)
+
+
+def stop_on_unknown(names):
+    """Stops if a line of docs/crate-facts.txt is of no crate, or if crates/ has others than crates.txt."""
+    own = {line.partition(":")[0] for line in lines() if not line.startswith("=")}
+    lost = sorted(it for it in own if not any(fits(it, name, own - {it}) for name in names))
+    lost += sorted(set(names) ^ {it.name for it in (ROOT / "crates").iterdir() if (it / "src").is_dir()})
+    if lost:
+        sys.exit("tools/crates_page.py: no crate, or not in crates.txt and crates/ both: " + ", ".join(lost))
+
+
 def facts(names):
     """The groups of docs/crate-facts.txt, each a title with the facts of its crates, and the crates that have no line."""
     groups, missing = [], set(names)
@@ -55,7 +69,7 @@ def facts(names):
             continue
         crate, _, fact = line.partition(":")
         for name in names:
-            if name == crate or "*" in crate and name not in own and fnmatch.fnmatch(name, crate):
+            if fits(crate, name, own):
                 missing.discard(name)
                 groups[-1][1].setdefault(name, []).append(tuple(part.strip() for part in fact.split(" | ")))
     return groups, missing
@@ -115,6 +129,7 @@ def section(name, below, found):
 
 def page():
     below = crates()
+    stop_on_unknown(below)
     groups, missing = facts(below)
     if missing:
         sys.exit("tools/crates_page.py: docs/crate-facts.txt has no line of " + ", ".join(sorted(missing)))
