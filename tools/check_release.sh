@@ -4,11 +4,15 @@
 # usage: tools/check_release.sh
 #
 # The exit status is 1 if release/ has other bytes than crates/program/out/program or crates/explain/out/explain though both were built from the
-# same sources, or if what is unpacked of release/ isn't what release/SHA256SUMS says. crates/explain/out/explain may be absent.
+# same sources, if what is unpacked of release/ isn't what release/SHA256SUMS says, or if release/ lacks a file. crates/explain/out/explain may be
+# absent, and release/ may have no file at all. The library is not built here, so it is not compared.
 set -eu
 cd "$(dirname "$0")/.."
 
-[ -f release/sources ] || { echo "no release"; exit 0; }
+[ -n "$(find release -maxdepth 1 -type f 2>/dev/null)" ] || { echo "no release"; exit 0; }
+for file in sources explain-sources library-sources toolchain version SHA256SUMS; do
+    [ -s "release/$file" ] || { echo "release/ has no $file: tools/release.sh was not run to its end"; exit 1; }
+done
 for file in witcall wit-explain libwitcall_c.a liblibc_c.a; do
     sum=$(gzip -dc "release/$file.gz" | sha256sum | cut -d ' ' -f 1)
     grep -q "^$sum  $file\$" release/SHA256SUMS || { echo "release/$file.gz isn't what release/SHA256SUMS says"; exit 1; }
@@ -28,4 +32,7 @@ elif gzip -dc release/wit-explain.gz | cmp - crates/explain/out/explain; then
     echo "the released wit-explain is what the gate built"
 else
     exit 1
+fi
+if [ "$(cat release/library-sources)" != "$(tools/sources.sh witcall_c)" ]; then
+    echo "the released library was built from other sources than these"
 fi

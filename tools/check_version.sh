@@ -1,6 +1,7 @@
 #!/bin/sh
-# Compares the version in VERSION with those that stand in other files: the header, the library's sources, the man pages, the changelog, and
-# the release if it was built from these sources. The other files of an installation take it from VERSION (tools/install.sh).
+# Compares the version in VERSION with those that stand in other files: the header, the library's sources, the man pages, the changelog,
+# the pages that show what an installation prints, and the release if it was built from these sources. The other files of an installation
+# take it from VERSION (tools/install.sh).
 #
 # usage: tools/check_version.sh
 #
@@ -19,14 +20,18 @@ compare() {
 }
 
 echo "$version" | grep -qE '^[0-9]+\.[0-9]+\.[0-9]+$' || { echo "VERSION is no version of three numbers"; exit 1; }
-compare include/witcall.h "$(sed -n 's/^#define WITCALL_VERSION "\(.*\)".*/\1/p' include/witcall.h)"
+compare include/witcall.h "$(sed -n 's/^#define WITCALL_VERSION "\(.*\)".*/\1/p' include/witcall.h | grep . || echo none)"
 compare crates/explain_words/src/help.rt "$(sed -n 's/^pub static VERSION.*"wit-explain \([^\\"]*\).*/\1/p' crates/explain_words/src/help.rt | grep . || echo none)"
 # in the library's sources, each text that is a version and nothing else
-compare crates/witcall_c/src "$(grep -rhoE '"[0-9]+\.[0-9]+\.[0-9]+(\\0)?"' crates/witcall_c/src | grep -oE '[0-9.]+[0-9]')"
+compare crates/witcall_c/src "$(grep -rhoE '"[0-9]+\.[0-9]+\.[0-9]+(\\0)?"' crates/witcall_c/src | grep -oE '[0-9.]+[0-9]' || echo none)"
 for program in witcall wit-explain; do
     compare "packaging/$program.1" "$(sed -n "s/^\.TH .*\"$program \([^\"]*\)\".*/\1/p" "packaging/$program.1" | grep . || echo none)"
 done
 compare CHANGELOG.md "$(sed -n 's/^## \([0-9][0-9.]*\).*/\1/p' CHANGELOG.md | head -n 1 | grep . || echo none)"
+# what tools/install.sh and tools/deb.sh print and make
+for page in README.md docs/INSTALL.md; do
+    compare "$page" "$(sed -nE 's/^# witcall ([0-9][0-9.]*),.*/\1/p; s/.*witcall_([0-9][0-9.]*)-1_.*/\1/p' "$page" | grep . || echo none)"
+done
 if [ "$(cat release/sources 2>/dev/null)" = "$(tools/sources.sh program)" ]; then
     compare release/version "$(cat release/version 2>/dev/null || echo none)"
 fi

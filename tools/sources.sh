@@ -34,5 +34,5 @@ fi
         for part in src specs proofs; do
             [ ! -d "crates/$name/$part" ] || find "crates/$name/$part" -type f
         done
-    done | LC_ALL=C sort | xargs sha256sum HANDLES
+    done | LC_ALL=C sort | tr '\n' '\0' | xargs -0 sha256sum HANDLES
 } | sha256sum | cut -d ' ' -f 1
