@@ -118,8 +118,18 @@ TEXT_ROWS = ROOT / "crates/rows_texts/data"
 RUNS = {
     "vectors": Run("vectors", lambda: [*call_cases.stored(), *map(calls.line_of, acted.rows()), *step_cases.lines()], sessions.call_answers),
 }
+# the rows of `wrong.rows` have wrong answers, of which Names has the right ones
 FILES = ("grammar", "texts", "errors", "sets", "packages", "changes", "layouts", "json")
 ALL = [*RUNS.values(), *(Rows(TEXT_ROWS / f"{name}.rows") for name in FILES), Reading(TEXT_ROWS / "reading.rows"), Names()]
+
+
+def unlisted():
+    """The files of rows that nothing of ALL is the answers of, or that the input of `rows_texts` doesn't name."""
+    asked = lines_of(Names.folder / "stdin")
+    known = {it.path for it in ALL} | {TEXT_ROWS / "wrong.rows"}
+    rows = sorted(TEXT_ROWS.glob("*.rows"))
+    return [f"{it.relative_to(ROOT)}: no model answers these rows" for it in rows if it not in known] + [
+        f"{it.relative_to(ROOT)}: {Names.folder.name} is not asked for these rows" for it in rows if it.name not in asked]
 
 
 def named(paths):
@@ -152,7 +162,10 @@ def is_right(it):
 
 def check(paths):
     """Whether what is stored is what the models answer; prints where it isn't."""
-    return all([is_right(it) for it in named(paths)])
+    missing = [] if paths else unlisted()
+    for line in missing:
+        print(line)
+    return all([is_right(it) for it in named(paths)]) and not missing
 
 
 def write(paths):
