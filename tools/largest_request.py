@@ -4,12 +4,14 @@
 usage: tools/largest_request.py [PROGRAM]
 
 PROGRAM is crates/program/out/program, as `rt run` in crates/program leaves it. A binary of 1 MiB states a count, three items follow,
-and then bytes that begin no item. It is opened with the largest count that its list may state, and with 3: the largest request has to be
-the same. Long texts, binaries and JSON are recorded beside these, by the bytes that were read; nothing is asked of them.
-Needs `cc`, which builds what stands before the C library's `malloc`. The exit status is 1 if a stated count changes the largest request.
+and then bytes that begin no item. It is opened with the largest count that its list may state, and with 4: the largest request has to be
+the same, and so has the sum of all requests, since the largest is the one for the binary itself; SLACK is for the line of the refusal. The program
+has to refuse both for the same reason. Long texts, binaries and JSON are recorded beside these, by the bytes that were read; nothing is asked of them.
+Needs `cc`, which builds what stands before the C library's `malloc`. The exit status is 1 if a stated count changes the requests.
 """
 import os
 import pathlib
+import re
 import subprocess
 import sys
 import tempfile
@@ -24,8 +26,8 @@ SHIM = r"""
 #include <stddef.h>
 #include <stdlib.h>
 extern void *__libc_malloc(size_t), *__libc_calloc(size_t, size_t), *__libc_realloc(void *, size_t), *__libc_memalign(size_t, size_t);
-static size_t largest;
-static void note(size_t size) { if (size > largest) largest = size; }
+static size_t largest, sum;
+static void note(size_t size) { sum += size; if (size > largest) largest = size; }
 void *malloc(size_t size) { note(size); return __libc_malloc(size); }
 void *calloc(size_t count, size_t size) { note(count * size); return __libc_calloc(count, size); }
 void *realloc(void *old, size_t size) { note(size); return __libc_realloc(old, size); }
@@ -38,12 +40,16 @@ int posix_memalign(void **out, size_t align, size_t size) {
 __attribute__((destructor)) static void tell(void) {
     extern int open(const char *, int, ...), dprintf(int, const char *, ...), close(int);
     int file = open(getenv("LARGEST"), 01101, 0600);
-    dprintf(file, "%zu", largest);
+    dprintf(file, "%zu %zu", largest, sum);
     close(file);
 }
 """
 PREAMBLE = bytes([0x00, 0x61, 0x73, 0x6D, 0x0D, 0x00, 0x01, 0x00])
 U8 = b"\x7d"
+# how many bytes longer the line of a refusal may be
+SLACK = 4
+# the refusal of bytes that begin no item
+REFUSED = re.compile(r"error (?:13|23) .* at \d+")
 
 
 def u32(number):
@@ -130,7 +136,7 @@ LONG = {
 
 
 class Runner:
-    """Runs the program, and tells the largest request of each run."""
+    """Runs the program, and tells the largest request of each run, and the sum of all."""
 
     def __init__(self, program, folder):
         self.program, self.folder, self.count = program, folder, 0
@@ -145,8 +151,8 @@ class Runner:
         path.write_bytes(content)
         return path
 
-    def largest(self, words):
-        """The largest request of a run, its status and its first line of errors."""
+    def requests(self, words):
+        """The largest request of a run, the sum of all, and its first line of errors, or its status."""
         told = self.folder / "told"
         told.unlink(missing_ok=True)
         env = {**os.environ, "LD_PRELOAD": str(self.library), "LARGEST": str(told)}
@@ -154,22 +160,29 @@ class Runner:
         if not told.exists():
             sys.exit(f"{words[0]}: status {ran.returncode}; is malloc that of the C library?")
         line = ran.stderr.decode(errors="replace").splitlines()
-        return int(told.read_text()), line[0] if line else f"status {ran.returncode}"
+        largest, whole = map(int, told.read_text().split())
+        return largest, whole, line[0] if line else f"status {ran.returncode}"
 
 
 def row(*cells):
     print("  ".join(f"{cell:>14,}" if isinstance(cell, int) else f"{cell:<24}" for cell in cells), flush=True)
 
 
+def reason(line):
+    """A refusal without its place, which depends on how long the count is."""
+    return line.partition(" at ")[0]
+
+
 def stated(runner):
-    """Whether no stated count changes the largest request."""
+    """Whether no stated count changes the requests."""
     right = True
     for shape, (made, most) in STATED.items():
-        few, _ = runner.largest(["bin", runner.kept(made(3))])
+        *few, line = runner.requests(["bin", runner.kept(made(4))])
         content = made(most)
-        many, line = runner.largest(["bin", runner.kept(content)])
-        right &= few == many
-        row(shape, len(content), few, many, line, "" if few == many else "MORE")
+        *many, line_of_many = runner.requests(["bin", runner.kept(content)])
+        alike = few[0] == many[0] > 0 and abs(many[1] - few[1]) <= SLACK and REFUSED.fullmatch(line) and reason(line) == reason(line_of_many)
+        right &= bool(alike)
+        row(shape, len(content), few[0], many[0], few[1], many[1], line_of_many, "" if alike else "NOT ALIKE")
     return right
 
 
@@ -178,11 +191,11 @@ def recorded(runner):
     for shape, content in LONG.items():
         text = runner.kept(content)
         for command in ("show", "bin"):
-            largest, line = runner.largest([command, text])
+            largest, _, line = runner.requests([command, text])
             row(f"{command} {shape}", len(content), largest, line)
     source = runner.kept(b"package a:b;\ninterface c { f: func(x: list<u8>) -> u8; }\n")
     document = "[[" + ",".join(["7"] * 60000) + "]]"
-    largest, line = runner.largest(["call", source, "a:b/c", "f", document, "[8]"])
+    largest, _, line = runner.requests(["call", source, "a:b/c", "f", document, "[8]"])
     row("call with a list", len(document), largest, line)
 
 
@@ -190,7 +203,7 @@ def main():
     program = pathlib.Path(sys.argv[1] if len(sys.argv) > 1 else ROOT / "crates/program/out/program").resolve()
     with tempfile.TemporaryDirectory() as folder:
         runner = Runner(program, pathlib.Path(folder))
-        print("stated: bytes read, largest request if 3 is stated, and if the most is")
+        print("stated: bytes read, largest request if 4 is stated, and if the most is, and the same of the sum of all requests")
         right = stated(runner)
         print("long: bytes read, largest request")
         recorded(runner)
