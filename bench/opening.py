@@ -148,11 +148,13 @@ def text_of(length, package="a:b"):
 
 
 def measure(words):
-    """The processor time of one run, in milliseconds."""
+    """The processor time of one run, in milliseconds. A call of a function that isn't there is refused; all else is done."""
     with open(os.devnull, "wb") as nothing:
         child = subprocess.Popen([str(word) for word in words], stdout=nothing, stderr=nothing)
-        _, _, usage = os.wait4(child.pid, 0)
-        child.returncode = 0
+        _, status, usage = os.wait4(child.pid, 0)
+        child.returncode = os.waitstatus_to_exitcode(status)
+    if child.returncode != int(words[-len(CALL):] == CALL):
+        sys.exit(f"bench/opening.py: status {child.returncode} of {' '.join(map(str, words))}")
     return (usage.ru_utime + usage.ru_stime) * 1000
 
 

@@ -6,7 +6,7 @@ usage: tools/colliding_names.py PROGRAM
 PROGRAM is the executable of `program`, as crates/program/out/program. It needs `rustc`, which builds tools/colliding_labels.rs:
 that finds the labels, in ten seconds. For each shape the least processor time of several runs is printed, without that of an
 empty text: of the package with random labels, of the one with labels that collide, and of half as many of these. The exit status
-is 1 where labels that collide cost more than 1.5 times what random ones cost, or twice as many more than 2.3 times.
+is 1 where labels that collide cost more than 1.5 times what random ones cost, or twice as many more than 2.3 times, or where they cost too little to measure.
 """
 import pathlib
 import random
@@ -115,7 +115,7 @@ def tell(name, times):
     empty, plain, colliding, half = times
     plain, colliding, half = plain - empty, colliding - empty, half - empty
     beside, grew = colliding / plain, colliding / half
-    fits = beside <= MOST_BESIDE and grew <= growth.MOST
+    fits = min(plain, half) > growth.LEAST and beside <= MOST_BESIDE and grew <= growth.MOST
     mark = "" if fits else "  !"
     print(f"{name:18} {plain * 1000:9.1f} ms {colliding * 1000:9.1f} ms {beside:6.2f} times {grew:6.2f} times as half{mark}", flush=True)
     return fits

@@ -14,10 +14,12 @@ LEAST = 0.001
 
 
 def time_of(words):
-    """The processor time of one run."""
+    """The processor time of one run, which is done or refused; another end stops the script."""
     before = resource.getrusage(resource.RUSAGE_CHILDREN)
-    subprocess.run(words, stdout=subprocess.DEVNULL, stderr=subprocess.DEVNULL, check=False)
+    ran = subprocess.run(words, stdout=subprocess.DEVNULL, stderr=subprocess.DEVNULL, check=False)
     after = resource.getrusage(resource.RUSAGE_CHILDREN)
+    if ran.returncode not in (0, 1):
+        sys.exit(f"{' '.join(map(str, words))[:200]}: status {ran.returncode}")
     return after.ru_utime + after.ru_stime - before.ru_utime - before.ru_stime
 
 
@@ -46,6 +48,12 @@ def grew_too_much(times):
     return any(grew and grew > MOST for grew in growths(times))
 
 
+def stop_if_unmeasured(all_times):
+    """Stops the script if no times of any shape are long enough to say how they grow."""
+    if not any(grew for times in all_times for grew in growths(times)):
+        sys.exit("nothing is measured: each run takes too little time")
+
+
 def times(command, shapes, sizes, unit):
     """The name of each shape with its times, which are printed: of the command on an input of each size.
 
@@ -62,11 +70,13 @@ def times(command, shapes, sizes, unit):
 def main(usage, shapes, sizes=LENGTHS, unit="bytes"):
     """Runs the command of the script's words on an input of each shape and size, and prints the times.
 
-    The exit status is 1 where twice as much takes more than 2.3 times as long.
+    The exit status is 1 where twice as much takes more than 2.3 times as long, or where nothing takes long enough to be measured.
     """
     command = sys.argv[1:]
     if not command:
         sys.exit(usage)
-    worst = max(grew or 0.0 for _, took in times(command, shapes, sizes, unit) for grew in growths(took))
+    found = dict(times(command, shapes, sizes, unit))
+    worst = max(grew or 0.0 for took in found.values() for grew in growths(took))
     print(f"at most {worst:.2f} times as long for twice as many {unit}")
+    stop_if_unmeasured(found.values())
     sys.exit(1 if worst > MOST else 0)

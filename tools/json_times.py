@@ -6,7 +6,7 @@ usage: tools/json_times.py PROGRAM
 PROGRAM is run as PROGRAM call FILE a:b/c f ARGS REPLY, where f takes a list and answers one like it. For each kind of element and
 each length, twice the one before, the least processor time of several runs is printed, without that of a call with empty lists, and
 by how much it grew. A word of a command line has at most 128 KiB, and so have ARGS and REPLY. The exit status is 1 where twice as
-many elements take more than 2.3 times as long.
+many elements take more than 2.3 times as long, or where nothing takes long enough to be measured.
 """
 import sys
 import tempfile
@@ -46,7 +46,7 @@ def times(program, path, element):
 def main():
     if len(sys.argv) != 2:
         sys.exit(__doc__)
-    worst = 0.0
+    worst, all_times = 0.0, []
     for name, (items, ty, element) in KINDS.items():
         with tempfile.NamedTemporaryFile("w", suffix=".wit") as file:
             file.write(f"package a:b; interface c {{ {items} f: func(x: list<{ty}>) -> list<{ty}>; }}")
@@ -59,7 +59,9 @@ def main():
             told = f"{grew:.2f} times" if grew else ""
             print(f"{name:8} {count:6} elements {(time - empty) * 1000:8.2f} ms {told}", flush=True)
             before = time - empty
+        all_times.append([time - empty for time in took])
     print(f"at most {worst:.2f} times as long for twice as many elements")
+    growth.stop_if_unmeasured(all_times)
     sys.exit(1 if worst > growth.MOST else 0)
 
 

@@ -8,7 +8,8 @@ PROGRAM is the built program, as crates/program/out/program, and each JOB one of
 made and laid out, and nothing after that is timed. The other jobs do this too, and then write lines or a text. For each
 shape, at 4,095 to 65,520 definitions, the least processor time of several runs is printed, without that of an empty text,
 and by how much it grew. The exit status is 1 where twice as many definitions take more than 2.3 times as long, or where
-the job takes more than twice as long as `call`, so that what it writes takes longer than opening did.
+the job takes more than twice as long as `call`, so that what it writes takes longer than opening did, or where nothing
+takes long enough to be measured.
 """
 import sys
 
@@ -92,6 +93,7 @@ def main():
         for name, times in growth.times(sys.argv[1:2] + JOBS[job], SHAPES, COUNTS, f"definitions, {job}"):
             opening.setdefault(name, times)
             failed |= growth.grew_too_much(times) or times[-1] > 2 * opening[name][-1]
+    growth.stop_if_unmeasured(opening.values())
     sys.exit(1 if failed else 0)
 
 
