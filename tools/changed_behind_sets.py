@@ -51,8 +51,8 @@ def main():
     program = sys.argv[1] if len(sys.argv) > 1 else str(ROOT / "crates/program/out/program")
     begun = time.monotonic()
     status, whole, line = written(program, (ROOT / "examples/wasi/app.wit").read_bytes())
-    if status:
-        sys.exit(line.decode())
+    if status or not whole or written(program, whole) != (0, whole, b""):
+        sys.exit(f"no binary of examples/wasi/app.wit that is opened: status {status}, {line.decode()}")
     asked = list(inputs(whole))
     with concurrent.futures.ThreadPoolExecutor(3) as pool:
         answers = list(pool.map(lambda data: is_right(program, data), asked))

@@ -31,8 +31,9 @@ from tools.models.crossing import Flat, Given, Stored, Way, value_at  # noqa: E4
 from tools.models.memory import Bump, Memory  # noqa: E402
 from tools.models.opening import opened  # noqa: E402
 
-EXAMPLES = ["c.wit", "clock.wit", "orders.wit", "shapes.wit", "text.wit", "c/shop.wit", "engine/press.wit"]
-WASI = [f"wasi/{name}.wit" for name in ("clocks", "random", "cli", "app")]
+EXAMPLES = sorted(it for it in (ROOT / "examples").rglob("*.wit") if it.parent.name != "wasi")
+# in an order in which each comes after those that it uses
+WASI = [ROOT / "examples" / "wasi" / f"{name}.wit" for name in ("clocks", "random", "cli", "app")]
 STRICT = ["-Wall", "-Wextra", "-Werror", "-pedantic", f"-I{ROOT}/include"]
 DIALECTS = {"c": ["-x", "c", "-std=c11"], "c++": ["-x", "c++", "-std=c++17"]}
 SANITIZED = ["-g", "-fsanitize=address,undefined", "-fno-sanitize-recover=all"]
@@ -435,6 +436,14 @@ def path_of(files, folder):
     return folder / "wit"
 
 
+def test_functions(header, packages):
+    """Fails if the header doesn't have the functions of the packages' interfaces, each once."""
+    wanted = sorted(function.name for package in packages.packages for interface in package.interfaces for function in interface.functions)
+    found = sorted(made.name for made in header.functions)
+    if found != wanted:
+        raise Fault(f"functions {' '.join(found)}, not {' '.join(wanted)}")
+
+
 def check(program, files, folder, number):
     """Checks the header of a set of files; how many calls were compared."""
     text = run([program, "bind", "c", str(path_of(files, folder))])
@@ -443,6 +452,7 @@ def check(program, files, folder, number):
     (folder / "prelude.h").write_text(PRELUDE)
     compile_alone(folder)
     model = opened(header.texts)
+    test_functions(header, model)
     calls = Program(number)
     for made in header.functions:
         for _ in range(CALLS):
@@ -466,10 +476,10 @@ def written(folder, name, texts):
 
 def packages_of(count, seed, folder):
     """The sets of files, each with its title: those of examples/, those whose names collide, and random ones."""
-    for name in EXAMPLES:
-        yield name, [ROOT / "examples" / name]
-    for place in range(len(WASI)):
-        yield WASI[place], [ROOT / "examples" / name for name in WASI[: place + 1]]
+    for path in EXAMPLES:
+        yield path.name, [path]
+    for place, path in enumerate(WASI):
+        yield path.name, WASI[: place + 1]
     for number, text in enumerate(COLLIDING):
         yield f"colliding {number}", written(folder, f"colliding-{number}", [text])
     for number in range(count):

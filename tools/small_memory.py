@@ -5,7 +5,7 @@ usage: tools/small_memory.py [PROGRAM]
 
 PROGRAM is crates/program/out/program, as `rt run` in crates/program leaves it. Under each limit each command writes what it writes
 without one, or nothing and one line that ends with status 1 or 3: a want of memory. The exit status is 1 where a run ends by
-a signal, or otherwise.
+a signal, or otherwise, and where no command wants memory.
 """
 import pathlib
 import resource
@@ -50,7 +50,7 @@ def limited(program, words, limit):
 
 def main():
     program = pathlib.Path(sys.argv[1] if len(sys.argv) > 1 else ROOT / "crates/program/out/program").resolve()
-    failed = False
+    failed, wanted = False, 0
     with tempfile.TemporaryDirectory() as folder:
         folder = pathlib.Path(folder)
         tried = list(commands(folder))
@@ -67,13 +67,14 @@ def main():
                     break
                 line = ran.stderr.rstrip(b"\n")
                 told[line] = told.get(line, 0) + 1
+                wanted += 1
                 if ran.returncode not in (1, 3) or ran.stdout or line not in WORDS:
                     failed = True
                     print(f"{words[0]} at {limit}: status {ran.returncode}, {ran.stderr[:200]!r}")
                 limit += MEGABYTE
             lines = ", ".join(f"{line.decode(errors='replace')} {count} times" for line, count in told.items())
             print(f"{words[0]} {words[1].name}: done with {limit // MEGABYTE} MB; {lines}", flush=True)
-    sys.exit(failed)
+    sys.exit(failed or not wanted)
 
 
 main()
