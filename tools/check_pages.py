@@ -3,9 +3,11 @@
 
 usage: tools/check_pages.py
 
-- Each link of README.md, CHANGELOG.md and docs/ that isn't one to another site names a file, and a heading or an anchor of it.
-- No sentence of the pages of SHORT has more than 30 words.
-- No cell of a table of docs/guarantees, docs/GUARANTEES.md and docs/PROMISE.md has more than 25 words.
+- Each link of README.md, CHANGELOG.md and docs/ that isn't one to another site names a file of the repository, and a heading or an anchor of it.
+- Each page of docs/ is one that links lead to from README.md.
+- A block of code is of a language of LANGUAGES, by which other scripts find what they compare.
+- No sentence of these pages has more than 30 words, but of those of LONG: what they say comes of the heads of crates, or is names of rows.
+- No cell of a table of docs/guarantees and of the pages of TABLES has more than 25 words.
 
 Blocks of code are left out. It prints each place that is wrong; the exit status is 1 then.
 """
@@ -14,10 +16,13 @@ import re
 import sys
 
 ROOT = pathlib.Path(__file__).resolve().parent.parent
-SHORT = ("README.md", "docs/PROMISE.md", "docs/LIBRARY.md", "docs/C.md", "docs/ERRORS.md")
-TABLES = ("docs/GUARANTEES.md", "docs/PROMISE.md")
+LONG = ("docs/CRATES.md", "docs/EXAMPLES.md")
+TABLES = ("README.md", "docs/GUARANTEES.md", "docs/PROMISE.md", "docs/ERRORS.md", "docs/LIBRARY.md", "docs/INSTALL.md", "docs/PROGRAM.md")
+LANGUAGES = {"", "c", "console", "js", "json", "rust", "sh", "text", "wit"}
 BLOCK = re.compile(r"^```.*?^```$", re.M | re.S)
-LINK = re.compile(r"\]\(([^)]+)\)")
+FENCE = re.compile(r"^ *(?:```|~~~)(.*)$", re.M)
+# a link, a reference, and what an element of HTML names
+LINK = re.compile(r"\]\(([^)\s]+)[^)]*\)|^ *\[[^\]]+\]: (\S+)|(?:href|src)=\"([^\"]+)\"")
 ITEM = re.compile(r"([-*]|\d+\.) ")
 CELL = re.compile(r"(?<!\\)\|")
 # the end of a sentence: what follows begins anew
@@ -41,17 +46,40 @@ def anchors(path):
     return slugs | set(re.findall(r'<a id="([^"]*)"', prose(path)))
 
 
-def wrong_links(path):
+def links(path):
+    """Returns the links of a page to files, each with its line's number, the file, and the heading or nothing."""
     for number, line in enumerate(prose(path).split("\n"), 1):
-        for link in LINK.findall(line):
+        for link in map("".join, LINK.findall(line)):
             file, _, heading = link.partition("#")
-            other = (path.parent / file).resolve() if file else path
-            if link.startswith(("http:", "https:")):
-                continue
-            if not other.exists():
-                yield number, f"nothing is at {link}"
-            elif heading and other.suffix == ".md" and heading not in anchors(other):
-                yield number, f"no heading is at {link}"
+            if not link.startswith(("http:", "https:")):
+                yield number, link, (path.parent / file).resolve() if file else path, heading
+
+
+def wrong_links(path):
+    for number, link, other, heading in links(path):
+        if not other.exists() or not other.is_relative_to(ROOT) or "out" in other.relative_to(ROOT).parts:
+            yield number, f"nothing is at {link}"
+        elif heading and other.suffix == ".md" and heading not in anchors(other):
+            yield number, f"no heading is at {link}"
+
+
+def reached(path, found):
+    """Adds the pages that links lead to from one."""
+    found.add(path)
+    for _, _, other, _ in links(path):
+        if other.suffix == ".md" and other.is_file() and other not in found:
+            reached(other, found)
+    return found
+
+
+def wrong_blocks(path):
+    """The blocks of other languages, and one that has no end. Every second fence is an end."""
+    text = path.read_text(encoding="utf-8")
+    for place, fence in enumerate(FENCE.finditer(text)):
+        if place % 2 == 0 and fence[1] not in LANGUAGES or place % 2 == 1 and fence[1]:
+            yield text.count("\n", 0, fence.start()) + 1, f"no block is of {fence[1]}"
+    if len(FENCE.findall(text)) % 2:
+        yield text.count("\n"), "a block has no end"
 
 
 def words(text):
@@ -93,10 +121,12 @@ def long_cells(path):
 
 def main():
     pages = [ROOT / "README.md", ROOT / "CHANGELOG.md", *sorted((ROOT / "docs").rglob("*.md"))]
-    checks = [(path, wrong_links) for path in pages]
-    checks += [(ROOT / name, long_sentences) for name in SHORT]
-    checks += [(path, long_cells) for path in [*(ROOT / name for name in TABLES), *sorted((ROOT / "docs/guarantees").glob("*.md"))]]
+    short = [path for path in pages if str(path.relative_to(ROOT)) not in LONG]
+    tables = [*(ROOT / name for name in TABLES), *sorted((ROOT / "docs/guarantees").glob("*.md"))]
+    checks = [(path, check) for check in (wrong_links, wrong_blocks) for path in pages]
+    checks += [(path, long_sentences) for path in short] + [(path, long_cells) for path in tables]
     wrong = [(path, *fault) for path, check in checks for fault in check(path)]
+    wrong += [(path, 1, "no link leads here from README.md") for path in pages if path not in reached(ROOT / "README.md", {ROOT / "CHANGELOG.md"})]
     for path, number, fault in wrong:
         print(f"{path.relative_to(ROOT)}:{number}: {fault}")
     return 1 if wrong else 0
