@@ -16,6 +16,9 @@ What is checked of the pages:
 - Words in backquotes behind a crate `rows_..` or `vectors` are names of rows. Each has to be a line of the output of that crate, or the name in
   a line of its input.
 
+- The numbers of COUNTS are those of the stored rows and of the laws.
+- Each script of tools/ and bench/ is named on a page, in the gate or in another script.
+
 In the tables of docs/guarantees/ the cells of the column `clause` hold functions and clauses alone, as `open_set`: ok, only; `Package::takes`,
 each of which has to be there; a function without a clause has one that has no name. Those of the column `edit` hold must-fail edits alone, and
 docs/guarantees/edits.md has to name every one beside its crate. The text that an edit replaces has to be there once, and to change by it. The exit
@@ -57,6 +60,14 @@ ENSURES = re.compile(r"\bensures (\w*) ?\{")
 # a cell of docs/guarantees/: functions, and the clauses that all of them have
 GROUP = re.compile(r"((?:`[\w:]+`(?:, )?)+)(?:: ([a-z_0-9]+(?:, [a-z_0-9]+)*))?(?:, parts? (?:`\w+`(?:, )?)+)?")
 NOTE = re.compile(r"\(\d+\)")
+# what pages count
+COUNTS = {
+    "calls": re.compile(r"stored run is ([\d,]+) calls of every kind"),
+    "calls and values": re.compile(r"([\d,]+) rows of calls and values \(`vectors`\)"),
+    "random steps": re.compile(r"steps of sessions \| ([\d,]+) random lists of each"),
+    "random requests": re.compile(r"requests to a memory, and steps of sessions \| ([\d,]+) random lists"),
+    "laws": re.compile(r"([\d,]+) laws of them are\s+proved"),
+}
 
 
 def sources():
@@ -266,6 +277,43 @@ def missing_rows(line):
                 yield f"{crate} has no row {name}"
 
 
+def counted():
+    """The numbers of COUNTS."""
+    rows = [json.loads(line) for line in (ROOT / "crates" / "vectors" / "stdin").read_text().splitlines()]
+    calls = sum(not row.keys() & {"steps", "lift", "lower"} for row in rows)
+    steps = sum(row["name"].startswith("steps: random ") for row in rows)
+    requests = (ROOT / "crates" / "rows_texts" / "data" / "reading.rows").read_text()
+    laws = code(ROOT / "crates" / "canonical_abi" / "src" / "laws.rt")
+    return {
+        "calls": calls,
+        "calls and values": len(rows) - steps,
+        "random steps": steps,
+        "random requests": len(re.findall(r"^random-\d+: ", requests, re.M)),
+        "laws": len(re.findall(r"^ *pub (?:const )?fn ", laws, re.M)),
+    }
+
+
+def wrong_counts(pages):
+    """The numbers of pages that differ from what is counted, and those that no page has."""
+    there = counted()
+    for what, pattern in COUNTS.items():
+        found = [(page, number) for page in pages for number in pattern.findall(page.read_text())]
+        yield from (f"{page.relative_to(ROOT)}: {number} {what}, and there are {there[what]}" for page, number in found
+                    if int(number.replace(",", "")) != there[what])
+        if not found:
+            yield f"no page counts {what}"
+
+
+def unnamed_scripts(pages):
+    """The scripts that nothing names."""
+    scripts = [path for folder in ("tools", "bench") for path in sorted((ROOT / folder).glob("*.*")) if path.suffix in (".py", ".sh")]
+    texts = {path: path.read_text() for path in (*pages, *scripts, ROOT / ".ci" / "run", ROOT / "witcall")}
+    for script in scripts:
+        name = re.compile(rf"\b{script.relative_to(ROOT)}\b|^ *(?:import|from) (?:tools\.)?{script.stem}\b", re.M)
+        if not any(name.search(text) for path, text in texts.items() if path != script):
+            yield f"{script.relative_to(ROOT)}: nothing names it"
+
+
 def wrong_rows(text):
     """The names of rows on a page that their crates don't have."""
     for number, line in enumerate(text.splitlines(), 1):
@@ -288,8 +336,9 @@ def faults_of(page, words, all_contracts, all_edits):
 
 def main():
     words, all_contracts, all_edits = known(), contracts(), edits()
-    faults = list(stale_edits())
-    for page in [ROOT / "README.md", *sorted((ROOT / "docs").rglob("*.md"))]:
+    pages = [ROOT / "README.md", *sorted((ROOT / "docs").rglob("*.md"))]
+    faults = [*stale_edits(), *wrong_counts(pages), *unnamed_scripts(pages)]
+    for page in pages:
         faults += [f"{page.relative_to(ROOT)}:{number}: {fault}" for number, fault in faults_of(page, words, all_contracts, all_edits)]
     for fault in faults:
         print(fault)
