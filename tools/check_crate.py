@@ -59,7 +59,7 @@ def built(rtlib, crate):
 
 def main():
     words = sys.argv[1:]
-    if not words or words[0].startswith("--") and words[0] != "--build":
+    if not words or words[0].startswith("--") and words[0] != "--build" or words == ["--build"]:
         sys.exit(__doc__.split("\n\n")[1])
     os.chdir(ROOT)
     rtlib = toolchain()
