@@ -29,6 +29,8 @@ import pathlib
 import re
 import sys
 
+import believed
+
 from check_pages import prose, without_blocks
 from try_edits import edited
 
@@ -67,6 +69,8 @@ COUNTS = {
     "random steps": re.compile(r"steps of sessions \| ([\d,]+) random lists of each"),
     "random requests": re.compile(r"requests to a memory, and steps of sessions \| ([\d,]+) random lists"),
     "laws": re.compile(r"([\d,]+) laws of them are\s+proved"),
+    "lines to believe": re.compile(r"follows the names and counts: ([\d,]+) lines"),
+    "definitions to believe": re.compile(r"lines in ([\d,]+) definitions"),
 }
 
 
@@ -284,12 +288,16 @@ def counted():
     steps = sum(row["name"].startswith("steps: random ") for row in rows)
     requests = (ROOT / "crates" / "rows_texts" / "data" / "reading.rows").read_text()
     laws = code(ROOT / "crates" / "canonical_abi" / "src" / "laws.rt")
+    definitions = believed.files()
+    to_believe = believed.believed(definitions, believed.CALLS)
     return {
         "calls": calls,
         "calls and values": len(rows) - steps,
         "random steps": steps,
         "random requests": len(re.findall(r"^random-\d+: ", requests, re.M)),
         "laws": len(re.findall(r"^ *pub (?:const )?fn ", laws, re.M)),
+        "lines to believe": sum(len(definitions[module].definitions[name]) for module, name in to_believe),
+        "definitions to believe": len(to_believe),
     }
 
 
