@@ -145,6 +145,26 @@ use-as-a-type = (refl, refl)
 type-as-a-use : has_ids rows 0 (interface_of 0 (codes "types") (1 ∷ []) (2 ∷ 4 ∷ 5 ∷ 6 ∷ []) []) ≡ false
 type-as-a-use = refl
 
+-- used names come first, then types, then functions
+abbrev all_three : Definition → Definition → Definition → List Definition
+all_three a b c = named_row 0 (codes "a") (kind.Alias u8) ∷ a ∷ b ∷ c ∷ []
+
+abbrev use_row : Definition
+use_row = named_row 1 (codes "b") (kind.Use (type_id 0))
+
+abbrev type_row : Definition
+type_row = named_row 1 (codes "c") (kind.Alias u8)
+
+abbrev function_row : Definition
+function_row = function_in 1 (codes "d") [] None
+
+use-type-function : has_ids (all_three use_row type_row function_row) 1 (interface_of 0 (codes "i") (1 ∷ []) (2 ∷ []) (3 ∷ [])) ≡ true
+use-type-function = refl
+
+no-other-order : (has_ids (all_three type_row use_row function_row) 1 (interface_of 0 (codes "i") (2 ∷ []) (1 ∷ []) (3 ∷ [])) ≡ false)
+    × (has_ids (all_three use_row function_row type_row) 1 (interface_of 0 (codes "i") (1 ∷ []) (3 ∷ []) (2 ∷ [])) ≡ false)
+no-other-order = (refl, refl)
+
 -- a row is of its interface, names types of its interface alone, and uses those of earlier ones
 other-interface : (is_local rows 0 item_row ≡ true) × (is_local rows 1 item_row ≡ false)
 other-interface = (refl, refl)

@@ -100,7 +100,7 @@ not-empty c = let e : false ≡ true = c.some.2 in true≢false (sym e)
 uses-nothing : (group : ℕ → Bool) → IsCycle ((1 ∷ []) ∷ [] ∷ []) group → group 1 ≡ true → ⊥
 uses-nothing group c g = let l : (c.closed 1 (omega arith) g).1.0 < 0 = (c.closed 1 (omega arith) g).1.1 in omega (arith, l)
 
-no-cycle : (group : ℕ → Bool) → IsCycle ((1 ∷ []) ∷ [] ∷ []) group → ⊥
+pub no-cycle : (group : ℕ → Bool) → IsCycle ((1 ∷ []) ∷ [] ∷ []) group → ⊥
 no-cycle group c = of_some c.some
   where
     of_used : (u : ℕ) → Contains (1 ∷ []) u → group u ≡ true → ⊥

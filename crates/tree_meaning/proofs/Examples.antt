@@ -1,19 +1,21 @@
 -- Worked examples: what a small text means, as the table of the examples of `tables`, and why texts are refused.
-use Rattle.std.specs.List.{list_any}
-use Rattle.std.proofs.Common.{◌∙◌, ◌≡◌, ◌<◌, inl, inr, ℕ, zero, suc, true, false, List, [], ◌∷◌, ◌++◌, map, replicate, length, slice_index, slice_index_or, bytes_eq, Some, None, Option, codes, refl, ap, sym, subst, arith, Contains, All, true≢false}
+use Rattle.std.specs.List.{list_any, list_all}
+use Rattle.std.proofs.Common.{Bool, not, ◌&&◌, ◌∙◌, ◌≡◌, ◌<◌, inl, inr, ℕ, zero, suc, true, false, List, [], ◌∷◌, ◌++◌, map, replicate, length, slice_index, slice_index_or, bytes_eq, Some, None, Option, codes, refl, ap, sym, subst, arith, Contains, All, true≢false}
 use Rattle.canonical_abi.specs.Labelled.{ok_label, error_label}
 use Rattle.tables.specs.declared.tables.Primitive.TheVariants as primitive
 use Rattle.tables.specs.declared.tables.ValType.TheVariants as val
 use Rattle.tables.specs.declared.tables.TypeDefKind.TheVariants as kind
+use Rattle.tables.specs.declared.tables.Definition.{Definition}
 use Rattle.tables.specs.declared.tables.Direction.TheVariants as direction
 use Rattle.tables.specs.declared.tables.Resolve.{Resolve}
 use Rattle.tables.specs.declared.error.ResolveError.TheVariants as error
 use Rattle.tables.specs.PackageNames.{PackageParts}
-use Rattle.tables.specs.Package.{PrimTree, TextTree, Reference, ListTree, VariantTree, AsResult, no_choices, empty, holding, WithInterface, Package, package_of}
-use Rattle.tables.proofs.Examples.{key, named_row, type_rows, shop_rows, host_rows, a_b, p, types_name, shop_name, c_d, used_rows, money, q}
+use Rattle.tables.specs.Package.{NamedDefinition, PrimTree, TextTree, Reference, ListTree, VariantTree, AsResult, no_choices, empty, holding, WithInterface, Package, package_of}
+use Rattle.tables.proofs.Examples.{u8, function_of_world, imports_function, world_of, key, named_row, type_rows, shop_rows, host_rows, a_b, p, types_name, shop_name, c_d, used_rows, money, q}
 use Rattle.placement.specs.Order.{IsPlacement, IsCycle}
-use Rattle.placement.proofs.Examples.{placement-by-test}
+use Rattle.placement.proofs.Examples.{no-cycle, placement-by-test}
 use Rattle.package_form.specs.Scope.{AreDistinct}
+use Rattle.package_form.specs.Ids.{is_world_function}
 use Rattle.package_form.specs.Entries.{Table, table_of}
 use Rattle.package_form.proofs.Examples.{p-postfix, found, all-distinct}
 use Rattle.package_form.proofs.Postfix.{used-postfix}
@@ -25,8 +27,8 @@ use Rattle.tree_meaning.specs.Declarations.{FunctionItem, TypeItem, interface_at
 use Rattle.tree_meaning.specs.Scopes.{scopes}
 use Rattle.tree_meaning.specs.Imports.{Import, no_package, no_imports, imports_of, interfaces_of, HasImport}
 use Rattle.tree_meaning.specs.ImportForms.{UsesImport, HasImportItem}
-use Rattle.tree_meaning.specs.Resolved.{primitive_tree, resolved, meaning_of_world}
-use Rattle.tree_meaning.specs.Resolves.{IsKnownWorldOf, names_in_order, interface_uses, type_uses, places, ResolvesBehind, Resolves, PassesLimit, HasDuplicate, HasDistinctNames, LacksPackage, KnowsPackages, KnowsPackagesOf, HasKnownNamesOf, KnowsAllOf, IsUnknownUse, IsKnownUseOf, IsUnknownItem, IsKnownItemOf, HasCycle, file_fits, IsPackageOf, HasNoFaultsOf, IsTooLargeBehind, ResolveRefuses, HasPackage, HasClosedPackage}
+use Rattle.tree_meaning.specs.Resolved.{primitive_tree, interface_meaning, resolved, meaning_of_world}
+use Rattle.tree_meaning.specs.Resolves.{HasWorldsBehind, IsClosedPackageOf, HasItems, HasNoWorlds, is_behind, IsUnknownName, IsKnownWorldOf, names_in_order, interface_uses, type_uses, places, ResolvesBehind, Resolves, PassesLimit, HasDuplicate, HasDistinctNames, LacksPackage, KnowsPackages, KnowsPackagesOf, HasKnownNamesOf, KnowsAllOf, IsUnknownUse, IsKnownUseOf, IsUnknownItem, IsKnownItemOf, HasCycle, file_fits, IsPackageOf, HasNoFaultsOf, IsTooLargeBehind, ResolveRefuses, HasPackage, HasClosedPackage}
 
 -- ---- a text, whose interfaces and types stand in another order than their table's
 --
@@ -195,6 +197,15 @@ bare-result = refl
 name-of-an-interface : resolved types_name (ListOf (Named (codes "a"))) ≡ ListTree (Reference (key types_name (codes "a")))
 name-of-an-interface = refl
 
+-- used names come first, then types in their order, then functions, whatever the order of the text
+abbrev mixed : InterfaceTree
+mixed =
+    interface_tree (codes "i")
+    (declares (codes "f") run ∷ defines (codes "a") (Alias u8_type) ∷ defines (codes "b") (Alias u8_type) ∷ uses (Local (codes "j")) (use_as (codes "c") None ∷ []) ∷ [])
+
+uses-types-functions : map (λ (d : NamedDefinition). d.key.name) (interface_meaning mixed (1 ∷ 0 ∷ [])) ≡ codes "c" ∷ codes "b" ∷ codes "a" ∷ codes "f" ∷ []
+uses-types-functions = refl
+
 abbrev order_of_types : ℕ → List ℕ
 order_of_types zero = []
 order_of_types (suc k) = 1 ∷ 0 ∷ 2 ∷ 3 ∷ 4 ∷ []
@@ -354,6 +365,10 @@ g-names-another = refl
 g-uses-none-of-its-own : interface_uses (interfaces g) ≡ [] ∷ []
 g-uses-none-of-its-own = refl
 
+-- also if one of its own has the name of the other package's
+namesake-is-no-use : interface_uses (interfaces (file_in c_d (AnInterface (codes "money") (uses money_path (use_as (codes "money") None ∷ []) ∷ []) ∷ []))) ≡ [] ∷ []
+namesake-is-no-use = refl
+
 g-uses-import : UsesImport g a_b (codes "money")
 g-uses-import = (_, (0, omega arith, refl), (money_use, (0, omega arith, refl), refl, refl))
 
@@ -429,8 +444,35 @@ w-meaning = refl
 w-has-item : HasImportItem w a_b (codes "money")
 w-has-item = (_, (0, omega arith, refl), (way.Import, (0, omega arith, refl)))
 
+w-uses-none : UsesImport w a_b (codes "money") → ⊥
+w-uses-none (j, (k, l, e), used) = omega arith
+
+g-has-no-item : HasImportItem g a_b (codes "money") → ⊥
+g-has-no-item (v, (k, l, e), it) = omega arith
+
 w-names-another : other_packages w ≡ a_b ∷ []
 w-names-another = refl
+
+-- the own package stands behind its imports
+not-without-imports : IsClosedPackageOf m g p → ⊥
+not-without-imports is = let n : 1 ≡ 2 = ap (λ ps. length ps) is.packages in omega (arith, n)
+
+-- no row of an interface stands behind those of worlds
+abbrev crossed_rows : List Definition
+crossed_rows = function_of_world 0 (codes "f") [] None ∷ named_row 0 (codes "a") (kind.Alias u8) ∷ []
+
+not-before-interfaces : HasWorldsBehind crossed_rows → ⊥
+not-before-interfaces h = of_front h.front h.back h.parts h.none h.all
+  where
+    of_front : (front back : List Definition) → crossed_rows ≡ front ++ back → HasNoWorlds front → list_all is_behind back ≡ true → ⊥
+    of_front [] back e before all = true≢false (sym (subst (λ ds. list_all is_behind ds ≡ true) (sym e) all))
+    of_front (d ∷ ds) back e before all =
+        let same : function_of_world 0 (codes "f") [] None ≡ d = ap (λ xs. slice_index_or xs 0 d) e in
+        true≢false (sym (subst (λ x. (not (is_world_function x) && list_all (λ y. not (is_world_function y)) ds) ≡ true) (sym same) before))
+
+-- the items of a world are its functions, in order
+items-in-order : (HasItems (function_of_world 0 (codes "f") [] None ∷ function_of_world 0 (codes "g") [] None ∷ []) (world_of 0 (codes "w") (imports_function 1 ∷ imports_function 0 ∷ []) ∷ [])) → ⊥
+items-in-order h = let n : 0 ≡ 1 = ap (λ ns. slice_index ns 0) h in omega (arith, n)
 
 -- ---- refusals
 
@@ -503,6 +545,9 @@ thing-is-known n (inl (is, no_name)) = no_name (1, omega arith, sym is)
 thing-is-known n (inr (is, (j, (zero, l, e), name, lacking))) = let k : 4 ≡ 5 = ap (λ (x : InterfaceTree). length x.name) e ∙ ap (λ x. length x) name in omega (arith, k)
 thing-is-known n (inr (is, (j, (suc zero, l, e), name, lacking))) = lacking (subst (λ (x : InterfaceTree). Contains (type_names x) n) e (1, omega arith, sym is))
 thing-is-known n (inr (is, (j, (suc (suc k), l, e), name, lacking))) = omega arith
+
+item-is-known : IsUnknownName types (codes "item" ∷ []) (codes "item") → ⊥
+item-is-known h = h.1 (1, omega arith, refl)
 
 -- a name of a function is no type's, and a parameter has a type
 abbrev no_type : File
@@ -619,6 +664,20 @@ itself-refused = (
         of_types zero d l = of_a
         of_types (suc k) d l = absurd (omega arith)
     of_i (suc k) d l = absurd (omega arith)
+
+g-has-no-cycle : HasCycle g → ⊥
+g-has-no-cycle (inl (group, c)) = none-uses c.some
+  where
+    none-uses : (i : ℕ) × (i < 1) × (group i ≡ true) → ⊥
+    none-uses (zero, l, h) = let n : (c.closed 0 (omega arith) h).1.0 < 0 = (c.closed 0 (omega arith) h).1.1 in omega (arith, n)
+    none-uses (suc i, l, h) = omega arith
+g-has-no-cycle (inr (i, (zero, l, e), (group, c))) =
+    let types_are : length (type_uses i) ≡ 0 = ap (λ (x : InterfaceTree). length (type_uses x)) (sym e) in
+    let n : c.some.0 < length (type_uses i) = c.some.1 in omega (arith, n, types_are)
+g-has-no-cycle (inr (i, (suc k, l, e), cycle)) = omega arith
+
+f-interfaces-have-no-cycle : (group : ℕ → Bool) → IsCycle (interface_uses (interfaces f)) group → ⊥
+f-interfaces-have-no-cycle group c = no-cycle group c
 
 -- ---- limits
 
