@@ -10,13 +10,14 @@ use Rattle.tables.specs.declared.tables.Direction.TheVariants as direction
 use Rattle.tables.specs.declared.tables.Resolve.{Resolve}
 use Rattle.tables.specs.declared.error.ResolveError.TheVariants as error
 use Rattle.tables.specs.PackageNames.{PackageParts}
+use Rattle.tables.specs.Tables.{are_standard}
 use Rattle.tables.specs.Package.{NamedDefinition, PrimTree, TextTree, Reference, ListTree, VariantTree, AsResult, no_choices, empty, holding, WithInterface, Package, package_of}
 use Rattle.tables.proofs.Examples.{u8, function_of_world, imports_function, world_of, key, named_row, type_rows, shop_rows, host_rows, a_b, p, types_name, shop_name, c_d, used_rows, money, q}
 use Rattle.placement.specs.Order.{IsPlacement, IsCycle}
 use Rattle.placement.proofs.Examples.{no-cycle, placement-by-test}
 use Rattle.package_form.specs.Scope.{AreDistinct}
 use Rattle.package_form.specs.Ids.{is_world_function}
-use Rattle.package_form.specs.Entries.{Table, table_of}
+use Rattle.package_form.specs.Entries.{type_entries, Table, table_of}
 use Rattle.package_form.proofs.Examples.{p-postfix, found, all-distinct}
 use Rattle.package_form.proofs.Postfix.{used-postfix}
 use Rattle.wit_syntax.specs.declared.ast.Primitive.TheVariants as keyword
@@ -28,7 +29,7 @@ use Rattle.tree_meaning.specs.Scopes.{scopes}
 use Rattle.tree_meaning.specs.Imports.{Import, no_package, no_imports, imports_of, interfaces_of, HasImport}
 use Rattle.tree_meaning.specs.ImportForms.{UsesImport, HasImportItem}
 use Rattle.tree_meaning.specs.Resolved.{primitive_tree, interface_meaning, resolved, meaning_of_world}
-use Rattle.tree_meaning.specs.Resolves.{HasWorldsBehind, IsClosedPackageOf, HasItems, HasNoWorlds, is_behind, IsUnknownName, IsKnownWorldOf, names_in_order, interface_uses, type_uses, places, ResolvesBehind, Resolves, PassesLimit, HasDuplicate, HasDistinctNames, LacksPackage, KnowsPackages, KnowsPackagesOf, HasKnownNamesOf, KnowsAllOf, IsUnknownUse, IsKnownUseOf, IsUnknownItem, IsKnownItemOf, HasCycle, file_fits, IsPackageOf, HasNoFaultsOf, IsTooLargeBehind, ResolveRefuses, HasPackage, HasClosedPackage}
+use Rattle.tree_meaning.specs.Resolves.{is_world_in, with_names, HasWorldsBehind, IsClosedPackageOf, HasItems, HasNoWorlds, is_behind, IsUnknownName, IsKnownWorldOf, names_in_order, interface_uses, type_uses, places, ResolvesBehind, Resolves, PassesLimit, HasDuplicate, HasDistinctNames, LacksPackage, KnowsPackages, KnowsPackagesOf, HasKnownNamesOf, KnowsAllOf, IsUnknownUse, IsKnownUseOf, IsUnknownItem, IsKnownItemOf, HasCycle, file_fits, IsPackageOf, HasNoFaultsOf, IsTooLargeBehind, ResolveRefuses, HasPackage, HasClosedPackage}
 
 -- ---- a text, whose interfaces and types stand in another order than their table's
 --
@@ -752,3 +753,19 @@ too-large = inr (
 f-within : PassesLimit (table_of p) → ⊥
 f-within (inl l) = let n : 65535 < 25 = l in omega (arith, n)
 f-within (inr e) = true≢false e
+
+-- 65,535 type entries pass no limit, and one more does
+too-many-entries : (t : Table) → type_entries t ≡ 65536 → PassesLimit t
+too-many-entries t e = inl (omega (arith, e))
+
+most-entries : (t : Table) → type_entries t ≡ 65535 → are_standard t.rows ≡ true → PassesLimit t → ⊥
+most-entries t e fits (inl l) = omega (arith, e, l)
+most-entries t e fits (inr h) = true≢false (sym fits ∙ h)
+
+-- an import has an instance type more
+imports-are-counted : (type_entries many_table ≡ 4) × (type_entries (with_names (codes "x" ∷ []) many_table) ≡ 5)
+imports-are-counted = (refl, refl)
+
+-- worlds are of the package behind its imports
+world-of-the-own : (is_world_in 1 (world_of 1 (codes "w") []) ≡ true) × (is_world_in 1 (world_of 0 (codes "w") []) ≡ false)
+world-of-the-own = (refl, refl)
