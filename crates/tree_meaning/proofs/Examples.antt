@@ -12,7 +12,7 @@ use Rattle.tables.specs.declared.error.ResolveError.TheVariants as error
 use Rattle.tables.specs.PackageNames.{PackageParts}
 use Rattle.tables.specs.Tables.{are_standard}
 use Rattle.tables.specs.Package.{NamedDefinition, PrimTree, TextTree, Reference, ListTree, VariantTree, AsResult, no_choices, empty, holding, WithInterface, Package, package_of}
-use Rattle.tables.proofs.Examples.{u8, function_of_world, imports_function, world_of, key, named_row, type_rows, shop_rows, host_rows, a_b, p, types_name, shop_name, c_d, used_rows, money, q}
+use Rattle.tables.proofs.Examples.{rows, function_in, unnamed_row, interface_of, u8, function_of_world, imports_function, world_of, key, named_row, type_rows, shop_rows, host_rows, a_b, p, types_name, shop_name, c_d, used_rows, money, q}
 use Rattle.placement.specs.Order.{IsPlacement, IsCycle}
 use Rattle.placement.proofs.Examples.{no-cycle, placement-by-test}
 use Rattle.package_form.specs.Scope.{AreDistinct}
@@ -26,7 +26,7 @@ use Rattle.wit_syntax.specs.declared.ast.Direction.TheVariants as way
 use Rattle.wit_syntax.specs.Syntax.{WorldEntry, PathTo, Ty, Prim, Named, ListOf, OptionOf, TupleOf, ResultOf, none, more, Absent, Present, Member, UsedAs, TypeBody as Body, Alias, Record, Variant, Enumeration, FlagSet, Function, Local, Foreign, Entry, Uses, Defines, Declares, Whole, Single, FileEntry, AnInterface, AWorld, File}
 use Rattle.tree_meaning.specs.Declarations.{FunctionItem, TypeItem, interface_at, interface_tree, UsedItem, InterfaceTree, InterfaceNamed, ForeignNamed, FunctionOf, interfaces, file_worlds, full_interfaces, full_worlds, other_packages, named_definition, names_in_function, type_names, names_of_trees}
 use Rattle.tree_meaning.specs.Scopes.{scopes}
-use Rattle.tree_meaning.specs.Imports.{Import, no_package, no_imports, imports_of, interfaces_of, HasImport}
+use Rattle.tree_meaning.specs.Imports.{import_of, Import, no_package, no_imports, imports_of, interfaces_of, HasImport}
 use Rattle.tree_meaning.specs.ImportForms.{UsesImport, HasImportItem}
 use Rattle.tree_meaning.specs.Resolved.{primitive_tree, interface_meaning, resolved, meaning_of_world}
 use Rattle.tree_meaning.specs.Resolves.{is_world_in, with_names, HasWorldsBehind, IsClosedPackageOf, HasItems, HasNoWorlds, is_behind, IsUnknownName, IsKnownWorldOf, names_in_order, interface_uses, type_uses, places, ResolvesBehind, Resolves, PassesLimit, HasDuplicate, HasDistinctNames, LacksPackage, KnowsPackages, KnowsPackagesOf, HasKnownNamesOf, KnowsAllOf, IsUnknownUse, IsKnownUseOf, IsUnknownItem, IsKnownItemOf, HasCycle, file_fits, IsPackageOf, HasNoFaultsOf, IsTooLargeBehind, ResolveRefuses, HasPackage, HasClosedPackage}
@@ -769,3 +769,13 @@ imports-are-counted = (refl, refl)
 -- worlds are of the package behind its imports
 world-of-the-own : (is_world_in 1 (world_of 1 (codes "w") []) ≡ true) × (is_world_in 1 (world_of 0 (codes "w") []) ≡ false)
 world-of-the-own = (refl, refl)
+
+-- rows without names and functions of worlds stand behind those of interfaces
+rows-of-worlds : (is_behind (function_of_world 0 (codes "f") [] None) ≡ true) × (is_behind (function_in 0 (codes "f") [] None) ≡ false)
+    × (is_behind (unnamed_row (kind.List u8)) ≡ true) × (is_behind (named_row 0 (codes "a") (kind.List u8)) ≡ false)
+rows-of-worlds = (refl, refl, refl, refl)
+
+-- a type has its name in its own interface alone
+types-of-its-own : ((import_of (a_b ∷ []) rows 0 (interface_of 0 (codes "x") [] (1 ∷ []) [])).types ≡ codes "item" ∷ [])
+    × ((import_of (a_b ∷ []) rows 1 (interface_of 0 (codes "x") [] (1 ∷ []) [])).types ≡ [])
+types-of-its-own = (refl, refl)
