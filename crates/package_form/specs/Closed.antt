@@ -39,8 +39,8 @@ are_apart (p ∷ ps) = not (list_any (is_same_package p) ps) && are_apart ps
 abbrev pub are_of_a_set : List PackageParts → Bool
 are_of_a_set ps = nat_le (length ps) 64 && are_apart ps
 
--- The packages of these interfaces leave none out: the first is of package `next` or of one before it, each other of its neighbour's or of the
--- one behind that, and each package before `last` has come.
+-- The packages of these interfaces leave none out: the first is of package `next` or an earlier one, each other of a package that is at most one
+-- after that of the interface before it, and each package before `last` has come. (In a table they never go back: `are_grouped`.)
 abbrev pub has_each_package : ℕ → ℕ → List Interface → Bool
 has_each_package last next [] = nat_le last next
 has_each_package last next (i ∷ is) = nat_le i.«package».0 next && has_each_package last (i.«package».0 + 1) is

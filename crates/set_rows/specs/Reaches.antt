@@ -19,7 +19,7 @@ pub record Marks : Type 0 where
   pub interfaces : List Bool
   pub worlds : List Bool
 
--- whether an owner is marked; one that isn't there counts as marked
+-- whether an owner is marked; one that isn't there counts as marked, but in postfix order each row has an owner
 abbrev pub is_marked : Marks → Option Owner → Bool
 is_marked m None = true
 is_marked m (Some (owner.Interface i)) = slice_index_or m.interfaces i.0 true

@@ -134,7 +134,7 @@ other_packages f = flat_map file_entry_packages f.entries
 abbrev pub package_named : File → PackageParts
 package_named f = record { namespace = f.namespace; name = f.name; version = f.version }
 
--- the name that an interface of this package goes by there: one of another package by its own, behind which its package is told
+-- an own interface by its full name; one of another package by its own name, beside which the package is given
 abbrev pub full_label : PackageParts → Option PackageParts → List ℕ → List ℕ
 full_label p None i = own_name p i
 full_label p (Some q) i = i
