@@ -63,7 +63,7 @@ label-underscore : is_label (codes "a_b") ≡ false
 unfolding names_on_literals
 label-underscore = refl
 
--- before and behind the letters and the digits: @ [ ` { / :
+-- next to the letters and the digits: @ [ ` { / :
 label-around : (is_label (codes "a@") ≡ false) × (is_label (codes "A[") ≡ false) × (is_label (codes "a`") ≡ false) × (is_label (codes "a{") ≡ false) × (is_label (codes "a/") ≡ false) × (is_label (codes "a:") ≡ false)
 unfolding names_on_literals
 label-around = (refl, refl, refl, refl, refl, refl)
@@ -170,6 +170,9 @@ full-name-bad-version h = let e : false ≡ true = h.name.reads in cc
 -- the parts of a program's value
 full-name-value : (n : FullName) → n.namespace ≡ codes "a" → n.«package» ≡ codes "b" → n.name ≡ codes "C" → n.version ≡ None → full_name_text (name_parts_of n) ≡ codes "a:b/C"
 full-name-value n namespace package_name name version = rw (namespace, package_name, name, version) refl
+
+full-name-value-version : (n : FullName) → n.version ≡ None → (name_parts_of n).version ≡ Some (codes "1.0.0") → ⊥
+full-name-value-version n version h = let e = rw version at h in cc
 
 -- ---- LEB128: 624485 is e5 8e 26
 

@@ -1,5 +1,5 @@
--- Worked examples: productions over numbers. A fault is told as the items from the one met on.
-use Rattle.std.proofs.Common.{◌≡◌, ℕ, Bool, true, false, List, [], ◌∷◌, ◌++◌, length, Option, Some, None, Ok, Err, refl, ap, inr, arith}
+-- Worked examples: productions over numbers. A fault is the items from the one that is not allowed.
+use Rattle.std.proofs.Common.{◌≡◌, ℕ, Bool, true, false, List, [], ◌∷◌, length, Option, Some, None, Ok, Err, refl, ap, inr, arith}
 use Rattle.std.specs.Prelude.{◌==◌, ◌+◌, ⊤, if◌then◌else◌}
 use Rattle.productions.specs.Production.{Production, give, never, ◌>>=◌, one, only, when, times, run, optional, unless_some, many, separator, listed, comma_or, entries, at_end, by_option, all}
 
@@ -8,7 +8,7 @@ unfoldable pub productions_on_literals : ⊤
 unfolding times run many separator listed comma_or entries all
 productions_on_literals = tt
 
--- ---- one number: 8 stands for a comma and 9 for what closes a list
+-- ---- one number: 8 is a comma, and 9 closes a list
 
 abbrev is : ℕ → ℕ → Bool
 is n t = t == n
@@ -33,7 +33,7 @@ one-spelled = (refl, refl)
 
 -- all of the items spell it
 one-more : (item 1).spells (1 ∷ 2 ∷ []) 1 → ⊥
-one-more h = let e : length (1 ∷ 2 ∷ []) ≡ length (1 ∷ []) = ap (λ (ts : List ℕ). length ts) h.0 in omega (arith, e)
+one-more h = let e : length {A = ℕ} (1 ∷ 2 ∷ []) ≡ length {A = ℕ} (1 ∷ []) = ap (λ (ts : List ℕ). length ts) h.0 in omega (arith, e)
 
 one-fault : (item 1).fails (2 ∷ 3 ∷ []) (2 ∷ 3 ∷ [])
 one-fault = (refl, refl)
@@ -41,10 +41,10 @@ one-fault = (refl, refl)
 one-no-fault : (f : List ℕ) → (item 1).fails (1 ∷ 3 ∷ []) f → ⊥
 one-no-fault f h = let e : true ≡ false = h.0 in cc
 
-give-read : (give {I = ℕ} {F = List ℕ} 5).read (1 ∷ []) ≡ Ok (5, 1 ∷ [])
+give-read : (give {I = ℕ} {F = List ℕ} {X = ℕ} 5).read (1 ∷ []) ≡ Ok (5, 1 ∷ [])
 give-read = refl
 
-give-no-fault : (ts f : List ℕ) → (give {I = ℕ} 5).fails ts f → ⊥
+give-no-fault : (ts f : List ℕ) → (give {I = ℕ} {F = List ℕ} {X = ℕ} 5).fails ts f → ⊥
 give-no-fault ts f h = h
 
 never-read : (never {X = ℕ} from).read (1 ∷ []) ≡ Err (1 ∷ [])
@@ -101,10 +101,10 @@ optional-goes-on h = let e : true ≡ false = h.1 in cc
 optional-spelled : maybe.spells (1 ∷ 2 ∷ []) (Some 2)
 optional-spelled = (1, 2 ∷ [], refl, refl, (refl, refl))
 
-unless-read : ((unless_some (Some 0) (item 1) (item 2)).read (1 ∷ []) ≡ Ok (1, [])) × ((unless_some {A = ℕ} None (item 1) (item 2)).read (1 ∷ []) ≡ Err (1 ∷ []))
+unless-read : ((unless_some {A = ℕ} (Some 0) (item 1) (item 2)).read (1 ∷ []) ≡ Ok (1, [])) × ((unless_some {A = ℕ} None (item 1) (item 2)).read (1 ∷ []) ≡ Err (1 ∷ []))
 unless-read = (refl, refl)
 
-by-option-read : ((by_option (Some 1) (item 2) item).read (1 ∷ []) ≡ Ok (1, [])) × ((by_option None (item 2) item).read (1 ∷ []) ≡ Err (1 ∷ []))
+by-option-read : ((by_option {A = ℕ} (Some 1) (item 2) item).read (1 ∷ []) ≡ Ok (1, [])) × ((by_option {A = ℕ} None (item 2) item).read (1 ∷ []) ≡ Err (1 ∷ []))
 by-option-read = (refl, refl)
 
 end-read : ((at_end {I = ℕ} from).read [] ≡ Ok (0, [])) × ((at_end from).read (1 ∷ []) ≡ Err (1 ∷ []))

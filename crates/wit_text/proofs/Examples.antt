@@ -1,8 +1,10 @@
 -- Worked examples: the trees of small texts by the grammar of WIT, and texts that are refused, with their errors.
-use Rattle.std.proofs.Common.{◌≡◌, ◌≤◌, ℕ, zero, suc, true, List, [], ◌∷◌, ◌++◌, length, replicate, get_or, Option, Some, None, Result, Ok, Err, codes, refl, sym, ap, ◌∙◌, arith}
-use Rattle.std.specs.Prelude.{nat_le, ⊤, concat}
-use Rattle.semver.proofs.OnLiterals.{semver_on_literals}
-use Rattle.atoms.specs.FullName.{is_package_label, is_version}
+use Rattle.std.proofs.Common.{◌≡◌, ◌<◌, ℕ, zero, suc, true, List, [], ◌∷◌, ◌++◌, length, replicate, get_or, Option, Some, None, Result, Ok, Err, codes, refl, sym, ap, ◌∙◌, arith}
+use Rattle.std.specs.Prelude.{nat_le, ⊤}
+use Rattle.std.specs.List.{concat}
+use Rattle.std.specs.Str.{is_utf8, chars}
+use lib.Utf8.{encode}
+use Rattle.atoms.proofs.Examples.{names_on_literals}
 use Rattle.productions.specs.Production.{many, separator, listed, comma_or, entries, all}
 use Rattle.productions.proofs.Exact.{ok_is, no_err, err_is}
 use Rattle.wit_tokens.specs.declared.token.Keyword.TheVariants as kw
@@ -14,6 +16,7 @@ use Rattle.wit_tokens.specs.declared.error.Expected.TheVariants as want
 use Rattle.wit_tokens.specs.declared.error.Feature.TheVariants as feature
 use Rattle.wit_tokens.specs.declared.error.TextError.{TextError}
 use Rattle.wit_tokens.specs.declared.error.TextError.TheVariants as error
+use Rattle.wit_tokens.specs.Lexing.{limit}
 use Rattle.wit_tokens.specs.Tokens.{Lexeme, lexemes}
 use Rattle.wit_tokens.proofs.Walked.{tokens_on_literals, walked, lexed, spoilt, within, faulty}
 use Rattle.wit_tokens.proofs.Unique.{one_lexing}
@@ -28,7 +31,7 @@ use Rattle.wit_text.proofs.Parsed.{is_found, only_that, none_read, is_faulty, le
 
 -- what an example unfolds to compute the tree of a text that is written out
 unfoldable pub texts_on_literals : ⊤
-unfolding tokens_on_literals semver_on_literals is_package_label is_version many separator listed comma_or entries all g.punctuation g.is_name g.id g.is_lower_name g.lower_id g.is_version_token g.version g.first_fault g.header_fault g.package_word g.header_end g.header g.begins_type g.type_fault g.close_list g.close_angle g.list g.option g.tuple g.error_type g.result_error g.result_rest g.result_ok g.result_parts g.result_type g.begun g.type_behind g.type_phrase g.ty g.member g.after_member g.parameters g.result_fault g.function_result g.func_word g.optional_result g.function g.function_end g.whole_function g.foreign g.behind_namespace g.path g.path_fault g.path_end g.local_alias g.used g.use_item g.alias g.record_body g.payload g.optional_payload g.case_fault g.case_id g.variant_case g.variant_body g.name_of_case g.enum_cases g.flag_names g.begins_entry g.entry_fault g.definition g.defined g.declared g.keyword_entry g.entry_behind g.entry g.interface g.world_fault g.single_fault g.begins_behind_colon g.whole_foreign g.single g.colon_behind g.world_colon g.world_entry_behind g.world_entry g.world g.file_fault g.item g.optional_item g.file
+unfolding tokens_on_literals names_on_literals is_utf8 chars encode many separator listed comma_or entries all g.punctuation g.is_name g.id g.is_lower_name g.lower_id g.is_version_token g.version g.first_fault g.header_fault g.package_word g.header_end g.header g.begins_type g.type_fault g.close_list g.close_angle g.list g.option g.tuple g.error_type g.result_error g.result_rest g.result_ok g.result_parts g.result_type g.begun g.type_behind g.type_phrase g.ty g.member g.after_member g.parameters g.result_fault g.function_result g.func_word g.optional_result g.function g.function_end g.whole_function g.foreign g.behind_namespace g.path g.path_fault g.path_end g.local_alias g.used g.use_item g.alias g.record_body g.payload g.optional_payload g.case_fault g.case_id g.variant_case g.variant_body g.name_of_case g.enum_cases g.flag_names g.begins_entry g.entry_fault g.definition g.defined g.declared g.keyword_entry g.entry_behind g.entry g.interface g.world_fault g.single_fault g.begins_behind_colon g.whole_foreign g.single g.colon_behind g.world_colon g.world_entry_behind g.world_entry g.world g.file_fault g.item g.file
 texts_on_literals = tt
 
 -- ---- the tree of a text, by its tokens
@@ -86,8 +89,8 @@ no_tree {text = text} {f = f} k s short h i = none-by text k s f (walked text) s
 abbrev span : ℕ → ℕ → Span
 span s e = record { start = s; end = e }
 
-abbrev package : List ℕ → List ℕ → Option (List ℕ) → List FileEntry → File
-package namespace name version entries = record { namespace = namespace; name = name; version = version; entries = entries }
+abbrev tree : List ℕ → List ℕ → Option (List ℕ) → List FileEntry → File
+tree namespace name version entries = record { namespace = namespace; name = name; version = version; entries = entries }
 
 abbrev member : List ℕ → Ty → Member
 member name ty = record { name = name; ty = ty }
@@ -144,9 +147,9 @@ types-entries =
     ∷ Declares (span 217 218) (codes "i") (record { params = []; result = Some (TupleOf (tys_of (OptionOf (ResultOf Absent Absent) ∷ []))) })
     ∷ []
 
--- `type t` of so many times `list<` around `u8`
-abbrev nested : ℕ → List ℕ
-nested n = codes "package a:b; interface c { type t = " ++ (concat (replicate n (codes "list<")) ++ (codes "u8" ++ (replicate n 62 ++ codes "; }")))
+-- `type t` of so many times `list<` around this
+abbrev nested : ℕ → List ℕ → List ℕ
+nested n inner = codes "package a:b; interface c { type t = " ++ (concat (replicate n (codes "list<")) ++ (inner ++ (replicate n 62 ++ codes "; }")))
 
 abbrev lists : ℕ → Ty
 lists zero = Prim primitive.U8
@@ -155,29 +158,29 @@ lists (suc n) = ListOf (lists n)
 -- ---- trees
 
 -- each kind of item of an interface, with the spans of their first tokens
-interface-read : IsRead interface-text (package (codes "a") (codes "b-z2") (Some (codes "1.2.0-rc.1")) (AnInterface (codes "C") interface-entries ∷ []))
+interface-read : IsRead interface-text (tree (codes "a") (codes "b-z2") (Some (codes "1.2.0-rc.1")) (AnInterface (codes "C") interface-entries ∷ []))
 unfolding texts_on_literals
 interface-read = is_read refl refl
 
 -- items of a world: an interface of the text, one of a package with a version and one without, and functions
-world-read : IsRead world-text (package (codes "a") (codes "b") None (AnInterface (codes "c") [] ∷ AWorld (span 29 34) (codes "W1-z") world-entries ∷ AnInterface (codes "d") (Declares (span 173 174) (codes "f") (record { params = []; result = None }) ∷ []) ∷ []))
+world-read : IsRead world-text (tree (codes "a") (codes "b") None (AnInterface (codes "c") [] ∷ AWorld (span 29 34) (codes "W1-z") world-entries ∷ AnInterface (codes "d") (Declares (span 173 174) (codes "f") (record { params = []; result = None }) ∷ []) ∷ []))
 unfolding texts_on_literals
 world-read = is_read refl refl
 
 -- each type
-types-read : IsRead types-text (package (codes "a") (codes "b") None (AnInterface (codes "c") types-entries ∷ []))
+types-read : IsRead types-text (tree (codes "a") (codes "b") None (AnInterface (codes "c") types-entries ∷ []))
 unfolding texts_on_literals
 types-read = is_read refl refl
 
 -- a package alone
-package-read : IsRead (codes "/* a */ package a:b; // c") (package (codes "a") (codes "b") None [])
+package-read : IsRead (codes "/* a */ package a:b; // c") (tree (codes "a") (codes "b") None [])
 unfolding texts_on_literals
 package-read = is_read refl refl
 
 -- a text has no other tree, and one that is refused has none
-package-other : IsRead (codes "package a:b;") (package (codes "a") (codes "c") None []) → ⊥
+package-other : IsRead (codes "package a:b;") (tree (codes "a") (codes "c") None []) → ⊥
 unfolding texts_on_literals
-package-other h = let e : package (codes "a") (codes "b") None [] ≡ package (codes "a") (codes "c") None [] = only_tree refl refl h in let f : get_or (codes "b") 0 0 ≡ get_or (codes "c") 0 0 = ap (λ (f : File). get_or f.name 0 0) e in omega (arith, f)
+package-other h = let e : tree (codes "a") (codes "b") None [] ≡ tree (codes "a") (codes "c") None [] = only_tree refl refl h in let f : get_or (codes "b") 0 0 ≡ get_or (codes "c") 0 0 = ap (λ (f : File). get_or f.name 0 0) e in omega (arith, f)
 
 comma-none : (f : File) → IsRead (codes "package a:b; interface c { f: func(a: u8,); }") f → ⊥
 unfolding texts_on_literals
@@ -185,16 +188,52 @@ comma-none f h = no_tree (want.Identifier) (span 41 42) refl refl h
 
 -- ---- error 34: types nest at most 64 deep
 
-nested-64 : IsRead (nested 63) (package (codes "a") (codes "b") None (AnInterface (codes "c") (Defines (span 27 31) (codes "t") (Alias (lists 63)) ∷ []) ∷ []))
+nested-64 : IsRead (nested 63 (codes "u8")) (tree (codes "a") (codes "b") None (AnInterface (codes "c") (Defines (span 27 31) (codes "t") (Alias (lists 63)) ∷ []) ∷ []))
 unfolding texts_on_literals
 nested-64 = is_read refl refl
 
-nested-65 : Refused (nested 64) (error.Depth (span 356 358))
+nested-65 : Refused (nested 64 (codes "u8")) (error.Depth (span 356 358))
 unfolding texts_on_literals
 nested-65 = refused refl refl
 
+nested-name : Refused (nested 64 (codes "name")) (error.Depth (span 356 360))
+unfolding texts_on_literals
+nested-name = refused refl refl
+
+nested-result : Refused (nested 64 (codes "result<u8>")) (error.Depth (span 356 362))
+unfolding texts_on_literals
+nested-result = refused refl refl
+
+-- what begins no type is not too deep
+nested-float : Refused (nested 64 (codes "f32")) (error.Unsupported feature.Float (span 356 359))
+unfolding texts_on_literals
+nested-float = refused refl refl
+
+nested-none : Refused (nested 64 []) (error.Expected want.Identifier (span 356 357))
+unfolding texts_on_literals
+nested-none = refused refl refl
+
+-- a result nests as any other type
+nested-func : Refused (codes "package a:b; interface c { f: func() -> " ++ (concat (replicate 64 (codes "list<")) ++ codes "u8")) (error.Depth (span 360 362))
+unfolding texts_on_literals
+nested-func = refused refl refl
+
 depths : (ty_depth (Prim primitive.U8) ≡ 1) × (ty_depth (Named (codes "a")) ≡ 1) × (ty_depth (lists 3) ≡ 4) × (ty_depth (OptionOf (lists 1)) ≡ 3) × (ty_depth (TupleOf (tys_of (Prim primitive.U8 ∷ lists 2 ∷ Prim primitive.U8 ∷ []))) ≡ 4) × (ty_depth (ResultOf Absent Absent) ≡ 1) × (ty_depth (ResultOf (Present (lists 1)) (Present (lists 4))) ≡ 6) × (ty_depth (ResultOf (Present (lists 4)) Absent) ≡ 6)
 depths = (refl, refl, refl, refl, refl, refl, refl, refl)
+
+-- ---- error 36: 1,048,576 bytes are read, one more is too many
+
+too-long : (text : List ℕ) → length text ≡ 1048577 → FaultyText text error.Limit
+unfolding limit
+too-long text h = omega (arith, h)
+
+too-long-unread : (text : List ℕ) (f : File) → length text ≡ 1048577 → IsRead text f → ⊥
+unfolding limit
+too-long-unread text f h r = omega (arith, h, r.short)
+
+long-enough : (text : List ℕ) → length text ≡ 1048576 → FaultyText text error.Limit → ⊥
+unfolding limit
+long-enough text h f = let e : 1048576 < length text = f in omega (arith, h, e)
 
 -- ---- error 32 and 33: the package and the items of a file
 
@@ -202,7 +241,7 @@ no-package : Refused (codes "interface c { }") (error.Expected (want.Keyword kw.
 unfolding texts_on_literals
 no-package = refused refl refl
 
--- at the end the span is empty, behind blanks and comments
+-- at the end the span is empty, after blanks and comments
 no-text : Refused (codes " // nothing" ++ 10 ∷ []) (error.Expected (want.Keyword kw.Package) (span 12 12))
 unfolding texts_on_literals
 no-text = refused refl refl
@@ -531,7 +570,7 @@ list-fixed : Refused (codes "package a:b; interface c { type t = list<u8, 4>; }"
 unfolding texts_on_literals
 list-fixed = refused refl refl
 
--- behind `result` alone `<` is allowed too
+-- after `result` alone `<` is allowed too
 list-result : Refused (codes "package a:b; interface c { type t = list<result; }") (error.Expected (want.Punctuation mark.Less) (span 47 48))
 unfolding texts_on_literals
 list-result = refused refl refl

@@ -1,5 +1,5 @@
 -- Worked examples: the tokens of small texts by the rules of WIT's lexical structure, and texts that have none.
-use Rattle.std.proofs.Common.{◌≡◌, ◌<◌, ℕ, ◌+◌, true, false, List, [], ◌∷◌, ◌++◌, length, map, replicate, Some, None, Ok, Err, codes, refl, arith}
+use Rattle.std.proofs.Common.{◌≡◌, ◌<◌, ℕ, true, false, List, [], ◌∷◌, ◌++◌, length, map, replicate, Some, None, Ok, Err, codes, refl, arith}
 use Rattle.std.specs.Prelude.{nat_le}
 use Rattle.wit_tokens.specs.declared.token.Keyword.TheVariants as kw
 use Rattle.wit_tokens.specs.declared.token.Punctuation.TheVariants as mark
@@ -83,7 +83,7 @@ word-256 = refl
 
 -- ---- `%`
 
--- any word behind it is an identifier
+-- any word after it is an identifier
 escaped : Lexes (codes "%use%a %error-context;") (tok kind.Identifier 0 4 ∷ tok kind.Identifier 4 6 ∷ tok kind.Identifier 7 21 ∷ tok (kind.Punctuation mark.Semicolon) 21 22 ∷ [])
 unfolding tokens_on_literals
 escaped = lexes refl
@@ -113,9 +113,9 @@ unfolding tokens_on_literals
 marks = lexes refl
 
 -- a hyphen before > ends a word
-arrow-behind-word : Lexes (codes "a-b->c %d->e") (tok kind.Identifier 0 3 ∷ tok (kind.Punctuation mark.Arrow) 3 5 ∷ tok kind.Identifier 5 6 ∷ tok kind.Identifier 7 9 ∷ tok (kind.Punctuation mark.Arrow) 9 11 ∷ tok kind.Identifier 11 12 ∷ [])
+arrow-after-word : Lexes (codes "a-b->c %d->e") (tok kind.Identifier 0 3 ∷ tok (kind.Punctuation mark.Arrow) 3 5 ∷ tok kind.Identifier 5 6 ∷ tok kind.Identifier 7 9 ∷ tok (kind.Punctuation mark.Arrow) 9 11 ∷ tok kind.Identifier 11 12 ∷ [])
 unfolding tokens_on_literals
-arrow-behind-word = lexes refl
+arrow-after-word = lexes refl
 
 no-arrow : Lexes (codes ">->>") (tok (kind.Punctuation mark.Greater) 0 1 ∷ tok (kind.Punctuation mark.Arrow) 1 3 ∷ tok (kind.Punctuation mark.Greater) 3 4 ∷ [])
 unfolding tokens_on_literals
@@ -125,9 +125,9 @@ hyphen : Refused (codes "a - > b") (error.BadChar (span 2 3))
 unfolding tokens_on_literals
 hyphen = refused refl refl
 
-hyphen-behind-word : Refused (codes "a--->b") (error.BadChar (span 0 3))
+hyphen-after-word : Refused (codes "a--->b") (error.BadChar (span 0 3))
 unfolding tokens_on_literals
-hyphen-behind-word = refused refl refl
+hyphen-after-word = refused refl refl
 
 slash : Lexes (codes "/a/ /") (tok (kind.Punctuation mark.Slash) 0 1 ∷ tok kind.Identifier 1 2 ∷ tok (kind.Punctuation mark.Slash) 2 3 ∷ tok (kind.Punctuation mark.Slash) 4 5 ∷ [])
 unfolding tokens_on_literals
