@@ -144,7 +144,7 @@ def main():
     words.add_argument("--log")
     words.add_argument("--table")
     words.add_argument("--cores", type=int)
-    words.add_argument("command", nargs="*")
+    words.add_argument("command", nargs=argparse.REMAINDER)
     given = words.parse_args()
     if given.table:
         with open(given.table, encoding="utf-8") as file:
