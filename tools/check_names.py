@@ -16,7 +16,7 @@ What is checked of the pages:
 - Words in backquotes behind a crate `rows_..` or `vectors` are names of rows. Each has to be a line of the output of that crate, or the name in
   a line of its input.
 
-- The numbers of COUNTS are those of the stored rows and of the laws.
+- The numbers of COUNTS are those of the stored rows, of the laws and of tools/believed.py.
 - Each script of tools/ and bench/ is named on a page, in the gate or in another script.
 
 In the tables of docs/guarantees/ the cells of the column `clause` hold functions and clauses alone, as `open_set`: ok, only; `Package::takes`,
@@ -30,7 +30,6 @@ import re
 import sys
 
 import believed
-
 from check_pages import prose, without_blocks
 from try_edits import edited
 
