@@ -7,6 +7,7 @@ usage: tools/check_pages.py
 - Each page of docs/ is one that links lead to from README.md.
 - A block of code is of a language of LANGUAGES, by which other scripts find what they compare.
 - No sentence of these pages has more than 30 words, but of those of LONG: what they say comes of the heads of crates, or is names of rows.
+- No line has more than 120 columns, but of tables, headings and blocks.
 - No cell of a table of docs/guarantees and of the pages of TABLES has more than 25 words.
 
 Blocks of code are left out. It prints each place that is wrong; the exit status is 1 then.
@@ -119,11 +120,17 @@ def long_cells(path):
                 yield number, f"a cell of {len(words(cell))} words: {cell.strip()[:60]}"
 
 
+def long_lines(path):
+    for number, line in enumerate(prose(path).split("\n"), 1):
+        if len(line) > 120 and not line.startswith(("|", "#")):
+            yield number, f"a line of {len(line)} columns"
+
+
 def main():
     pages = [ROOT / "README.md", ROOT / "CHANGELOG.md", *sorted((ROOT / "docs").rglob("*.md"))]
     short = [path for path in pages if str(path.relative_to(ROOT)) not in LONG]
     tables = [*(ROOT / name for name in TABLES), *sorted((ROOT / "docs/guarantees").glob("*.md"))]
-    checks = [(path, check) for check in (wrong_links, wrong_blocks) for path in pages]
+    checks = [(path, check) for check in (wrong_links, wrong_blocks, long_lines) for path in pages]
     checks += [(path, long_sentences) for path in short] + [(path, long_cells) for path in tables]
     wrong = [(path, *fault) for path, check in checks for fault in check(path)]
     wrong += [(path, 1, "no link leads here from README.md") for path in pages if path not in reached(ROOT / "README.md", {ROOT / "CHANGELOG.md"})]
