@@ -29,7 +29,8 @@ use Rattle.tree_meaning.specs.Scopes.{scopes}
 use Rattle.tree_meaning.specs.Imports.{import_of, Import, no_package, no_imports, imports_of, interfaces_of, HasImport}
 use Rattle.tree_meaning.specs.ImportForms.{UsesImport, HasImportItem}
 use Rattle.tree_meaning.specs.Resolved.{primitive_tree, interface_meaning, resolved, meaning_of_world}
-use Rattle.tree_meaning.specs.Resolves.{is_world_in, with_names, HasWorldsBehind, IsClosedPackageOf, HasItems, HasNoWorlds, is_behind, IsUnknownName, IsKnownWorldOf, names_in_order, interface_uses, type_uses, places, ResolvesBehind, Resolves, PassesLimit, HasDuplicate, HasDistinctNames, LacksPackage, KnowsPackages, KnowsPackagesOf, HasKnownNamesOf, KnowsAllOf, IsUnknownUse, IsKnownUseOf, IsUnknownItem, IsKnownItemOf, HasCycle, file_fits, IsPackageOf, HasNoFaultsOf, IsTooLargeBehind, ResolveRefuses, HasPackage, HasClosedPackage}
+use Rattle.tree_meaning.specs.Resolves.{with_names, HasWorldsBehind, IsClosedPackageOf, HasItems, HasNoWorlds, is_behind, IsUnknownName, IsKnownWorldOf, names_in_order, interface_uses, type_uses, places, ResolvesBehind, Resolves, PassesLimit, HasDuplicate, HasDistinctNames, LacksPackage, KnowsPackages, KnowsPackagesOf, HasKnownNamesOf, KnowsAllOf, IsUnknownUse, IsKnownUseOf, IsUnknownItem, IsKnownItemOf, HasCycle, file_fits, IsPackageOf, HasNoFaultsOf, IsTooLargeBehind, ResolveRefuses, HasPackage, HasClosedPackage}
+use Rattle.package_form.specs.Closed.{is_world_of}
 
 -- ---- a text, whose interfaces and types stand in another order than their table's
 --
@@ -767,7 +768,7 @@ imports-are-counted : (type_entries many_table ≡ 4) × (type_entries (with_nam
 imports-are-counted = (refl, refl)
 
 -- worlds are of the package behind its imports
-world-of-the-own : (is_world_in 1 (world_of 1 (codes "w") []) ≡ true) × (is_world_in 1 (world_of 0 (codes "w") []) ≡ false)
+world-of-the-own : (is_world_of 1 (world_of 1 (codes "w") []) ≡ true) × (is_world_of 1 (world_of 0 (codes "w") []) ≡ false)
 world-of-the-own = (refl, refl)
 
 -- rows without names and functions of worlds stand behind those of interfaces
