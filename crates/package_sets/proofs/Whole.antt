@@ -163,7 +163,7 @@ module _ (r : Resolve) (alone : IsAlone r) where
       where
         by : IsOfInterface r.definitions 0 (0 + length r.interfaces) k d ⊎ IsOfWorld r.definitions 0 (0 + length r.worlds) k d → i < length r.interfaces
         by (inl b) = elim (local-owned r.definitions b.interface d b.local) [
-          | inl g ↦ let same = ap number (sym is ∙ g) in omega (arith, same, b.ends)
+          | inl g ↦ let same : i ≡ b.interface = ap number (sym is ∙ g) in omega (arith, same, b.ends)
           | inr g ↦ absurd cc
         ]
         by (inr b) = elim (world-owned r.definitions b.world d b.local) [
@@ -180,7 +180,7 @@ module _ (r : Resolve) (alone : IsAlone r) where
           | inr g ↦ absurd cc
         ]
         by (inr b) = elim (world-owned r.definitions b.world d b.local) [
-          | inl g ↦ let same = ap number (sym is ∙ g) in omega (arith, same, b.ends)
+          | inl g ↦ let same : w ≡ b.world = ap number (sym is ∙ g) in omega (arith, same, b.ends)
           | inr g ↦ absurd cc
         ]
 

@@ -41,7 +41,7 @@ below-or-last i n h = by (nat_lt i n) refl
 
 module _ (table : List Definition) (start k : ℕ) where
   pub later : (n m : ℕ) (s : InstanceRead) (y : TypeName) → n ≤ m → NamesType table start k n s y → NamesType table start k m s y
-  later n m s y h q = record { id = q.id; found = q.found; with_name = q.named; lower = q.lower; upper = omega (arith, q.upper); here = q.here }
+  later n m s y h q = record { id = q.id; found = q.found; named = q.named; lower = q.lower; upper = omega (arith, q.upper); here = q.here }
 
   module _ (at : Place) (s : InstanceRead) (has : HasRead table start k at s) (d : Definition) (here : slice_get table (length at.indices) ≡ Some d) where
     len : (x : ℕ) → length (at.indices ++ x ∷ []) ≡ length at.indices + 1
@@ -95,7 +95,7 @@ module _ (table : List Definition) (start k : ℕ) where
         by : (t.0 < length at.indices) ⊎ (t.0 ≡ length at.indices) → NamesType table start k (length at.indices + 1) s2 y
         by (inl l) =
             let q = has.names t y low l e in
-            record { id = q.id; found = ap (λ (es : List NameEntry). type_named es y.name) is ∙ q.found; with_name = q.named; lower = q.lower; upper = omega (arith, q.upper); here = q.here }
+            record { id = q.id; found = ap (λ (es : List NameEntry). type_named es y.name) is ∙ q.found; named = q.named; lower = q.lower; upper = omega (arith, q.upper); here = q.here }
         by (inr q) =
             let clash : None ≡ Some y = sym none ∙ ap (λ (o : Option Definition). name_of (type_of o)) (sym here) ∙ ap (λ (n : ℕ). name_of (type_of (slice_get table n))) (sym q) ∙ e in
             absurd (cc)
@@ -114,7 +114,7 @@ module _ (table : List Definition) (start k : ℕ) where
           id = type_id (length s.rows);
           found = ap (λ (es : List NameEntry). type_named es y.name) is ∙ ap (λ (z : TypeName). type_named (with_name s.names x (type_id (length s.rows))) z.name) (sym q)
               ∙ named-found s.names x (type_id (length s.rows));
-          with_name = own ∙ ap (λ (z : TypeName). Some z) q;
+          named = own ∙ ap (λ (z : TypeName). Some z) q;
           lower = omega (arith, has.rows, has.begins);
           upper = omega (arith, has.rows);
           here = ap (λ (z : TypeName). z.interface.0) (sym q);
@@ -129,7 +129,7 @@ module _ (table : List Definition) (start k : ℕ) where
             record {
               id = q.id;
               found = ap (λ (es : List NameEntry). type_named es y.name) is ∙ named-other s.names x (type_id (length s.rows)) y.name apart ∙ q.found;
-              with_name = q.named;
+              named = q.named;
               lower = q.lower;
               upper = omega (arith, q.upper);
               here = q.here;
