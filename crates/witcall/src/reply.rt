@@ -40,7 +40,7 @@ pub struct Reply {
 
 impl Reply {
     ghost use Rattle.std.specs.Prelude.{IfOk, IfErr};
-    ghost use Rattle.witcall.specs.Replying.{IsReplyOf, ReplyRefuses, ArgumentsFail, RepliesWith, HasNoRoom};
+    ghost use Rattle.witcall.specs.Replying.{IsReplyOf, ReplyRefuses, DenotesNoArguments, RepliesWith, HasNoRoom};
 
     /// The body of a function of the package: 63 where it has no function of that name, 61 and 62
     /// where `reply` is no JSON array of the one value of its result, or of none where it has no result.
@@ -72,7 +72,7 @@ impl Reply {
     fn lift_arguments(&self, memory: &Space, arguments: &[Flat]) -> Result<(), Stopped>
         ensures ok { OnOk result ((vs : List Value) × Denotes max_flat_params
             (function_type self.now.«package».resolve self.now.func).params (space_memory memory.now).bytes arguments.now vs) }
-        ensures err { OnErr result (ArgumentsFail self.now.«package».resolve self.now.func
+        ensures err { OnErr result (DenotesNoArguments self.now.«package».resolve self.now.func
             (space_memory memory.now).bytes arguments.now) }
     {
         let table = self.package.types();
