@@ -69,7 +69,7 @@ all-marked (b ∷ bs) h zero = h 0 (omega arith)
 all-marked (b ∷ bs) h (suc k) = all-marked bs (later b bs h) k
 
 -- the number of an owner among the interfaces, or among the worlds
-number : Option Owner → ℕ
+abbrev number : Option Owner → ℕ
 number None = 0
 number (Some (owner.Interface i)) = i.0
 number (Some (owner.World w)) = w.0
