@@ -52,6 +52,7 @@ pub fn run_call<W: Sink>(
         × (count ≤ length output) × Appends (W.contents writer.old) (W.contents writer.new) (take count output) }
     ensures err { IfErr result (RunCallRefuses «package».now.resolve iface.now func.now args.now (runs body) (posts body) (state body)) }
     ensures broken { IsErrOf result Refused.Write → W.has_failed writer.new ≡ true }
+    ensures unbroken { W.has_failed writer.new ≡ true → IsErrOf result Refused.Write }
     ensures unwritten { IfErr result (λ e. e ≢ Refused.Write → Keeps (W.contents writer.old) (W.contents writer.new)) }
 {
     let func = function_named(package, iface, func)?;

@@ -52,6 +52,7 @@ pub fn run<R: Source, W: Sink>(
     ensures whole { R.has_failed reader.new ≡ false → result ≢ Err (Refused.Open OpenError.NoMemory)
         → (bytes : List ℕ) × ReadsUpTo 1048576 (R.remaining reader.old) bytes × Consumes (R.remaining reader.old) (R.remaining reader.new) bytes }
     ensures broken { IsErrOf result Refused.Write → W.has_failed writer.new ≡ true }
+    ensures unbroken { W.has_failed writer.new ≡ true → IsErrOf result Refused.Write }
     ensures unwritten { IfErr result (λ e. e ≢ Refused.Write → Keeps (W.contents writer.old) (W.contents writer.new)) }
 {
     run_set(alloc, job, &[], reader, writer)
@@ -105,6 +106,7 @@ pub fn run_set<R: Source, W: Sink>(
     ensures whole { R.has_failed reader.new ≡ false → result ≢ Err (Refused.Open OpenError.NoMemory)
         → (bytes : List ℕ) × ReadsUpTo 1048576 (R.remaining reader.old) bytes × Consumes (R.remaining reader.old) (R.remaining reader.new) bytes }
     ensures broken { IsErrOf result Refused.Write → W.has_failed writer.new ≡ true }
+    ensures unbroken { W.has_failed writer.new ≡ true → IsErrOf result Refused.Write }
     ensures unwritten { IfErr result (λ e. e ≢ Refused.Write → Keeps (W.contents writer.old) (W.contents writer.new)) }
 {
     let last = read_all(alloc, reader)?;

@@ -1,4 +1,4 @@
-use Rattle.std.proofs.Common.{map, Ok}
+use Rattle.std.proofs.Common.{map, Ok, Err, ap, ◌∙◌}
 use Rattle.std.proofs.lemmas.Result.{err_from_is_err_and}
 use Rattle.std.specs.Option.{option_map}
 use Rattle.values.specs.Val.{value_of}
@@ -33,3 +33,8 @@ returns-in_err-output-clause-err g c =
     c.in_ok-func.ensures.named c.in_ok-arguments.ensures.ok c.as_slice.ensures.value in
     let p = err_from_is_err_and c.from_residual-in_err-output.result c.from_residual-in_err-output.ensures.1 in
     rw (p.1, p.2) (c.in_ok-func.func, map value_of c.as_slice.result.now, asked, (Ok (option_map value_of c.in_ok-answer.answer), c.in_ok-answer.ensures.call, tt {0}))
+
+pub returns-in_err-write_bytes-clause-unbroken : goal.returns-in_err-write_bytes-clause-unbroken
+returns-in_err-write_bytes-clause-unbroken g c = λ failed.
+    let p = err_from_is_err_and c.from_residual-in_err-write_bytes.result c.from_residual-in_err-write_bytes.ensures.1 in
+    p.1 ∙ ap Err (p.2 ∙ c.in_err-write_bytes.ensures.err)

@@ -76,3 +76,8 @@ returns-in_err-last-clause-whole g c = λ ok memory.
       | inl h ↦ let bad : true ≡ false = sym (c.in_err-last.ensures.failed h.0 (ap Err h.1)).0 ∙ ok in absurd (cc)
       | inr is ↦ absurd (memory (p.1 ∙ ap Err (p.2 ∙ ap Open is)))
     ]
+
+pub returns-in_err-write_bytes-clause-unbroken : goal.returns-in_err-write_bytes-clause-unbroken
+returns-in_err-write_bytes-clause-unbroken g c = λ failed.
+    let p = err_from_is_err_and c.from_residual-in_err-write_bytes.result c.from_residual-in_err-write_bytes.ensures.1 in
+    p.1 ∙ ap Err (p.2 ∙ c.in_err-write_bytes.ensures.err)
