@@ -1,5 +1,6 @@
 pub mod Functions
 pub mod Signatures
 pub mod Crossings
+pub mod OwnValues
 mod Promised
 pub mod Within

@@ -3,3 +3,4 @@ pub mod Carrying
 pub mod Faults
 pub mod Linked
 pub mod Leaving
+pub mod Plain

@@ -1,10 +1,10 @@
 //! The call itself.
-ghost use Rattle.std.specs.Prelude.{◌≡◌, ◌≢◌, ◌≤◌, Err, length, IfOk, OnOk, IfErr};
+ghost use Rattle.std.specs.Prelude.{◌≡◌, ◌≢◌, ◌≤◌, Err, Some, length, IfOk, OnOk, IfErr};
 ghost use Rattle.asking.specs.Asking.{IsToldAhead};
 ghost use Rattle.canonical_abi.specs.Call.{Calls, Ways, exact, AllowsSameRuns, AllowsSamePosts, KindsFit};
 ghost use Rattle.canonical_abi.specs.Few.{AreFewNodes};
 ghost use Rattle.canonical_abi.specs.Flat.{Denotes, DenotesFault};
-ghost use Rattle.canonical_abi.specs.Halves.{HasEntered, EntryFails, HasReturned};
+ghost use Rattle.canonical_abi.specs.Halves.{as_world, HasEntered, EntryFails, HasReturned, ReturnFails, RunsBetween, CallsInHalves};
 ghost use Rattle.canonical_abi.specs.Headline.{IsLinkPromised, AreArguments, IsArgumentFault};
 ghost use Rattle.canonical_abi.specs.Layout.{max_flat_params, max_flat_results};
 ghost use Rattle.canonical_abi.specs.Requests.{params_requests, fields_requests};
@@ -16,11 +16,13 @@ ghost use Rattle.adapter.specs.Asked.{IsTrapIn};
 ghost use Rattle.adapter.specs.Carrying.{listed_answer};
 ghost use Rattle.adapter.specs.Leaving.{LeaveFails};
 ghost use Rattle.adapter.specs.Linked.{TellsNodes};
+ghost use Rattle.adapter.specs.Plain.{PassAsTheyAre};
 
 use crate::arguments::pass_arguments;
 use crate::body::Body;
 use crate::fault::trap;
 use crate::invocation::Invocation;
+use crate::plain::{are_plain, is_plain_answer};
 use crate::requests::{ask_answer, ask_arguments};
 use crate::results::pass_answer;
 use asking::Request;
@@ -238,17 +240,197 @@ impl<'a> Link<'a> {
     {
         // A link's package is within the limits of layouts.
         let _resolve = self.resolve;
-        let mut given = Flats::new();
         let call = &Invocation { func, flats };
-        self.enter(call, caller, callee, &mut given)?;
-        let Ok(answer) = body.call(callee, given.as_slice()) else {
-            return Err(trap(TrapKind::Body, Step::Body));
-        };
-        let answer = answer.as_slice();
-        self.leave(call, answer, caller, callee, &mut given)?;
+        let ran = self.run(call, caller, callee, body)?;
+        let answer = ran.as_slice();
+        let given = self.give(call, answer, caller, callee)?;
         let Ok(()) = body.post_return(callee, answer) else {
             return Err(trap(TrapKind::Body, Step::Post));
         };
-        Ok(flat_results(given.as_slice()))
+        Ok(given)
+    }
+
+    /// The first half of a call and the body's run: what the body answered. Core values that cross as they are go to the body as
+    /// they are.
+    #[inline(always)]
+    fn run<C: Guest, E: Guest, B: Body<E>>(
+        &mut self,
+        call: &Invocation,
+        caller: &C,
+        callee: &mut E,
+        body: &mut B,
+    ) -> Result<FlatResults, Fault>
+        requires function { IsFunction self.old.resolve call.now.func }
+        ensures ran { IfOk result (λ answer. RunsBetween
+            (record { caller_allocates = C.allocates; callee_allocates = E.allocates; runs = B.runs body.old; posts = B.posts body.old })
+            (function_type self.old.resolve call.now.func)
+            call.now.flats.now
+            (as_world (C.memory caller.now) (E.memory callee.old) (B.state body.old))
+            self.new.there
+            (Some answer.items)
+            (E.memory callee.new)
+            (B.state body.new)) }
+        ensures fault { IfErr result (λ fault. CallsInHalves
+            (record { caller_allocates = C.allocates; callee_allocates = E.allocates; runs = B.runs body.old; posts = B.posts body.old })
+            (function_type self.old.resolve call.now.func)
+            call.now.flats.now
+            (as_world (C.memory caller.now) (E.memory callee.old) (B.state body.old))
+            (C.memory caller.now)
+            (Err fault)
+            self.new.there
+            0
+            (as_world (C.memory caller.now) (E.memory callee.new) (B.state body.new))) }
+        ensures back { self.new.back ≡ 0 }
+        ensures same_runs { AllowsSameRuns (B.runs body.old) (B.runs body.new) }
+        ensures same_posts { AllowsSamePosts (B.posts body.old) (B.posts body.new) }
+        ensures no_memory { result ≢ Err Fault.NoMemory }
+        ensures same_package { self.new.resolve ≡ self.old.resolve }
+        ensures same_layouts { self.new.layouts ≡ self.old.layouts }
+    {
+        if are_plain(&Types::new(self.resolve, self.layouts), call.func, call.flats) {
+            return self.run_plain(call, caller, callee, body);
+        }
+        self.run_walked(call, caller, callee, body)
+    }
+
+    /// The same for core values that cross as they are.
+    #[inline(always)]
+    fn run_plain<C: Guest, E: Guest, B: Body<E>>(
+        &mut self,
+        call: &Invocation,
+        _caller: &C,
+        callee: &mut E,
+        body: &mut B,
+    ) -> Result<FlatResults, Fault>
+        requires function { IsFunction self.old.resolve call.now.func }
+        requires plain { PassAsTheyAre (function_type self.old.resolve call.now.func) call.now.flats.now }
+        ensures ran { IfOk result (λ answer. RunsBetween
+            (record { caller_allocates = C.allocates; callee_allocates = E.allocates; runs = B.runs body.old; posts = B.posts body.old })
+            (function_type self.old.resolve call.now.func)
+            call.now.flats.now
+            (as_world (C.memory _caller.now) (E.memory callee.old) (B.state body.old))
+            self.new.there
+            (Some answer.items)
+            (E.memory callee.new)
+            (B.state body.new)) }
+        ensures fault { IfErr result (λ fault. CallsInHalves
+            (record { caller_allocates = C.allocates; callee_allocates = E.allocates; runs = B.runs body.old; posts = B.posts body.old })
+            (function_type self.old.resolve call.now.func)
+            call.now.flats.now
+            (as_world (C.memory _caller.now) (E.memory callee.old) (B.state body.old))
+            (C.memory _caller.now)
+            (Err fault)
+            self.new.there
+            0
+            (as_world (C.memory _caller.now) (E.memory callee.new) (B.state body.new))) }
+        ensures back { self.new.back ≡ 0 }
+        ensures same_runs { AllowsSameRuns (B.runs body.old) (B.runs body.new) }
+        ensures same_posts { AllowsSamePosts (B.posts body.old) (B.posts body.new) }
+        ensures no_memory { result ≢ Err Fault.NoMemory }
+        ensures same_package { self.new.resolve ≡ self.old.resolve }
+        ensures same_layouts { self.new.layouts ≡ self.old.layouts }
+    {
+        self.there = call.flats.len() as u64;
+        self.back = 0;
+        let Ok(answer) = body.call(callee, call.flats) else {
+            return Err(trap(TrapKind::Body, Step::Body));
+        };
+        Ok(answer)
+    }
+
+    /// The same for core values that are walked over.
+    fn run_walked<C: Guest, E: Guest, B: Body<E>>(
+        &mut self,
+        call: &Invocation,
+        caller: &C,
+        callee: &mut E,
+        body: &mut B,
+    ) -> Result<FlatResults, Fault>
+        requires function { IsFunction self.old.resolve call.now.func }
+        ensures ran { IfOk result (λ answer. RunsBetween
+            (record { caller_allocates = C.allocates; callee_allocates = E.allocates; runs = B.runs body.old; posts = B.posts body.old })
+            (function_type self.old.resolve call.now.func)
+            call.now.flats.now
+            (as_world (C.memory caller.now) (E.memory callee.old) (B.state body.old))
+            self.new.there
+            (Some answer.items)
+            (E.memory callee.new)
+            (B.state body.new)) }
+        ensures fault { IfErr result (λ fault. CallsInHalves
+            (record { caller_allocates = C.allocates; callee_allocates = E.allocates; runs = B.runs body.old; posts = B.posts body.old })
+            (function_type self.old.resolve call.now.func)
+            call.now.flats.now
+            (as_world (C.memory caller.now) (E.memory callee.old) (B.state body.old))
+            (C.memory caller.now)
+            (Err fault)
+            self.new.there
+            0
+            (as_world (C.memory caller.now) (E.memory callee.new) (B.state body.new))) }
+        ensures back { self.new.back ≡ 0 }
+        ensures same_runs { AllowsSameRuns (B.runs body.old) (B.runs body.new) }
+        ensures same_posts { AllowsSamePosts (B.posts body.old) (B.posts body.new) }
+        ensures no_memory { result ≢ Err Fault.NoMemory }
+        ensures same_package { self.new.resolve ≡ self.old.resolve }
+        ensures same_layouts { self.new.layouts ≡ self.old.layouts }
+    {
+        let mut given = Flats::new();
+        self.enter(call, caller, callee, &mut given)?;
+        match body.call(callee, given.as_slice()) {
+            Ok(answer) => Ok(answer),
+            Err(_) => Err(trap(TrapKind::Body, Step::Body)),
+        }
+    }
+
+    /// The second half of a call whose core values have the kinds of its function: what goes to the caller.
+    #[inline(always)]
+    fn give<C: Guest, E: Guest>(
+        &mut self,
+        call: &Invocation,
+        answer: &[Flat],
+        caller: &mut C,
+        callee: &E,
+    ) -> Result<FlatResults, Fault>
+        requires function { IsFunction self.old.resolve call.now.func }
+        requires kinds { KindsFit (function_type self.old.resolve call.now.func) call.now.flats.now }
+        ensures returned { IfOk result (λ given. HasReturned C.allocates (function_type self.old.resolve call.now.func) call.now.flats.now (E.memory callee.now).bytes answer.now
+            (C.memory caller.old) given.items (C.memory caller.new) self.new.back) }
+        ensures fault { IfErr result (λ fault. ReturnFails C.allocates (function_type self.old.resolve call.now.func) call.now.flats.now (E.memory callee.now).bytes answer.now
+            (C.memory caller.old) fault (C.memory caller.new) self.new.back) }
+        ensures no_memory { result ≢ Err Fault.NoMemory }
+        ensures no_shorter { IfOk result (λ _. length (C.memory caller.old).bytes ≤ length (C.memory caller.new).bytes) }
+        ensures there { self.new.there ≡ self.old.there }
+        ensures same_package { self.new.resolve ≡ self.old.resolve }
+        ensures same_layouts { self.new.layouts ≡ self.old.layouts }
+    {
+        if is_plain_answer(&Types::new(self.resolve, self.layouts), call.func, answer) {
+            self.back = answer.len() as u64;
+            return Ok(flat_results(answer));
+        }
+        self.give_walked(call, answer, caller, callee)
+    }
+
+    /// The same for core values that are walked over.
+    fn give_walked<C: Guest, E: Guest>(
+        &mut self,
+        call: &Invocation,
+        answer: &[Flat],
+        caller: &mut C,
+        callee: &E,
+    ) -> Result<FlatResults, Fault>
+        requires function { IsFunction self.old.resolve call.now.func }
+        requires kinds { KindsFit (function_type self.old.resolve call.now.func) call.now.flats.now }
+        ensures returned { IfOk result (λ given. HasReturned C.allocates (function_type self.old.resolve call.now.func) call.now.flats.now (E.memory callee.now).bytes answer.now
+            (C.memory caller.old) given.items (C.memory caller.new) self.new.back) }
+        ensures fault { IfErr result (λ fault. ReturnFails C.allocates (function_type self.old.resolve call.now.func) call.now.flats.now (E.memory callee.now).bytes answer.now
+            (C.memory caller.old) fault (C.memory caller.new) self.new.back) }
+        ensures no_memory { result ≢ Err Fault.NoMemory }
+        ensures no_shorter { IfOk result (λ _. length (C.memory caller.old).bytes ≤ length (C.memory caller.new).bytes) }
+        ensures there { self.new.there ≡ self.old.there }
+        ensures same_package { self.new.resolve ≡ self.old.resolve }
+        ensures same_layouts { self.new.layouts ≡ self.old.layouts }
+    {
+        let mut back = Flats::new();
+        self.leave(call, answer, caller, callee, &mut back)?;
+        Ok(flat_results(back.as_slice()))
     }
 }

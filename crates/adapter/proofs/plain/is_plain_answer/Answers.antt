@@ -1,0 +1,10 @@
+use Rattle.std.proofs.Common.{IfSome, subst}
+use Rattle.values.specs.Types.{IsInside}
+use Rattle.adapter.proofs.Signatures.{result-inside}
+use Rattle.adapter.proofs.plain.is_plain_answer.Goals as goal
+
+pub is_own_of-requires : goal.is_own_of-requires
+is_own_of-requires c =
+    let r = c.args.types.now in
+    let s = c.signature.result.now in
+    subst (λ o. IfSome o (IsInside r)) c.in-Some.is (result-inside r c.args.func c.requires s (rw c.resolve.ensures at c.signature.ensures))

@@ -1,0 +1,29 @@
+-- Core values that cross as they are: each is the very one that carries the value that it stands for, so lifting and lowering give it again.
+use Rattle.std.specs.Prelude.{◌≡◌, ◌%◌, ◌^◌, ◌≤◌, true, List, [], ◌∷◌, length}
+use Rattle.canonical_abi.specs.Types.{Prim, ClosedType, prim_type, Fields, no_field, field, FunctionType, result_fields}
+use Rattle.canonical_abi.specs.Values.{Value, HasPrimType}
+use Rattle.canonical_abi.specs.Layout.{prim_kind, fits_flat, max_flat_results}
+use Rattle.canonical_abi.specs.Lowering.{core_of}
+use Rattle.canonical_abi.specs.Memory.{PrimIs}
+use Rattle.canonical_abi.specs.Reading.{number_of, flat_bits}
+use Rattle.canonical_abi.specs.declared.flat.Flat.{Flat}
+
+-- of a primitive type
+abbrev pub IsOwn : Prim → Flat → Type 0
+IsOwn p f = (v : Value) × PrimIs p (number_of f % 2 ^ flat_bits p) v × HasPrimType v p × (f ≡ core_of (prim_kind p) v)
+
+-- of a type that is a primitive
+abbrev pub IsOwnOf : ClosedType → Flat → Type 0
+IsOwnOf (prim_type p) f = IsOwn p f
+IsOwnOf _ f = ⊥
+
+-- one for each of these types, in turn
+abbrev pub AreOwn : Fields → List Flat → Type 0
+AreOwn no_field [] = Unit {0}
+AreOwn no_field (f ∷ fs) = ⊥
+AreOwn (field t ts) [] = ⊥
+AreOwn (field t ts) (f ∷ fs) = IsOwnOf t f × AreOwn ts fs
+
+-- those of a whole call, whose result goes flat
+abbrev pub PassAsTheyAre : FunctionType → List Flat → Type 0
+PassAsTheyAre f flats = (fits_flat max_flat_results (result_fields f.result) ≡ true) × (length flats ≤ 16) × AreOwn f.params flats
