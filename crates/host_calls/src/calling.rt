@@ -5,6 +5,8 @@ ghost use Rattle.tables.specs.Closed.{IsFunction, function_type};
 ghost use Rattle.tables.specs.declared.tables.FunctionId.{FunctionId};
 ghost use Rattle.host_calls.specs.Values.{flat_of};
 ghost use Rattle.host_calls.specs.declared.value.Value.{Value};
+ghost use Rattle.adapter.specs.Plain.{AreOwn, PassAsTheyAre};
+ghost use Rattle.canonical_abi.specs.Types.{result_fields};
 ghost use Rattle.canonical_abi.specs.Call.{KindsFit};
 ghost use Rattle.canonical_abi.specs.declared.trap.Step.TheVariants.{LiftArgs};
 ghost use Rattle.host_calls.specs.Calling.{AreTooMany, AreOtherKinds, of_half, EnterDone, LeaveDone, EnterAsks, LeaveAsks};
@@ -13,7 +15,7 @@ use crate::error::CallError;
 use crate::half::{Half, NOWHERE};
 use crate::half_error::HalfError;
 use crate::value::{MAX_VALUES, Value, put_flats, tell};
-use adapter::{Link, Request};
+use adapter::{Link, Request, are_plain, is_plain_answer};
 use arrayvec::ArrayVec;
 use canonical_abi::{Fault, Flat, Step, Trap, TrapKind};
 use lift_lower::{Flats, Types};
@@ -102,6 +104,31 @@ fn room_in(values: &[Value]) -> Result<(), CallError>
 }
 
 impl Half<'_> {
+    /// The first half of a call, of flat values that cross as they are: nothing is asked for.
+    fn enter_plain(
+        &self,
+        flats: &[Flat],
+        caller: &mut [u8],
+        callee: &mut [u8],
+        handed: &mut [Value],
+    ) -> Result<usize, CallError>
+        requires plain { PassAsTheyAre (function_type self.now.types.now self.now.func) flats.now }
+        requires kinds { KindsFit (function_type self.now.types.now self.now.func) flats.now }
+        requires room { 17 ≤ length handed.old }
+        ensures done { (values : List Value) → flats.now ≡ map flat_of values
+            → EnterDone (function_type self.now.types.now self.now.func) values caller.old callee.old self.now.blocks.now handed.old result callee.new handed.new }
+        ensures same_caller { caller.new ≡ caller.old }
+    {
+        if u32::try_from(caller.len()).is_err() {
+            return Err(CallError::BadBlock);
+        }
+        if !can_lend(self.alloc, callee.len(), &NOWHERE, self.blocks)? {
+            return Err(CallError::BadBlock);
+        }
+        tell(flats, handed);
+        Ok(flats.len())
+    }
+
     /// The first half of a call, of flat values: what `enter` does of core values that are these.
     fn enter_values(
         &self,
@@ -117,6 +144,9 @@ impl Half<'_> {
             → EnterDone (function_type self.now.types.now self.now.func) values caller.old callee.old self.now.blocks.now handed.old result callee.new handed.new }
         ensures same_caller { caller.new ≡ caller.old }
     {
+        if are_plain(self.types, self.func, flats) {
+            return self.enter_plain(flats, caller, callee, handed);
+        }
         fit(self.types, self.func, flats, Step::LiftArgs)?;
         if u32::try_from(caller.len()).is_err() {
             return Err(CallError::BadBlock);
@@ -128,7 +158,7 @@ impl Half<'_> {
         match self.enter_flats(flats, caller, callee, &mut given) {
             Ok(()) => {
                 let count = given.len();
-                tell(&given, handed);
+                tell(given.as_slice(), handed);
                 Ok(count)
             }
             Err(error) => Err(of_half(error)),
@@ -162,6 +192,35 @@ impl Half<'_> {
         self.enter_values(values.as_slice(), caller, callee, handed)
     }
 
+    /// The second half, of an answer that crosses as it is: nothing is asked for.
+    fn leave_plain(
+        &self,
+        flats: &[Flat],
+        answer: &[Flat],
+        callee: &mut [u8],
+        caller: &mut [u8],
+        back: &mut [Value],
+    ) -> Result<usize, CallError>
+        requires within { ∥ AreWithin self.now.types.now ∥₁ }
+        requires function { IsFunction self.now.types.now self.now.func }
+        requires room { 17 ≤ length back.old }
+        requires kinds { KindsFit (function_type self.now.types.now self.now.func) flats.now }
+        requires own { AreOwn (result_fields (function_type self.now.types.now self.now.func).result) answer.now }
+        requires few { length answer.now ≤ 1 }
+        ensures done { (values answers : List Value) → flats.now ≡ map flat_of values → answer.now ≡ map flat_of answers
+            → LeaveDone (function_type self.now.types.now self.now.func) values callee.old answers caller.old self.now.blocks.now back.old result caller.new back.new }
+        ensures same_callee { callee.new ≡ callee.old }
+    {
+        if u32::try_from(callee.len()).is_err() {
+            return Err(CallError::BadBlock);
+        }
+        if !self.can_return(flats, caller.len())? {
+            return Err(CallError::BadBlock);
+        }
+        tell(answer, back);
+        Ok(answer.len())
+    }
+
     /// The second half, of flat values: what `leave` does of core values that are these.
     fn leave_values(
         &self,
@@ -189,7 +248,7 @@ impl Half<'_> {
         match self.leave_flats(flats, answer, callee, caller, &mut given) {
             Ok(()) => {
                 let count = given.len();
-                tell(&given, back);
+                tell(given.as_slice(), back);
                 Ok(count)
             }
             Err(error) => Err(of_half(error)),
@@ -215,7 +274,11 @@ impl Half<'_> {
         fit(self.types, self.func, flats, Step::LowerResult)?;
         let mut few = Few::new();
         if put_flats(answer, &mut few) {
-            return self.leave_values(flats, few.as_slice(), callee, caller, back);
+            let answer = few.as_slice();
+            if is_plain_answer(self.types, self.func, answer) {
+                return self.leave_plain(flats, answer, callee, caller, back);
+            }
+            return self.leave_values(flats, answer, callee, caller, back);
         }
         let mut answers = Flats::new();
         put_values(answer, &mut answers, Step::LiftResult)?;

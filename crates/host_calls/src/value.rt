@@ -1,11 +1,9 @@
 //! Core values as C has them.
 ghost use Rattle.std.specs.Prelude.{◌≡◌, ◌↔◌, ◌≤◌, [], drop, length, map, IsTrue};
-ghost use Rattle.arrayvec.specs.ArrayVec.{array_vec_len};
 ghost use Rattle.host_calls.specs.Values.{flat_of, core_value_of, HoldsFlats};
 
 use arrayvec::ArrayVec;
 use canonical_abi::Flat;
-use lift_lower::Flats;
 
 /// The most core values that a core function takes.
 pub const MAX_VALUES: usize = 17;
@@ -61,12 +59,12 @@ pub fn put_flats<const CAP: usize>(values: &[Value], flats: &mut ArrayVec<Flat, 
 }
 
 /// Tells these flat values at the front of an array that has room for them; what stands behind them is left.
-pub fn tell(flats: &Flats, out: &mut [Value])
-    requires { array_vec_len flats.now ≤ length out.old }
-    ensures told { HoldsFlats out.new flats.now.items }
-    ensures rest { drop (length flats.now.items) out.new ≡ drop (length flats.now.items) out.old }
+pub fn tell(flats: &[Flat], out: &mut [Value])
+    requires { length flats.now ≤ length out.old }
+    ensures told { HoldsFlats out.new flats.now }
+    ensures rest { drop (length flats.now) out.new ≡ drop (length flats.now) out.old }
 {
-    for (place, flat) in flats.as_slice().iter().enumerate() {
+    for (place, flat) in flats.iter().enumerate() {
         out[place] = Value::of(*flat);
     }
 }

@@ -4,5 +4,5 @@ use Rattle.host_calls.specs.Values.{core_value_of}
 use Rattle.host_calls.proofs.value.tell.Given as goal
 
 abbrev pub invariant-loop-place : goal.invariant-loop-place
-invariant-loop-place l = (take l.place l.out ≡ map core_value_of (take l.place l.flats.items))
-    × (drop (length l.flats.items) l.out ≡ drop (length l.flats.items) l.initial.out)
+invariant-loop-place l = (take l.place l.out ≡ map core_value_of (take l.place l.flats))
+    × (drop (length l.flats) l.out ≡ drop (length l.flats) l.initial.out)
