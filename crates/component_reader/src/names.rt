@@ -2,6 +2,7 @@
 ghost use Rattle.ctype_format.specs.Names.{name_view};
 ghost use Rattle.component_reader.specs.Names.{IsExternName};
 
+use atoms::FullName;
 use ctype_bin::ExternName;
 
 /// A full name, by the bytes of its labels.
@@ -26,11 +27,14 @@ pub fn name_parts(name: &ExternName) -> NameParts<'_>
 {
     match name {
         ExternName::Label(label) => NameParts::Label(label.as_bytes()),
-        ExternName::FullName(name) => NameParts::FullName(FullNameParts {
-            namespace: name.namespace.as_bytes(),
-            package: name.package.as_bytes(),
-            name: name.name.as_bytes(),
-            version: &name.version,
-        }),
+        ExternName::FullName(name) => {
+            let name: &FullName = name;
+            NameParts::FullName(FullNameParts {
+                namespace: name.namespace.as_bytes(),
+                package: name.package.as_bytes(),
+                name: name.name.as_bytes(),
+                version: &name.version,
+            })
+        }
     }
 }

@@ -1,6 +1,8 @@
 -- Worked examples: what bytes spell, which fault is the first where they spell nothing, and what is written.
 use Rattle.std.proofs.Common.{◌≡◌, inl, inr, ℕ, zero, suc, ◌<◌, ◌==◌, List, [], ◌∷◌, ◌++◌, map, replicate, length, take, Some, None, Result, Ok, Err, true, false, codes, refl, ap, arith, sym, ◌∙◌}
 use Rattle.std.specs.Prelude.{⊤, nat_lt}
+use Rattle.std.specs.declared.boxed.Box.{Box}
+use Rattle.std.specs.declared.alloc.Global.{Global}
 use Rattle.std.specs.Global.{Vec}
 use Rattle.std.specs.Str.{is_utf8, chars}
 use Rattle.std.specs.Char.{encode_utf8}
@@ -1218,7 +1220,7 @@ component-viewed ds is = view-Component ds ∙ ap (λ (xs : List RawDecl). Compo
 component-no-instance : (ds : Vec RawDecl) (all : Decls) → type_view (t.Component ds) ≡ Instance all → ⊥
 component-no-instance ds all e = let is = sym (view-Component ds) ∙ e in cc
 
-name-viewed : (n : FullName) → name_parts_of n ≡ record { namespace = codes "a"; package_name = codes "b"; name = codes "c"; version = Some (codes "1.0.0") } → name_view (ext.FullName n) ≡ codes "a:b/c@1.0.0"
+name-viewed : (n : Box FullName Global) → name_parts_of n.value ≡ record { namespace = codes "a"; package_name = codes "b"; name = codes "c"; version = Some (codes "1.0.0") } → name_view (ext.FullName n) ≡ codes "a:b/c@1.0.0"
 name-viewed n is = ap full_name_text is
 
 file-viewed : (types : Vec RawType) (exports : Vec RawExport) → types.items ≡ t.Defined (v.Primitive prim.U8) ∷ [] → exports.items ≡ record { name = ext.Label (codes "a"); ty = 0 } ∷ [] → parts_file types exports ≡ small_file

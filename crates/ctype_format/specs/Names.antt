@@ -42,4 +42,4 @@ is_extern_name text = is_label text || (is_utf8 text && is_full_name text)
 -- the text of a name
 abbrev pub name_view : ExternName → List ℕ
 name_view (ext.Label l) = l
-name_view (ext.FullName n) = full_name_text (name_parts_of n)
+name_view (ext.FullName n) = full_name_text (name_parts_of n.value)

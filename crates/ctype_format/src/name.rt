@@ -9,7 +9,8 @@ use std::alloc::{AllocError, Global};
 #[derive(Debug, Drop)]
 pub enum ExternName {
     Label(Label),
-    FullName(FullName),
+    /// In a box, since it is four times as large as a label, and rarer.
+    FullName(Box<FullName>),
 }
 
 /// The name that a text spells, if it spells one.
@@ -32,7 +33,7 @@ fn full_name(alloc: Global, text: &str) -> Result<Option<ExternName>, AllocError
         (λ n. (is_full_name text.now ≡ true) × (name_view n ≡ text.now))) }
 {
     match FullName::parse(alloc, text) {
-        Ok(name) => Ok(Some(ExternName::FullName(name))),
+        Ok(name) => Ok(Some(ExternName::FullName(Box::new(alloc, name)?))),
         Err(AtomError::BadName) => Ok(None),
         Err(_) => Err(AllocError),
     }

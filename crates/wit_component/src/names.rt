@@ -23,10 +23,11 @@ pub fn full_name(
     ensures label { OnOk result (IsLabel name.now) }
 {
     let package = &resolve.packages.as_slice()[package.0 as usize];
-    Ok(ExternName::FullName(FullName {
+    let name = FullName {
         namespace: package.namespace.copy(alloc)?,
         package: package.name.copy(alloc)?,
         name: Label::from_bytes(alloc, name.as_bytes())?,
         version: copy_version(&package.version)?,
-    }))
+    };
+    Ok(ExternName::FullName(Box::new(alloc, name)?))
 }
