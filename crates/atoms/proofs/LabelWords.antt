@@ -1,12 +1,14 @@
 -- A label told by one way over its bytes, and that they are ASCII.
-use Rattle.std.proofs.Common.{◌≡◌, ◌<◌, ◌≤◌, ℕ, Bool, true, false, ◌&&◌, ◌||◌, cond, nat_le, List, [], ◌∷◌, length, if◌then◌else◌, refl, sym, ap, ◌∙◌, arith}
+use Rattle.std.proofs.Common.{◌≡◌, ◌<◌, ◌≤◌, ℕ, Bool, true, false, ◌&&◌, ◌||◌, cond, nat_le, List, [], ◌∷◌, length, if◌then◌else◌, refl, sym, ap, ◌∙◌, ◌-◌, take, drop, slice_index_or, arith, take_all}
 use Rattle.std.specs.List.{list_all, slice_split, onto_first}
+use Rattle.std.specs.Char.{is_ascii_lowercase}
 use Rattle.std.specs.Str.{IsUtf8, IsAscii}
 use Rattle.std.proofs.lemmas.Bool.Decides.{nat_tests}
 use Rattle.std.proofs.lemmas.Str.{IsUtf8-from_ascii}
 use Rattle.std.proofs.lemmas.Str.Ascii.{IsAscii-nil, IsAscii-cons}
 use Rattle.std.proofs.lemmas.Bool.{and_parts}
 use Rattle.atoms.specs.Label.{is_lower, is_upper, is_digit, is_hyphen, is_word, are_words, is_label, IsLabel}
+use Rattle.atoms.specs.Lower.{behind_lower}
 use Rattle.atoms.specs.declared.label.Place.{Place}
 use Rattle.atoms.specs.declared.label.Place.TheVariants as place
 
@@ -18,6 +20,31 @@ label_from place.Lower [] = true
 label_from place.Lower (c ∷ cs) = if is_lower c || is_digit c then label_from place.Lower cs else (if is_hyphen c then label_from place.Start cs else false)
 label_from place.Upper [] = true
 label_from place.Upper (c ∷ cs) = if is_upper c || is_digit c then label_from place.Upper cs else (if is_hyphen c then label_from place.Start cs else false)
+
+-- in a word of lower case, the letters of lower case that come next change nothing
+pub label_behind_lower : (cs : List ℕ) → label_from place.Lower (behind_lower cs) ≡ label_from place.Lower cs
+label_behind_lower [] = refl
+label_behind_lower (c ∷ cs) = by (is_lower c) refl (label_behind_lower cs)
+  where
+    by : (b : Bool) → is_lower c ≡ b → label_from place.Lower (behind_lower cs) ≡ label_from place.Lower cs → label_from place.Lower (if b then behind_lower cs else c ∷ cs) ≡ label_from place.Lower (c ∷ cs)
+    by true e h = rw e h
+    by false e h = refl
+
+-- a letter of lower case begins a word of lower case
+pub starts_lower : (cs : List ℕ) → 1 ≤ length cs → is_ascii_lowercase (slice_index_or cs 0 0) ≡ true → label_from place.Start cs ≡ label_from place.Lower (take (length cs - 1) (drop 1 cs))
+starts_lower [] h e = absurd (let n : 1 ≤ 0 = h in omega (arith, n))
+starts_lower (c ∷ cs) h e =
+    let l : is_lower c ≡ true = e in
+    let all : take (length (c ∷ cs) - 1) cs ≡ cs = take_all (length (c ∷ cs) - 1) cs (omega arith) in
+    rw (l, all) refl
+
+pub behind_lower_le : (cs : List ℕ) → length (behind_lower cs) ≤ length cs
+behind_lower_le [] = grind arith
+behind_lower_le (c ∷ cs) = by (is_lower c) (behind_lower_le cs)
+  where
+    by : (b : Bool) → length (behind_lower cs) ≤ length cs → length (if b then behind_lower cs else c ∷ cs) ≤ length (c ∷ cs)
+    by true h = grind arith
+    by false h = grind arith
 
 abbrev lower_or_digit : ℕ → Bool
 lower_or_digit b = is_lower b || is_digit b

@@ -1,6 +1,7 @@
 //! Labels: the names of packages, interfaces, types, functions and their parts.
 ghost use Rattle.std.specs.Prelude.{◌≡◌, ◌≤◌, ◌⊎◌, List, ℕ, length, take, IfOk, IfErr, false};
 ghost use Rattle.atoms.specs.Label.{IsLabel, is_label, are_words};
+ghost use Rattle.atoms.specs.Lower.{behind_lower};
 ghost use Rattle.atoms.specs.declared.error.AtomError.TheVariants as error;
 
 use crate::error::AtomError;
@@ -15,7 +16,22 @@ pub enum Place {
     Upper,
 }
 
+/// What stands behind the lower-case letters in front: most of a word, and so told by one test a byte.
+fn behind_lower(text: &[u8]) -> &[u8]
+    ensures { result.now ≡ behind_lower text.now }
+{
+    let mut rest = text;
+    while let [byte, after @ ..] = rest {
+        if !byte.is_ascii_lowercase() {
+            return rest;
+        }
+        rest = after;
+    }
+    rest
+}
+
 /// Whether the bytes are words joined by single hyphens, by one way over them.
+#[tactic(auto, using(crate::proofs::LabelWords::behind_lower_le))]
 fn is_words(text: &[u8]) -> bool
     ensures { result ≡ are_words text.now }
 {
@@ -23,7 +39,11 @@ fn is_words(text: &[u8]) -> bool
     let mut place = Place::Start;
     while let [byte, after @ ..] = rest {
         let next = match place {
-            Place::Start if byte.is_ascii_lowercase() => Place::Lower,
+            Place::Start if byte.is_ascii_lowercase() => {
+                rest = behind_lower(after);
+                place = Place::Lower;
+                continue;
+            }
             Place::Start if byte.is_ascii_uppercase() => Place::Upper,
             Place::Lower if byte.is_ascii_lowercase() || byte.is_ascii_digit() => Place::Lower,
             Place::Upper if byte.is_ascii_uppercase() || byte.is_ascii_digit() => Place::Upper,
