@@ -1,3 +1,4 @@
 pub mod OrderSteps
 pub mod Settling
 pub mod Examples
+mod StraightOrder

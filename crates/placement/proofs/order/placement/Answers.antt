@@ -1,5 +1,6 @@
-use Rattle.std.proofs.Common.{◌≡◌, false, not, get_or, ◌∙◌, arith}
+use Rattle.std.proofs.Common.{◌≡◌, false, not, get_or, sym, ◌∙◌, arith}
 use Rattle.placement.proofs.OrderSteps.{placed_more, placed_all, cycle_of}
+use Rattle.placement.proofs.StraightOrder.{straight}
 use Rattle.placement.proofs.order.placement.Goals as goal
 
 pub returns-in_default-clause-cycle : goal.returns-in_default-clause-cycle
@@ -23,4 +24,7 @@ loop-left-preserved c =
 pub returns-clause-ok : goal.returns-clause-ok
 returns-clause-ok c =
     let none : c.loop-left.left ≡ 0 = omega (arith, c.loop-left-test.false) in
-    rw (c.new-2.ensures) (placed_all c.args.uses.now c.loop-left.queue.placed c.loop-left.order.items c.loop-left.left c.loop-left.invariant.so_far none)
+    rw (c.new-3.ensures) (placed_all c.args.uses.now c.loop-left.queue.placed c.loop-left.order.items c.loop-left.left c.loop-left.invariant.so_far none)
+
+pub returns-then-looks_back-clause-ok : goal.returns-then-looks_back-clause-ok
+returns-then-looks_back-clause-ok c = rw (c.new.ensures, c.in_ok-numbers.ensures) (straight c.args.uses.now (sym c.if-looks_back.true ∙ c.looks_back.ensures))
