@@ -1,8 +1,8 @@
 //! The types that a row is made of.
-ghost use Rattle.std.specs.Prelude.{◌≡◌, ◌++◌, flat_map, IfOk, OnOk};
+ghost use Rattle.std.specs.Prelude.{◌≡◌, ◌++◌, flat_map, OnOk};
 ghost use Rattle.package_form.specs.References.{type_references, references_if, case_references, kind_references, row_references};
 
-use std::alloc::{AllocError, Global};
+use std::alloc::AllocError;
 use tables::{Case, Definition, Member, TypeDefKind, TypeId, ValType};
 
 fn push_type(ids: &mut Vec<TypeId>, ty: ValType) -> Result<(), AllocError>
@@ -71,13 +71,4 @@ pub fn push_references(ids: &mut Vec<TypeId>, row: &Definition) -> Result<(), Al
             push_optional(ids, function.result)
         }
     }
-}
-
-/// The rows that a row is made of, from the left.
-pub fn references(alloc: Global, row: &Definition) -> Result<Vec<TypeId>, AllocError>
-    ensures { IfOk result (λ ids. ids.items ≡ row_references row.now) }
-{
-    let mut ids = Vec::new(alloc);
-    push_references(&mut ids, row)?;
-    Ok(ids)
 }

@@ -1,10 +1,10 @@
 //! Whether rows without names stand in postfix order.
-ghost use Rattle.std.specs.Prelude.{◌≡◌, ◌==◌, [], slice_get, Decides, IfOk};
+ghost use Rattle.std.specs.Prelude.{◌≡◌, ◌==◌, ◌++◌, [], slice_get, Decides, IfOk, OnOk};
 ghost use Rattle.std.specs.List.{ends_with};
 ghost use Rattle.package_form.specs.Postfix.{is_unnamed, is_unnamed_row, is_inner, IsPostfix};
-ghost use Rattle.package_form.specs.Unused.{inner_rows, is_alias, can_use, closes, is_next, are_used};
+ghost use Rattle.package_form.specs.Unused.{unnamed_at, inner_rows, is_alias, can_use, closes, is_next, are_used};
 
-use crate::references::references;
+use crate::references::push_references;
 use std::alloc::{AllocError, Global};
 use tables::{Definition, Resolve, TypeDefKind, TypeId};
 
@@ -44,18 +44,33 @@ fn is_alias(kind: &TypeDefKind) -> bool
     matches!(kind, TypeDefKind::Alias(_))
 }
 
-/// The rows without names that a row is made of.
-fn inner_rows(alloc: Global, rows: &[Definition], row: &Definition) -> Result<Vec<u32>, AllocError>
-    ensures { IfOk result (λ v. v.items ≡ inner_rows rows.now row.now) }
+/// Appends the row of a reference, if it has no name.
+fn push_unnamed(inner: &mut Vec<u32>, rows: &[Definition], id: TypeId) -> Result<(), AllocError>
+    ensures { OnOk result (inner.new.items ≡ inner.old.items ++ unnamed_at rows.now id) }
 {
-    let ids = references(alloc, row)?;
-    let mut inner = Vec::new(alloc);
-    for id in &ids {
-        if is_unnamed_row(rows, *id) {
-            inner.push(id.0)?;
-        }
+    if is_unnamed_row(rows, id) {
+        inner.push(id.0)?;
     }
-    Ok(inner)
+    Ok(())
+}
+
+/// Puts the rows that a row is made of in place of what is in `ids`, and those of them that have no names in place of what
+/// is in `inner`.
+fn find_inner(
+    ids: &mut Vec<TypeId>,
+    inner: &mut Vec<u32>,
+    rows: &[Definition],
+    row: &Definition,
+) -> Result<(), AllocError>
+    ensures { OnOk result (inner.new.items ≡ inner_rows rows.now row.now) }
+{
+    ids.clear();
+    push_references(ids, row)?;
+    inner.clear();
+    for id in &*ids {
+        push_unnamed(inner, rows, *id)?;
+    }
+    Ok(())
 }
 
 fn can_use(row: &Definition, inner: &[u32]) -> bool
@@ -98,9 +113,11 @@ fn row_id(place: usize) -> Result<u32, AllocError>
 pub fn are_used(alloc: Global, rows: &[Definition]) -> Result<bool, AllocError>
     ensures { IfOk result (λ b. b ≡ are_used rows.now 0 [] rows.now) }
 {
+    let mut ids = Vec::new(alloc);
+    let mut inner = Vec::new(alloc);
     let mut unused = Vec::new(alloc);
     for (place, row) in rows.iter().enumerate() {
-        let inner = inner_rows(alloc, rows, row)?;
+        find_inner(&mut ids, &mut inner, rows, row)?;
         if !is_next(&unused, &inner, row) {
             return Ok(false);
         }
