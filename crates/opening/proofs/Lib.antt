@@ -6,3 +6,6 @@ pub mod PrintedTexts
 pub mod Reopened
 pub mod Sets
 pub mod Within
+pub mod Stays
+pub mod Told
+pub mod ToldSet

@@ -2,6 +2,8 @@
 ghost use Rattle.std.specs.Prelude.{◌∷◌, ◌++◌, [], ℕ, List};
 ghost use Rattle.opening.specs.Alone.{OpensAlone, AloneRefuses};
 ghost use Rattle.opening.specs.Opening.{IsOpened, IsPrintedAs, IsWrittenAs, OpenRefuses};
+ghost use Rattle.opening.specs.Stays.{RowsStay};
+ghost use Rattle.opening.specs.ToldSet.{SetIsTold};
 ghost use Rattle.opening.specs.declared.package.OpenError.{OpenError};
 ghost use Rattle.tables.specs.declared.tables.Resolve.{Resolve};
 
@@ -31,3 +33,14 @@ pub fn written_opens_again()
     text_is_of_closed_package();
     types_nest_as_in_a_text();
 }
+
+/// The set of some packages, told by names: each is behind the rows of those before it, which stay, and each of its names stands for the row that it
+/// names, an own one or an earlier package's.
+pub fn sets_are_told()
+    ensures { (inputs : List (List ℕ)) (r : Resolve) → SetIsTold inputs r }
+{}
+
+/// Rows behind a table leave all as it was that is asked of the rows that were there: closed types, labels and functions.
+pub fn rows_stay()
+    ensures { (old new : Resolve) → RowsStay old new }
+{}

@@ -1,0 +1,5 @@
+use Rattle.opening.proofs.ToldSet.{set-is-told}
+use Rattle.opening.proofs.laws.sets_are_told.Goals as goal
+
+pub returns : goal.returns
+returns c = set-is-told
