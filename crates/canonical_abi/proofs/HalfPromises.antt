@@ -102,7 +102,7 @@ module _ (allocates : Allocation) (releases : Release) (honest : IsHonest alloca
         less = small new (trace-limited allocates keeps back old new r.leads few)
 
         live : fits_flat max_flat_results results ≡ false → IsLentLive old area (size (record_type results))
-        live spills = subst (λ b. IsLentLive old area (cond b 0 (size (record_type results)))) spills (lends kinds)
+        live spills = subst (λ b. IsLentLive old area (cond b 0 (size (record_type results)))) spills (lends kinds r.area_stands)
 
         held : HasResult results new.bytes given area values
         held = elim (result-is-held allocates releases honest max_flat_results results area values back given old new standard.result less live r.passes r.leads) [

@@ -47,7 +47,7 @@ f-is-promised : KeepsPromise parties exact f (unsigned_value int32 7 ∷ []) emp
 f-is-promised = keeps-promise parties nothing nothing exact f _ empty _ empty standard f-typed honest limited
 
 f-link-is-promised : LinkKeepsPromise parties exact f (I32 7 ∷ []) empty (Ok (I32 8 ∷ [])) empty
-f-link-is-promised = link-keeps-promise parties nothing nothing exact f _ empty _ _ empty standard f-of-7 honest limited (λ kinds x w. absurd (omega (arith, w.0, w.1)))
+f-link-is-promised = link-keeps-promise parties nothing nothing exact f _ empty _ _ empty standard f-of-7 honest limited (λ kinds stands x w. absurd (omega (arith, w.0, w.1)))
 
 -- ---- what is not so
 

@@ -9,7 +9,7 @@ use Rattle.canonical_abi.specs.Trace.{Event, node, grant, TraceLeads}
 use Rattle.canonical_abi.specs.Lowering.{PassesResult}
 use Rattle.canonical_abi.specs.Stands.{AreAligned}
 use Rattle.canonical_abi.specs.Script.{ParamsUntil, ParamsScript, ResultUntil, ResultScript}
-use Rattle.canonical_abi.specs.Call.{Parties, World, Order, either, exact, Ways, Enters, Runs, Finishes, Answered, Returned, Completes, ArgumentsFaulty, ResultFaulty, ResultFails, Traps, GivesUp, Calls, IsGrantedPart, ReturnAreaFaulty, area_of}
+use Rattle.canonical_abi.specs.Call.{Parties, World, Order, either, exact, Ways, Enters, Runs, Finishes, Answered, Returned, Completes, ArgumentsFaulty, ResultFaulty, ResultFails, Traps, GivesUp, Calls, IsGrantedPart, ReturnAreaStands, ReturnAreaFaulty, area_of}
 use Rattle.canonical_abi.specs.Session.{HasResult}
 use Rattle.canonical_abi.specs.Headline.{AreHonest, IsStandardFunction, IsLentLive, KeepsOutside, FindsAndRunsOnce, CalleeIsUnchanged, IsBeforeBody, EntersBody, WasEntered, IsAsItRan, IsPosted, IsNotPosted, AfterTrap, AfterRun, area_size, LendsArea, IsArgumentFault, IsLinkTrap, LinksOnce, GivesBack, LinkKeepsPromise, LinkPromise}
 use Rattle.canonical_abi.specs.declared.flat.Flat.{Flat}
@@ -320,8 +320,11 @@ module _ (parties : Parties) (caller_releases callee_releases : Release) (order 
           less : length returned.caller.bytes < 2 ^ 32
           less = small returned.caller (trace-limited parties.caller_allocates caller_keeps ways.back old.caller returned.caller fine.leads caller_few)
 
+          stands : ReturnAreaStands f flats old.caller
+          stands = subst (λ m. ReturnAreaStands f flats m) (answered-same old answer ways.there r.answered r.answers) r.returns.area_stands
+
           live : fits_flat max_flat_results results ≡ false → IsLentLive old.caller area (size (record_type results))
-          live spills = subst (λ b. IsLentLive old.caller area (cond b 0 (size (record_type results)))) spills (lends r.answers.enters.kinds)
+          live spills = subst (λ b. IsLentLive old.caller area (cond b 0 (size (record_type results)))) spills (lends r.answers.enters.kinds stands)
 
           held : HasResult results returned.caller.bytes given area r.values
           held = elim (result-is-held parties.caller_allocates caller_releases honest.caller max_flat_results results area r.values ways.back given old.caller returned.caller

@@ -214,7 +214,7 @@ module _ (parties : Parties) (caller_releases callee_releases : Release) (order 
 
       -- the area that the call is given was granted, so it is live, and a block of the caller
       placed-lends : LendsArea f flats placed.caller
-      placed-lends fit x w = by (fits_flat max_flat_results (result_fields f.result)) refl
+      placed-lends fit stands x w = by (fits_flat max_flat_results (result_fields f.result)) refl
         where
           by : (b : Bool) → fits_flat max_flat_results (result_fields f.result) ≡ b → placed.caller.live x ≡ true
           by true fits =

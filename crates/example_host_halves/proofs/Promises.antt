@@ -30,7 +30,7 @@ beside f flats caller blocks limited good apart =
 
 -- with no block left to hand out, all of a memory is live
 all-live : (f : FunctionType) (flats : List Flat) (bytes : List ℕ) → LendsArea f flats (lent 0 bytes [])
-all-live f flats bytes = λ fits a inside. refl
+all-live f flats bytes = λ fits stands a inside. refl
 
 module _ (runs : Run) (posts : PostRun) (law : HalvesKeepPromise (hosting runs posts) LentReleases LentReleases) (f : FunctionType) (flats : List Flat) (standard : IsStandardFunction f)
     (caller callee : List ℕ) (short : length caller < 4294967296) (limited : length callee < 4294967296) where
@@ -90,13 +90,13 @@ module _ (runs : Run) (posts : PostRun) (law : HalvesKeepPromise (hosting runs p
   pub not-returned : (handed : ArrayVec Flat) (entered left : List ℕ) (answer : List Flat) (error : HalfError) (new callee' : List ℕ) → callee' ≡ left → EntersCall f flats caller callee (Ok handed) entered
       → RunsOnBytes runs entered handed.items left (Some answer) → LeavesCall f flats left answer caller (Err error) new → MakesCall runs posts f flats caller callee (Err error) new callee'
   not-returned handed entered left answer (half.OtherBlock index) new callee' same (entering, there, grants, (name, (n, rest, enters))) run (between, back, grants', area, (other, (m, (below, (s, fails))))) =
-      promised name entering there grants other between back grants' (area other) (Err (full_in s)) n m (as_world (lent other new (drop index back)) (lent name left rest) [])
+      promised name entering there grants other between back grants' (λ fits stands. area other fits) (Err (full_in s)) n m (as_world (lent other new (drop index back)) (lent name left rest) [])
       (ends_at_return n m answer (full_in s) (lent other new (drop index back)) (lent name left rest) []
       (record { handed = handed.items; entered = lent name entered rest; enters = enters; run = run (lent name entered rest) })
       (return-fails LentAllocates f flats left answer (lent other between back) (full_in s) (lent other new (drop index back)) m enters.2.kinds fails))
       (Err (half.OtherBlock index)) (inr (below, (other, refl)), (s, refl)) new callee' refl same
   not-returned handed entered left answer (half.Fault fault) new callee' same (entering, there, grants, (name, (n, rest, enters))) run (between, back, grants', area, (other, (m, (remain, fails, none)))) =
-      promised name entering there grants other between back grants' (area other) (Err fault) n m (as_world (lent other new remain) (lent name left rest) [])
+      promised name entering there grants other between back grants' (λ fits stands. area other fits) (Err fault) n m (as_world (lent other new remain) (lent name left rest) [])
       (ends_at_return n m answer fault (lent other new remain) (lent name left rest) []
       (record { handed = handed.items; entered = lent name entered rest; enters = enters; run = run (lent name entered rest) })
       (return-fails LentAllocates f flats left answer (lent other between back) fault (lent other new remain) m enters.2.kinds fails))
@@ -107,7 +107,7 @@ module _ (runs : Run) (posts : PostRun) (law : HalvesKeepPromise (hosting runs p
       → RunsOnBytes runs entered handed.items left (Some answer) → LeavesCall f flats left answer caller (Ok given) new → PostsOnBytes posts left answer callee' None
       → MakesCall runs posts f flats caller callee (Err (half.Fault post_stopped)) new callee'
   not-finished handed entered left answer given new callee' (entering, there, grants, (name, (n, rest, enters))) run (between, back, grants', area, (other, (m, remain, returns))) post =
-      promised name entering there grants other between back grants' (area other) (Err post_stopped) n m (as_world (lent other new remain) (lent name callee' rest) [])
+      promised name entering there grants other between back grants' (λ fits stands. area other fits) (Err post_stopped) n m (as_world (lent other new remain) (lent name callee' rest) [])
       (ends_at_post n m answer given.items (lent other new remain) (lent name left rest) []
       (record { runs = record { handed = handed.items; entered = lent name entered rest; enters = enters; run = run (lent name entered rest) }; returns = returns })
       (lent name callee' rest) [] (post (lent name left rest)))
@@ -118,7 +118,7 @@ module _ (runs : Run) (posts : PostRun) (law : HalvesKeepPromise (hosting runs p
       → RunsOnBytes runs entered handed.items left (Some answer) → LeavesCall f flats left answer caller (Ok given) new → PostsOnBytes posts left answer callee' (Some tt)
       → MakesCall runs posts f flats caller callee (Ok given) new callee'
   finished handed entered left answer given new callee' (entering, there, grants, (name, (n, rest, enters))) run (between, back, grants', area, (other, (m, remain, returns))) post =
-      promised name entering there grants other between back grants' (area other) (Ok given.items) n m (as_world (lent other new remain) (lent name callee' rest) [])
+      promised name entering there grants other between back grants' (λ fits stands. area other fits) (Ok given.items) n m (as_world (lent other new remain) (lent name callee' rest) [])
       (completes n m answer given.items (lent other new remain) (lent name left rest) []
       (record { runs = record { handed = handed.items; entered = lent name entered rest; enters = enters; run = run (lent name entered rest) }; returns = returns })
       (lent name callee' rest) [] (post (lent name left rest)))

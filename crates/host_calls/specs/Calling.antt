@@ -1,7 +1,7 @@
 -- CanonicalABI.md, "canon lift" and "canon lower": what is told of a half of a call between memories of a host's own, and why it is not.
 use Rattle.std.specs.Prelude.{◌≡◌, ◌⊎◌, ◌<◌, ◌≤◌, ℕ, false, List, map, drop, length, Result, MatchResult}
 use Rattle.canonical_abi.specs.Call.{KindsFit, area_of}
-use Rattle.canonical_abi.specs.Headline.{AreArguments, IsArgumentFault, LendsArea, area_size}
+use Rattle.canonical_abi.specs.Headline.{AreArguments, IsArgumentFault, IsLentLive, area_size}
 use Rattle.canonical_abi.specs.Flat.{Denotes, DenotesFault}
 use Rattle.canonical_abi.specs.Requests.{params_requests, fields_requests}
 use Rattle.asking.specs.Asking.{IsToldAhead}
@@ -56,9 +56,9 @@ no_block = record { align = 1; size = 0; at = 0 }
 abbrev pub area_block : FunctionType → List Flat → Block
 area_block f flats = record { align = 1; size = area_size f; at = area_of f flats }
 
--- the return area is live in the memory that is lent with these blocks
+-- where the flat values are those of the signature, the return area is live in the memory that is lent with these blocks
 abbrev pub KeepsArea : FunctionType → List Flat → List ℕ → List Block → Type 0
-KeepsArea f flats caller blocks = (name : ℕ) → LendsArea f flats (lent name caller blocks)
+KeepsArea f flats caller blocks = (name : ℕ) → KindsFit f flats → IsLentLive (lent name caller blocks) (area_of f flats) (area_size f)
 
 -- why the arguments did not enter, and what the callee has then: the kinds of the values come first, and then the blocks
 abbrev pub EnterRefuses : FunctionType → List Value → List ℕ → List ℕ → List Block → List Value → CallError → List ℕ → Type 0
