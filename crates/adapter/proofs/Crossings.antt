@@ -6,7 +6,7 @@ use Rattle.std.proofs.lemmas.List.{length-map, take-map}
 use Rattle.canonical_abi.specs.Types.{FunctionType, Fields, result_fields}
 use Rattle.canonical_abi.specs.Layout.{CoreSignature, lifted_signature, max_flat_params, max_flat_results, field_kinds, fits_flat, passed_kinds}
 use Rattle.canonical_abi.specs.Reading.{low_bits, kind_of, number_of}
-use Rattle.canonical_abi.specs.Guest.{Memory, Allocation}
+use Rattle.canonical_abi.specs.Guest.{Memory, Allocation, IsLimited}
 use Rattle.canonical_abi.specs.Lowering.{PassesResult}
 use Rattle.canonical_abi.specs.Script.{AddressFaulty}
 use Rattle.canonical_abi.specs.Trace.{Event, grant}
@@ -53,10 +53,10 @@ module _ (allocates : Allocation) (f : FunctionType) (flats : List Flat) (m : Li
     counted : (es : List Event) → Counts n es c → c ≡ counted_nodes es
     counted es h = omega (arith, h, fresh, small)
 
-    has-entered : (handed : List Flat) → KindsFit f flats → IsCrossed allocates (ParamsWalk max_flat_params f.params m (argument_flats f flats) handed) callee n callee' c
+    has-entered : IsLimited callee' → (handed : List Flat) → KindsFit f flats → IsCrossed allocates (ParamsWalk max_flat_params f.params m (argument_flats f flats) handed) callee n callee' c
         → HasEntered allocates f flats m callee handed callee' c
-    has-entered handed kinds d =
-        (d.scripted.0, d.events, record { kinds = kinds; denoted = d.scripted.1; passes = d.scripted.2; leads = d.leads; same_caller = refl; same_body = refl }, counted d.events d.counted)
+    has-entered limited handed kinds d =
+        (d.scripted.0, d.events, record { kinds = kinds; denoted = d.scripted.1; passes = d.scripted.2; leads = d.leads; small = limited; same_caller = refl; same_body = refl }, counted d.events d.counted)
 
     -- the record of the arguments has no place
     bad-address : (k : TrapKind) → KindsFit f flats → AddressFaulty max_flat_params f.params m (argument_flats f flats) k → IsUnbegun callee n callee' c
@@ -87,14 +87,14 @@ module _ (allocates : Allocation) (f : FunctionType) (flats : List Flat) (m : Li
   EndsArguments callee' c handed (Err s) =
       EntryFails allocates f flats m callee (fault_in step.LiftArgs step.LowerArgs s) callee' c
 
-  pub arguments-end : KindsFit f flats → (n : ℕ) (r : Result (Unit {0}) Stopped) (callee' : Memory) (c : ℕ) (handed : List Flat) → n ≡ 0 → c < 2 ^ 64
+  pub arguments-end : KindsFit f flats → (n : ℕ) (r : Result (Unit {0}) Stopped) (callee' : Memory) (c : ℕ) (handed : List Flat) → n ≡ 0 → c < 2 ^ 64 → IsLimited callee'
       → WayEnds allocates (ParamsWalk max_flat_params f.params m (argument_flats f flats)) (AddressFaulty max_flat_params f.params m (argument_flats f flats)) (λ k. ⊥) callee n r callee' c handed
       → EndsArguments callee' c handed r
-  arguments-end kinds n (Ok _) callee' c handed fresh small d = has-entered n callee' c fresh small handed kinds d
-  arguments-end kinds n (Err (stopped.Source k)) callee' c handed fresh small (inl (address, none)) = bad-address n callee' c fresh small k kinds address none
-  arguments-end kinds n (Err (stopped.Source k)) callee' c handed fresh small (inr (final, u)) = bad-argument n callee' c fresh small k final kinds u
-  arguments-end kinds n (Err (stopped.Target k)) callee' c handed fresh small (inl (never, none)) = absurd never
-  arguments-end kinds n (Err (stopped.Target k)) callee' c handed fresh small (inr (final, u)) = no-room n callee' c fresh small k final kinds u
+  arguments-end kinds n (Ok _) callee' c handed fresh small limited d = has-entered n callee' c fresh small limited handed kinds d
+  arguments-end kinds n (Err (stopped.Source k)) callee' c handed fresh small limited (inl (address, none)) = bad-address n callee' c fresh small k kinds address none
+  arguments-end kinds n (Err (stopped.Source k)) callee' c handed fresh small limited (inr (final, u)) = bad-argument n callee' c fresh small k final kinds u
+  arguments-end kinds n (Err (stopped.Target k)) callee' c handed fresh small limited (inl (never, none)) = absurd never
+  arguments-end kinds n (Err (stopped.Target k)) callee' c handed fresh small limited (inr (final, u)) = no-room n callee' c fresh small k final kinds u
 
 -- ---- the result
 
@@ -106,10 +106,10 @@ module _ (allocates : Allocation) (f : FunctionType) (flats : List Flat) (caller
     abbrev fs : Fields
     fs = result_fields f.result
 
-    has-returned : (back : List Flat) → IsCrossed allocates (ResultWalk max_flat_results fs m answer (area_of f flats) caller.bytes back) caller n caller' c
+    has-returned : IsLimited caller' → (back : List Flat) → IsCrossed allocates (ResultWalk max_flat_results fs m answer (area_of f flats) caller.bytes back) caller n caller' c
         → HasReturned allocates f flats m answer caller back caller' c
-    has-returned back d =
-        (d.scripted.1, d.events, record { denoted = d.scripted.2; area_stands = d.scripted.0; passes = d.scripted.3; leads = d.leads; same_callee = refl; same_body = refl }, counted-back d.events d.counted)
+    has-returned limited back d =
+        (d.scripted.1, d.events, record { denoted = d.scripted.2; area_stands = d.scripted.0; passes = d.scripted.3; leads = d.leads; small = limited; same_callee = refl; same_body = refl }, counted-back d.events d.counted)
 
     -- the answer's kinds or the address of its record are at fault
     bad-answer : (k : TrapKind) → AddressFaulty max_flat_results fs m answer k → IsUnbegun caller n caller' c
@@ -146,15 +146,15 @@ module _ (allocates : Allocation) (f : FunctionType) (flats : List Flat) (caller
     EndsResult caller' c back (Err s) =
         ReturnFails allocates f flats m answer caller (fault_in step.LiftResult step.LowerResult s) caller' c
 
-    pub result-ends : (n : ℕ) (r : Result (Unit {0}) Stopped) (caller' : Memory) (c : ℕ) (back : List Flat) → n ≡ 0 → c < 2 ^ 64
+    pub result-ends : (n : ℕ) (r : Result (Unit {0}) Stopped) (caller' : Memory) (c : ℕ) (back : List Flat) → n ≡ 0 → c < 2 ^ 64 → IsLimited caller'
         → WayEnds allocates (ResultWalk max_flat_results (result_fields f.result) m answer (area_of f flats) caller.bytes) (AddressFaulty max_flat_results (result_fields f.result) m answer)
         (AreaIsBad max_flat_results (result_fields f.result) m answer (area_of f flats) caller.bytes) caller n r caller' c back
         → EndsResult caller' c back r
-    result-ends n (Ok _) caller' c back fresh small d = has-returned answer n caller' c fresh small back d
-    result-ends n (Err (stopped.Source k)) caller' c back fresh small (inl (address, none)) = bad-answer answer n caller' c fresh small k address none
-    result-ends n (Err (stopped.Source k)) caller' c back fresh small (inr (final, u)) = bad-result answer n caller' c fresh small k final u
-    result-ends n (Err (stopped.Target k)) caller' c back fresh small (inl (bad, none)) = bad-area answer n caller' c fresh small k bad none
-    result-ends n (Err (stopped.Target k)) caller' c back fresh small (inr (final, u)) = no-room-back answer n caller' c fresh small k final u
+    result-ends n (Ok _) caller' c back fresh small limited d = has-returned answer n caller' c fresh small limited back d
+    result-ends n (Err (stopped.Source k)) caller' c back fresh small limited (inl (address, none)) = bad-answer answer n caller' c fresh small k address none
+    result-ends n (Err (stopped.Source k)) caller' c back fresh small limited (inr (final, u)) = bad-result answer n caller' c fresh small k final u
+    result-ends n (Err (stopped.Target k)) caller' c back fresh small limited (inl (bad, none)) = bad-area answer n caller' c fresh small k bad none
+    result-ends n (Err (stopped.Target k)) caller' c back fresh small limited (inr (final, u)) = no-room-back answer n caller' c fresh small k final u
 
 -- where the caller's kinds were tested before, the answer did not return
 pub return-fails : (allocates : Allocation) (f : FunctionType) (flats : List Flat) (m : List ℕ) (answer : List Flat) (old : Memory) (fault : Fault) (new : Memory) (c : ℕ) → KindsFit f flats

@@ -40,6 +40,8 @@ pub(crate) fn pass_arguments<E: Guest>(
     let crossed = walk.cross_params(params, flats, callee, handed, nodes);
     // A count is a number of 64 bits.
     let _count = *nodes;
+    // A memory's length is a number of 32 bits.
+    let _len = callee.len();
     match crossed {
         Ok(()) => Ok(()),
         Err(stopped) => Err(fault_of(stopped, Step::LiftArgs, Step::LowerArgs)),

@@ -51,6 +51,8 @@ pub(crate) fn pass_answer<C: Guest>(
     let crossed = walk.cross_result(types, &returned, caller, back, nodes);
     // A count is a number of 64 bits.
     let _count = *nodes;
+    // A memory's length is a number of 32 bits.
+    let _len = caller.len();
     match crossed {
         Ok(()) => Ok(()),
         Err(stopped) => Err(fault_of(stopped, Step::LiftResult, Step::LowerResult)),

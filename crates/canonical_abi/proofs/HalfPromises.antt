@@ -2,10 +2,10 @@
 use Rattle.std.proofs.Common.{◌≡◌, inl, inr, ℕ, ◌^◌, ◌<◌, false, cond, List, [], length, Option, Some, None, Result, Ok, Err, refl, sym, subst}
 use Rattle.canonical_abi.specs.Types.{FunctionType, Fields, record_type, result_fields}
 use Rattle.canonical_abi.specs.Layout.{size, max_flat_params, max_flat_results, fits_flat}
-use Rattle.canonical_abi.specs.Guest.{Memory, Allocation, Release, IsHonest, IsLimited, KeepsLimit, IsWithin}
+use Rattle.canonical_abi.specs.Guest.{Memory, Allocation, Release, IsHonest, IsWithin}
 use Rattle.canonical_abi.specs.Call.{exact, Parties, World, KindsFit, area_of}
 use Rattle.canonical_abi.specs.Session.{HasResult}
-use Rattle.canonical_abi.specs.Headline.{AreHonest, AreLimited, IsStandardFunction, IsLentLive, KeepsOutside, LendsArea, area_size, CalleeIsUnchanged, AfterTrap, IsPosted, LinksOnce, FindsAndRunsOnce, IfTrap}
+use Rattle.canonical_abi.specs.Headline.{AreHonest, IsStandardFunction, IsLentLive, KeepsOutside, LendsArea, area_size, CalleeIsUnchanged, AfterTrap, IsPosted, LinksOnce, FindsAndRunsOnce, IfTrap}
 use Rattle.canonical_abi.specs.Halves.{entering, returning, source, as_world, HasEntered, EntryFails, HasReturned, ReturnFails, FindsArguments, IsEntryTrap, EntryKeepsPromise, GivesAnswer, IsReturnTrap, ReturnKeepsPromise, RunsBetween, RunsAndReturns, HalvesKeep, HalvesKeepPromise, body_stopped, post_stopped, ends_at_entry, ends_at_run, ends_at_return, ends_at_post, completes}
 use Rattle.canonical_abi.specs.declared.flat.Flat.{Flat}
 use Rattle.canonical_abi.specs.declared.trap.Fault.{Fault}
@@ -15,7 +15,7 @@ use Rattle.canonical_abi.specs.declared.trap.Step.TheVariants as step
 use Rattle.canonical_abi.specs.declared.trap.TrapKind.{TrapKind}
 use Rattle.canonical_abi.proofs.Crossed.{Nowhere, passes-confined, passes-aligned, lowered-is-denoted}
 use Rattle.canonical_abi.proofs.Results.{result-is-held}
-use Rattle.canonical_abi.proofs.Fine.{Fine, fine-none, keeps-outside, broken, trace-limited, small}
+use Rattle.canonical_abi.proofs.Fine.{Fine, fine-none, keeps-outside, broken, small}
 use Rattle.canonical_abi.proofs.Stopped.{breaks-either}
 use Rattle.canonical_abi.proofs.Linked.{InArea, passes-result-confined, passes-result-aligned, script-params-fine, went-outside, result-faulty, result-fails, answer-denotes-fault, argument-fault, traps-before, found, answered-found, answered-once}
 use Rattle.canonical_abi.proofs.Halves.{enters, put, after, answered}
@@ -50,10 +50,10 @@ module _ (allocates : Allocation) (releases : Release) (honest : IsHonest alloca
     area = area_of f flats
 
     -- the first half
-    entry-done : KeepsLimit allocates → (m : List ℕ) (old : Memory) (handed : List Flat) (new : Memory) (c : ℕ) → IsStandardFunction f → IsLimited old
+    entry-done : (m : List ℕ) (old : Memory) (handed : List Flat) (new : Memory) (c : ℕ) → IsStandardFunction f
         → HasEntered allocates f flats m old handed new c → FindsArguments allocates f flats m old handed new
-    entry-done keeps m old handed new c standard few (values, there, e, counts) =
-        let less = small new (trace-limited allocates keeps there old new e.leads few) in
+    entry-done m old handed new c standard (values, there, e, counts) =
+        let less = small new e.small in
         let lowered = lowered-is-denoted allocates releases honest max_flat_params f.params values there handed old new standard.params less e.passes e.leads in
         let fine : Fine allocates Nowhere old there new = record {
           aligned = passes-aligned max_flat_params f.params values there handed e.passes;
@@ -82,9 +82,9 @@ module _ (allocates : Allocation) (releases : Release) (honest : IsHonest alloca
     in-area : (x : ℕ) → InArea results area x → IsWithin x area (area_size f)
     in-area x i = subst (λ b. IsWithin x area (cond b 0 (size (record_type results)))) (sym i.0) i.1
 
-    pub return-done : KeepsLimit allocates → (m : List ℕ) (answer : List Flat) (old : Memory) (given : List Flat) (new : Memory) (c : ℕ) → IsStandardFunction f → IsLimited old
+    pub return-done : (m : List ℕ) (answer : List Flat) (old : Memory) (given : List Flat) (new : Memory) (c : ℕ) → IsStandardFunction f
         → KindsFit f flats → LendsArea f flats old → HasReturned allocates f flats m answer old given new c → GivesAnswer allocates f flats m answer old given new
-    return-done keeps m answer old given new c standard few kinds lends (values, back, r, counts) = record {
+    return-done m answer old given new c standard kinds lends (values, back, r, counts) = record {
       values = values;
       answered = r.denoted;
       holds = held;
@@ -99,7 +99,7 @@ module _ (allocates : Allocation) (releases : Release) (honest : IsHonest alloca
         }
 
         less : length new.bytes < 2 ^ 32
-        less = small new (trace-limited allocates keeps back old new r.leads few)
+        less = small new r.small
 
         live : fits_flat max_flat_results results ≡ false → IsLentLive old area (size (record_type results))
         live spills = subst (λ b. IsLentLive old area (cond b 0 (size (record_type results)))) spills (lends kinds r.area_stands)
@@ -125,22 +125,22 @@ module _ (allocates : Allocation) (releases : Release) (honest : IsHonest alloca
         let outside = went-outside (returning allocates) releases no_release exact f flats returns-honest (as_world old (source m) []) (as_world new (source m) []) both.0 in
         (outside, subst (λ s. IsReturnTrap f flats m answer old s t.kind) (sym is) both.1)
 
-pub entry-keeps-promise : (allocates : Allocation) (releases : Release) → IsHonest allocates releases → KeepsLimit allocates → EntryKeepsPromise allocates
-entry-keeps-promise allocates releases honest keeps = record {
-  done = λ f flats m old handed new c standard few h. entry-done allocates releases honest f flats keeps m old handed new c standard few h;
+pub entry-keeps-promise : (allocates : Allocation) (releases : Release) → IsHonest allocates releases → EntryKeepsPromise allocates
+entry-keeps-promise allocates releases honest = record {
+  done = λ f flats m old handed new c standard h. entry-done allocates releases honest f flats m old handed new c standard h;
   fails = λ f flats m old fault new c h. entry-fails allocates releases honest f flats m old fault new c h;
 }
 
-pub return-keeps-promise : (allocates : Allocation) (releases : Release) → IsHonest allocates releases → KeepsLimit allocates → ReturnKeepsPromise allocates
-return-keeps-promise allocates releases honest keeps = record {
-  done = λ f flats m answer old given new c standard few kinds lends h. return-done allocates releases honest f flats keeps m answer old given new c standard few kinds lends h;
+pub return-keeps-promise : (allocates : Allocation) (releases : Release) → IsHonest allocates releases → ReturnKeepsPromise allocates
+return-keeps-promise allocates releases honest = record {
+  done = λ f flats m answer old given new c standard kinds lends h. return-done allocates releases honest f flats m answer old given new c standard kinds lends h;
   fails = λ f flats m answer old fault new c h. return-fails allocates releases honest f flats m answer old fault new c h;
 }
 
 -- ---- the whole
 
 module _ (parties : Parties) (caller_releases callee_releases : Release) (honest : AreHonest parties caller_releases callee_releases) (f : FunctionType) (flats : List Flat) (standard : IsStandardFunction f)
-    (old : World) (between : Memory) (limited : AreLimited parties (as_world between old.callee old.body)) (lends : LendsArea f flats between) where
+    (old : World) (between : Memory) (lends : LendsArea f flats between) where
   abbrev Keeps : Result (List Flat) Fault → World → Type 0
   Keeps result new = HalvesKeep parties f flats old between result new
 
@@ -188,7 +188,7 @@ module _ (parties : Parties) (caller_releases callee_releases : Release) (honest
         runs = record {
           answer = None;
           ran = as_world old.caller ran body;
-          found = found parties caller_releases callee_releases exact f flats honest standard old limited.callee limited.callee_keeps r.enters.0 r.handed r.enters.1 (as_world old.caller r.entered old.body)
+          found = found parties caller_releases callee_releases exact f flats honest standard old r.enters.0 r.handed r.enters.1 (as_world old.caller r.entered old.body)
               (enters parties f flats old r.handed r.entered there r.enters) None (as_world old.caller ran body) (record { run = r.run; same_caller = refl });
           after = (refl, (refl, refl));
         };
@@ -197,12 +197,12 @@ module _ (parties : Parties) (caller_releases callee_releases : Release) (honest
   module _ (there : ℕ) (answer : List Flat) (ran : Memory) (body : List ℕ) (r : RunsBetween parties f flats old there (Some answer) ran body) where
     found-once : FindsAndRunsOnce parties f r.enters.0 old (Some answer) (as_world old.caller ran body)
     found-once =
-        answered-found parties caller_releases callee_releases exact f flats honest standard old limited.callee limited.callee_keeps answer (put parties f flats old there answer ran body r)
+        answered-found parties caller_releases callee_releases exact f flats honest standard old answer (put parties f flats old there answer ran body r)
         (after parties f flats old there answer ran body r) (answered parties f flats old there answer ran body r)
 
     runs-once : (After : Option (List Flat) → World → Type 0) → After (Some answer) (as_world old.caller ran body) → LinksOnce parties f flats old After
     runs-once After stands =
-        answered-once parties caller_releases callee_releases exact f flats honest standard old limited.callee limited.callee_keeps After answer (put parties f flats old there answer ran body r)
+        answered-once parties caller_releases callee_releases exact f flats honest standard old After answer (put parties f flats old there answer ran body r)
         (after parties f flats old there answer ran body r) (answered parties f flats old there answer ran body r) stands
 
     at-return : (fault : Fault) (caller : Memory) (back : ℕ) → ReturnFails parties.caller_allocates f flats ran.bytes answer between fault caller back → Keeps (Err fault) (as_world caller ran body)
@@ -232,7 +232,7 @@ module _ (parties : Parties) (caller_releases callee_releases : Release) (honest
   module _ (there back : ℕ) (answer given : List Flat) (caller ran : Memory) (body : List ℕ) (b : RunsAndReturns parties f flats old between there back answer given caller ran body) where
     gives : GivesAnswer parties.caller_allocates f flats ran.bytes answer between given caller
     gives =
-        return-done parties.caller_allocates caller_releases honest.caller f flats limited.caller_keeps ran.bytes answer between given caller back standard limited.caller
+        return-done parties.caller_allocates caller_releases honest.caller f flats ran.bytes answer between given caller back standard
         b.runs.enters.2.kinds lends b.returns
 
     at-post : (callee : Memory) (kept : List ℕ) → parties.posts body ran answer kept callee None → Keeps (Err post_stopped) (as_world caller callee kept)
@@ -272,11 +272,11 @@ module _ (parties : Parties) (caller_releases callee_releases : Release) (honest
         once = runs-once there answer ran body b.runs (IsPosted parties (Some tt) (as_world caller callee kept)) post
 
 pub halves-keep-promise : (parties : Parties) (caller_releases callee_releases : Release) → HalvesKeepPromise parties caller_releases callee_releases
-halves-keep-promise parties cr er f flats old between _ _ _ _ standard (ends_at_entry fault there callee fails) honest limited lends = at-entry parties cr er honest f flats standard old between limited lends fault there callee fails
-halves-keep-promise parties cr er f flats old between _ _ _ _ standard (ends_at_run there ran body r) honest limited lends = at-run parties cr er honest f flats standard old between limited lends there ran body r
-halves-keep-promise parties cr er f flats old between _ _ _ _ standard (ends_at_return there back answer fault caller ran body r fails) honest limited lends =
-    at-return parties cr er honest f flats standard old between limited lends there answer ran body r fault caller back fails
-halves-keep-promise parties cr er f flats old between _ _ _ _ standard (ends_at_post there back answer given caller ran body b callee kept post) honest limited lends =
-    at-post parties cr er honest f flats standard old between limited lends there back answer given caller ran body b callee kept post
-halves-keep-promise parties cr er f flats old between _ _ _ _ standard (completes there back answer given caller ran body b callee kept post) honest limited lends =
-    whole parties cr er honest f flats standard old between limited lends there back answer given caller ran body b callee kept post
+halves-keep-promise parties cr er f flats old between _ _ _ _ standard (ends_at_entry fault there callee fails) honest lends = at-entry parties cr er honest f flats standard old between lends fault there callee fails
+halves-keep-promise parties cr er f flats old between _ _ _ _ standard (ends_at_run there ran body r) honest lends = at-run parties cr er honest f flats standard old between lends there ran body r
+halves-keep-promise parties cr er f flats old between _ _ _ _ standard (ends_at_return there back answer fault caller ran body r fails) honest lends =
+    at-return parties cr er honest f flats standard old between lends there answer ran body r fault caller back fails
+halves-keep-promise parties cr er f flats old between _ _ _ _ standard (ends_at_post there back answer given caller ran body b callee kept post) honest lends =
+    at-post parties cr er honest f flats standard old between lends there back answer given caller ran body b callee kept post
+halves-keep-promise parties cr er f flats old between _ _ _ _ standard (completes there back answer given caller ran body b callee kept post) honest lends =
+    whole parties cr er honest f flats standard old between lends there back answer given caller ran body b callee kept post

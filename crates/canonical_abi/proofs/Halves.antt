@@ -42,7 +42,7 @@ module _ (parties : Parties) (f : FunctionType) (flats : List Flat) (old : World
       → Enters parties f flats old h.0 handed h.1 (as_world old.caller entered old.body)
   enters handed entered there h =
       let e = h.2 in
-      record { kinds = e.kinds; denoted = e.denoted; passes = e.passes; leads = e.leads; same_caller = refl; same_body = refl }
+      record { kinds = e.kinds; denoted = e.denoted; passes = e.passes; leads = e.leads; small = e.small; same_caller = refl; same_body = refl }
 
   run-stops : (there : ℕ) (ran : Memory) (body : List ℕ) → RunsBetween parties f flats old there None ran body → Ends (Err body_stopped) (as_world old.caller ran body) there 0
   run-stops there ran body r =
@@ -101,7 +101,7 @@ module _ (parties : Parties) (f : FunctionType) (flats : List Flat) (old : World
           values = b.returns.0;
           answered = as_world old.caller ran body;
           answers = answered there answer ran body b.runs;
-          returns = record { denoted = e.denoted; area_stands = e.area_stands; passes = e.passes; leads = e.leads; same_callee = refl; same_body = refl };
+          returns = record { denoted = e.denoted; area_stands = e.area_stands; passes = e.passes; leads = e.leads; small = e.small; same_callee = refl; same_body = refl };
         }
 
     post-stops : (callee : Memory) (kept : List ℕ) → parties.posts body ran answer kept callee None → Ends (Err post_stopped) (as_world caller callee kept) there back

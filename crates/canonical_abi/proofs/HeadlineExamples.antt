@@ -4,7 +4,7 @@ use Rattle.canonical_abi.specs.Types.{int32}
 use Rattle.canonical_abi.specs.Values.{Value, unsigned_value}
 use Rattle.canonical_abi.specs.Guest.{Release, IsHonest}
 use Rattle.canonical_abi.specs.Call.{Parties, World, exact}
-use Rattle.canonical_abi.specs.Headline.{AreHonest, AreLimited, IsStandardFunction, IsPosted, AfterRun, RunsOnce, KeepsPromise, LinkKeepsPromise}
+use Rattle.canonical_abi.specs.Headline.{AreHonest, IsStandardFunction, IsPosted, AfterRun, RunsOnce, KeepsPromise, LinkKeepsPromise}
 use Rattle.canonical_abi.specs.declared.flat.Flat.{Flat}
 use Rattle.canonical_abi.specs.declared.flat.Flat.TheVariants.{I32}
 use Rattle.canonical_abi.specs.declared.trap.Fault.TheVariants.{Trap, NoMemory}
@@ -31,23 +31,15 @@ honest =
     } in
     record { caller = guest; callee = guest }
 
-limited : AreLimited parties empty
-limited = record {
-  caller = omega arith;
-  callee = omega arith;
-  caller_keeps = λ old new align size at step few. absurd step;
-  callee_keeps = λ old new align size at step few. absurd step;
-}
-
 standard : IsStandardFunction f
 standard = record { params = (tt, tt); result = (tt, tt) }
 
 -- the promise of the call of 7, which answers 8
 f-is-promised : KeepsPromise parties exact f (unsigned_value int32 7 ∷ []) empty (Ok (Some (unsigned_value int32 8))) empty
-f-is-promised = keeps-promise parties nothing nothing exact f _ empty _ empty standard f-typed honest limited
+f-is-promised = keeps-promise parties nothing nothing exact f _ empty _ empty standard f-typed honest
 
 f-link-is-promised : LinkKeepsPromise parties exact f (I32 7 ∷ []) empty (Ok (I32 8 ∷ [])) empty
-f-link-is-promised = link-keeps-promise parties nothing nothing exact f _ empty _ _ empty standard f-of-7 honest limited (λ kinds stands x w. absurd (omega (arith, w.0, w.1)))
+f-link-is-promised = link-keeps-promise parties nothing nothing exact f _ empty _ _ empty standard f-of-7 honest (λ kinds stands x w. absurd (omega (arith, w.0, w.1)))
 
 -- ---- what is not so
 

@@ -142,7 +142,7 @@ module _ (parties : Parties) (caller_releases callee_releases : Release) (order 
 
   pub step-keeps : (s : SessionStep) (before : List SessionAnswer) (old : World) (answer : SessionAnswer) (new : World) → AreStandardSteps (s ∷ []) → IsLimited old.caller → TakesStep parties caller_releases order before old s answer new → StepKeeps old.caller new.caller
   step-keeps (call f arguments) before old answer new standard few (result, is, typed) =
-      let went = call-went-fine parties caller_releases callee_releases order f arguments honest standard.0 old few keeps result new typed in
+      let went = call-went-fine parties caller_releases callee_releases order f arguments honest standard.0 old result new typed in
       by-fine old.caller new.caller went.0 few went.1
   step-keeps (place t v) before old answer new standard few (result, is, places, callee, body) = place-keeps t v old.caller new.caller result few places
   step-keeps (read k) before old answer new standard few (same, reads) = by-same old.caller new.caller few (ap (λ w. w.caller.bytes) same)

@@ -4,7 +4,7 @@ use Rattle.canonical_abi.specs.Types.{record_type, Fields, FunctionType, result_
 use Rattle.canonical_abi.specs.Values.{Value}
 use Rattle.canonical_abi.specs.Layout.{size, max_flat_params, max_flat_results, fits_flat}
 use Rattle.canonical_abi.specs.Flat.{DenotesFault}
-use Rattle.canonical_abi.specs.Guest.{Release, IsLimited, KeepsLimit, IsWithin, IsAlignment}
+use Rattle.canonical_abi.specs.Guest.{Release, IsLimited, IsWithin, IsAlignment}
 use Rattle.canonical_abi.specs.Trace.{Event, node, grant, TraceLeads}
 use Rattle.canonical_abi.specs.Lowering.{PassesResult}
 use Rattle.canonical_abi.specs.Stands.{AreAligned}
@@ -221,11 +221,11 @@ module _ (parties : Parties) (caller_releases callee_releases : Release) (order 
   argument-fault old k done new (inr (inl (kinds, faulty, none, is))) = inr (kinds, address-denotes-fault max_flat_params f.params _ _ k faulty)
   argument-fault old k done new (inr (inr (kinds, es, until, part, begun, caller, same))) = inr (kinds, params-denote-fault max_flat_params f.params _ _ k es until)
 
-  module _ (standard : IsStandardFunction f) (old : World) (few : IsLimited old.callee) (keeps : KeepsLimit parties.callee_allocates) where
+  module _ (standard : IsStandardFunction f) (old : World) where
     pub found : (values : List Value) (handed : List Flat) (there : List Event) (entered : World) → Enters parties f flats old values handed there entered
         → (answer : Option (List Flat)) (ran : World) → Runs parties f flats entered handed answer ran → FindsAndRunsOnce parties f values old answer ran
     found values handed there entered e answer ran r =
-        let less = small entered.callee (trace-limited parties.callee_allocates keeps there old.callee entered.callee e.leads few) in
+        let less = small entered.callee e.small in
         let lowered = lowered-is-denoted parties.callee_allocates callee_releases honest.callee max_flat_params f.params values there handed old.callee entered.callee standard.params less e.passes e.leads in
         let fine : Fine parties.callee_allocates Nowhere old.callee there entered.callee = record {
           aligned = passes-aligned max_flat_params f.params values there handed e.passes;
@@ -310,7 +310,7 @@ module _ (parties : Parties) (caller_releases callee_releases : Release) (order 
 
     -- ---- the result in the caller
 
-    module _ (caller_few : IsLimited old.caller) (caller_keeps : KeepsLimit parties.caller_allocates) (lends : LendsArea f flats old.caller) where
+    module _ (lends : LendsArea f flats old.caller) where
       pub result-given : (answer given : List Flat) (ways : Ways) (returned new : World) (r : Returned parties f flats old answer given ways returned) → new.caller ≡ returned.caller → HasResult results new.caller.bytes given area r.values
       result-given answer given ways returned new r same = subst (λ m. HasResult results m.bytes given area r.values) (sym same) held
         where
@@ -318,7 +318,7 @@ module _ (parties : Parties) (caller_releases callee_releases : Release) (order 
           fine = returned-fine old answer given ways returned r
 
           less : length returned.caller.bytes < 2 ^ 32
-          less = small returned.caller (trace-limited parties.caller_allocates caller_keeps ways.back old.caller returned.caller fine.leads caller_few)
+          less = small returned.caller r.returns.small
 
           stands : ReturnAreaStands f flats old.caller
           stands = subst (λ m. ReturnAreaStands f flats m) (answered-same old answer ways.there r.answered r.answers) r.returns.area_stands
@@ -380,5 +380,5 @@ module _ (parties : Parties) (caller_releases callee_releases : Release) (order 
           given-up exact w g e = absurd g
 
 pub link-keeps-promise : (parties : Parties) (caller_releases callee_releases : Release) (order : Order) → LinkPromise parties caller_releases callee_releases order
-link-keeps-promise parties caller_releases callee_releases order f flats old result ways new standard called honest limited lends =
-    promise parties caller_releases callee_releases order f flats honest standard old limited.callee limited.callee_keeps limited.caller limited.caller_keeps lends result ways new called
+link-keeps-promise parties caller_releases callee_releases order f flats old result ways new standard called honest lends =
+    promise parties caller_releases callee_releases order f flats honest standard old lends result ways new called

@@ -176,7 +176,7 @@ module _ (parties : Parties) (caller_releases callee_releases : Release) (order 
   step-lives : (s : SessionStep) (before : List SessionAnswer) (old : World) (answer : SessionAnswer) (new : World) → AreStandardSteps (s ∷ []) → ReleasesMiss F (s ∷ []) → IsLimited old.caller
       → TakesStep parties caller_releases order before old s answer new → IsLive F old.caller → IsLive F new.caller
   step-lives (call f arguments) before old answer new standard miss few (result, is, typed) live =
-      let went = call-went-fine parties caller_releases callee_releases order f arguments honest standard.0 old few keeps result new typed in
+      let went = call-went-fine parties caller_releases callee_releases order f arguments honest standard.0 old result new typed in
       fine-lives old.caller new.caller went.0 went.1 live
   step-lives (place t v) before old answer new standard miss few (result, is, places, callee, body) live =
       let went = place-went-fine parties.caller_allocates caller_releases honest.caller t v old.caller new.caller result places in

@@ -172,10 +172,10 @@ module _ (parties : Parties) (caller_releases callee_releases : Release) (order 
       by (inl s) = ap (λ fs. map kind_of fs) s.2 ∙ kinds ∙ ap signed (sym s.0)
       by (inr s) = ap (λ fs. map kind_of fs) s.4 ∙ map-kinds p.1 (I32 s.1.at ∷ []) ∙ ap (λ ks. ks ++ kind.I32 ∷ []) kinds ∙ ap signed (sym s.0)
 
-  module _ (old : World) (few : IsLimited old.caller) (keeps : KeepsLimit parties.caller_allocates) where
+  module _ (old : World) where
     module _ (flats : List Flat) (area : ℕ) (placed : World) (p : Placed parties f arguments old flats area placed) where
       placed-limited : IsLimited placed.caller
-      placed-limited = trace-limited parties.caller_allocates keeps p.puts.0 old.caller placed.caller p.puts.3 few
+      placed-limited = p.small
 
       placed-fine : Fine parties.caller_allocates Nowhere old.caller p.puts.0 placed.caller
       placed-fine = prepares-fine p.puts.0 flats area old.caller placed.caller p.puts.1 p.puts.3
@@ -327,148 +327,144 @@ module _ (parties : Parties) (caller_releases callee_releases : Release) (order 
     trapped-before step.Post k new t b = absurd b
     trapped-before step.Take k new t b = absurd b
 
-    module _ (callee_few : IsLimited old.callee) (callee_keeps : KeepsLimit parties.callee_allocates) where
-      placed-few : (flats : List Flat) (area : ℕ) (placed : World) → Placed parties f arguments old flats area placed → IsLimited placed.callee
-      placed-few flats area placed p = subst IsLimited (sym p.same_callee) callee_few
+    abbrev Once : (Option (List Flat) → World → Type 0) → Type 0
+    Once After = RunsOnce parties f arguments old After
 
-      abbrev Once : (Option (List Flat) → World → Type 0) → Type 0
-      Once After = RunsOnce parties f arguments old After
+    came-once : (back : List Flat) (area : ℕ) (new : World) → CameBack parties f arguments old back area new → Once (IsPosted parties (Some tt) new)
+    came-once back area new b =
+        once-before b.flats area b.placed b.places (IsPosted parties (Some tt) new)
+        (completed-once parties caller_releases callee_releases order f b.flats honest standard b.placed back b.ways new b.completes)
 
-      came-once : (back : List Flat) (area : ℕ) (new : World) → CameBack parties f arguments old back area new → Once (IsPosted parties (Some tt) new)
-      came-once back area new b =
-          once-before b.flats area b.placed b.places (IsPosted parties (Some tt) new)
-          (completed-once parties caller_releases callee_releases order f b.flats honest standard b.placed (placed-few b.flats area b.placed b.places) callee_keeps back b.ways new b.completes)
+    call-once : (flats : List Flat) (area : ℕ) (placed : World) → Placed parties f arguments old flats area placed → (s : Step) (k : TrapKind) (ways : Ways) (new : World) → Traps parties order f flats placed s k ways new → EntersBody s → Once (AfterTrap parties s new)
+    call-once flats area placed p s k ways new t e =
+        once-before flats area placed p (AfterTrap parties s new)
+        (traps-once parties caller_releases callee_releases order f flats honest standard placed s k ways new t e)
 
-      call-once : (flats : List Flat) (area : ℕ) (placed : World) → Placed parties f arguments old flats area placed → (s : Step) (k : TrapKind) (ways : Ways) (new : World) → Traps parties order f flats placed s k ways new → EntersBody s → Once (AfterTrap parties s new)
-      call-once flats area placed p s k ways new t e =
-          once-before flats area placed p (AfterTrap parties s new)
-          (traps-once parties caller_releases callee_releases order f flats honest standard placed (placed-few flats area placed p) callee_keeps s k ways new t e)
+    trapped-once : (s : Step) (k : TrapKind) (new : World) → TypedTraps parties order f arguments old s k new → EntersBody s → Once (AfterTrap parties s new)
+    trapped-once step.Place k new t e = absurd e
+    trapped-once step.LiftArgs k new t e = absurd e
+    trapped-once step.LowerArgs k new t e = absurd e
+    trapped-once step.Take k new (back, area, b, fault) e = came-once back area new b
+    trapped-once step.Body k new (flats, area, placed, p, ways, t) e = call-once flats area placed p step.Body k ways new t tt
+    trapped-once step.LiftResult k new (flats, area, placed, p, ways, t) e = call-once flats area placed p step.LiftResult k ways new t tt
+    trapped-once step.LowerResult k new (flats, area, placed, p, ways, t) e = call-once flats area placed p step.LowerResult k ways new t tt
+    trapped-once step.Post k new (flats, area, placed, p, ways, t) e = call-once flats area placed p step.Post k ways new t tt
 
-      trapped-once : (s : Step) (k : TrapKind) (new : World) → TypedTraps parties order f arguments old s k new → EntersBody s → Once (AfterTrap parties s new)
-      trapped-once step.Place k new t e = absurd e
-      trapped-once step.LiftArgs k new t e = absurd e
-      trapped-once step.LowerArgs k new t e = absurd e
-      trapped-once step.Take k new (back, area, b, fault) e = came-once back area new b
-      trapped-once step.Body k new (flats, area, placed, p, ways, t) e = call-once flats area placed p step.Body k ways new t tt
-      trapped-once step.LiftResult k new (flats, area, placed, p, ways, t) e = call-once flats area placed p step.LiftResult k ways new t tt
-      trapped-once step.LowerResult k new (flats, area, placed, p, ways, t) e = call-once flats area placed p step.LowerResult k ways new t tt
-      trapped-once step.Post k new (flats, area, placed, p, ways, t) e = call-once flats area placed p step.Post k ways new t tt
+    trapped-either : (s : Step) (k : TrapKind) (new : World) → TypedTraps parties order f arguments old s k new → CalleeIsUnchanged parties old new ⊎ Once (AfterTrap parties s new)
+    trapped-either step.Place k new t = inl (trapped-before step.Place k new t tt)
+    trapped-either step.LiftArgs k new t = inl (trapped-before step.LiftArgs k new t tt)
+    trapped-either step.LowerArgs k new t = inl (trapped-before step.LowerArgs k new t tt)
+    trapped-either step.Take k new t = inr (trapped-once step.Take k new t tt)
+    trapped-either step.Body k new t = inr (trapped-once step.Body k new t tt)
+    trapped-either step.LiftResult k new t = inr (trapped-once step.LiftResult k new t tt)
+    trapped-either step.LowerResult k new t = inr (trapped-once step.LowerResult k new t tt)
+    trapped-either step.Post k new t = inr (trapped-once step.Post k new t tt)
 
-      trapped-either : (s : Step) (k : TrapKind) (new : World) → TypedTraps parties order f arguments old s k new → CalleeIsUnchanged parties old new ⊎ Once (AfterTrap parties s new)
-      trapped-either step.Place k new t = inl (trapped-before step.Place k new t tt)
-      trapped-either step.LiftArgs k new t = inl (trapped-before step.LiftArgs k new t tt)
-      trapped-either step.LowerArgs k new t = inl (trapped-before step.LowerArgs k new t tt)
-      trapped-either step.Take k new t = inr (trapped-once step.Take k new t tt)
-      trapped-either step.Body k new t = inr (trapped-once step.Body k new t tt)
-      trapped-either step.LiftResult k new t = inr (trapped-once step.LiftResult k new t tt)
-      trapped-either step.LowerResult k new t = inr (trapped-once step.LowerResult k new t tt)
-      trapped-either step.Post k new t = inr (trapped-once step.Post k new t tt)
+    -- want of the host's memory
+    abbrev After : Order → World → Option (List Flat) → World → Type 0
+    After o new = AfterRun {A = Option Value} parties o (Err NoMemory) new
 
-      -- want of the host's memory
-      abbrev After : Order → World → Option (List Flat) → World → Type 0
-      After o new = AfterRun {A = Option Value} parties o (Err NoMemory) new
+    came-late : (o : Order) (new : World) → Once (IsPosted parties (Some tt) new) → Once (After o new)
+    came-late either new r = record { answer = r.answer; ran = r.ran; found = r.found; after = inr r.after }
+    came-late exact new r = r
 
-      came-late : (o : Order) (new : World) → Once (IsPosted parties (Some tt) new) → Once (After o new)
-      came-late either new r = record { answer = r.answer; ran = r.ran; found = r.found; after = inr r.after }
-      came-late exact new r = r
+    given-up : (flats : List Flat) (area : ℕ) (placed : World) → Placed parties f arguments old flats area placed → (o : Order) (ways : Ways) (new : World) → GivesUp parties f flats o placed ways new → CalleeIsUnchanged parties old new ⊎ Once (After o new)
+    given-up flats area placed p o ways new g =
+        elim (gives-up-once parties caller_releases callee_releases order f flats honest standard placed o ways new g) [
+          | inl u ↦ inl (unchanged-before flats area placed p new u)
+          | inr l ↦ inr (once-before flats area placed p (After o new) l)
+        ]
 
-      given-up : (flats : List Flat) (area : ℕ) (placed : World) → Placed parties f arguments old flats area placed → (o : Order) (ways : Ways) (new : World) → GivesUp parties f flats o placed ways new → CalleeIsUnchanged parties old new ⊎ Once (After o new)
-      given-up flats area placed p o ways new g =
-          elim (gives-up-once parties caller_releases callee_releases order f flats honest standard placed (placed-few flats area placed p) callee_keeps o ways new g) [
-            | inl u ↦ inl (unchanged-before flats area placed p new u)
-            | inr l ↦ inr (once-before flats area placed p (After o new) l)
-          ]
+    wanting-either : (new : World) → TypedCall parties order f arguments old (Err NoMemory) new → CalleeIsUnchanged parties old new ⊎ Once (After order new)
+    wanting-either new (inl (flats, area, placed, p, ways, g)) = given-up flats area placed p order ways new g
+    wanting-either new (inr (back, area, b)) = inr (came-late order new (came-once back area new b))
 
-      wanting-either : (new : World) → TypedCall parties order f arguments old (Err NoMemory) new → CalleeIsUnchanged parties old new ⊎ Once (After order new)
-      wanting-either new (inl (flats, area, placed, p, ways, g)) = given-up flats area placed p order ways new g
-      wanting-either new (inr (back, area, b)) = inr (came-late order new (came-once back area new b))
+    -- in the exact order it comes after the whole crossing
+    wanting-once : (o : Order) → o ≡ order → (new : World) → TypedCall parties order f arguments old (Err NoMemory) new → WasEntered {A = Option Value} o (Err NoMemory) → Once (After o new)
+    wanting-once either is new c e = absurd e
+    wanting-once exact is new (inl (flats, area, placed, p, ways, g)) e = absurd (subst (λ o. GivesUp parties f flats o placed ways new) (sym is) g)
+    wanting-once exact is new (inr (back, area, b)) e = came-late exact new (came-once back area new b)
 
-      -- in the exact order it comes after the whole crossing
-      wanting-once : (o : Order) → o ≡ order → (new : World) → TypedCall parties order f arguments old (Err NoMemory) new → WasEntered {A = Option Value} o (Err NoMemory) → Once (After o new)
-      wanting-once either is new c e = absurd e
-      wanting-once exact is new (inl (flats, area, placed, p, ways, g)) e = absurd (subst (λ o. GivesUp parties f flats o placed ways new) (sym is) g)
-      wanting-once exact is new (inr (back, area, b)) e = came-late exact new (came-once back area new b)
+    -- ---- the result
 
-      -- ---- the result
+    result-held : (back : List Flat) (area : ℕ) (new : World) (b : CameBack parties f arguments old back area new) → HasResult (result_fields f.result) new.caller.bytes back area b.completes.returns.values
+    result-held back area new b =
+        result-in-area b.flats area b.placed b.places new back b.completes.returns.values
+        (result-given parties caller_releases callee_releases order f b.flats honest standard b.placed
+        (placed-lends b.flats area b.placed b.places) b.completes.answer back b.ways b.completes.returned new b.completes.returns b.completes.finishes.same_caller)
 
-      result-held : (back : List Flat) (area : ℕ) (new : World) (b : CameBack parties f arguments old back area new) → HasResult (result_fields f.result) new.caller.bytes back area b.completes.returns.values
-      result-held back area new b =
-          result-in-area b.flats area b.placed b.places new back b.completes.returns.values
-          (result-given parties caller_releases callee_releases order f b.flats honest standard b.placed (placed-few b.flats area b.placed b.places) callee_keeps
-          (placed-limited b.flats area b.placed b.places) keeps (placed-lends b.flats area b.placed b.places) b.completes.answer back b.ways b.completes.returned new b.completes.returns b.completes.finishes.same_caller)
+    told-result : (m : List ℕ) (back : List Flat) (area : ℕ) → IsOneOutcome (HasResult (result_fields f.result) m back area) (HasResultFault (result_fields f.result) m back area)
+    told-result m back area = one_outcome _ _ _ (tells-if (fits_flat max_flat_results (result_fields f.result)) _ _ _ _ _ _ (denoting-tells max_flat_results (result_fields f.result) m back) (fields-tell (result_fields f.result) m area 0))
 
-      told-result : (m : List ℕ) (back : List Flat) (area : ℕ) → IsOneOutcome (HasResult (result_fields f.result) m back area) (HasResultFault (result_fields f.result) m back area)
-      told-result m back area = one_outcome _ _ _ (tells-if (fits_flat max_flat_results (result_fields f.result)) _ _ _ _ _ _ (denoting-tells max_flat_results (result_fields f.result) m back) (fields-tell (result_fields f.result) m area 0))
+    lifted : (back : List Flat) (area : ℕ) (new : World) (b : CameBack parties f arguments old back area new) (result : Option Value) → HasResult (result_fields f.result) new.caller.bytes back area (option_to_list result)
+        → LiftsExactly parties f result b.completes.answer b.completes.returns.answered
+    lifted back area new b result has =
+        let same = (told-result new.caller.bytes back area).one_value (option_to_list result) b.completes.returns.values has (result-held back area new b) in
+        record { lifted = subst (λ vs. Denotes max_flat_results (result_fields f.result) b.completes.returns.answered.callee.bytes b.completes.answer vs) (sym same) b.completes.returns.returns.denoted }
 
-      lifted : (back : List Flat) (area : ℕ) (new : World) (b : CameBack parties f arguments old back area new) (result : Option Value) → HasResult (result_fields f.result) new.caller.bytes back area (option_to_list result)
-          → LiftsExactly parties f result b.completes.answer b.completes.returns.answered
-      lifted back area new b result has =
-          let same = (told-result new.caller.bytes back area).one_value (option_to_list result) b.completes.returns.values has (result-held back area new b) in
-          record { lifted = subst (λ vs. Denotes max_flat_results (result_fields f.result) b.completes.returns.answered.callee.bytes b.completes.answer vs) (sym same) b.completes.returns.returns.denoted }
+    came-found : (back : List Flat) (area : ℕ) (new : World) (b : CameBack parties f arguments old back area new) → FindsAndRunsOnce parties f arguments old (Some b.completes.answer) b.completes.returns.answered
+    came-found back area new b =
+        let a = b.completes.returns.answers in
+        found-before b.flats area b.placed b.places a.values (same-arguments b.flats area b.placed b.places a.values a.enters.denoted) (Some b.completes.answer) b.completes.returns.answered
+        (answered-found parties caller_releases callee_releases order f b.flats honest standard b.placed b.completes.answer b.ways.there b.completes.returns.answered a)
 
-      came-found : (back : List Flat) (area : ℕ) (new : World) (b : CameBack parties f arguments old back area new) → FindsAndRunsOnce parties f arguments old (Some b.completes.answer) b.completes.returns.answered
-      came-found back area new b =
-          let a = b.completes.returns.answers in
-          found-before b.flats area b.placed b.places a.values (same-arguments b.flats area b.placed b.places a.values a.enters.denoted) (Some b.completes.answer) b.completes.returns.answered
-          (answered-found parties caller_releases callee_releases order f b.flats honest standard b.placed (placed-few b.flats area b.placed b.places) callee_keeps b.completes.answer b.ways.there b.completes.returns.answered a)
+    -- ---- the traps
 
-      -- ---- the traps
+    call-own : (flats : List Flat) (area : ℕ) (placed : World) → Placed parties f arguments old flats area placed → (s : Step) (k : TrapKind) (ways : Ways) (new : World) → Traps parties order f flats placed s k ways new → IsLinkTrap parties f flats placed new s k
+    call-own flats area placed p s k ways new t = traps-own parties caller_releases callee_releases order f flats honest standard placed s k ways new t
 
-      call-own : (flats : List Flat) (area : ℕ) (placed : World) → Placed parties f arguments old flats area placed → (s : Step) (k : TrapKind) (ways : Ways) (new : World) → Traps parties order f flats placed s k ways new → IsLinkTrap parties f flats placed new s k
-      call-own flats area placed p s k ways new t = traps-own parties caller_releases callee_releases order f flats honest standard placed (placed-few flats area placed p) callee_keeps s k ways new t
+    trapped-own : (s : Step) (k : TrapKind) (new : World) → TypedTraps parties order f arguments old s k new → IsOwnTrap parties f arguments old new s k
+    trapped-own step.Place k new t = (place-broke k new t).2
+    trapped-own step.LiftArgs k new (flats, area, placed, p, ways, t) = no-argument-fault flats area placed p k (call-own flats area placed p step.LiftArgs k ways new t)
+    trapped-own step.LowerArgs k new (flats, area, placed, p, ways, t) = call-own flats area placed p step.LowerArgs k ways new t
+    trapped-own step.Body k new (flats, area, placed, p, ways, t) = call-own flats area placed p step.Body k ways new t
+    trapped-own step.LiftResult k new (flats, area, placed, p, ways, t) =
+        let (values, held, (answer, ran, found, fault, same)) = call-own flats area placed p step.LiftResult k ways new t in
+        (answer, ran, found-before flats area placed p values (same-arguments flats area placed p values held) (Some answer) ran found, fault, same)
+    trapped-own step.LowerResult k new (flats, area, placed, p, ways, t) =
+        elim (call-own flats area placed p step.LowerResult k ways new t) [ inl full ↦ full | inr faulty ↦ absurd (area-stands flats area placed p k faulty) ]
+    trapped-own step.Post k new (flats, area, placed, p, ways, t) = call-own flats area placed p step.Post k ways new t
+    trapped-own step.Take k new (back, area, b, fault) =
+        (told-result new.caller.bytes back area).not_both b.completes.returns.values k (result-held back area new b) fault
 
-      trapped-own : (s : Step) (k : TrapKind) (new : World) → TypedTraps parties order f arguments old s k new → IsOwnTrap parties f arguments old new s k
-      trapped-own step.Place k new t = (place-broke k new t).2
-      trapped-own step.LiftArgs k new (flats, area, placed, p, ways, t) = no-argument-fault flats area placed p k (call-own flats area placed p step.LiftArgs k ways new t)
-      trapped-own step.LowerArgs k new (flats, area, placed, p, ways, t) = call-own flats area placed p step.LowerArgs k ways new t
-      trapped-own step.Body k new (flats, area, placed, p, ways, t) = call-own flats area placed p step.Body k ways new t
-      trapped-own step.LiftResult k new (flats, area, placed, p, ways, t) =
-          let (values, held, (answer, ran, found, fault, same)) = call-own flats area placed p step.LiftResult k ways new t in
-          (answer, ran, found-before flats area placed p values (same-arguments flats area placed p values held) (Some answer) ran found, fault, same)
-      trapped-own step.LowerResult k new (flats, area, placed, p, ways, t) =
-          elim (call-own flats area placed p step.LowerResult k ways new t) [ inl full ↦ full | inr faulty ↦ absurd (area-stands flats area placed p k faulty) ]
-      trapped-own step.Post k new (flats, area, placed, p, ways, t) = call-own flats area placed p step.Post k ways new t
-      trapped-own step.Take k new (back, area, b, fault) =
-          (told-result new.caller.bytes back area).not_both b.completes.returns.values k (result-held back area new b) fault
+    -- ---- each answer
 
-      -- ---- each answer
+    unchanged-by : (new : World) → WentFine parties old new → CallerIsUnchanged parties old new
+    unchanged-by new (es, fine) = keeps-outside parties.caller_allocates caller_releases honest.caller Nowhere old.caller new.caller es fine 0 0 (λ x i. absurd i)
 
-      unchanged-by : (new : World) → WentFine parties old new → CallerIsUnchanged parties old new
-      unchanged-by new (es, fine) = keeps-outside parties.caller_allocates caller_releases honest.caller Nowhere old.caller new.caller es fine 0 0 (λ x i. absurd i)
-
-      promise : (result : Result (Option Value) Fault) (new : World) → TypedCall parties order f arguments old result new → KeepsPromise parties order f arguments old result new
-      promise (Ok v) new (back, area, b, has) = record {
-        finds = λ e. came-once back area new b;
-        before = λ e. absurd e;
-        once = inr (came-once back area new b);
-        lifts = (b.completes.answer, b.completes.returns.answered, came-found back area new b, lifted back area new b v has, (came-posted back area new b));
-        unchanged = unchanged-by new (came-fine back area new b);
-        trap = tt;
-        own = tt;
-      }
-        where
-          came-posted : (back : List Flat) (area : ℕ) (new : World) (b : CameBack parties f arguments old back area new) → parties.posts b.completes.returns.answered.body b.completes.returns.answered.callee b.completes.answer new.body new.callee (Some tt)
-          came-posted back area new b =
-              posted parties caller_releases callee_releases order f b.flats honest standard b.placed (placed-few b.flats area b.placed b.places) callee_keeps b.completes.answer back b.ways b.completes.returned new (Some tt) b.completes.returns b.completes.finishes
-      promise (Err (Trap t)) new traps = record {
-        finds = λ e. trapped-once t.step t.kind new traps e;
-        before = λ e. trapped-before t.step t.kind new traps e;
-        once = trapped-either t.step t.kind new traps;
-        lifts = tt;
-        unchanged = unchanged-by new (trapped-fine t.step t.kind new traps);
-        trap = traps;
-        own = trapped-own t.step t.kind new traps;
-      }
-      promise (Err NoMemory) new c = record {
-        finds = λ e. wanting-once order refl new c e;
-        before = λ e. absurd e;
-        once = wanting-either new c;
-        lifts = tt;
-        unchanged = unchanged-by new (call-went-fine (Err NoMemory) new c);
-        trap = tt;
-        own = tt;
-      }
+    promise : (result : Result (Option Value) Fault) (new : World) → TypedCall parties order f arguments old result new → KeepsPromise parties order f arguments old result new
+    promise (Ok v) new (back, area, b, has) = record {
+      finds = λ e. came-once back area new b;
+      before = λ e. absurd e;
+      once = inr (came-once back area new b);
+      lifts = (b.completes.answer, b.completes.returns.answered, came-found back area new b, lifted back area new b v has, (came-posted back area new b));
+      unchanged = unchanged-by new (came-fine back area new b);
+      trap = tt;
+      own = tt;
+    }
+      where
+        came-posted : (back : List Flat) (area : ℕ) (new : World) (b : CameBack parties f arguments old back area new) → parties.posts b.completes.returns.answered.body b.completes.returns.answered.callee b.completes.answer new.body new.callee (Some tt)
+        came-posted back area new b =
+            posted parties caller_releases callee_releases order f b.flats honest standard b.placed b.completes.answer back b.ways b.completes.returned new (Some tt) b.completes.returns b.completes.finishes
+    promise (Err (Trap t)) new traps = record {
+      finds = λ e. trapped-once t.step t.kind new traps e;
+      before = λ e. trapped-before t.step t.kind new traps e;
+      once = trapped-either t.step t.kind new traps;
+      lifts = tt;
+      unchanged = unchanged-by new (trapped-fine t.step t.kind new traps);
+      trap = traps;
+      own = trapped-own t.step t.kind new traps;
+    }
+    promise (Err NoMemory) new c = record {
+      finds = λ e. wanting-once order refl new c e;
+      before = λ e. absurd e;
+      once = wanting-either new c;
+      lifts = tt;
+      unchanged = unchanged-by new (call-went-fine (Err NoMemory) new c);
+      trap = tt;
+      own = tt;
+    }
 
 pub keeps-promise : (parties : Parties) (caller_releases callee_releases : Release) (order : Order) → CallKeepsPromise parties caller_releases callee_releases order
-keeps-promise parties caller_releases callee_releases order f arguments old result new standard called honest limited =
-    promise parties caller_releases callee_releases order f arguments honest standard old limited.caller limited.caller_keeps limited.callee limited.callee_keeps result new called
+keeps-promise parties caller_releases callee_releases order f arguments old result new standard called honest =
+    promise parties caller_releases callee_releases order f arguments honest standard old result new called

@@ -174,7 +174,7 @@ module _ (parties : Parties) (caller_releases callee_releases : Release) (honest
       ran-of : (values : List Value) (handed : List Flat) (there : List Event) (entered : World) (answer : Option (List Flat)) (new : World) → Enters parties f flats placed values handed there entered
           → Runs parties f flats entered handed answer new → HasRun answer new.callee new.body
       ran-of values handed there entered answer new e r =
-          let same = same-arguments parties caller_releases callee_releases exact f arguments honest standard old few keeps flats area placed p values e.denoted in
+          let same = same-arguments parties caller_releases callee_releases exact f arguments honest standard old flats area placed p values e.denoted in
           record {
             entered = entered.callee;
             events = there;
@@ -204,11 +204,11 @@ module _ (parties : Parties) (caller_releases callee_releases : Release) (honest
 
       -- the caller's flat values denote the arguments
       no-fault : (k : TrapKind) → IsArgumentFault f flats placed.caller k → ⊥
-      no-fault k fault = no-argument-fault parties caller_releases callee_releases exact f arguments honest standard old few keeps flats area placed p k fault
+      no-fault k fault = no-argument-fault parties caller_releases callee_releases exact f arguments honest standard old flats area placed p k fault
 
       refused-of : (k : TrapKind) (done : List Event) (new : World) → ArgumentsFail parties exact f flats placed k done new → Refused parties.callee_allocates parties.runs parties.posts f arguments old.callee old.body new.callee
       refused-of k done new (kinds, es, inl (values, handed, denoted, passes), (front, made, rest, next, asked, whole, is, leads, fails), same_done, caller, body) =
-          let same = same-arguments parties caller_releases callee_releases exact f arguments honest standard old few keeps flats area placed p values denoted in
+          let same = same-arguments parties caller_releases callee_releases exact f arguments honest standard old flats area placed p values denoted in
           record {
             done = front;
             rest = rest;

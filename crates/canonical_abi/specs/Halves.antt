@@ -6,12 +6,12 @@ use Rattle.canonical_abi.specs.Types.{FunctionType, result_fields}
 use Rattle.canonical_abi.specs.Layout.{max_flat_params, max_flat_results}
 use Rattle.canonical_abi.specs.Flat.{Denotes, DenotesFault}
 use Rattle.canonical_abi.specs.Values.{Value}
-use Rattle.canonical_abi.specs.Guest.{Memory, Allocation, Release, IsLimited}
+use Rattle.canonical_abi.specs.Guest.{Memory, Allocation, Release}
 use Rattle.canonical_abi.specs.Trace.{Event, nodes_of}
 use Rattle.canonical_abi.specs.Call.{exact, Parties, World, Ways, Enters, Returns, ArgumentsFaulty, ArgumentsFail, ResultFaulty, ResultFails, Calls, KindsFit, area_of, ReturnAreaFaulty}
 use Rattle.canonical_abi.specs.Session.{HasResult}
 use Rattle.canonical_abi.specs.Headline as headline
-use Rattle.canonical_abi.specs.Headline.{IsStandardFunction, AreHonest, AreLimited, LendsArea, AreArguments, IsArgumentFault, KeepsOutside, area_size, CalleeIsUnchanged, EndsBeforeBody, AfterRun, IfTrap, IsLinkTrap, LinksOnce, GivesBack}
+use Rattle.canonical_abi.specs.Headline.{IsStandardFunction, AreHonest, LendsArea, AreArguments, IsArgumentFault, KeepsOutside, area_size, CalleeIsUnchanged, EndsBeforeBody, AfterRun, IfTrap, IsLinkTrap, LinksOnce, GivesBack}
 use Rattle.canonical_abi.specs.declared.flat.Flat.{Flat}
 use Rattle.canonical_abi.specs.declared.trap.Fault.{Fault}
 use Rattle.canonical_abi.specs.declared.trap.Fault.TheVariants.{Trap, NoMemory}
@@ -80,7 +80,7 @@ ReturnFails allocates f flats m answer old (Trap t) new c =
     × ResultFails (returning allocates) exact f flats (as_world old (source m) []) answer t.kind done (as_world new (source m) []) × (c ≡ counted_nodes done))
 ReturnFails allocates f flats m answer old NoMemory new c = ⊥
 
--- ---- what each half promises by itself, over a memory whose allocator is honest and keeps the limit
+-- ---- what each half promises by itself, over a memory whose allocator is honest
 
 -- the callee finds exactly the arguments that the caller holds, and no byte of it outside the blocks handed out is changed
 pub record FindsArguments (allocates : Allocation) (f : FunctionType) (flats : List Flat) (m : List ℕ) (old : Memory) (handed : List Flat) (new : Memory) : Type 0 where
@@ -96,7 +96,7 @@ IsEntryTrap f flats m step.LowerArgs k = k ≡ trap.Full
 IsEntryTrap f flats m _ k = ⊥
 
 pub record EntryKeepsPromise (allocates : Allocation) : Type 0 where
-  pub done : (f : FunctionType) (flats : List Flat) (m : List ℕ) (old : Memory) (handed : List Flat) (new : Memory) (c : ℕ) → IsStandardFunction f → IsLimited old
+  pub done : (f : FunctionType) (flats : List Flat) (m : List ℕ) (old : Memory) (handed : List Flat) (new : Memory) (c : ℕ) → IsStandardFunction f
       → HasEntered allocates f flats m old handed new c → FindsArguments allocates f flats m old handed new
   pub fails : (f : FunctionType) (flats : List Flat) (m : List ℕ) (old : Memory) (fault : Fault) (new : Memory) (c : ℕ)
       → EntryFails allocates f flats m old fault new c → KeepsOutside allocates 0 0 old new × IfTrap {A = List Flat} (Err fault) (IsEntryTrap f flats m)
@@ -116,7 +116,7 @@ IsReturnTrap f flats m answer old step.LowerResult k = (k ≡ trap.Full) ⊎ Ret
 IsReturnTrap f flats m answer old _ k = ⊥
 
 pub record ReturnKeepsPromise (allocates : Allocation) : Type 0 where
-  pub done : (f : FunctionType) (flats : List Flat) (m : List ℕ) (answer : List Flat) (old : Memory) (given : List Flat) (new : Memory) (c : ℕ) → IsStandardFunction f → IsLimited old
+  pub done : (f : FunctionType) (flats : List Flat) (m : List ℕ) (answer : List Flat) (old : Memory) (given : List Flat) (new : Memory) (c : ℕ) → IsStandardFunction f
       → KindsFit f flats → LendsArea f flats old → HasReturned allocates f flats m answer old given new c → GivesAnswer allocates f flats m answer old given new
   pub fails : (f : FunctionType) (flats : List Flat) (m : List ℕ) (answer : List Flat) (old : Memory) (fault : Fault) (new : Memory) (c : ℕ)
       → ReturnFails allocates f flats m answer old fault new c
@@ -193,10 +193,10 @@ pub record HalvesKeep (parties : Parties) (f : FunctionType) (flats : List Flat)
   pub unchanged : KeepsOutside parties.caller_allocates (area_of f flats) (area_size f) between new.caller
   pub own : IfTrap result (IsHalvesTrap parties f flats old between new)
 
--- over honest guests, both memories within the limit as each half begins, and a return area that is live as the second does
+-- over honest guests, and a return area that is live as the second does
 abbrev pub HalvesKeepPromise : Parties → Release → Release → Type 0
 HalvesKeepPromise parties caller_releases callee_releases =
     (f : FunctionType) (flats : List Flat) (old : World) (between : Memory) (result : Result (List Flat) Fault) (there back : ℕ) (new : World)
     → IsStandardFunction f → CallsInHalves parties f flats old between result there back new
-    → AreHonest parties caller_releases callee_releases → AreLimited parties (as_world between old.callee old.body) → LendsArea f flats between
+    → AreHonest parties caller_releases callee_releases → LendsArea f flats between
     → HalvesKeep parties f flats old between result new

@@ -17,7 +17,7 @@ use Rattle.host_calls.specs.declared.half_error.HalfError.{HalfError}
 use Rattle.host_calls.specs.declared.half_error.HalfError.TheVariants as half
 use Rattle.memory.specs.Blocks.{is_apart, are_good}
 use Rattle.memory.specs.Lent.{lent, LentAllocates, LentReleases}
-use Rattle.memory.specs.LentLaws.{LentIsHonest, LentKeepsLimit}
+use Rattle.memory.specs.LentLaws.{LentIsHonest}
 use Rattle.memory.specs.declared.block.Block.{Block}
 use Rattle.example_host_halves.specs.Promise.{hosting, HasGranted, LeavesCall, IsToldAs, MakesCall, RunsOnBytes, PostsOnBytes, EntersCall}
 
@@ -60,12 +60,6 @@ module _ (runs : Run) (posts : PostRun) (law : HalvesKeepPromise (hosting runs p
     promise =
         law f flats (as_world (source caller) (lent name entering there) []) (lent other between back) ended n m new standard calls
         (record { caller = LentIsHonest; callee = LentIsHonest })
-        (record {
-          caller = subst (λ (k : ℕ). k < 4294967296) (sym grants'.0) short;
-          callee = subst (λ (k : ℕ). k < 4294967296) (sym grants.0) limited;
-          caller_keeps = LentKeepsLimit;
-          callee_keeps = LentKeepsLimit;
-        })
         lends;
   }
 

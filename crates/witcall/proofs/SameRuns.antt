@@ -28,6 +28,7 @@ module _ (caller callee : Allocation) (runs now : Run) (posts posts_now : PostRu
       denoted = e.denoted;
       passes = e.passes;
       leads = e.leads;
+      small = e.small;
       same_caller = e.same_caller;
       same_body = e.same_body;
     }
@@ -42,6 +43,7 @@ module _ (caller callee : Allocation) (runs now : Run) (posts posts_now : PostRu
       area_stands = r.area_stands;
       passes = r.passes;
       leads = r.leads;
+      small = r.small;
       same_callee = r.same_callee;
       same_body = r.same_body;
     }
@@ -93,7 +95,7 @@ module _ (caller callee : Allocation) (runs now : Run) (posts posts_now : PostRu
 
   module _ (f : FunctionType) (arguments : List Value) where
     placed : (old : World) (flats : List Flat) (area : ℕ) (new : World) → Placed later f arguments old flats area new → Placed first f arguments old flats area new
-    placed old flats area new p = record { puts = p.puts; same_callee = p.same_callee; same_body = p.same_body }
+    placed old flats area new p = record { puts = p.puts; small = p.small; same_callee = p.same_callee; same_body = p.same_body }
 
     place_fails : (old : World) (k : TrapKind) (new : World) → PlaceFails later f arguments old k new → PlaceFails first f arguments old k new
     place_fails old k new p = record { fails = p.fails; same_callee = p.same_callee; same_body = p.same_body }

@@ -3,7 +3,7 @@ use Rattle.std.proofs.Common.{◌≡◌, ℕ, List, Option, Result, Ok, Err, inl
 use Rattle.std.specs.Option.{option_map}
 use Rattle.canonical_abi.specs.Types.{FunctionType, result_fields}
 use Rattle.canonical_abi.specs.Values.{Value}
-use Rattle.canonical_abi.specs.Guest.{Memory}
+use Rattle.canonical_abi.specs.Guest.{Memory, IsLimited}
 use Rattle.canonical_abi.specs.Call.{exact, Parties, World, Ways, Traps, Calls}
 use Rattle.canonical_abi.specs.Session.{HasResult, HasResultFault, Placed, PlaceFails, CameBack, TypedTraps, TypedCall}
 use Rattle.canonical_abi.specs.declared.flat.Flat.{Flat}
@@ -22,9 +22,9 @@ use Rattle.std.specs.Prelude.{option_to_list}
 
 module _ (parties : Parties) (f : FunctionType) (arguments : List Value) where
   pub placed : (caller caller' callee : Memory) (body : List ℕ) (flats : List Flat) (area : Option ℕ)
-      → IsReady parties.caller_allocates f arguments caller flats area caller'
+      → IsReady parties.caller_allocates f arguments caller flats area caller' → IsLimited caller'
       → Placed parties f arguments (as_world caller callee body) flats (area_at area) (as_world caller' callee body)
-  placed caller caller' callee body flats area h = record { puts = h; same_callee = refl; same_body = refl }
+  placed caller caller' callee body flats area h small = record { puts = h; small = small; same_callee = refl; same_body = refl }
 
   pub place_fails : (caller caller' callee : Memory) (body : List ℕ) (fault : Fault)
       → IsNotReady parties.caller_allocates f arguments caller fault caller'

@@ -1,6 +1,7 @@
 //! What is put into the caller: the arguments of a call and its return area, and values that stay.
 
 ghost use Rattle.std.specs.Prelude.{map, IfOk, IfErr};
+ghost use Rattle.canonical_abi.specs.Guest.{IsLimited};
 ghost use Rattle.canonical_abi.specs.Session.{PlacesValue};
 ghost use Rattle.canonical_abi.specs.Types.{result_fields};
 ghost use Rattle.canonical_abi.specs.Values.{HasType, HaveTypes};
@@ -36,6 +37,7 @@ pub(crate) fn place_call<C: Guest>(
     requires typed { HaveTypes (map value_of arguments.now) (function_type table.now func).params }
     ensures placed { IfOk result (λ placed. IsReady C.allocates (function_type table.now func) (map value_of arguments.now)
         (C.memory caller.old) placed.flats.items placed.area (C.memory caller.new)) }
+    ensures small { IfOk result (λ _. IsLimited (C.memory caller.new)) }
     ensures area { IfOk result (λ placed. IsAreaIn (result_fields (function_type table.now func).result)
         (C.memory caller.new).bytes placed.area) }
     ensures fault { IfErr result (λ fault. IsNotReady C.allocates (function_type table.now func) (map value_of arguments.now)
@@ -43,6 +45,8 @@ pub(crate) fn place_call<C: Guest>(
 {
     let mut flats = lower_arguments(table, func, arguments, caller)?;
     let area = ask_area(table, table.resolve().signature(func).result, caller)?;
+    // A memory's length is a number of 32 bits.
+    let _len = caller.len();
     let Some(at) = area else {
         return Ok(Placed { flats, area });
     };

@@ -45,7 +45,7 @@ returns-in-Ok-clause-entered g c =
     let kinds : KindsFit f flats = search rules in
     let same = same-arguments f flats _ c.lifted_count-count.result (lifted_signature f) refl (c.lifted_count-count.ensures r c.layouts-layouts.ensures c.requires.function) refl in
     let ends = rw (row, same) at c.cross_params-crossed.ensures in
-    let told = arguments-end EA f flats m callee kinds _ c.cross_params-crossed.result callee' _ c.cross_params-crossed.new.out.items c.requires.fresh (omega arith) ends in
+    let told = arguments-end EA f flats m callee kinds _ c.cross_params-crossed.result callee' _ c.cross_params-crossed.new.out.items c.requires.fresh (omega arith) (omega arith) ends in
     subst (EndsArguments EA f flats m callee callee' c.cross_params-crossed.new.nodes c.cross_params-crossed.new.out.items) c.in-Ok.is told
 
 pub returns-in-Err-clause-fault : goal.returns-in-Err-clause-fault
@@ -61,5 +61,5 @@ returns-in-Err-clause-fault g c =
     let kinds : KindsFit f flats = search rules in
     let same = same-arguments f flats _ c.lifted_count-count.result (lifted_signature f) refl (c.lifted_count-count.ensures r c.layouts-layouts.ensures c.requires.function) refl in
     let ends = rw (row, same) at c.cross_params-crossed.ensures in
-    let told = arguments-end EA f flats m callee kinds _ c.cross_params-crossed.result callee' _ c.cross_params-crossed.new.out.items c.requires.fresh (omega arith) ends in
+    let told = arguments-end EA f flats m callee kinds _ c.cross_params-crossed.result callee' _ c.cross_params-crossed.new.out.items c.requires.fresh (omega arith) (omega arith) ends in
     rw c.fault_of.ensures (subst (EndsArguments EA f flats m callee callee' c.cross_params-crossed.new.nodes c.cross_params-crossed.new.out.items) c.in-Err.is told)

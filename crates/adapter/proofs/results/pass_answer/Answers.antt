@@ -46,7 +46,7 @@ returns-in-Ok-clause-returned g c =
     let own : fields_of_types r c.as_slice-types.result.now ≡ result_fields f.result = ap (fields_of_types r) (same_types s.result _ c.as_slice-types.ensures) ∙ result-fields r s.result ∙ ap result_fields (sym is) in
     let area = area-is f flats c.area_in.result c.lifted_count.result (lifted_signature f) c.area_in.ensures (c.lifted_count.ensures r c.layouts-layouts.ensures c.requires.function) refl in
     let ends = rw (own, area) at c.cross_result-crossed.ensures in
-    let told = result-ends CA f flats caller m c.args.answer.now _ c.cross_result-crossed.result caller' _ c.cross_result-crossed.new.out.items c.requires.fresh (omega arith) ends in
+    let told = result-ends CA f flats caller m c.args.answer.now _ c.cross_result-crossed.result caller' _ c.cross_result-crossed.new.out.items c.requires.fresh (omega arith) (omega arith) ends in
     subst (EndsResult CA f flats caller m c.args.answer.now caller' c.cross_result-crossed.new.nodes c.cross_result-crossed.new.out.items) c.in-Ok.is told
 
 pub returns-in-Err-clause-fault : goal.returns-in-Err-clause-fault
@@ -63,6 +63,6 @@ returns-in-Err-clause-fault g c =
     let own : fields_of_types r c.as_slice-types.result.now ≡ result_fields f.result = ap (fields_of_types r) (same_types s.result _ c.as_slice-types.ensures) ∙ result-fields r s.result ∙ ap result_fields (sym is) in
     let area = area-is f flats c.area_in.result c.lifted_count.result (lifted_signature f) c.area_in.ensures (c.lifted_count.ensures r c.layouts-layouts.ensures c.requires.function) refl in
     let ends = rw (own, area) at c.cross_result-crossed.ensures in
-    let told = result-ends CA f flats caller m c.args.answer.now _ c.cross_result-crossed.result caller' _ c.cross_result-crossed.new.out.items c.requires.fresh (omega arith) ends in
+    let told = result-ends CA f flats caller m c.args.answer.now _ c.cross_result-crossed.result caller' _ c.cross_result-crossed.new.out.items c.requires.fresh (omega arith) (omega arith) ends in
     let kinds : KindsFit f flats = search rules in
     inr (kinds, rw c.fault_of.ensures (subst (EndsResult CA f flats caller m c.args.answer.now caller' c.cross_result-crossed.new.nodes c.cross_result-crossed.new.out.items) c.in-Err.is told))

@@ -2,4 +2,4 @@ use Rattle.canonical_abi.proofs.HalfPromises.{entry-keeps-promise}
 use Rattle.canonical_abi.proofs.laws.entry_keeps_promise.Goals as goal
 
 pub returns : goal.returns
-returns g c = λ honest keeps. entry-keeps-promise _ _ honest keeps
+returns g c = λ honest. entry-keeps-promise _ _ honest

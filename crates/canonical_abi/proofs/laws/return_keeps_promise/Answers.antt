@@ -2,4 +2,4 @@ use Rattle.canonical_abi.proofs.HalfPromises.{return-keeps-promise}
 use Rattle.canonical_abi.proofs.laws.return_keeps_promise.Goals as goal
 
 pub returns : goal.returns
-returns g c = λ honest keeps. return-keeps-promise _ _ honest keeps
+returns g c = λ honest. return-keeps-promise _ _ honest
