@@ -41,18 +41,19 @@ pub record NamesCall (r : Resolve) (iface func args : List ℕ) (f : FunctionId)
   pub named : IsNamed r iface func f
   pub are_read : IsArrayTextOf r (function_signature (function_at r f)).params args vs
 
--- a call of the function over two fresh memories, on a body that may make these runs, has this answer
-abbrev pub CallAnswers : Resolve → FunctionId → List Value → Run → PostRun → List ℕ → Result (Option Value) Fault → Type 0
-CallAnswers r f vs runs posts state answer =
-    (new : World) × TypedCall (spaces runs posts) exact (function_type r f) vs (program_world state) answer new
+-- a call of the function over two fresh memories, on a body that may make these runs, has this answer; the body is then in the state `after`
+abbrev pub CallAnswers : Resolve → FunctionId → List Value → Run → PostRun → (state : List ℕ) → Result (Option Value) Fault → (after : List ℕ) → Type 0
+CallAnswers r f vs runs posts state answer after =
+    (caller callee : Memory)
+    × TypedCall (spaces runs posts) exact (function_type r f) vs (program_world state) answer (record { caller = caller; callee = callee; body = after })
 
 -- the call that the words ask for is made on a body that may make these runs, and this is its output
-pub record Prints (r : Resolve) (iface func args : List ℕ) (runs : Run) (posts : PostRun) (state output : List ℕ) : Type 0 where
+pub record Prints (r : Resolve) (iface func args : List ℕ) (runs : Run) (posts : PostRun) (state after output : List ℕ) : Type 0 where
   pub function : FunctionId
   pub arguments : List Value
   pub asked : NamesCall r iface func args function arguments
   pub answer : Option Value
-  pub called : CallAnswers r function arguments runs posts state (Ok answer)
+  pub called : CallAnswers r function arguments runs posts state (Ok answer) after
   pub printed : IsOutputOf r (function_signature (function_at r function)).result answer output
 
 -- the call came to its end, or memory of the host was wanting in it: it did not trap
@@ -62,18 +63,25 @@ IsNoTrap (Err fault.NoMemory) = Unit {0}
 IsNoTrap (Err (fault.Trap t)) = ⊥
 
 -- why the call of a function is refused: a trap of it, or want of the host's memory
-abbrev pub CallRefuses : Resolve → FunctionId → List Value → Run → PostRun → List ℕ → Refused → Type 0
-CallRefuses r f vs runs posts state (refused.Trap t) = CallAnswers r f vs runs posts state (Err (fault.Trap t))
-CallRefuses r f vs runs posts state (refused.Memory e) = e ≡ memory.NoMemory
-CallRefuses r f vs runs posts state refused.NoMemory =
-    (answer : Result (Option Value) Fault) × CallAnswers r f vs runs posts state answer × IsNoTrap answer
-CallRefuses r f vs runs posts state _ = ⊥
+abbrev pub CallRefuses : Resolve → FunctionId → List Value → Run → PostRun → (state after : List ℕ) → Refused → Type 0
+CallRefuses r f vs runs posts state after (refused.Trap t) = CallAnswers r f vs runs posts state (Err (fault.Trap t)) after
+CallRefuses r f vs runs posts state after (refused.Memory e) = e ≡ memory.NoMemory
+CallRefuses r f vs runs posts state after refused.NoMemory =
+    (answer : Result (Option Value) Fault) × CallAnswers r f vs runs posts state answer after × IsNoTrap answer
+CallRefuses r f vs runs posts state after _ = ⊥
 
 -- why the call that the words ask for is refused
-abbrev pub RunCallRefuses : Resolve → (iface func args : List ℕ) → Run → PostRun → (state : List ℕ) → Refused → Type 0
-RunCallRefuses r iface func args runs posts state refused.NoFunction = IsMissing r iface func
-RunCallRefuses r iface func args runs posts state (refused.Json e) =
+abbrev pub RunCallRefuses : Resolve → (iface func args : List ℕ) → Run → PostRun → (state after : List ℕ) → Refused → Type 0
+RunCallRefuses r iface func args runs posts state after refused.NoFunction = IsMissing r iface func
+RunCallRefuses r iface func args runs posts state after (refused.Json e) =
     (f : FunctionId) × IsNamed r iface func f × RefusesArray r (function_signature (function_at r f)).params args e
-RunCallRefuses r iface func args runs posts state refused.Write = (output : List ℕ) × Prints r iface func args runs posts state output
-RunCallRefuses r iface func args runs posts state e =
-    (f : FunctionId) × (vs : List Value) × NamesCall r iface func args f vs × CallRefuses r f vs runs posts state e
+RunCallRefuses r iface func args runs posts state after refused.Write = (output : List ℕ) × Prints r iface func args runs posts state after output
+RunCallRefuses r iface func args runs posts state after e =
+    (f : FunctionId) × (vs : List Value) × NamesCall r iface func args f vs × CallRefuses r f vs runs posts state after e
+
+-- such a refusal comes before the call: the body was not run
+abbrev pub IsBeforeCall : Refused → Type 0
+IsBeforeCall refused.NoFunction = Unit {0}
+IsBeforeCall (refused.Json e) = Unit {0}
+IsBeforeCall (refused.Memory e) = Unit {0}
+IsBeforeCall _ = ⊥

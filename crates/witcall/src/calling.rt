@@ -9,14 +9,14 @@ ghost use Rattle.tables.specs.Closed.{IsFunction, function_at, function_type};
 ghost use Rattle.values.specs.Val.{value_of};
 ghost use Rattle.memory.specs.Growth.{ArePages};
 ghost use Rattle.witcall.specs.Signature.{function_signature};
-ghost use Rattle.witcall.specs.Calling.{IsOutputOf, Prints, RunCallRefuses, CallAnswers, CallRefuses, fresh};
+ghost use Rattle.witcall.specs.Calling.{IsOutputOf, Prints, RunCallRefuses, IsBeforeCall, fresh};
 
 use crate::json::{arguments_from_json, to_json};
 use crate::output::write_bytes;
 use crate::refused::Refused;
-use crate::session::Session;
+use crate::session::call_typed;
 use crate::signature::{function_named, result_type};
-use adapter::{BoxedBody, Export};
+use adapter::Body;
 use atoms::Sink;
 use lift_lower::Val;
 use memory::{FirstFit, Guest, MemoryError, Space};
@@ -31,59 +31,48 @@ const MEMORY: u32 = 65_536;
 const MAX_MEMORY: u32 = 1_048_576;
 
 /// Calls a function of the package over two fresh memories, and writes its result as compact JSON and a
-/// newline, or nothing where it has no result. `args` is a JSON array of the arguments. Faults come in
-/// this order: 63, those of `args` (61, 62), those of the call, 65; only after 65 a beginning may have
-/// been written.
-pub fn run_call<W: Sink>(
+/// newline, or nothing where it has no result. `args` is a JSON array of the arguments. The body is run
+/// once, and is then as that call left it. Faults come in this order: 63, those of `args` (61, 62), those
+/// of the call, 65; only after 65 a beginning may have been written. With 63, faults of `args` and 54 the
+/// body was not run.
+pub fn run_call<W: Sink, B: Body<Space>>(
     alloc: Global,
     package: &Package,
     iface: &str,
     func: &str,
     args: &str,
-    body: Box<dyn Export>,
+    body: &mut B,
     writer: &mut W,
 ) -> Result<(), Refused>
     requires { W.has_failed writer.old ≡ false }
     ensures ok { OnOk result ((output : List ℕ)
-        × Prints «package».now.resolve iface.now func.now args.now (runs body) (posts body) (state body) output
+        × Prints «package».now.resolve iface.now func.now args.now (B.runs body.old) (B.posts body.old) (B.state body.old) (B.state body.new) output
         × Appends (W.contents writer.old) (W.contents writer.new) output) }
     ensures begun { IsErrOf result Refused.Write → (output : List ℕ) × (count : ℕ)
-        × Prints «package».now.resolve iface.now func.now args.now (runs body) (posts body) (state body) output
+        × Prints «package».now.resolve iface.now func.now args.now (B.runs body.old) (B.posts body.old) (B.state body.old) (B.state body.new) output
         × (count ≤ length output) × Appends (W.contents writer.old) (W.contents writer.new) (take count output) }
-    ensures err { IfErr result (RunCallRefuses «package».now.resolve iface.now func.now args.now (runs body) (posts body) (state body)) }
+    ensures err { IfErr result (RunCallRefuses «package».now.resolve iface.now func.now args.now (B.runs body.old) (B.posts body.old) (B.state body.old) (B.state body.new)) }
+    ensures not_run { IfErr result (λ e. IsBeforeCall e → body.new ≡ body.old) }
     ensures broken { IsErrOf result Refused.Write → W.has_failed writer.new ≡ true }
     ensures unbroken { W.has_failed writer.new ≡ true → IsErrOf result Refused.Write }
     ensures unwritten { IfErr result (λ e. e ≢ Refused.Write → Keeps (W.contents writer.old) (W.contents writer.new)) }
 {
     let func = function_named(package, iface, func)?;
     let arguments = arguments_from_json(alloc, package, func, args)?;
-    let answer = call_once(alloc, package, func, arguments.as_slice(), body)?;
+    let mut caller = fresh_memory(alloc, MEMORY, MAX_MEMORY)?;
+    let mut callee = fresh_memory(alloc, MEMORY, MAX_MEMORY)?;
+    let answer = call_typed(
+        alloc,
+        package,
+        func,
+        arguments.as_slice(),
+        &mut caller,
+        &mut callee,
+        body,
+    )?;
     let output = output_of(alloc, package, func, answer)?;
     write_bytes(writer, output.as_bytes())?;
     Ok(())
-}
-
-/// The call itself, and its result.
-fn call_once(
-    alloc: Global,
-    package: &Package,
-    func: FunctionId,
-    arguments: &[Val],
-    body: Box<dyn Export>,
-) -> Result<Option<Val>, Refused>
-    requires function { IsFunction «package».now.resolve func }
-    requires typed { HaveTypes (map value_of arguments.now) (function_type «package».now.resolve func).params }
-    ensures call { IfOk result (λ v. CallAnswers «package».now.resolve func (map value_of arguments.now)
-        (runs body) (posts body) (state body) (Ok (option_map value_of v))) }
-    ensures err { IfErr result (CallRefuses «package».now.resolve func (map value_of arguments.now) (runs body) (posts body) (state body)) }
-    ensures typed { IfOk result (λ v. HaveTypes (option_to_list (option_map value_of v))
-        (result_fields (function_type «package».now.resolve func).result)) }
-{
-    let caller = fresh_memory(alloc, MEMORY, MAX_MEMORY)?;
-    let callee = fresh_memory(alloc, MEMORY, MAX_MEMORY)?;
-    let mut session = Session::new(package, caller, callee, BoxedBody::new(body));
-    let answer = session.call(alloc, func, arguments)?;
-    Ok(answer)
 }
 
 /// A memory of so many zeros that may grow to so many.

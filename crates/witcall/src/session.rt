@@ -101,24 +101,14 @@ impl<'a, C: Guest, E: Guest, B: Body<E>> Session<'a, C, E, B> {
         ensures package { self.new.package.now ≡ self.old.package.now }
         ensures no_memory { IfSome (function_type self.old.package.now.resolve func).result IsPlain → result ≢ Err Fault.NoMemory }
     {
-        let table = self.package.types();
-        let placed = place_call(&table, func, arguments, &mut self.caller)?;
-        let resolve = table.resolve();
-        let mut link = Link::new(resolve, table.layouts());
-        let back = link.call(
+        call_typed(
+            alloc,
+            self.package,
             func,
-            placed.flats.as_slice(),
+            arguments,
             &mut self.caller,
             &mut self.callee,
             &mut self.body,
-        )?;
-        take_result(
-            alloc,
-            &table,
-            resolve.signature(func).result,
-            back.as_slice(),
-            placed.area,
-            &self.caller,
         )
     }
 
@@ -232,4 +222,55 @@ impl<'a, C: Guest, E: Guest, B: Body<E>> Session<'a, C, E, B> {
             Step::Release(at, size) => Answer::Released(self.release(*at, *size)),
         }
     }
+}
+
+/// The call itself, over memories and a body that are lent.
+pub(crate) fn call_typed<C: Guest, E: Guest, B: Body<E>>(
+    alloc: Global,
+    package: &Package,
+    func: FunctionId,
+    arguments: &[Val],
+    caller: &mut C,
+    callee: &mut E,
+    body: &mut B,
+) -> Result<Option<Val>, Fault>
+    requires function { IsFunction «package».now.resolve func }
+    requires typed { HaveTypes (map value_of arguments.now) (function_type «package».now.resolve func).params }
+    ensures call { TypedCall
+        (record { caller_allocates = C.allocates; callee_allocates = E.allocates; runs = B.runs body.old; posts = B.posts body.old })
+        exact
+        (function_type «package».now.resolve func)
+        (map value_of arguments.now)
+        (record { caller = C.memory caller.old; callee = E.memory callee.old; body = B.state body.old })
+        (typed_answer result)
+        (record { caller = C.memory caller.new; callee = E.memory callee.new; body = B.state body.new }) }
+    ensures promise { IsPromised
+        (record { caller_allocates = C.allocates; callee_allocates = E.allocates; runs = B.runs body.old; posts = B.posts body.old })
+        C.releases
+        E.releases
+        exact
+        (function_type «package».now.resolve func)
+        (map value_of arguments.now)
+        (record { caller = C.memory caller.old; callee = E.memory callee.old; body = B.state body.old })
+        (typed_answer result)
+        (record { caller = C.memory caller.new; callee = E.memory callee.new; body = B.state body.new }) }
+    ensures same_runs { AllowsSameRuns (B.runs body.old) (B.runs body.new) }
+    ensures same_posts { AllowsSamePosts (B.posts body.old) (B.posts body.new) }
+    ensures typed { IfOk result (λ v. HaveTypes (option_to_list (option_map value_of v))
+        (result_fields (function_type «package».now.resolve func).result)) }
+    ensures no_memory { IfSome (function_type «package».now.resolve func).result IsPlain → result ≢ Err Fault.NoMemory }
+{
+    let table = package.types();
+    let placed = place_call(&table, func, arguments, caller)?;
+    let resolve = table.resolve();
+    let mut link = Link::new(resolve, table.layouts());
+    let back = link.call(func, placed.flats.as_slice(), caller, callee, body)?;
+    take_result(
+        alloc,
+        &table,
+        resolve.signature(func).result,
+        back.as_slice(),
+        placed.area,
+        caller,
+    )
 }

@@ -19,15 +19,15 @@ use Rattle.witcall.specs.Session.{IsReady, IsNotReady}
 use Rattle.witcall.proofs.Prepared.{area_stays}
 use Rattle.witcall.proofs.Promised.{promised}
 use Rattle.witcall.proofs.TypedCalls.{placed, place_fails, link_fails, came_back, takes}
-use Rattle.witcall.proofs.session.Session.call.Goals as goal
+use Rattle.witcall.proofs.session.call_typed.Goals as goal
 
 pub returns-in_err-placed-clause-call : goal.returns-in_err-placed-clause-call
 returns-in_err-placed-clause-call g c =
-    let f = function_type c.args.self.now.package.now.resolve c.args.func in
-    let parties : Parties = record { caller_allocates = g.C.Guest.allocates; callee_allocates = g.E.Guest.allocates; runs = g.B.Body.runs c.args.self.now.body; posts = g.B.Body.posts c.args.self.now.body } in
-    let caller = g.C.Guest.memory c.args.self.now.caller in
-    let callee = g.E.Guest.memory c.args.self.now.callee in
-    let body = g.B.Body.state c.args.self.now.body in
+    let f = function_type c.args.package.now.resolve c.args.func in
+    let parties : Parties = record { caller_allocates = g.C.Guest.allocates; callee_allocates = g.E.Guest.allocates; runs = g.B.Body.runs c.args.body.now; posts = g.B.Body.posts c.args.body.now } in
+    let caller = g.C.Guest.memory c.args.caller.now in
+    let callee = g.E.Guest.memory c.args.callee.now in
+    let body = g.B.Body.state c.args.body.now in
     let caller' = g.C.Guest.memory c.place_call.new.caller in
     let arguments = map value_of c.args.arguments.now in
     let fault = c.in_err-placed.field-0.0 in
@@ -37,11 +37,11 @@ returns-in_err-placed-clause-call g c =
 
 pub returns-in_err-back-clause-call : goal.returns-in_err-back-clause-call
 returns-in_err-back-clause-call g c =
-    let f = function_type c.args.self.now.package.now.resolve c.args.func in
-    let parties : Parties = record { caller_allocates = g.C.Guest.allocates; callee_allocates = g.E.Guest.allocates; runs = g.B.Body.runs c.args.self.now.body; posts = g.B.Body.posts c.args.self.now.body } in
-    let caller = g.C.Guest.memory c.args.self.now.caller in
-    let callee = g.E.Guest.memory c.args.self.now.callee in
-    let body = g.B.Body.state c.args.self.now.body in
+    let f = function_type c.args.package.now.resolve c.args.func in
+    let parties : Parties = record { caller_allocates = g.C.Guest.allocates; callee_allocates = g.E.Guest.allocates; runs = g.B.Body.runs c.args.body.now; posts = g.B.Body.posts c.args.body.now } in
+    let caller = g.C.Guest.memory c.args.caller.now in
+    let callee = g.E.Guest.memory c.args.callee.now in
+    let body = g.B.Body.state c.args.body.now in
     let caller' = g.C.Guest.memory c.place_call.new.caller in
     let arguments = map value_of c.args.arguments.now in
     let flats = c.as_slice.result.now in
@@ -74,12 +74,12 @@ take_result-requires-clause-area g c =
 
 pub returns-clause-call : goal.returns-clause-call
 returns-clause-call g c =
-    let r = c.args.self.now.package.now.resolve in
+    let r = c.args.package.now.resolve in
     let f = function_type r c.args.func in
-    let parties : Parties = record { caller_allocates = g.C.Guest.allocates; callee_allocates = g.E.Guest.allocates; runs = g.B.Body.runs c.args.self.now.body; posts = g.B.Body.posts c.args.self.now.body } in
-    let caller = g.C.Guest.memory c.args.self.now.caller in
-    let callee = g.E.Guest.memory c.args.self.now.callee in
-    let body = g.B.Body.state c.args.self.now.body in
+    let parties : Parties = record { caller_allocates = g.C.Guest.allocates; callee_allocates = g.E.Guest.allocates; runs = g.B.Body.runs c.args.body.now; posts = g.B.Body.posts c.args.body.now } in
+    let caller = g.C.Guest.memory c.args.caller.now in
+    let callee = g.E.Guest.memory c.args.callee.now in
+    let body = g.B.Body.state c.args.body.now in
     let caller' = g.C.Guest.memory c.place_call.new.caller in
     let arguments = map value_of c.args.arguments.now in
     let flats = c.as_slice.result.now in
@@ -122,10 +122,10 @@ returns-clause-no_memory g c = λ plain.
     c.take_result.ensures.plain (plain-of (closed_type own) c.signature.result.now.result (subst (λ o. IfSome o IsPlain) same here))
 
 pub returns-in_err-placed-clause-promise : goal.returns-in_err-placed-clause-promise
-returns-in_err-placed-clause-promise g c = promised _ _ _ c.args.self.now.package.now.resolve c.args.func _ _ _ _ c.requires.function (returns-in_err-placed-clause-call g c)
+returns-in_err-placed-clause-promise g c = promised _ _ _ c.args.package.now.resolve c.args.func _ _ _ _ c.requires.function (returns-in_err-placed-clause-call g c)
 
 pub returns-in_err-back-clause-promise : goal.returns-in_err-back-clause-promise
-returns-in_err-back-clause-promise g c = promised _ _ _ c.args.self.now.package.now.resolve c.args.func _ _ _ _ c.requires.function (returns-in_err-back-clause-call g c)
+returns-in_err-back-clause-promise g c = promised _ _ _ c.args.package.now.resolve c.args.func _ _ _ _ c.requires.function (returns-in_err-back-clause-call g c)
 
 pub returns-clause-promise : goal.returns-clause-promise
-returns-clause-promise g c = promised _ _ _ c.args.self.now.package.now.resolve c.args.func _ _ _ _ c.requires.function (returns-clause-call g c)
+returns-clause-promise g c = promised _ _ _ c.args.package.now.resolve c.args.func _ _ _ _ c.requires.function (returns-clause-call g c)
