@@ -4,3 +4,4 @@ pub mod Crossings
 pub mod OwnValues
 mod Promised
 pub mod Within
+pub mod Reasons

@@ -21,4 +21,5 @@ pub use body::{Body, BoxedBody, Export, Stopped};
 pub use invocation::Invocation;
 pub use link::Link;
 pub use plain::{are_plain, is_plain_answer};
+pub use requests::Unasked;
 pub use signature::parameter_types;

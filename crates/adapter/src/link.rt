@@ -12,7 +12,7 @@ ghost use Rattle.canonical_abi.specs.Types.{result_fields};
 ghost use Rattle.canonical_abi.specs.declared.trap.Step.TheVariants.{LiftArgs, LiftResult};
 ghost use Rattle.tables.specs.Closed.{function_type, IsFunction};
 ghost use Rattle.layout.specs.Layout.{layouts_of, AreWithin};
-ghost use Rattle.adapter.specs.Asked.{IsTrapIn};
+ghost use Rattle.adapter.specs.Asked.{IsUnasked};
 ghost use Rattle.adapter.specs.Carrying.{listed_answer};
 ghost use Rattle.adapter.specs.Leaving.{LeaveFails};
 ghost use Rattle.adapter.specs.Linked.{TellsNodes};
@@ -23,7 +23,7 @@ use crate::body::Body;
 use crate::fault::trap;
 use crate::invocation::Invocation;
 use crate::plain::{are_plain, is_plain_answer};
-use crate::requests::{ask_answer, ask_arguments};
+use crate::requests::{Unasked, ask_answer, ask_arguments};
 use crate::results::pass_answer;
 use asking::Request;
 use canonical_abi::{Fault, Flat, Guest, Step, TrapKind};
@@ -128,15 +128,17 @@ impl<'a> Link<'a> {
         flats: &[Flat],
         caller: &C,
         slots: &mut [Request],
-    ) -> Result<usize, Fault>
+        limit: u64,
+    ) -> Result<usize, Unasked>
         requires function { IsFunction self.now.resolve func }
         ensures kinds { IfOk result (λ _. KindsFit (function_type self.now.resolve func) flats.now) }
         ensures told { let f = function_type self.now.resolve func in
-            IfOk result (IsToldAhead (AreArguments f flats.now (C.memory caller.now)) (params_requests max_flat_params f.params) slots.old slots.new) }
-        ensures fault { IfErr result (IsTrapIn LiftArgs (IsArgumentFault (function_type self.now.resolve func) flats.now (C.memory caller.now))) }
+            IfOk result (IsToldAhead (AreArguments f flats.now (C.memory caller.now)) (params_requests max_flat_params f.params) limit slots.old slots.new) }
+        ensures fault { let f = function_type self.now.resolve func in
+            IfErr result (IsUnasked LiftArgs (AreArguments f flats.now (C.memory caller.now)) (IsArgumentFault f flats.now (C.memory caller.now)) (params_requests max_flat_params f.params) limit) }
     {
         let table = &Types::new(self.resolve, self.layouts);
-        ask_arguments(table, func, flats, caller, slots)
+        ask_arguments(table, func, flats, caller, slots, limit)
     }
 
     /// What `leave` will ask the caller for, in the same way: for what the answer denotes over the callee, the return area
@@ -147,15 +149,16 @@ impl<'a> Link<'a> {
         answer: &[Flat],
         callee: &E,
         slots: &mut [Request],
-    ) -> Result<usize, Fault>
+        limit: u64,
+    ) -> Result<usize, Unasked>
         requires function { IsFunction self.now.resolve func }
         ensures told { let fs = result_fields (function_type self.now.resolve func).result in
-            IfOk result (IsToldAhead (Denotes max_flat_results fs (E.memory callee.now).bytes answer.now) (fields_requests fs) slots.old slots.new) }
+            IfOk result (IsToldAhead (Denotes max_flat_results fs (E.memory callee.now).bytes answer.now) (fields_requests fs) limit slots.old slots.new) }
         ensures fault { let fs = result_fields (function_type self.now.resolve func).result in
-            IfErr result (IsTrapIn LiftResult (DenotesFault max_flat_results fs (E.memory callee.now).bytes answer.now)) }
+            IfErr result (IsUnasked LiftResult (Denotes max_flat_results fs (E.memory callee.now).bytes answer.now) (DenotesFault max_flat_results fs (E.memory callee.now).bytes answer.now) (fields_requests fs) limit) }
     {
         let table = &Types::new(self.resolve, self.layouts);
-        ask_answer(table, func, answer, callee, slots)
+        ask_answer(table, func, answer, callee, slots, limit)
     }
 
     /// The second half: what the core function answered is lifted from the callee, which is only read, and lowered into the
@@ -287,7 +290,11 @@ impl<'a> Link<'a> {
         ensures same_package { self.new.resolve ≡ self.old.resolve }
         ensures same_layouts { self.new.layouts ≡ self.old.layouts }
     {
-        if are_plain(&Types::new(self.resolve, self.layouts), call.func, call.flats) {
+        if are_plain(
+            &Types::new(self.resolve, self.layouts),
+            call.func,
+            call.flats,
+        ) {
             return self.run_plain(call, caller, callee, body);
         }
         self.run_walked(call, caller, callee, body)

@@ -101,7 +101,11 @@ pub fn are_plain(types: &Types, func: FunctionId, flats: &[Flat]) -> bool
     if !is_plain_result(types, func) {
         return false;
     }
-    are_own(types, types.resolve().signature(func).params.as_slice(), flats)
+    are_own(
+        types,
+        types.resolve().signature(func).params.as_slice(),
+        flats,
+    )
 }
 
 /// Whether what a core function answered is of its signature, and crosses as it is.

@@ -1,5 +1,5 @@
 //! What the two ways of a call will ask their targets for.
-ghost use Rattle.std.specs.Prelude.{IfOk, IfErr};
+ghost use Rattle.std.specs.Prelude.{◌≡◌, IfOk, IfErr};
 ghost use Rattle.asking.specs.Asking.{IsToldAhead};
 ghost use Rattle.canonical_abi.specs.Call.{KindsFit};
 ghost use Rattle.canonical_abi.specs.Flat.{Denotes, DenotesFault};
@@ -10,13 +10,30 @@ ghost use Rattle.canonical_abi.specs.Types.{result_fields};
 ghost use Rattle.canonical_abi.specs.declared.trap.Step.TheVariants.{LiftArgs, LiftResult};
 ghost use Rattle.layout.specs.Layout.{AreWithin};
 ghost use Rattle.tables.specs.Closed.{IsFunction, function_type};
-ghost use Rattle.adapter.specs.Asked.{IsTrapIn};
+ghost use Rattle.adapter.specs.Asked.{IsUnasked, unasked_in};
 
 use crate::fault::trap;
-use asking::{Request, Walk};
+use asking::{Request, Untold, Walk};
 use canonical_abi::{Fault, Flat, Guest, Step, TrapKind};
 use lift_lower::{Types, are_kinds};
 use tables::{FunctionId, TypeId, ValType};
+
+/// Why the requests of a half aren't told: a trap, or they ask for more bytes than the limit.
+#[derive(Clone, Copy, Debug, PartialEq, Eq)]
+pub enum Unasked {
+    Fault(Fault),
+    AboveLimit,
+}
+
+/// The same of a half whose source is read in this step.
+fn unasked_of(untold: Untold, step: Step) -> Unasked
+    ensures { result ≡ unasked_in step untold }
+{
+    match untold {
+        Untold::Fault(kind) => Unasked::Fault(trap(kind, step)),
+        Untold::AboveLimit => Unasked::AboveLimit,
+    }
+}
 
 /// Tells what the arguments will ask the callee for. The kinds of all flat values come first.
 pub(crate) fn ask_arguments<C: Guest>(
@@ -25,16 +42,18 @@ pub(crate) fn ask_arguments<C: Guest>(
     flats: &[Flat],
     caller: &C,
     slots: &mut [Request],
-) -> Result<usize, Fault>
+    limit: u64,
+) -> Result<usize, Unasked>
     requires function { IsFunction table.now func }
     ensures kinds { IfOk result (λ _. KindsFit (function_type table.now func) flats.now) }
     ensures told { let f = function_type table.now func in
-        IfOk result (IsToldAhead (AreArguments f flats.now (C.memory caller.now)) (params_requests max_flat_params f.params) slots.old slots.new) }
-    ensures fault { IfErr result (IsTrapIn LiftArgs (IsArgumentFault (function_type table.now func) flats.now (C.memory caller.now))) }
+        IfOk result (IsToldAhead (AreArguments f flats.now (C.memory caller.now)) (params_requests max_flat_params f.params) limit slots.old slots.new) }
+    ensures fault { let f = function_type table.now func in
+        IfErr result (IsUnasked LiftArgs (AreArguments f flats.now (C.memory caller.now)) (IsArgumentFault f flats.now (C.memory caller.now)) (params_requests max_flat_params f.params) limit) }
 {
     let layouts = table.layouts();
     if !layouts.takes(func, flats) {
-        return Err(trap(TrapKind::CoreSignature, Step::LiftArgs));
+        return Err(Unasked::Fault(trap(TrapKind::CoreSignature, Step::LiftArgs)));
     }
     let count = layouts.lifted_count(func);
     // A memory's length is a number of 32 bits.
@@ -45,9 +64,9 @@ pub(crate) fn ask_arguments<C: Guest>(
         types: table,
         source: caller.bytes(),
     };
-    match walk.ask_params(params, &flats[..count], slots) {
+    match walk.ask_params(params, &flats[..count], slots, limit) {
         Ok(told) => Ok(told),
-        Err(kind) => Err(trap(kind, Step::LiftArgs)),
+        Err(untold) => Err(unasked_of(untold, Step::LiftArgs)),
     }
 }
 
@@ -58,17 +77,18 @@ pub(crate) fn ask_answer<E: Guest>(
     answer: &[Flat],
     callee: &E,
     slots: &mut [Request],
-) -> Result<usize, Fault>
+    limit: u64,
+) -> Result<usize, Unasked>
     requires within { ∥ AreWithin table.now ∥₁ }
     requires function { IsFunction table.now func }
     ensures told { let fs = result_fields (function_type table.now func).result in
-        IfOk result (IsToldAhead (Denotes max_flat_results fs (E.memory callee.now).bytes answer.now) (fields_requests fs) slots.old slots.new) }
+        IfOk result (IsToldAhead (Denotes max_flat_results fs (E.memory callee.now).bytes answer.now) (fields_requests fs) limit slots.old slots.new) }
     ensures fault { let fs = result_fields (function_type table.now func).result in
-        IfErr result (IsTrapIn LiftResult (DenotesFault max_flat_results fs (E.memory callee.now).bytes answer.now)) }
+        IfErr result (IsUnasked LiftResult (Denotes max_flat_results fs (E.memory callee.now).bytes answer.now) (DenotesFault max_flat_results fs (E.memory callee.now).bytes answer.now) (fields_requests fs) limit) }
 {
     let result = table.layouts().lifted_result(func);
     if !are_kinds(result.as_slice(), answer) {
-        return Err(trap(TrapKind::CoreSignature, Step::LiftResult));
+        return Err(Unasked::Fault(trap(TrapKind::CoreSignature, Step::LiftResult)));
     }
     // A memory's length is a number of 32 bits.
     let _len = callee.len();
@@ -77,8 +97,8 @@ pub(crate) fn ask_answer<E: Guest>(
         types: table,
         source: callee.bytes(),
     };
-    match walk.ask_result(types, answer, slots) {
+    match walk.ask_result(types, answer, slots, limit) {
         Ok(told) => Ok(told),
-        Err(kind) => Err(trap(kind, Step::LiftResult)),
+        Err(untold) => Err(unasked_of(untold, Step::LiftResult)),
     }
 }

@@ -9,7 +9,7 @@ ghost use Rattle.values.specs.Types.{IsInside};
 ghost use Rattle.tables.specs.Closed.{prim_of, closed_type};
 ghost use Rattle.asking.specs.Asking.{Asks};
 
-use crate::request::Request;
+use crate::request::{Request, Untold};
 use crate::walk::{Walk, ask_text};
 use canonical_abi::{Flat, TrapKind};
 use layout::Shape;
@@ -24,13 +24,16 @@ fn ask_flat_primitive(
     flats: &[Flat],
     slots: &mut [Request],
     count: &mut usize,
-) -> Result<(), TrapKind>
+    left: &mut u64,
+) -> Result<(), Untold>
     requires { 0 < length flats.now }
     ensures { let t = prim_type (prim_of primitive) in
-        (m : List ℕ) → Asks (lifting t m (map number_of flats.now)) (requests t) slots.old count.old result slots.new count.new }
+        (m : List ℕ) → Asks (lifting t m (map number_of flats.now)) (requests t) slots.old count.old left.old result slots.new count.new left.new }
 {
-    lift_scalar(primitive, flats[0])?;
-    Ok(())
+    match lift_scalar(primitive, flats[0]) {
+        Ok(_) => Ok(()),
+        Err(kind) => Err(Untold::Fault(kind)),
+    }
 }
 
 impl Walk<'_> {
@@ -42,31 +45,32 @@ impl Walk<'_> {
         flats: &[Flat],
         slots: &mut [Request],
         count: &mut usize,
-    ) -> Result<(), TrapKind>
+        left: &mut u64,
+    ) -> Result<(), Untold>
         requires inside { IsInside self.now.types.now ty }
         requires short { length self.now.source.now < 2 ^ 32 }
         requires carried { length (flat_kinds (closed_type self.now.types.now ty)) ≤ length flats.now }
         requires few { length flats.now ≤ 16 }
         ensures { let t = closed_type self.now.types.now ty in
-            Asks (lifting t self.now.source.now (map number_of flats.now)) (requests t) slots.old count.old result slots.new count.new }
+            Asks (lifting t self.now.source.now (map number_of flats.now)) (requests t) slots.old count.old left.old result slots.new count.new left.new }
     {
         match self.types.shape_of(ty) {
-            Shape::Primitive(primitive) => ask_flat_primitive(primitive, flats, slots, count),
+            Shape::Primitive(primitive) => ask_flat_primitive(primitive, flats, slots, count, left),
             Shape::String => {
                 let start = low_word(flats, 0) as usize;
                 let len = low_word(flats, 1) as usize;
-                ask_text(self.source, start, len, slots, count)
+                ask_text(self.source, start, len, slots, count, left)
             }
             Shape::List(element) => {
                 let start = low_word(flats, 0) as usize;
                 let len = low_word(flats, 1) as usize;
-                self.ask_list(element, start, len, slots, count)
+                self.ask_list(element, start, len, slots, count, left)
             }
             Shape::Record(fields) => {
                 let members = Members::Of(ty);
-                self.ask_flat_fields(&members, fields, flats, slots, count)
+                self.ask_flat_fields(&members, fields, flats, slots, count, left)
             }
-            Shape::Variant(_) => self.ask_flat_variant(ty, flats, slots, count),
+            Shape::Variant(_) => self.ask_flat_variant(ty, flats, slots, count, left),
             Shape::Flags(_) => Ok(()),
         }
     }
@@ -80,14 +84,15 @@ impl Walk<'_> {
         flats: &[Flat],
         slots: &mut [Request],
         count: &mut usize,
-    ) -> Result<(), TrapKind>
+        left: &mut u64,
+    ) -> Result<(), Untold>
         requires inside { AreInside self.now.types.now members.now }
         requires short { length self.now.source.now < 2 ^ 32 }
         requires counted { field_count (members_fields self.now.types.now members.now) ≡ fields }
         requires carried { length (field_kinds (members_fields self.now.types.now members.now)) ≤ length flats.now }
         requires few { length flats.now ≤ 16 }
         ensures { let fs = members_fields self.now.types.now members.now in
-            Asks (lifting_fields fs self.now.source.now (map number_of flats.now)) (fields_requests fs) slots.old count.old result slots.new count.new }
+            Asks (lifting_fields fs self.now.source.now (map number_of flats.now)) (fields_requests fs) slots.old count.old left.old result slots.new count.new left.new }
     {
         let mut used: usize = 0;
         for index in 0..fields {
@@ -95,7 +100,7 @@ impl Walk<'_> {
                 unreachable!()
             };
             let rest = &flats[used..];
-            self.ask_flat(member, rest, slots, count)?;
+            self.ask_flat(member, rest, slots, count, left)?;
             used += self.types.kind_count(member);
         }
         Ok(())
@@ -109,7 +114,8 @@ impl Walk<'_> {
         flats: &[Flat],
         slots: &mut [Request],
         count: &mut usize,
-    ) -> Result<(), TrapKind>
+        left: &mut u64,
+    ) -> Result<(), Untold>
         requires inside { IsInside self.now.types.now ty }
         requires short { length self.now.source.now < 2 ^ 32 }
         requires variant { variant_type (variant_cases (closed_type self.now.types.now ty)) ≡ closed_type self.now.types.now ty }
@@ -117,16 +123,16 @@ impl Walk<'_> {
         requires few { length flats.now ≤ 16 }
         ensures { let cs = variant_cases (closed_type self.now.types.now ty) in
             let ns = map number_of flats.now in
-            Asks (lifting_case cs self.now.source.now (drop 1 ns) (low_bits ns 0 32) (low_bits ns 0 32)) (requests (variant_type cs)) slots.old count.old result slots.new count.new }
+            Asks (lifting_case cs self.now.source.now (drop 1 ns) (low_bits ns 0 32) (low_bits ns 0 32)) (requests (variant_type cs)) slots.old count.old left.old result slots.new count.new left.new }
     {
         let case = low_word(flats, 0);
         let Some(payload) = self.types.case_payload(ty, case as usize) else {
-            return Err(TrapKind::Case);
+            return Err(Untold::Fault(TrapKind::Case));
         };
         let Some(member) = payload else {
             return Ok(());
         };
         let rest = &flats[1..];
-        self.ask_flat(member, rest, slots, count)
+        self.ask_flat(member, rest, slots, count, left)
     }
 }

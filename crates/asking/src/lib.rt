@@ -9,5 +9,5 @@ mod request;
 mod walk;
 mod ways;
 
-pub use request::Request;
+pub use request::{Request, Untold};
 pub use walk::Walk;

@@ -1,7 +1,9 @@
 //! Requests, and the slots that they are told in.
-ghost use Rattle.std.specs.Prelude.{◌^◌, ◌<◌, [], ◌∷◌};
+ghost use Rattle.std.specs.Prelude.{◌^◌, ◌<◌, ◌≤◌, [], ◌∷◌};
 ghost use Rattle.canonical_abi.specs.Requests.{request};
 ghost use Rattle.asking.specs.Asking.{IsTold};
+
+use canonical_abi::TrapKind;
 
 /// A block that is asked for: of `size` bytes, at a multiple of `align`.
 #[derive(Clone, Copy, Debug, PartialEq, Eq)]
@@ -11,11 +13,25 @@ pub struct Request {
     pub size: u32,
 }
 
-/// Tells one more request: in the next slot, where there is one.
-pub(crate) fn tell(slots: &mut [Request], count: &mut usize, align: usize, size: usize)
+/// Why nothing is told: what the bytes denote has this fault first, or asks for more than it may.
+#[derive(Clone, Copy, Debug, PartialEq, Eq)]
+pub enum Untold {
+    Fault(TrapKind),
+    AboveLimit,
+}
+
+/// Tells one more request: in the next slot, where there is one. It takes its bytes of those that are left.
+pub(crate) fn tell(
+    slots: &mut [Request],
+    count: &mut usize,
+    left: &mut u64,
+    align: usize,
+    size: usize,
+)
     requires align { align < 2 ^ 32 }
     requires size { size < 2 ^ 32 }
-    ensures { IsTold slots.old count.old (request align size ∷ []) slots.new count.new }
+    requires within { size ≤ left.old }
+    ensures { IsTold slots.old count.old left.old (request align size ∷ []) slots.new count.new left.new }
 {
     if *count < slots.len() {
         slots[*count] = Request {
@@ -24,4 +40,5 @@ pub(crate) fn tell(slots: &mut [Request], count: &mut usize, align: usize, size:
         };
     }
     *count = count.saturating_add(1);
+    *left -= size as u64;
 }

@@ -9,7 +9,7 @@ ghost use Rattle.values.specs.Types.{IsInside};
 ghost use Rattle.tables.specs.Closed.{prim_of, closed_type};
 ghost use Rattle.asking.specs.Asking.{Asks, AsksNothing};
 
-use crate::request::{Request, tell};
+use crate::request::{Request, Untold, tell};
 use canonical_abi::TrapKind;
 use layout::Shape;
 use lift_lower::Types;
@@ -30,17 +30,18 @@ fn ask_primitive(
     at: usize,
     slots: &mut [Request],
     count: &mut usize,
-) -> Result<(), TrapKind>
+    left: &mut u64,
+) -> Result<(), Untold>
     requires fits { at + size (prim_type (prim_of primitive)) ≤ length source.now }
     ensures { let t = prim_type (prim_of primitive) in
-        Asks (reading t source.now at) (requests t) slots.old count.old result slots.new count.new }
+        Asks (reading t source.now at) (requests t) slots.old count.old left.old result slots.new count.new left.new }
 {
     let Primitive::Char = primitive else {
         return Ok(());
     };
     match char::from_u32(u32_at(source, at)) {
         Some(_) => Ok(()),
-        None => Err(TrapKind::Char),
+        None => Err(Untold::Fault(TrapKind::Char)),
     }
 }
 
@@ -73,13 +74,21 @@ pub(crate) fn ask_text(
     len: usize,
     slots: &mut [Request],
     count: &mut usize,
-) -> Result<(), TrapKind>
+    left: &mut u64,
+) -> Result<(), Untold>
     requires start { start < 2 ^ 32 }
     requires len { len < 2 ^ 32 }
-    ensures { Asks (text_at source.now start len) (requests string_type) slots.old count.old result slots.new count.new }
+    ensures { Asks (text_at source.now start len) (requests string_type) slots.old count.old left.old result slots.new count.new left.new }
 {
-    let text = text_in(source, start, len)?;
-    tell(slots, count, 1, text.len());
+    // Before its bytes are tested, so that no more than the limit are.
+    if *left < len as u64 {
+        return Err(Untold::AboveLimit);
+    }
+    let text = match text_in(source, start, len) {
+        Ok(text) => text,
+        Err(kind) => return Err(Untold::Fault(kind)),
+    };
+    tell(slots, count, left, 1, text.len());
     Ok(())
 }
 
@@ -92,30 +101,38 @@ impl Walk<'_> {
         at: usize,
         slots: &mut [Request],
         count: &mut usize,
-    ) -> Result<(), TrapKind>
+        left: &mut u64,
+    ) -> Result<(), Untold>
         requires inside { IsInside self.now.types.now ty }
         requires short { length self.now.source.now < 2 ^ 32 }
         requires fits { at + size (closed_type self.now.types.now ty) ≤ length self.now.source.now }
         ensures { let t = closed_type self.now.types.now ty in
-            Asks (reading t self.now.source.now at) (requests t) slots.old count.old result slots.new count.new }
+            Asks (reading t self.now.source.now at) (requests t) slots.old count.old left.old result slots.new count.new left.new }
     {
         match self.types.shape_of(ty) {
-            Shape::Primitive(primitive) => ask_primitive(primitive, self.source, at, slots, count),
+            Shape::Primitive(primitive) => ask_primitive(
+                primitive,
+                self.source,
+                at,
+                slots,
+                count,
+                left,
+            ),
             Shape::String => {
                 let start = u32_at(self.source, at) as usize;
                 let len = u32_at(self.source, at + 4) as usize;
-                ask_text(self.source, start, len, slots, count)
+                ask_text(self.source, start, len, slots, count, left)
             }
             Shape::List(element) => {
                 let start = u32_at(self.source, at) as usize;
                 let len = u32_at(self.source, at + 4) as usize;
-                self.ask_list(element, start, len, slots, count)
+                self.ask_list(element, start, len, slots, count, left)
             }
             Shape::Record(fields) => {
                 let members = Members::Of(ty);
-                self.ask_fields(&members, fields, at, slots, count)
+                self.ask_fields(&members, fields, at, slots, count, left)
             }
-            Shape::Variant(cases) => self.ask_variant(ty, cases, at, slots, count),
+            Shape::Variant(cases) => self.ask_variant(ty, cases, at, slots, count, left),
             Shape::Flags(_) => Ok(()),
         }
     }
@@ -129,24 +146,32 @@ impl Walk<'_> {
         len: usize,
         slots: &mut [Request],
         count: &mut usize,
-    ) -> Result<(), TrapKind>
+        left: &mut u64,
+    ) -> Result<(), Untold>
         requires inside { IsInside self.now.types.now element }
         requires short { length self.now.source.now < 2 ^ 32 }
         requires start { start < 2 ^ 32 }
         requires len { len < 2 ^ 32 }
         ensures { let t = closed_type self.now.types.now element in
             Asks (list_at (reading t self.now.source.now) self.now.source.now (align t) (size t) start len) (requests (list_type t))
-            slots.old count.old result slots.new count.new }
+            slots.old count.old left.old result slots.new count.new left.new }
     {
         let step = self.types.size_of(element);
         let align = self.types.align_of(element);
-        test_block(self.source.len(), start, align, len * step)?;
-        tell(slots, count, align, len * step);
+        let size = len * step;
+        match test_block(self.source.len(), start, align, size) {
+            Ok(()) => (),
+            Err(kind) => return Err(Untold::Fault(kind)),
+        }
+        if *left < size as u64 {
+            return Err(Untold::AboveLimit);
+        }
+        tell(slots, count, left, align, size);
         if asks_nothing(self.types, element) {
             return Ok(());
         }
         for index in 0..len {
-            self.ask_at(element, start + index * step, slots, count)?;
+            self.ask_at(element, start + index * step, slots, count, left)?;
         }
         Ok(())
     }
@@ -160,13 +185,14 @@ impl Walk<'_> {
         at: usize,
         slots: &mut [Request],
         count: &mut usize,
-    ) -> Result<(), TrapKind>
+        left: &mut u64,
+    ) -> Result<(), Untold>
         requires inside { AreInside self.now.types.now members.now }
         requires short { length self.now.source.now < 2 ^ 32 }
         requires counted { field_count (members_fields self.now.types.now members.now) ≡ fields }
         requires fits { at + end_from 0 (field_extents (members_fields self.now.types.now members.now)) ≤ length self.now.source.now }
         ensures { let fs = members_fields self.now.types.now members.now in
-            Asks (reading_fields fs self.now.source.now at 0) (fields_requests fs) slots.old count.old result slots.new count.new }
+            Asks (reading_fields fs self.now.source.now at 0) (fields_requests fs) slots.old count.old left.old result slots.new count.new left.new }
     {
         let mut end: usize = 0;
         for index in 0..fields {
@@ -174,7 +200,7 @@ impl Walk<'_> {
                 unreachable!()
             };
             let place = end.next_multiple_of(self.types.align_of(member));
-            self.ask_at(member, at + place, slots, count)?;
+            self.ask_at(member, at + place, slots, count, left)?;
             end = place + self.types.size_of(member);
         }
         Ok(())
@@ -189,7 +215,8 @@ impl Walk<'_> {
         at: usize,
         slots: &mut [Request],
         count: &mut usize,
-    ) -> Result<(), TrapKind>
+        left: &mut u64,
+    ) -> Result<(), Untold>
         requires inside { IsInside self.now.types.now ty }
         requires short { length self.now.source.now < 2 ^ 32 }
         requires variant { variant_type (variant_cases (closed_type self.now.types.now ty)) ≡ closed_type self.now.types.now ty }
@@ -197,17 +224,17 @@ impl Walk<'_> {
         requires fits { at + size (closed_type self.now.types.now ty) ≤ length self.now.source.now }
         ensures { let cs = variant_cases (closed_type self.now.types.now ty) in
             let i = case_number cs self.now.source.now at in
-            Asks (reading_case cs self.now.source.now (at + payload_place cs) i i) (requests (variant_type cs)) slots.old count.old result slots.new count.new }
+            Asks (reading_case cs self.now.source.now (at + payload_place cs) i i) (requests (variant_type cs)) slots.old count.old left.old result slots.new count.new left.new }
     {
         let case = number_of_size(self.source, at, discriminant_bytes(cases));
         let Some(payload) = self.types.case_payload(ty, case as usize) else {
-            return Err(TrapKind::Case);
+            return Err(Untold::Fault(TrapKind::Case));
         };
         let Some(member) = payload else {
             return Ok(());
         };
         // A payload stands at the variant's alignment.
         let place = self.types.align_of(ty);
-        self.ask_at(member, at + place, slots, count)
+        self.ask_at(member, at + place, slots, count, left)
     }
 }

@@ -8,11 +8,11 @@ ghost use Rattle.canonical_abi.specs.Types.{record_type, record_fields};
 ghost use Rattle.values.specs.Members.{fields_of_types, AreAllInside};
 ghost use Rattle.values.specs.Types.{IsInside};
 ghost use Rattle.tables.specs.Closed.{closed_type};
-ghost use Rattle.asking.specs.Asking.{IsToldAhead};
+ghost use Rattle.asking.specs.Asking.{IsToldAhead, IsUntold};
 
-use crate::request::{Request, tell};
+use crate::request::{Request, Untold, tell};
 use crate::walk::Walk;
-use canonical_abi::{Flat, TrapKind};
+use canonical_abi::Flat;
 use layout::Shape;
 use lift_lower::low_word;
 use lift_lower::nodes::{Members, test_block};
@@ -28,30 +28,39 @@ impl Walk<'_> {
         params: ValType,
         flats: &[Flat],
         slots: &mut [Request],
-    ) -> Result<usize, TrapKind>
+        limit: u64,
+    ) -> Result<usize, Untold>
         requires inside { IsInside self.now.types.now params }
         requires is_record { closed_type self.now.types.now params ≡ record_type (record_fields (closed_type self.now.types.now params)) }
         requires short { length self.now.source.now < 2 ^ 32 }
         requires kinds { map kind_of flats.now ≡ passed_kinds max_flat_params (record_fields (closed_type self.now.types.now params)) }
         ensures told { let ts = record_fields (closed_type self.now.types.now params) in
-            IfOk result (IsToldAhead (Denotes max_flat_params ts self.now.source.now flats.now) (params_requests max_flat_params ts) slots.old slots.new) }
-        ensures fault { IfErr result (DenotesFault max_flat_params (record_fields (closed_type self.now.types.now params)) self.now.source.now flats.now) }
+            IfOk result (IsToldAhead (Denotes max_flat_params ts self.now.source.now flats.now) (params_requests max_flat_params ts) limit slots.old slots.new) }
+        ensures fault { let ts = record_fields (closed_type self.now.types.now params) in
+            IfErr result (IsUntold (Denotes max_flat_params ts self.now.source.now flats.now) (DenotesFault max_flat_params ts self.now.source.now flats.now) (params_requests max_flat_params ts) limit) }
     {
         let Shape::Record(fields) = self.types.shape_of(params) else {
             unreachable!()
         };
         let mut count = 0;
+        let mut left = limit;
         let members = Members::Of(params);
         let Some(_) = self.types.count_within(&[params], 16) else {
             let from = low_word(flats, 0) as usize;
             let align = self.types.align_of(params);
             let size = self.types.size_of(params);
-            test_block(self.source.len(), from, align, size)?;
-            tell(slots, &mut count, align, size);
-            self.ask_fields(&members, fields, from, slots, &mut count)?;
+            match test_block(self.source.len(), from, align, size) {
+                Ok(()) => (),
+                Err(kind) => return Err(Untold::Fault(kind)),
+            }
+            if left < size as u64 {
+                return Err(Untold::AboveLimit);
+            }
+            tell(slots, &mut count, &mut left, align, size);
+            self.ask_fields(&members, fields, from, slots, &mut count, &mut left)?;
             return Ok(count);
         };
-        self.ask_flat_fields(&members, fields, flats, slots, &mut count)?;
+        self.ask_flat_fields(&members, fields, flats, slots, &mut count, &mut left)?;
         Ok(count)
     }
 
@@ -62,26 +71,32 @@ impl Walk<'_> {
         types: &[ValType],
         flats: &[Flat],
         slots: &mut [Request],
-    ) -> Result<usize, TrapKind>
+        limit: u64,
+    ) -> Result<usize, Untold>
         requires inside { AreAllInside self.now.types.now types.now }
         requires small { size (record_type (fields_of_types self.now.types.now types.now)) ≤ 16777216 }
         requires short { length self.now.source.now < 2 ^ 32 }
         requires kinds { map kind_of flats.now ≡ passed_kinds max_flat_results (fields_of_types self.now.types.now types.now) }
         ensures told { let ts = fields_of_types self.now.types.now types.now in
-            IfOk result (IsToldAhead (Denotes max_flat_results ts self.now.source.now flats.now) (fields_requests ts) slots.old slots.new) }
-        ensures fault { IfErr result (DenotesFault max_flat_results (fields_of_types self.now.types.now types.now) self.now.source.now flats.now) }
+            IfOk result (IsToldAhead (Denotes max_flat_results ts self.now.source.now flats.now) (fields_requests ts) limit slots.old slots.new) }
+        ensures fault { let ts = fields_of_types self.now.types.now types.now in
+            IfErr result (IsUntold (Denotes max_flat_results ts self.now.source.now flats.now) (DenotesFault max_flat_results ts self.now.source.now flats.now) (fields_requests ts) limit) }
     {
         let mut count = 0;
+        let mut left = limit;
         let members = Members::Listed(types);
         let fields = types.len();
         let Some(_) = self.types.count_within(types, 1) else {
             let (size, align) = self.types.record_extent(types);
             let from = low_word(flats, 0) as usize;
-            test_block(self.source.len(), from, align, size)?;
-            self.ask_fields(&members, fields, from, slots, &mut count)?;
+            match test_block(self.source.len(), from, align, size) {
+                Ok(()) => (),
+                Err(kind) => return Err(Untold::Fault(kind)),
+            }
+            self.ask_fields(&members, fields, from, slots, &mut count, &mut left)?;
             return Ok(count);
         };
-        self.ask_flat_fields(&members, fields, flats, slots, &mut count)?;
+        self.ask_flat_fields(&members, fields, flats, slots, &mut count, &mut left)?;
         Ok(count)
     }
 }

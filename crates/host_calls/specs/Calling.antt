@@ -4,7 +4,8 @@ use Rattle.canonical_abi.specs.Call.{KindsFit, area_of}
 use Rattle.canonical_abi.specs.Headline.{AreArguments, IsArgumentFault, IsLentLive, area_size}
 use Rattle.canonical_abi.specs.Flat.{Denotes, DenotesFault}
 use Rattle.canonical_abi.specs.Requests.{params_requests, fields_requests}
-use Rattle.asking.specs.Asking.{IsToldAhead}
+use Rattle.asking.specs.Asking.{IsToldAhead, total}
+use Rattle.canonical_abi.specs.Values as Semantic
 use Rattle.asking.specs.declared.request.Request.{Request}
 use Rattle.canonical_abi.specs.Halves.{source}
 use Rattle.canonical_abi.specs.Layout.{max_flat_params, max_flat_results}
@@ -97,26 +98,28 @@ LeaveDone f flats callee answer old blocks back done new back' = MatchResult don
     (λ e. LeaveRefuses f flats callee answer old blocks back e new × (back' ≡ back))
 
 -- why the requests of the arguments are not told
-abbrev pub EnterAsksNot : FunctionType → List Value → List ℕ → CallError → Type 0
-EnterAsksNot f flats caller (error.Fault fault) =
+abbrev pub EnterAsksNot : FunctionType → List Value → List ℕ → ℕ → CallError → Type 0
+EnterAsksNot f flats caller limit (error.Fault fault) =
     AreTooMany flats LiftArgs (error.Fault fault) ⊎ IsTrapIn LiftArgs (IsArgumentFault f (map flat_of flats) (source caller)) fault
-EnterAsksNot f flats caller error.BadBlock = 4294967296 ≤ length caller
-EnterAsksNot f flats caller _ = ⊥
+EnterAsksNot f flats caller limit error.BadBlock = 4294967296 ≤ length caller
+EnterAsksNot f flats caller limit error.AboveLimit = (vs : List Semantic.Value) → AreArguments f (map flat_of flats) (source caller) vs → limit < total (params_requests max_flat_params f.params vs)
+EnterAsksNot f flats caller limit _ = ⊥
 
 -- nor those of the answer
-abbrev pub LeaveAsksNot : FunctionType → List Value → List ℕ → CallError → Type 0
-LeaveAsksNot f answer callee (error.Fault fault) =
+abbrev pub LeaveAsksNot : FunctionType → List Value → List ℕ → ℕ → CallError → Type 0
+LeaveAsksNot f answer callee limit (error.Fault fault) =
     AreTooMany answer LiftResult (error.Fault fault) ⊎ IsTrapIn LiftResult (DenotesFault max_flat_results (result_fields f.result) callee (map flat_of answer)) fault
-LeaveAsksNot f answer callee error.BadBlock = 4294967296 ≤ length callee
-LeaveAsksNot f answer callee _ = ⊥
+LeaveAsksNot f answer callee limit error.BadBlock = 4294967296 ≤ length callee
+LeaveAsksNot f answer callee limit error.AboveLimit = (vs : List Semantic.Value) → Denotes max_flat_results (result_fields f.result) callee (map flat_of answer) vs → limit < total (fields_requests (result_fields f.result) vs)
+LeaveAsksNot f answer callee limit _ = ⊥
 
 -- what is answered of the requests of each half, and what their array has then
-abbrev pub EnterAsks : FunctionType → List Value → List ℕ → List Request → Result ℕ CallError → List Request → Type 0
-EnterAsks f flats caller old done new = MatchResult done
-    (IsToldAhead (AreArguments f (map flat_of flats) (source caller)) (params_requests max_flat_params f.params) old new)
-    (EnterAsksNot f flats caller)
+abbrev pub EnterAsks : FunctionType → List Value → List ℕ → ℕ → List Request → Result ℕ CallError → List Request → Type 0
+EnterAsks f flats caller limit old done new = MatchResult done
+    (IsToldAhead (AreArguments f (map flat_of flats) (source caller)) (params_requests max_flat_params f.params) limit old new)
+    (EnterAsksNot f flats caller limit)
 
-abbrev pub LeaveAsks : FunctionType → List Value → List ℕ → List Request → Result ℕ CallError → List Request → Type 0
-LeaveAsks f answer callee old done new = MatchResult done
-    (IsToldAhead (Denotes max_flat_results (result_fields f.result) callee (map flat_of answer)) (fields_requests (result_fields f.result)) old new)
-    (LeaveAsksNot f answer callee)
+abbrev pub LeaveAsks : FunctionType → List Value → List ℕ → ℕ → List Request → Result ℕ CallError → List Request → Type 0
+LeaveAsks f answer callee limit old done new = MatchResult done
+    (IsToldAhead (Denotes max_flat_results (result_fields f.result) callee (map flat_of answer)) (fields_requests (result_fields f.result)) limit old new)
+    (LeaveAsksNot f answer callee limit)

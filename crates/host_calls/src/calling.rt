@@ -15,7 +15,7 @@ use crate::error::CallError;
 use crate::half::{Half, NOWHERE};
 use crate::half_error::HalfError;
 use crate::value::{MAX_VALUES, Value, put_flats, tell};
-use adapter::{Link, Request, are_plain, is_plain_answer};
+use adapter::{Link, Request, Unasked, are_plain, is_plain_answer};
 use arrayvec::ArrayVec;
 use canonical_abi::{Fault, Flat, Step, Trap, TrapKind};
 use lift_lower::{Flats, Types};
@@ -321,10 +321,11 @@ pub fn enter_requests(
     flats: &[Value],
     caller: &mut [u8],
     requests: &mut [Request],
+    limit: u64,
 ) -> Result<usize, CallError>
     requires within { ∥ AreWithin types.now ∥₁ }
     requires function { IsFunction types.now func }
-    ensures done { EnterAsks (function_type types.now func) flats.now caller.old requests.old result requests.new }
+    ensures done { EnterAsks (function_type types.now func) flats.now caller.old limit requests.old result requests.new }
     ensures same_caller { caller.new ≡ caller.old }
 {
     let mut values = Flats::new();
@@ -334,9 +335,10 @@ pub fn enter_requests(
     }
     let source = Lent::new(caller, &[]);
     let link = Link::new(types.resolve(), types.layouts());
-    match link.enter_requests(func, values.as_slice(), &source, requests) {
+    match link.enter_requests(func, values.as_slice(), &source, requests, limit) {
         Ok(count) => Ok(count),
-        Err(fault) => Err(CallError::Fault(fault)),
+        Err(Unasked::Fault(fault)) => Err(CallError::Fault(fault)),
+        Err(Unasked::AboveLimit) => Err(CallError::AboveLimit),
     }
 }
 
@@ -348,10 +350,11 @@ pub fn leave_requests(
     answer: &[Value],
     callee: &mut [u8],
     requests: &mut [Request],
+    limit: u64,
 ) -> Result<usize, CallError>
     requires within { ∥ AreWithin types.now ∥₁ }
     requires function { IsFunction types.now func }
-    ensures done { LeaveAsks (function_type types.now func) answer.now callee.old requests.old result requests.new }
+    ensures done { LeaveAsks (function_type types.now func) answer.now callee.old limit requests.old result requests.new }
     ensures same_callee { callee.new ≡ callee.old }
 {
     let mut answers = Flats::new();
@@ -361,8 +364,9 @@ pub fn leave_requests(
     }
     let source = Lent::new(callee, &[]);
     let link = Link::new(types.resolve(), types.layouts());
-    match link.leave_requests(func, answers.as_slice(), &source, requests) {
+    match link.leave_requests(func, answers.as_slice(), &source, requests, limit) {
         Ok(count) => Ok(count),
-        Err(fault) => Err(CallError::Fault(fault)),
+        Err(Unasked::Fault(fault)) => Err(CallError::Fault(fault)),
+        Err(Unasked::AboveLimit) => Err(CallError::AboveLimit),
     }
 }

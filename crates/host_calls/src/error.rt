@@ -33,6 +33,9 @@ pub enum CallError {
     /// The package's text would be longer than a text may be.
     #[error("error 36 limit")]
     LongText,
+    /// The requests ask for more bytes than they may.
+    #[error("error 76 above the limit")]
+    AboveLimit,
     #[error("{0}")]
     Fault(Fault),
 }

@@ -102,6 +102,7 @@ impl Status {
             Err(CallError::NotThere) => refused(75, 0),
             Err(CallError::LongBinary) => refused(17, 0),
             Err(CallError::LongText) => refused(36, 0),
+            Err(CallError::AboveLimit) => refused(76, 0),
             Err(CallError::NoMemory | CallError::Fault(Fault::NoMemory)) => out_of_memory(66),
             Err(CallError::Fault(Fault::Trap(trap))) => Status {
                 code: 2,

@@ -1,10 +1,11 @@
-use Rattle.std.proofs.Common.{refl, ◌≡◌, ◌≤◌, sym, ap, ◌∙◌, subst}
+use Rattle.std.proofs.Common.{◌≡◌, ◌≤◌, sym, ap, ◌∙◌, subst}
 use Rattle.canonical_abi.specs.Types.{record_type, result_fields}
 use Rattle.canonical_abi.specs.Layout.{size}
 use Rattle.tables.specs.Closed.{function_type}
 use Rattle.values.specs.Members.{fields_of_types, AreAllInside}
 use Rattle.adapter.proofs.Functions.{same_types}
 use Rattle.adapter.proofs.Signatures.{function-stands, result-known, result-inside, result-is, result-fields, all-inside, result-small}
+use Rattle.adapter.proofs.Reasons.{unasked-told}
 use Rattle.adapter.proofs.requests.ask_answer.Goals as goal
 
 pub lifted_result-result-requires : goal.lifted_result-result-requires
@@ -40,4 +41,5 @@ returns-in-Err-clause-fault g c =
     let s = c.signature.result.now in
     let is = result-is r c.args.func c.requires.function s (rw c.resolve.ensures at c.signature.ensures) in
     let own : fields_of_types r c.as_slice-types.result.now ≡ result_fields f.result = ap (fields_of_types r) (same_types s.result _ c.as_slice-types.ensures) ∙ result-fields r s.result ∙ ap result_fields (sym is) in
-    rw c.trap-in-Err.ensures (refl, rw (own, c.bytes.ensures) at c.in-Err.ensures.fault)
+    let h = rw (own, c.bytes.ensures) at c.in-Err.ensures.fault in
+    rw c.unasked_of.ensures (unasked-told _ _ _ _ _ _ (λ k d. d) c.in-Err.untold h)

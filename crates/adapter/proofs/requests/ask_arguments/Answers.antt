@@ -6,6 +6,7 @@ use Rattle.canonical_abi.specs.Call.{KindsFit}
 use Rattle.tables.specs.Closed.{function_type}
 use Rattle.adapter.proofs.Signatures.{function-stands, params-row, params-inside}
 use Rattle.adapter.proofs.Crossings.{argument-kinds, same-arguments}
+use Rattle.adapter.proofs.Reasons.{unasked-told}
 use Rattle.adapter.proofs.requests.ask_arguments.Goals as goal
 
 pub takes-requires : goal.takes-requires
@@ -49,4 +50,5 @@ returns-in-Err-clause-fault g c =
     let row = params-row r c.args.func c.requires.function _ refl in
     let kinds : KindsFit f flats = search rules in
     let same = same-arguments f flats _ c.lifted_count-count.result (lifted_signature f) refl (c.lifted_count-count.ensures r c.layouts-layouts.ensures c.requires.function) refl in
-    rw c.trap-in-Err.ensures (refl, inr (kinds, rw (row, same, c.bytes.ensures) at c.in-Err.ensures.fault))
+    let h = rw (row, same, c.bytes.ensures) at c.in-Err.ensures.fault in
+    rw c.unasked_of.ensures (unasked-told _ _ _ _ _ _ (λ k d. inr (kinds, d)) c.in-Err.untold h)

@@ -8,14 +8,14 @@ use Rattle.values.specs.Scalar.{value_in}
 use Rattle.asking.proofs.Told.{told-none, first-number}
 use Rattle.asking.proofs.flat.ask_flat_primitive.Goals as goal
 
-pub returns : goal.returns
+pub returns-in-Ok : goal.returns-in-Ok
 unfolding low_bits
-returns c =
+returns-in-Ok c =
     let p = prim_of c.args.primitive in
-    let v = value_in c.in_ok-lift_scalar.field-0 in
+    let v = value_in c.in-Ok.field-0 in
     let P : ℕ → Type 0 = λ n. PrimIs p (n % 2 ^ flat_bits p) v in
     λ m. (
       v,
-      (lifting-tells (prim_type p) m (map number_of c.args.flats.now)).ok_only v (subst P (sym (first-number c.args.flats.now _ c.requires)) c.in_ok-lift_scalar.ensures.value.1),
-      told-none c.args.slots.now c.args.count.now,
+      (lifting-tells (prim_type p) m (map number_of c.args.flats.now)).ok_only v (subst P (sym (first-number c.args.flats.now _ c.requires)) c.in-Ok.ensures.value.1),
+      told-none c.args.slots.now c.args.count.now c.args.left.now,
     )

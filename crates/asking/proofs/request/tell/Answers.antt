@@ -8,6 +8,6 @@ pub returns : goal.returns
 returns c =
     let r = request c.args.align c.args.size in
     elim c.if-count-slots.branch [
-      | then-count-slots w ↦ told-one c.args.slots.now c.args.count.now r _ _ (inl (omega arith, w.slots-is)) (omega arith)
-      | else-count-slots w ↦ told-one c.args.slots.now c.args.count.now r _ _ (inr (omega arith, w.slots-is)) (omega arith)
+      | then-count-slots w ↦ told-one c.args.slots.now c.args.count.now c.args.left.now r _ _ _ (inl (omega arith, w.slots-is)) (omega arith) (omega (arith, c.requires.within))
+      | else-count-slots w ↦ told-one c.args.slots.now c.args.count.now c.args.left.now r _ _ _ (inr (omega arith, w.slots-is)) (omega arith) (omega (arith, c.requires.within))
     ]

@@ -5,8 +5,8 @@ use Rattle.asking.proofs.walk.ask_primitive.Goals as goal
 pub returns-in_default : goal.returns-in_default
 returns-in_default c =
     let (v, e) = reads-number c.args.primitive _ c.in_default.not-Char in
-    (v, e, told-none c.args.slots.now c.args.count.now)
+    (v, e, told-none c.args.slots.now c.args.count.now c.args.left.now)
 
 pub returns-in-Some : goal.returns-in-Some
 returns-in-Some c =
-    rw c.in-Char.is (char_value c.u32_at.result, rw (← c.u32_at.ensures) (reads-char c.u32_at.result (scalar-true c.u32_at.result c.in-Some.ensures.value.0)), told-none c.args.slots.now c.args.count.now)
+    rw c.in-Char.is (char_value c.u32_at.result, rw (← c.u32_at.ensures) (reads-char c.u32_at.result (scalar-true c.u32_at.result c.in-Some.ensures.value.0)), told-none c.args.slots.now c.args.count.now c.args.left.now)

@@ -11,9 +11,9 @@ use Rattle.values.specs.Members.{members_fields}
 use Rattle.values.proofs.TypesExtents.{member-depth, case-depth, payload-place, payload-fits}
 use Rattle.lift_lower.proofs.Loadings.{listed, list-opened}
 use Rattle.lift_lower.proofs.Texts.{block-stands}
-use Rattle.lift_lower.proofs.Steps.{with_front, each-more, each-fault, each-done, fields-more, fields-fault, fields-done, case-none, case-plain, case-payload}
+use Rattle.lift_lower.proofs.Steps.{with_front, each-more, each-done, fields-more, fields-done, case-none, case-plain, case-payload}
 use Rattle.values.proofs.Fields.{fields-end, fields-inside, nth_field-some}
-use Rattle.asking.proofs.Told.{told-none, told-both, told-as, each-asks, fields-ask, fields-ask-none, plain-asks, payload-asks, asks-made, list-told, record-told, front-none, each-start, nothing-asked}
+use Rattle.asking.proofs.Told.{told-none, told-both, told-as, each-asks, fields-ask, fields-ask-none, plain-asks, payload-asks, asks-made, list-told, record-told, front-none, each-start, nothing-asked, fields-stop, list-stops, each-stops, block-stops}
 use Rattle.asking.proofs.walk.Walk.+ask.Goals as goal
 
 pub ask_at-returns-in-Record : goal.ask_at-returns-in-Record
@@ -22,15 +22,15 @@ ask_at-returns-in-Record t c =
     let s = c.in-Record.ensures.shape.0 in
     let own : record_fields (closed_type c.args.self.now.types.now c.args.ty) ≡ s.0 = ap record_fields s.1 in
     rw s.1 (asks-made (λ vs. record_value (values_of vs)) (reading_fields s.0 m c.args.at 0) (reading (record_type s.0) m c.args.at) (fields_requests s.0) (requests (record_type s.0)) refl (record-told s.0)
-    c.args.slots.now c.args.count.now c.ask_fields.result c.ask_fields.new.slots c.ask_fields.new.count (rw own at c.ask_fields.ensures))
+    c.args.slots.now c.args.count.now c.args.left.now c.ask_fields.result c.ask_fields.new.slots c.ask_fields.new.count c.ask_fields.new.left (rw own at c.ask_fields.ensures))
 
 pub ask_at-returns-in-Flags : goal.ask_at-returns-in-Flags
-ask_at-returns-in-Flags t c = rw c.in-Flags.ensures.shape.0 (_, refl, told-none c.args.slots.now c.args.count.now)
+ask_at-returns-in-Flags t c = rw c.in-Flags.ensures.shape.0 (_, refl, told-none c.args.slots.now c.args.count.now c.args.left.now)
 
 pub ask_fields-loop-index-init : goal.ask_fields-loop-index-init
 ask_fields-loop-index-init t c =
     let fs = members_fields c.args.self.now.types.now c.args.members.now in
-    ([], front-none (reading_fields fs c.args.self.now.source.now c.args.at 0), refl, told-as _ _ [] (fields_requests fs []) _ _ (sym (fields-ask-none fs)) (told-none c.args.slots.now c.args.count.now), refl)
+    ([], front-none (reading_fields fs c.args.self.now.source.now c.args.at 0), refl, told-as _ _ _ [] (fields_requests fs []) _ _ _ (sym (fields-ask-none fs)) (told-none c.args.slots.now c.args.count.now c.args.left.now), refl)
 
 pub ask_fields-unreachable-requires : goal.ask_fields-unreachable-requires
 ask_fields-unreachable-requires t c =
@@ -63,8 +63,9 @@ ask_fields-returns-in_err-ask_at t c =
     let u = closed_type c.args.self.now.types.now c.in-Some.member in
     let place : c.next_multiple_of-place.result ≡ next_multiple_of c.loop-index.end (align u) = c.next_multiple_of-place.ensures.value ∙ ap (next_multiple_of c.loop-index.end) c.align_of.ensures.value in
     let p = err_from_is_err_and c.from_residual.result c.from_residual.ensures.1 in
-    rw (p.1, p.2) (fields-fault fs c.args.self.now.source.now c.args.at c.loop-index.end c.loop-index.index u c.loop-index.invariant.0 _ (sym c.in-Some.ensures.found) c.loop-index.invariant.1 c.in_err-ask_at.field-0.0
-    (ap (λ x. reading u c.args.self.now.source.now (c.args.at + x)) (sym place) ∙ c.in_err-ask_at.ensures))
+    let (vs, w, l, told, ends) = c.loop-index.invariant in
+    rw (p.1, p.2) (fields-stop fs c.args.self.now.source.now c.args.at c.loop-index.end c.loop-index.index u vs _ _ _ (sym c.in-Some.ensures.found) l w told.spent c.in_err-ask_at.field-0.0
+    (rw (← place) c.in_err-ask_at.ensures))
 
 pub ask_fields-overflow_add-end : goal.ask_fields-overflow_add-end
 ask_fields-overflow_add-end t c =
@@ -85,7 +86,7 @@ ask_fields-loop-index-preserved t c =
       vs ++ v ∷ [],
       fields-more fs c.args.self.now.source.now c.args.at c.loop-index.end c.loop-index.index u vs _ found w v (ap (λ x. reading u c.args.self.now.source.now (c.args.at + x)) (sym place) ∙ e),
       omega (arith, length-append vs (v ∷ [])),
-      told-as _ _ _ _ _ _ (fields-ask fs vs v c.loop-index.index u found l) (told-both _ _ (fields_requests fs vs) (requests u v) _ _ _ _ (omega arith) told more),
+      told-as _ _ _ _ _ _ _ _ (fields-ask fs vs v c.loop-index.index u found l) (told-both _ _ _ (fields_requests fs vs) (requests u v) _ _ _ _ _ _ (omega arith) told more),
       sym (fields-end fs c.loop-index.end c.loop-index.index u found) ∙ ends,
     )
 
@@ -102,18 +103,28 @@ ask_list-returns-then-asks_nothing t c =
     let u = closed_type c.args.self.now.types.now c.args.element in
     let step = c.size_of-step.result in
     let al = c.align_of-align.result in
-    let stands = block-stands m c.args.start al (c.args.len * step) c.in_ok-test_block.ensures.ok.0 (omega (arith, c.in_ok-test_block.ensures.ok)) in
+    let stands = block-stands m c.args.start al (c.args.len * step) c.in-Ok.ensures.ok.0 (omega (arith, c.in-Ok.ensures.ok)) in
     let opened = list-opened (reading u m) m c.args.start c.args.len al step _ _ c.align_of-align.ensures.value c.size_of-step.ensures.value stands in
     let (vs, e, l, none) = nothing-asked u m (c.asks_nothing.ensures c.if-asks_nothing.true) step c.args.start c.args.len in (
       list_value (values_of vs),
       opened ∙ ap listed e,
-      told-as _ _ _ _ _ _ (ap (λ rs. (request al (c.args.len * step) ∷ []) ++ rs) (sym none) ∙ list-told u vs c.args.len al step c.align_of-align.ensures.value c.size_of-step.ensures.value l) c.tell.ensures,
+      told-as _ _ _ _ _ _ _ _ (ap (λ rs. (request al (c.args.len * step) ∷ []) ++ rs) (sym none) ∙ list-told u vs c.args.len al step c.align_of-align.ensures.value c.size_of-step.ensures.value l) c.tell.ensures,
     )
+
+pub ask_list-returns-then-left-size : goal.ask_list-returns-then-left-size
+ask_list-returns-then-left-size t c =
+    let m = c.args.self.now.source.now in
+    let u = closed_type c.args.self.now.types.now c.args.element in
+    let step = c.size_of-step.result in
+    let al = c.align_of-align.result in
+    let stands = block-stands m c.args.start al (c.args.len * step) c.in-Ok.ensures.ok.0 (omega (arith, c.in-Ok.ensures.ok)) in
+    let opened = list-opened (reading u m) m c.args.start c.args.len al step _ _ c.align_of-align.ensures.value c.size_of-step.ensures.value stands in
+    block-stops u (reading u m) c.args.start c.args.len al step c.args.left.now _ c.align_of-align.ensures.value c.size_of-step.ensures.value opened (omega arith)
 
 pub ask_list-loop-index-init : goal.ask_list-loop-index-init
 ask_list-loop-index-init t c =
     let f = reading (closed_type c.args.self.now.types.now c.args.element) c.args.self.now.source.now in
-    ([], each-start f c.size_of-step.result c.args.start c.args.len, refl, told-none c.tell.new.slots c.tell.new.count)
+    ([], each-start f c.size_of-step.result c.args.start c.args.len, refl, told-none c.tell.new.slots c.tell.new.count c.tell.new.left)
 
 pub ask_list-returns-in_err-ask_at : goal.ask_list-returns-in_err-ask_at
 ask_list-returns-in_err-ask_at t c =
@@ -121,10 +132,13 @@ ask_list-returns-in_err-ask_at t c =
     let f = reading (closed_type c.args.self.now.types.now c.args.element) m in
     let step = c.size_of-step.result in
     let al = c.align_of-align.result in
-    let stands = block-stands m c.args.start al (c.args.len * step) c.in_ok-test_block.ensures.ok.0 (omega (arith, c.in_ok-test_block.ensures.ok)) in
+    let stands = block-stands m c.args.start al (c.args.len * step) c.in-Ok.ensures.ok.0 (omega (arith, c.in-Ok.ensures.ok)) in
     let opened = list-opened f m c.args.start c.args.len al step _ _ c.align_of-align.ensures.value c.size_of-step.ensures.value stands in
-    let p = err_from_is_err_and c.from_residual-in_err-ask_at.result c.from_residual-in_err-ask_at.ensures.1 in
-    rw (p.1, p.2) (opened ∙ ap listed (each-fault f step c.args.start c.args.len c.loop-index.index c.loop-index.invariant.0 _ (omega arith) c.loop-index.invariant.1 c.in_err-ask_at.field-0.0 c.in_err-ask_at.ensures))
+    let p = err_from_is_err_and c.from_residual.result c.from_residual.ensures.1 in
+    let (vs, w, l, told) = c.loop-index.invariant in
+    let u = closed_type c.args.self.now.types.now c.args.element in
+    rw (p.1, p.2) (list-stops u f c.args.start c.args.len al step _ _ _ c.align_of-align.ensures.value c.size_of-step.ensures.value opened (omega (arith, c.tell.ensures.spent)) c.in_err-ask_at.field-0.0
+    (each-stops f (requests u) step c.args.start c.args.len c.loop-index.index vs _ _ _ (omega arith) w told.spent c.in_err-ask_at.field-0.0 c.in_err-ask_at.ensures))
 
 pub ask_list-loop-index-preserved : goal.ask_list-loop-index-preserved
 ask_list-loop-index-preserved t c =
@@ -135,7 +149,7 @@ ask_list-loop-index-preserved t c =
       vs ++ v ∷ [],
       each-more f c.size_of-step.result c.args.start c.args.len c.loop-index.index vs _ (omega arith) w v e,
       omega (arith, length-append vs (v ∷ [])),
-      told-as _ _ _ _ _ _ (each-asks (requests u) vs v) (told-both _ _ (each_request (requests u) vs) (requests u v) _ _ _ _ (omega arith) told more),
+      told-as _ _ _ _ _ _ _ _ (each-asks (requests u) vs v) (told-both _ _ _ (each_request (requests u) vs) (requests u v) _ _ _ _ _ _ (omega arith) told more),
     )
 
 pub ask_list-returns : goal.ask_list-returns
@@ -145,15 +159,15 @@ ask_list-returns t c =
     let f = reading u m in
     let step = c.size_of-step.result in
     let al = c.align_of-align.result in
-    let stands = block-stands m c.args.start al (c.args.len * step) c.in_ok-test_block.ensures.ok.0 (omega (arith, c.in_ok-test_block.ensures.ok)) in
+    let stands = block-stands m c.args.start al (c.args.len * step) c.in-Ok.ensures.ok.0 (omega (arith, c.in-Ok.ensures.ok)) in
     let opened = list-opened f m c.args.start c.args.len al step _ _ c.align_of-align.ensures.value c.size_of-step.ensures.value stands in
     let (vs, w, l, told) = c.loop-index.invariant in
     let i : c.loop-index.index ≡ c.args.len = omega arith in
     let all = each-done f step c.args.start c.args.len c.args.len vs (each_at f step c.args.start c.args.len) (subst (λ (k : ℕ). with_front vs (each_at f step (c.args.start + k * step) (c.args.len - k)) ≡ each_at f step c.args.start c.args.len) i w) in (
       list_value (values_of vs),
       opened ∙ ap listed all,
-      told-as _ _ _ _ _ _ (list-told u vs c.args.len al step c.align_of-align.ensures.value c.size_of-step.ensures.value (l ∙ i))
-          (told-both _ _ (request al (c.args.len * step) ∷ []) (each_request (requests u) vs) _ _ _ _ (omega arith) c.tell.ensures told),
+      told-as _ _ _ _ _ _ _ _ (list-told u vs c.args.len al step c.align_of-align.ensures.value c.size_of-step.ensures.value (l ∙ i))
+          (told-both _ _ _ (request al (c.args.len * step) ∷ []) (each_request (requests u) vs) _ _ _ _ _ _ (omega arith) c.tell.ensures told),
     )
 
 pub ask_variant-returns-in_default : goal.ask_variant-returns-in_default
@@ -173,7 +187,7 @@ ask_variant-returns-in_default-payload t c =
     let num : i ≡ case_number cs m c.args.at =
     c.number_of_size-case.ensures ∙ ap (λ w. number_at m c.args.at (byte_width w)) (c.discriminant_bytes.ensures.value ∙ ap discriminant_size (sym c.requires.counted)) in
     let found : nth_case cs i ≡ Some None = sym c.in-Some.ensures.found ∙ ap (λ o. Some (option_map (closed_type c.args.self.now.types.now) o)) c.in_default-payload.is in
-    rw (← num) (plain_value i, case-plain m _ i cs i found, told-as _ _ [] (case_requests cs i None) _ _ (sym (plain-asks cs i found)) (told-none c.args.slots.now c.args.count.now))
+    rw (← num) (plain_value i, case-plain m _ i cs i found, told-as _ _ _ [] (case_requests cs i None) _ _ _ (sym (plain-asks cs i found)) (told-none c.args.slots.now c.args.count.now c.args.left.now))
 
 pub ask_variant-ask_at-requires : goal.ask_variant-ask_at-requires
 ask_variant-ask_at-requires t c =
@@ -197,4 +211,4 @@ ask_variant-returns t c =
     let found : nth_case cs i ≡ Some (Some u) = sym c.in-Some.ensures.found ∙ ap (λ o. Some (option_map (closed_type c.args.self.now.types.now) o)) c.in-Some-payload.is in
     let place : c.align_of-place.result ≡ payload_place cs = c.align_of-place.ensures.value ∙ ap align (sym c.requires.variant) ∙ sym (payload-place cs) in
     rw (← num, ← place) (asks-made (payload_value i) (reading u m (c.args.at + c.align_of-place.result)) (reading_case cs m (c.args.at + c.align_of-place.result) i i) (requests u) (requests (variant_type cs))
-    (case-payload m _ i cs i u found) (λ w. payload-asks cs i u w found) c.args.slots.now c.args.count.now c.ask_at.result c.ask_at.new.slots c.ask_at.new.count c.ask_at.ensures)
+    (case-payload m _ i cs i u found) (λ w. payload-asks cs i u w found) c.args.slots.now c.args.count.now c.args.left.now c.ask_at.result c.ask_at.new.slots c.ask_at.new.count c.ask_at.new.left c.ask_at.ensures)

@@ -27,11 +27,11 @@ invariant-ask_list-loop-index l =
     let t = closed_type l.self.types.now l.element in
     let f = reading t l.self.source.now in
     (vs : List Value) × (with_front vs (each_at f l.step (l.start + l.index * l.step) (l.len - l.index)) ≡ each_at f l.step l.start l.len)
-    × (length vs ≡ l.index) × IsTold l.initial.slots l.initial.count (each_request (requests t) vs) l.slots l.count
+    × (length vs ≡ l.index) × IsTold l.initial.slots l.initial.count l.initial.left (each_request (requests t) vs) l.slots l.count l.left
 
 abbrev pub invariant-ask_fields-loop-index : goal.invariant-ask_fields-loop-index
 invariant-ask_fields-loop-index l =
     let fs = members_fields l.self.types.now l.members in
     (vs : List Value) × (with_front vs (reading_fields (fields_from l.index fs) l.self.source.now l.at l.end) ≡ reading_fields fs l.self.source.now l.at 0)
-    × (length vs ≡ l.index) × IsTold l.initial.slots l.initial.count (fields_requests fs vs) l.slots l.count
+    × (length vs ≡ l.index) × IsTold l.initial.slots l.initial.count l.initial.left (fields_requests fs vs) l.slots l.count l.left
     × (fields_end l.end (fields_from l.index fs) ≡ fields_end 0 fs)

@@ -7,9 +7,9 @@ use Rattle.canonical_abi.specs.Requests.{requests, fields_requests, case_request
 use Rattle.tables.specs.Closed.{closed_type}
 use Rattle.values.specs.Members.{members_fields}
 use Rattle.values.proofs.TypesExtents.{member-depth, case-depth}
-use Rattle.lift_lower.proofs.FlatSteps.{lifting-more, lifting-fault, lifting-done, kinds-next, lifts-none, lifts-plain, lifts-payload, payload-kinds, rest-numbers, rest-length}
+use Rattle.lift_lower.proofs.FlatSteps.{lifting-more, lifting-done, kinds-next, lifts-none, lifts-plain, lifts-payload, payload-kinds, rest-numbers, rest-length}
 use Rattle.values.proofs.Fields.{nth_field-some}
-use Rattle.asking.proofs.Told.{told-none, told-both, told-as, fields-ask, fields-ask-none, plain-asks, payload-asks, asks-made, record-told, front-none}
+use Rattle.asking.proofs.Told.{told-none, told-both, told-as, fields-ask, fields-ask-none, plain-asks, payload-asks, asks-made, record-told, front-none, lifting-stops}
 use Rattle.asking.proofs.walk.Walk.+flat.Goals as goal
 
 pub ask_flat-returns-in-Primitive : goal.ask_flat-returns-in-Primitive
@@ -22,10 +22,10 @@ ask_flat-returns-in-Record t c =
     let s = c.in-Record.ensures.shape.0 in
     let own : record_fields (closed_type c.args.self.now.types.now c.args.ty) ≡ s.0 = ap record_fields s.1 in
     rw s.1 (asks-made (λ vs. record_value (values_of vs)) (lifting_fields s.0 m ns) (lifting (record_type s.0) m ns) (fields_requests s.0) (requests (record_type s.0)) refl (record-told s.0)
-    c.args.slots.now c.args.count.now c.ask_flat_fields.result c.ask_flat_fields.new.slots c.ask_flat_fields.new.count (rw own at c.ask_flat_fields.ensures))
+    c.args.slots.now c.args.count.now c.args.left.now c.ask_flat_fields.result c.ask_flat_fields.new.slots c.ask_flat_fields.new.count c.ask_flat_fields.new.left (rw own at c.ask_flat_fields.ensures))
 
 pub ask_flat-returns-in-Flags : goal.ask_flat-returns-in-Flags
-ask_flat-returns-in-Flags t c = rw c.in-Flags.ensures.shape.0 (_, refl, told-none c.args.slots.now c.args.count.now)
+ask_flat-returns-in-Flags t c = rw c.in-Flags.ensures.shape.0 (_, refl, told-none c.args.slots.now c.args.count.now c.args.left.now)
 
 pub ask_flat_fields-loop-index-init : goal.ask_flat_fields-loop-index-init
 ask_flat_fields-loop-index-init t c =
@@ -33,7 +33,7 @@ ask_flat_fields-loop-index-init t c =
       [],
       front-none (lifting_fields fs c.args.self.now.source.now (map number_of c.args.flats.now)),
       refl,
-      told-as _ _ [] (fields_requests fs []) _ _ (sym (fields-ask-none fs)) (told-none c.args.slots.now c.args.count.now),
+      told-as _ _ _ [] (fields_requests fs []) _ _ _ (sym (fields-ask-none fs)) (told-none c.args.slots.now c.args.count.now c.args.left.now),
       omega (arith, c.requires.carried),
     )
 
@@ -55,8 +55,9 @@ ask_flat_fields-returns-in_err-ask_flat t c =
     let u = closed_type c.args.self.now.types.now c.in-Some.member in
     let ns = map number_of c.args.flats.now in
     let p = err_from_is_err_and c.from_residual.result c.from_residual.ensures.1 in
-    rw (p.1, p.2) (lifting-fault fs c.args.self.now.source.now ns c.loop-index.index c.loop-index.used u c.loop-index.invariant.0 (lifting_fields fs c.args.self.now.source.now ns) (sym c.in-Some.ensures.found) c.loop-index.invariant.1
-    c.in_err-ask_flat.field-0.0 (ap (lifting u c.args.self.now.source.now) (sym (rest-numbers c.args.flats.now c.loop-index.used)) ∙ c.in_err-ask_flat.ensures))
+    let (vs, w, l, told, kinds) = c.loop-index.invariant in
+    rw (p.1, p.2) (lifting-stops fs c.args.self.now.source.now ns c.loop-index.index c.loop-index.used u vs _ _ _ (sym c.in-Some.ensures.found) l w told.spent c.in_err-ask_flat.field-0.0
+    (rw (rest-numbers c.args.flats.now c.loop-index.used) at c.in_err-ask_flat.ensures))
 
 pub ask_flat_fields-kind_count-used-requires-clause-flat : goal.ask_flat_fields-kind_count-used-requires-clause-flat
 ask_flat_fields-kind_count-used-requires-clause-flat t c =
@@ -82,7 +83,7 @@ ask_flat_fields-loop-index-preserved t c =
       vs ++ v ∷ [],
       lifting-more fs c.args.self.now.source.now ns c.loop-index.index c.loop-index.used u vs (lifting_fields fs c.args.self.now.source.now ns) found w v (ap (lifting u c.args.self.now.source.now) (sym (rest-numbers c.args.flats.now c.loop-index.used)) ∙ e),
       omega (arith, length-append vs (v ∷ [])),
-      told-as _ _ _ _ _ _ (fields-ask fs vs v c.loop-index.index u found l) (told-both _ _ (fields_requests fs vs) (requests u v) _ _ _ _ (omega arith) told more),
+      told-as _ _ _ _ _ _ _ _ (fields-ask fs vs v c.loop-index.index u found l) (told-both _ _ _ (fields_requests fs vs) (requests u v) _ _ _ _ _ _ (omega arith) told more),
       omega (arith, kinds-next fs c.loop-index.index u found, left),
     )
 
@@ -107,7 +108,7 @@ ask_flat_variant-returns-in_default-payload t c =
     rw (← c.low_word-case.ensures) (
       plain_value i,
       lifts-plain c.args.self.now.source.now (drop 1 (map number_of c.args.flats.now)) i cs i found,
-      told-as _ _ [] (case_requests cs i None) _ _ (sym (plain-asks cs i found)) (told-none c.args.slots.now c.args.count.now),
+      told-as _ _ _ [] (case_requests cs i None) _ _ _ (sym (plain-asks cs i found)) (told-none c.args.slots.now c.args.count.now c.args.left.now),
     )
 
 pub ask_flat_variant-ask_flat-requires : goal.ask_flat_variant-ask_flat-requires
@@ -130,4 +131,4 @@ ask_flat_variant-returns t c =
     let found : nth_case cs i ≡ Some (Some u) = sym c.in-Some.ensures.found ∙ ap (λ o. Some (option_map (closed_type c.args.self.now.types.now) o)) c.in-Some-payload.is in
     let asked = rw (rest-numbers c.args.flats.now 1) at c.ask_flat.ensures in
     rw (← c.low_word-case.ensures) (asks-made (payload_value i) (lifting u m ns) (lifting_case cs m ns i i) (requests u) (requests (variant_type cs))
-    (lifts-payload m ns i cs i u found) (λ w. payload-asks cs i u w found) c.args.slots.now c.args.count.now c.ask_flat.result c.ask_flat.new.slots c.ask_flat.new.count asked)
+    (lifts-payload m ns i cs i u found) (λ w. payload-asks cs i u w found) c.args.slots.now c.args.count.now c.args.left.now c.ask_flat.result c.ask_flat.new.slots c.ask_flat.new.count c.ask_flat.new.left asked)

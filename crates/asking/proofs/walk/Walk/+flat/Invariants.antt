@@ -25,5 +25,5 @@ invariant-ask_flat_fields-loop-index l =
     let fs = members_fields l.self.types.now l.members in
     let ns = map number_of l.flats in
     (vs : List Value) × (with_front vs (lifting_fields (fields_from l.index fs) l.self.source.now (drop l.used ns)) ≡ lifting_fields fs l.self.source.now ns)
-    × (length vs ≡ l.index) × IsTold l.initial.slots l.initial.count (fields_requests fs vs) l.slots l.count
+    × (length vs ≡ l.index) × IsTold l.initial.slots l.initial.count l.initial.left (fields_requests fs vs) l.slots l.count l.left
     × (l.used + length (field_kinds (fields_from l.index fs)) ≤ length l.flats)

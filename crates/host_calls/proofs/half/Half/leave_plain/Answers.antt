@@ -20,8 +20,7 @@ returns-clause-done c values answers is answered =
     let blocks = c.args.self.now.blocks.now in
     let caller = lent 0 c.args.caller.now blocks in
     let can = subst (λ fl. can_lend (length c.args.caller.now) (area_block f fl) blocks ≡ true) is (sym c.in_ok-can_return.ensures.can ∙ c.if-not-branch.false) in
-    let returned = subst (λ an. HasReturned LentAllocates f flats callee an caller answer caller (length answer)) answered (plain-returned LentAllocates f flats answer callee caller (length answer) c.requires.own c.requires.few refl) in
-    (
+    let returned = subst (λ an. HasReturned LentAllocates f flats callee an caller answer caller (length answer)) answered (plain-returned LentAllocates f flats answer callee caller (length answer) c.requires.own c.requires.few refl) in (
       answer,
       record { told = c.tell.ensures.told; counted = refl; rest = c.tell.ensures.rest },
       subst (KindsFit f) is c.requires.kinds,
