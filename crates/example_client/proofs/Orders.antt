@@ -7,29 +7,26 @@ use Rattle.canonical_abi.specs.Values.{string_value, unsigned_value, HasType, Ha
 use Rattle.canonical_abi.specs.Layout.{max_flat_params}
 use Rattle.canonical_abi.specs.Reading.{kind_of, low_bits, number_of}
 use Rattle.canonical_abi.specs.Flat.{Denotes}
-use Rattle.canonical_abi.specs.Guest.{Memory, IsLimited, IsWithin}
+use Rattle.canonical_abi.specs.Guest.{Memory, IsWithin}
 use Rattle.canonical_abi.specs.Call.{Run, PostRun, World, exact}
-use Rattle.canonical_abi.specs.Headline.{AreHonest, AreLimited, KeepsLive, KeepsPromise}
+use Rattle.canonical_abi.specs.Headline.{AreHonest, KeepsLive, KeepsPromise}
 use Rattle.canonical_abi.specs.declared.flat.Flat.{Flat}
 use Rattle.canonical_abi.specs.declared.flat.CoreKind.TheVariants.{I32}
 use Rattle.canonical_abi.specs.declared.trap.Fault.{Fault}
 use Rattle.canonical_abi.proofs.Frames.{take-same}
 use Rattle.canonical_abi.proofs.Images.{slice_get-drop}
 use Rattle.memory.specs.Space.{SpaceReleases, spaces}
-use Rattle.memory.specs.SpaceLaws.{SpaceIsHonest, SpaceKeepsLimit}
+use Rattle.memory.specs.SpaceLaws.{SpaceIsHonest}
 use Rattle.values.specs.declared.val.Val.{Val, String as Text, U32, the_lemmas}
 use Rattle.values.specs.Val.{value_of}
 use Rattle.values.proofs.Views.{value_of-String}
 use Rattle.witcall.specs.Session.{typed_answer}
 use Rattle.example_client.specs.Order.{FindsOrder, KeepsLiveRanges, TakesOrder, word}
 
--- ---- the premises hold of two `Space`s
+-- ---- the premise holds of two `Space`s
 
 pub honest : (runs : Run) (posts : PostRun) → AreHonest (spaces runs posts) SpaceReleases SpaceReleases
 honest runs posts = record { caller = SpaceIsHonest; callee = SpaceIsHonest }
-
-pub limited : (runs : Run) (posts : PostRun) (old : World) → IsLimited old.caller → IsLimited old.callee → AreLimited (spaces runs posts) old
-limited runs posts old caller callee = record { caller = caller; callee = callee; caller_keeps = SpaceKeepsLimit; callee_keeps = SpaceKeepsLimit }
 
 -- ---- which functions take an order
 

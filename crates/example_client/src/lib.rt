@@ -8,7 +8,6 @@ ghost use Rattle.tables.specs.Closed.{IsFunction, function_type};
 ghost use Rattle.values.specs.Val.{value_of};
 ghost use Rattle.example_client.specs.Order.{FindsOrder, KeepsLiveRanges, TakesOrder};
 
-use memory::spaces_are_limited;
 use std::alloc::Global;
 use witcall::{Body, Fault, FunctionId, Package, Session, Space, Val};
 
@@ -36,7 +35,5 @@ pub fn order<B: Body<Space>>(
         (B.state session.old.body) (B.state session.new.body) (space_memory session.new.callee)) }
     ensures kept { KeepsLiveRanges (space_memory session.old.caller) (space_memory session.new.caller) }
 {
-    spaces_are_limited(session.caller());
-    spaces_are_limited(session.callee());
     session.call(alloc, func, &[Val::String(item), Val::U32(count)])
 }

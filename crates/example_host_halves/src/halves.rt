@@ -34,8 +34,9 @@ pub fn enter(
     ensures same_caller { caller.new ≡ caller.old }
 {
     let mut slots = [NOTHING; MOST];
-    // After a fault nothing is granted: the half finds it again.
-    let count = request_arguments(types, invocation, caller, &mut slots).unwrap_or(0);
+    // The callee can't grant more than it has. After a fault nothing is granted: the half finds it again.
+    let limit = callee.len() as u64;
+    let count = request_arguments(types, invocation, caller, &mut slots, limit).unwrap_or(0);
     let granted = grant(alloc, callee, &slots[..count.min(MOST)]);
     let blocks = lendable(alloc, callee.len(), &NOWHERE, granted.as_slice());
     let half = Half {
@@ -67,7 +68,9 @@ pub fn leave(
     ensures same_callee { callee.new ≡ callee.old }
 {
     let mut slots = [NOTHING; MOST];
-    let count = request_answer(types, invocation.func, answer, callee, &mut slots).unwrap_or(0);
+    let limit = caller.len() as u64;
+    let func = invocation.func;
+    let count = request_answer(types, func, answer, callee, &mut slots, limit).unwrap_or(0);
     let granted = grant(alloc, caller, &slots[..count.min(MOST)]);
     let area = return_area(types, invocation.func, invocation.flats);
     let blocks = lendable(alloc, caller.len(), &area, granted.as_slice());

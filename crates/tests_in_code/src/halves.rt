@@ -52,7 +52,7 @@ fn assert_asks(rt: &impl Abort, package: &Package, caller: &Bump) -> Result<(), 
     let f = function(package)?;
     let link = Link::new(package.resolve(), package.layouts());
     let mut slots = [NOTHING; 4];
-    assert!(rt; link.enter_requests(f, &FLATS, caller, &mut slots) == Ok(3));
+    assert!(rt; link.enter_requests(f, &FLATS, caller, &mut slots, 19) == Ok(3));
     assert!(rt; slots == [asked(4, 16), asked(1, 1), asked(1, 2), NOTHING]);
     Ok(())
 }
@@ -62,8 +62,8 @@ fn assert_asks_back(rt: &impl Abort, package: &Package, callee: &Bump) -> Result
     let f = function(package)?;
     let link = Link::new(package.resolve(), package.layouts());
     let mut slots = [NOTHING; 1];
-    assert!(rt; link.leave_requests(f, &ANSWER, callee, &mut []) == Ok(1));
-    assert!(rt; link.leave_requests(f, &ANSWER, callee, &mut slots) == Ok(1));
+    assert!(rt; link.leave_requests(f, &ANSWER, callee, &mut [], 3) == Ok(1));
+    assert!(rt; link.leave_requests(f, &ANSWER, callee, &mut slots, 3) == Ok(1));
     assert!(rt; slots == [asked(1, 3)]);
     Ok(())
 }

@@ -99,8 +99,8 @@ fn asked(
     let types = package.types();
     let f = function_of(&types, number(package))?;
     let (mut caller, mut callee) = (*CALLER, *ANSWERED);
-    let first = enter_requests(&types, f, &flats(), &mut caller, there)?;
-    let second = leave_requests(&types, f, &[word(8)], &mut callee, back)?;
+    let first = enter_requests(&types, f, &flats(), &mut caller, there, 25)?;
+    let second = leave_requests(&types, f, &[word(8)], &mut callee, back, 4)?;
     Ok((first, second))
 }
 

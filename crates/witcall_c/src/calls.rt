@@ -91,36 +91,38 @@ impl NumberedHalf<'_> {
     }
 }
 
-/// What the first half will ask for.
+/// What the first half will ask for, of `limit` bytes at most.
 pub fn enter_requests(
     held: &Target,
     number: u32,
     flats: &[Value],
     caller: &mut [u8],
     requests: &mut [Request],
+    limit: u64,
 ) -> Result<usize, CallError>
     ensures done { CallsFunction (held_package (option_map (λ held. held.value) held.now)) number
-        (λ f done. EnterAsks f flats.now caller.old requests.old done requests.new) (requests.new ≡ requests.old) result }
+        (λ f done. EnterAsks f flats.now caller.old limit requests.old done requests.new) (requests.new ≡ requests.old) result }
     ensures same_caller { caller.new ≡ caller.old }
 {
     let (types, func) = function(held, number)?;
-    host_calls::enter_requests(&types, func, flats, caller, requests)
+    host_calls::enter_requests(&types, func, flats, caller, requests, limit)
 }
 
-/// What the second half will ask for.
+/// What the second half will ask for, of `limit` bytes at most.
 pub fn leave_requests(
     held: &Target,
     number: u32,
     answer: &[Value],
     callee: &mut [u8],
     requests: &mut [Request],
+    limit: u64,
 ) -> Result<usize, CallError>
     ensures done { CallsFunction (held_package (option_map (λ held. held.value) held.now)) number
-        (λ f done. LeaveAsks f answer.now callee.old requests.old done requests.new) (requests.new ≡ requests.old) result }
+        (λ f done. LeaveAsks f answer.now callee.old limit requests.old done requests.new) (requests.new ≡ requests.old) result }
     ensures same_callee { callee.new ≡ callee.old }
 {
     let (types, func) = function(held, number)?;
-    host_calls::leave_requests(&types, func, answer, callee, requests)
+    host_calls::leave_requests(&types, func, answer, callee, requests, limit)
 }
 
 /// How the parameters lie in memory.

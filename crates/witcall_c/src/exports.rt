@@ -277,7 +277,7 @@ pub extern "C" fn witcall_call_leave(
     )
 }
 
-/// What the first half of a call that was begun will ask for.
+/// What the first half of a call that was begun will ask for, of `limit` bytes at most.
 #[unsafe(no_mangle)]
 pub extern "C" fn witcall_call_enter_requests(
     alloc: Global,
@@ -285,15 +285,24 @@ pub extern "C" fn witcall_call_enter_requests(
     call: &Call,
     caller: &mut [u8],
     requests: &mut [Request],
+    limit: u64,
 ) -> Status
     ensures done { CallsOf (stands_for handle.old) (stands_for handle.new) call.now.func result
-        (λ f d. EnterAsks f (flats_of call.now) caller.old requests.old d requests.new) (requests.new ≡ requests.old) }
+        (λ f d. EnterAsks f (flats_of call.now) caller.old limit requests.old d requests.new) (requests.new ≡ requests.old) }
     ensures same { caller.new ≡ caller.old }
 {
-    witcall_enter_requests(alloc, handle, call.func(), call.flats(), caller, requests)
+    witcall_enter_requests(
+        alloc,
+        handle,
+        call.func(),
+        call.flats(),
+        caller,
+        requests,
+        limit,
+    )
 }
 
-/// What the second half of a call that was begun will ask for.
+/// What the second half of a call that was begun will ask for, of `limit` bytes at most.
 #[unsafe(no_mangle)]
 pub extern "C" fn witcall_call_leave_requests(
     alloc: Global,
@@ -302,15 +311,16 @@ pub extern "C" fn witcall_call_leave_requests(
     answer: &[Value],
     callee: &mut [u8],
     requests: &mut [Request],
+    limit: u64,
 ) -> Status
     ensures done { CallsOf (stands_for handle.old) (stands_for handle.new) call.now.func result
-        (λ f d. LeaveAsks f answer.now callee.old requests.old d requests.new) (requests.new ≡ requests.old) }
+        (λ f d. LeaveAsks f answer.now callee.old limit requests.old d requests.new) (requests.new ≡ requests.old) }
     ensures same { callee.new ≡ callee.old }
 {
-    witcall_leave_requests(alloc, handle, call.func(), answer, callee, requests)
+    witcall_leave_requests(alloc, handle, call.func(), answer, callee, requests, limit)
 }
 
-/// What the first half will ask for.
+/// What the first half will ask for, of `limit` bytes at most.
 #[unsafe(no_mangle)]
 pub extern "C" fn witcall_enter_requests(
     alloc: Global,
@@ -319,18 +329,19 @@ pub extern "C" fn witcall_enter_requests(
     flats: &[Value],
     caller: &mut [u8],
     requests: &mut [Request],
+    limit: u64,
 ) -> Status
     ensures done { CallsOf (stands_for handle.old) (stands_for handle.new) func result
-        (λ f d. EnterAsks f flats.now caller.old requests.old d requests.new) (requests.new ≡ requests.old) }
+        (λ f d. EnterAsks f flats.now caller.old limit requests.old d requests.new) (requests.new ≡ requests.old) }
     ensures same { caller.new ≡ caller.old }
 {
     let held = handle.take(alloc);
-    let done = calls::enter_requests(&held, func, flats, caller, requests);
+    let done = calls::enter_requests(&held, func, flats, caller, requests, limit);
     handle.give(held);
     Status::of(done)
 }
 
-/// What the second half will ask for.
+/// What the second half will ask for, of `limit` bytes at most.
 #[unsafe(no_mangle)]
 pub extern "C" fn witcall_leave_requests(
     alloc: Global,
@@ -339,13 +350,14 @@ pub extern "C" fn witcall_leave_requests(
     answer: &[Value],
     callee: &mut [u8],
     requests: &mut [Request],
+    limit: u64,
 ) -> Status
     ensures done { CallsOf (stands_for handle.old) (stands_for handle.new) func result
-        (λ f d. LeaveAsks f answer.now callee.old requests.old d requests.new) (requests.new ≡ requests.old) }
+        (λ f d. LeaveAsks f answer.now callee.old limit requests.old d requests.new) (requests.new ≡ requests.old) }
     ensures same { callee.new ≡ callee.old }
 {
     let held = handle.take(alloc);
-    let done = calls::leave_requests(&held, func, answer, callee, requests);
+    let done = calls::leave_requests(&held, func, answer, callee, requests, limit);
     handle.give(held);
     Status::of(done)
 }

@@ -3,14 +3,12 @@ use Rattle.std.specs.Str.{is_utf8}
 use Rattle.std.proofs.lemmas.Str.{is_utf8-from_IsUtf8, IsUtf8-string_bytes}
 use Rattle.canonical_abi.specs.Values.{Value, HaveTypes}
 use Rattle.canonical_abi.specs.Call.{World, exact}
-use Rattle.canonical_abi.specs.Guest.{IsLimited}
 use Rattle.canonical_abi.specs.Headline.{KeepsPromise}
 use Rattle.memory.specs.Space.{spaces}
 use Rattle.memory.specs.SpaceView.{space_memory}
-use Rattle.memory.specs.declared.space.Space.{Space}
 use Rattle.tables.specs.Closed.{function_type}
 use Rattle.witcall.specs.Session.{typed_answer}
-use Rattle.example_client.proofs.Orders.{honest, limited, typed, values, found, kept}
+use Rattle.example_client.proofs.Orders.{honest, typed, values, found, kept}
 use Rattle.example_client.proofs.order.Goals as goal
 
 -- the item and the count are of the parameters' types
@@ -30,9 +28,9 @@ returns-clause-found g c =
     let old : World = record { caller = space_memory before.caller; callee = space_memory before.callee; body = g.B.Body.state before.body } in
     let new : World = record { caller = space_memory after.caller; callee = space_memory after.callee; body = g.B.Body.state after.body } in
     let f = function_type before.package.now.resolve c.args.func in
-    let promise = c.call.ensures.promise (honest runs posts) (limited runs posts old (subst (λ (s : Space). IsLimited (space_memory s)) c.caller.ensures c.spaces_are_limited.ensures.limited) (subst (λ (s : Space). IsLimited (space_memory s)) c.callee.ensures c.spaces_are_limited-2.ensures.limited)) in
+    let promise = c.call.ensures.promise (honest runs posts) in
     found runs posts f (string_bytes c.args.item) c.args.count old new c.call.result c.requires.takes
     (subst (λ (vs : List Value). KeepsPromise (spaces runs posts) exact f vs old (typed_answer c.call.result) new) (values c.args.item c.args.count) promise)
 
 pub returns-clause-kept : goal.returns-clause-kept
-returns-clause-kept g c = kept _ _ (c.call.ensures.promise (honest _ _) (limited _ _ _ (subst (λ (s : Space). IsLimited (space_memory s)) c.caller.ensures c.spaces_are_limited.ensures.limited) (subst (λ (s : Space). IsLimited (space_memory s)) c.callee.ensures c.spaces_are_limited-2.ensures.limited))).unchanged.keeps_live
+returns-clause-kept g c = kept _ _ (c.call.ensures.promise (honest _ _)).unchanged.keeps_live
