@@ -13,7 +13,7 @@ use Rattle.canonical_abi.specs.Storing.{EachStores, Stores, FieldsStore, CaseSto
 use Rattle.canonical_abi.specs.Stands.{IsGranted, Carries, Keeps, IsStored}
 use Rattle.canonical_abi.specs.Call.{Parties, World, Order}
 use Rattle.canonical_abi.specs.declared.trap.Fault.{Fault}
-use Rattle.canonical_abi.specs.Session.{Held, SessionStep, call, place, read, release, SessionAnswer, PlacesValue, ReadsStep, TakesStep, RunsSession}
+use Rattle.canonical_abi.specs.Session.{Held, SessionStep, call, place, read, release, SessionAnswer, released, PlacesValue, ReadsStep, TakesStep, RunsSession}
 use Rattle.canonical_abi.specs.Headline.{AreHonest, IsLentLive}
 use Rattle.canonical_abi.specs.Keeping.{Footprint, IsLive, AreStandardSteps, Throughout, ReleasesMiss, IsPlaced, PlacedIsHeld, PlacedIsRead}
 use Rattle.canonical_abi.proofs.Bytes.{number-there}
@@ -169,11 +169,11 @@ module _ (parties : Parties) (caller_releases callee_releases : Release) (order 
   fine-lives : (old new : Memory) (es : List Event) → Fine parties.caller_allocates Nowhere old es new → IsLive F old → IsLive F new
   fine-lives old new es fine live x f = (runs-keep parties.caller_allocates caller_releases honest.caller es old new fine.aligned fine.leads).stays_live x (live x f)
 
-  release-lives : (at n : ℕ) (taken : Bool) (old new : Memory) → caller_releases old at n taken new → ((x : ℕ) → F x → IsOutside x at (rounded_to_eight n)) → IsLive F old → IsLive F new
-  release-lives at n true old new r miss live x f = (honest.caller.taken old at n new r).stays_live x (live x f) (miss x f)
+  release-lives : (at n : ℕ) (taken : Bool) (old new : Memory) → caller_releases old at n taken new → (taken ≡ true → (x : ℕ) → F x → IsOutside x at (rounded_to_eight n)) → IsLive F old → IsLive F new
+  release-lives at n true old new r miss live x f = (honest.caller.taken old at n new r).stays_live x (live x f) (miss refl x f)
   release-lives at n false old new r miss live x f = ap (λ m. m.live x) (honest.caller.not_taken old at n new r) ∙ live x f
 
-  step-lives : (s : SessionStep) (before : List SessionAnswer) (old : World) (answer : SessionAnswer) (new : World) → AreStandardSteps (s ∷ []) → ReleasesMiss F (s ∷ []) → IsLimited old.caller
+  step-lives : (s : SessionStep) (before : List SessionAnswer) (old : World) (answer : SessionAnswer) (new : World) → AreStandardSteps (s ∷ []) → ReleasesMiss F (s ∷ []) (answer ∷ []) → IsLimited old.caller
       → TakesStep parties caller_releases order before old s answer new → IsLive F old.caller → IsLive F new.caller
   step-lives (call f arguments) before old answer new standard miss few (result, is, typed) live =
       let went = call-went-fine parties caller_releases callee_releases order f arguments honest standard.0 old result new typed in
@@ -182,21 +182,22 @@ module _ (parties : Parties) (caller_releases callee_releases : Release) (order 
       let went = place-went-fine parties.caller_allocates caller_releases honest.caller t v old.caller new.caller result places in
       fine-lives old.caller new.caller went.0 went.1 live
   step-lives (read k) before old answer new standard miss few (same, reads) live = λ x f. ap (λ w. w.caller.live x) same ∙ live x f
-  step-lives (release at n) before old answer new standard miss few (taken, is, releases, callee, body) live = release-lives at n taken old.caller new.caller releases miss.0 live
+  step-lives (release at n) before old answer new standard miss few (taken, is, releases, callee, body) live = release-lives at n taken old.caller new.caller releases (λ e. miss.0 (is ∙ ap released e)) live
 
-  first-miss : (s : SessionStep) (steps : List SessionStep) → ReleasesMiss F (s ∷ steps) → ReleasesMiss F (s ∷ []) × ReleasesMiss F steps
-  first-miss (call f arguments) steps miss = (tt, miss)
-  first-miss (place t v) steps miss = (tt, miss)
-  first-miss (read k) steps miss = (tt, miss)
-  first-miss (release at n) steps miss = ((miss.0, tt), miss.1)
+  first-miss : (s : SessionStep) (steps : List SessionStep) (answer : SessionAnswer) (answers : List SessionAnswer) → ReleasesMiss F (s ∷ steps) (answer ∷ answers)
+      → ReleasesMiss F (s ∷ []) (answer ∷ []) × ReleasesMiss F steps answers
+  first-miss (call f arguments) steps answer answers miss = (tt, miss)
+  first-miss (place t v) steps answer answers miss = (tt, miss)
+  first-miss (read k) steps answer answers miss = (tt, miss)
+  first-miss (release at n) steps answer answers miss = ((miss.0, tt), miss.1)
 
   lives-throughout : (before : List SessionAnswer) (old : World) (steps : List SessionStep) (answers : List SessionAnswer) (new : World) (run : RunsSession parties caller_releases order before old steps answers new)
-      → IsLimited old.caller → AreStandardSteps steps → ReleasesMiss F steps → IsLive F old.caller
+      → IsLimited old.caller → AreStandardSteps steps → ReleasesMiss F steps answers → IsLive F old.caller
       → Throughout parties caller_releases order (λ w. IsLive F w.caller) before old steps answers new run
   lives-throughout before old [] answers new run few standard miss live = live
   lives-throughout before old (s ∷ steps) answers new run few standard miss live =
       let split = first-standard parties caller_releases callee_releases order honest keeps s steps standard in
-      let apart = first-miss s steps miss in
+      let apart = first-miss s steps run.answer run.rest (subst (ReleasesMiss F (s ∷ steps)) run.answers_are miss) in
       let step = step-keeps parties caller_releases callee_releases order honest keeps s before old run.answer run.between split.0 few run.takes in
       (live, lives-throughout (before ++ run.answer ∷ []) run.between steps run.rest new run.others step.limited split.1 apart.1 (step-lives s before old run.answer run.between split.0 apart.0 few run.takes live))
 

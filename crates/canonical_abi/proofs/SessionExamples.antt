@@ -142,8 +142,12 @@ one-answer-fewer answer new run =
     let second = run.others.answers_are in cc
 
 -- what was placed is not read once its block was given back: the premise of held values fails there
-release-hits : ReleasesMiss (λ x. x ≡ 0) (release 0 1 ∷ []) → ⊥
-release-hits miss = elim (miss.0 0 refl) [ inl before ↦ absurd (omega arith) | inr behind ↦ absurd (omega arith) ]
+release-hits : ReleasesMiss (λ x. x ≡ 0) (release 0 1 ∷ []) (released true ∷ []) → ⊥
+release-hits miss = elim (miss.0 refl 0 refl) [ inl before ↦ absurd (omega arith) | inr behind ↦ absurd (omega arith) ]
+
+-- a release that took nothing back misses
+release-misses : ReleasesMiss (λ x. x ≡ 0) (release 0 1 ∷ []) (released false ∷ [])
+release-misses = (λ e. cc, tt)
 
 -- a run of a body that writes into a footprint does not leave it alone
 body-writes : LeavesAlone (λ x. x ≡ 0) (record { before = bytes 7 true; after = bytes 8 true }) → ⊥

@@ -12,7 +12,7 @@ use Rattle.canonical_abi.specs.Trace.{Event, requests_of}
 use Rattle.canonical_abi.specs.Requests.{request, requests}
 use Rattle.canonical_abi.specs.Stands.{IsGranted}
 use Rattle.canonical_abi.specs.Call.{Parties, World, Order, either, exact, Ways, Answered, Returned, Completes, GivesUp}
-use Rattle.canonical_abi.specs.Session.{Held, SessionStep, call, place, read, release, SessionAnswer, was_read, TypedTraps, TypedCall, PlacesValue, TakesStep, RunsSession, ReadsStep}
+use Rattle.canonical_abi.specs.Session.{Held, SessionStep, call, place, read, release, SessionAnswer, was_read, released, TypedTraps, TypedCall, PlacesValue, TakesStep, RunsSession, ReadsStep}
 use Rattle.canonical_abi.specs.Headline.{AreHonest, AreLimited, IsStandardFunction, KeepsOutside}
 use Rattle.canonical_abi.specs.declared.flat.Flat.{Flat}
 use Rattle.canonical_abi.specs.declared.trap.Fault.{Fault}
@@ -58,13 +58,15 @@ pub record IsKept (t : ClosedType) (a : ℕ) (v : Value) (old new : Memory) : Ty
   pub holds : HoldsInBlock t new.bytes a v
   pub footprint : SameFootprint t a old.bytes new.bytes
 
--- no release of these steps ends life in the footprint
-abbrev pub ReleasesMiss : Footprint → List SessionStep → Type 0
-ReleasesMiss F [] = Unit {0}
-ReleasesMiss F (call f arguments ∷ steps) = ReleasesMiss F steps
-ReleasesMiss F (place t v ∷ steps) = ReleasesMiss F steps
-ReleasesMiss F (read k ∷ steps) = ReleasesMiss F steps
-ReleasesMiss F (release at size ∷ steps) = ((x : ℕ) → F x → IsOutside x at (rounded_to_eight size)) × ReleasesMiss F steps
+-- no release of these steps ends life in the footprint; one that took nothing back, by its answer, ends none
+abbrev pub ReleasesMiss : Footprint → List SessionStep → List SessionAnswer → Type 0
+ReleasesMiss F [] answers = Unit {0}
+ReleasesMiss F (s ∷ steps) [] = Unit {0}
+ReleasesMiss F (call f arguments ∷ steps) (answer ∷ answers) = ReleasesMiss F steps answers
+ReleasesMiss F (place t v ∷ steps) (answer ∷ answers) = ReleasesMiss F steps answers
+ReleasesMiss F (read k ∷ steps) (answer ∷ answers) = ReleasesMiss F steps answers
+ReleasesMiss F (release at size ∷ steps) (answer ∷ answers) =
+    (answer ≡ released true → (x : ℕ) → F x → IsOutside x at (rounded_to_eight size)) × ReleasesMiss F steps answers
 
 -- what is read is the value, or the host had no memory
 abbrev pub ReadAnswers : Value → SessionAnswer → Type 0
@@ -100,14 +102,14 @@ module _ (parties : Parties) (caller_releases : Release) (order : Order) where
       → AreHonest parties caller_releases callee_releases → AreLimited parties old → AreStandardSteps steps
       → StaysLive t a v before old steps answers new run → ReadsStep new.caller (Some (record { ty = t; at = a })) answer → ReadAnswers v answer
 
-  -- a value that was placed is read, whatever the steps in between, as long as none of them releases what it stands in
+  -- a value that was placed is read, whatever the steps in between, as long as none of them takes back what it stands in
   abbrev pub PlacedIsRead : Release → Type 0
   PlacedIsRead callee_releases =
       (t : ClosedType) (v : Value) (held : Held) (before : List SessionAnswer) (old placed : World) (steps : List SessionStep) (answers : List SessionAnswer) (new : World)
       (answer : SessionAnswer)
       → AreHonest parties caller_releases callee_releases → AreLimited parties old → IsStandard t → AreStandardSteps steps
       → PlacesValue parties.caller_allocates t v old.caller (Ok held) placed.caller → RunsSession parties caller_releases order before placed steps answers new
-      → ReleasesMiss (Reads t placed.caller.bytes held.at) steps → ReadsStep new.caller (Some held) answer → ReadAnswers v answer
+      → ReleasesMiss (Reads t placed.caller.bytes held.at) steps answers → ReadsStep new.caller (Some held) answer → ReadAnswers v answer
 
 -- ---- the same in the callee, which only its body changes otherwise
 

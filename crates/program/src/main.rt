@@ -7,7 +7,7 @@ use atoms::Watched;
 use std::alloc::{AllocError, Global};
 use std::process::ExitCode;
 use std::{env, fs, io};
-use witcall::{BoxedBody, Refused, Reply, open_set, read_all, report, run_call, run_set};
+use witcall::{Refused, Reply, open_set, read_all, report, run_call, run_set};
 use words::asked::{Command, Job};
 use words::{WordsError, command};
 
@@ -75,7 +75,6 @@ fn call(
     let package = open_set(alloc, inputs.as_slice())?;
     let body = Reply::of(alloc, &package, interface, function, reply)?;
     let body = Box::new(alloc, body).map_err(|_| Refused::NoMemory)?;
-    let mut body = BoxedBody::new(body);
     let mut output = Watched::new(rt.stdout());
     run_call(
         alloc,
@@ -83,7 +82,7 @@ fn call(
         interface,
         function,
         arguments,
-        &mut body,
+        body,
         &mut output,
     )
 }

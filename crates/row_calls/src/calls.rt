@@ -6,7 +6,7 @@ use crate::opened::{line_of, package, told};
 use atoms::{Sink, Watched};
 use row_inputs::{Drip, Inputs, Set, Short, first_word, inputs_in};
 use std::alloc::Global;
-use witcall::{BoxedBody, Package, Refused, Reply, run_call, run_set};
+use witcall::{Package, Refused, Reply, run_call, run_set};
 use words::asked::Job;
 
 /// The words of a call.
@@ -33,14 +33,14 @@ fn write_answer<W: Sink>(
 ) -> Result<(), Refused>
     requires { W.has_failed output.old ≡ false }
 {
-    let mut body = BoxedBody::new(body(alloc, package, call)?);
+    let body = body(alloc, package, call)?;
     run_call(
         alloc,
         package,
         call.interface,
         call.function,
         call.arguments,
-        &mut body,
+        body,
         output,
     )
 }

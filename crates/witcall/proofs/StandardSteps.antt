@@ -5,13 +5,13 @@ use Rattle.std.proofs.lemmas.List.Elements.{All-head, All-tail}
 use Rattle.canonical_abi.specs.Call.{Parties, exact}
 use Rattle.canonical_abi.specs.Guest.{Allocation, Release}
 use Rattle.canonical_abi.specs.Keeping.{AreStandardSteps}
-use Rattle.canonical_abi.proofs.Keeping.{held-stays-held}
+use Rattle.canonical_abi.proofs.Keeping.{held-is-read, held-stays-held}
 use Rattle.canonical_abi.proofs.Placing.{placed-is-held, placed-is-read, placed-limited}
 use Rattle.canonical_abi.proofs.ToldCalls.{callee-is-told}
 use Rattle.tables.specs.Closed.{closed_type}
 use Rattle.tables.specs.declared.tables.Resolve.{Resolve}
 use Rattle.tables.proofs.Standards.{function-standard, type-standard}
-use Rattle.witcall.specs.Laws.{PlacesHeld, StepsKeepHeld, StepsReadPlaced, StepsTellCallee}
+use Rattle.witcall.specs.Laws.{PlacesHeld, StepsKeepHeld, StepsReadHeld, StepsReadPlaced, StepsTellCallee}
 use Rattle.witcall.specs.Steps.{IsStep, step_of}
 use Rattle.witcall.specs.declared.steps.Step.{Step}
 use Rattle.witcall.specs.declared.steps.Step.TheVariants as step
@@ -28,6 +28,10 @@ module _ (parties : Parties) (caller_releases callee_releases : Release) (r : Re
   pub keep_held : StepsKeepHeld parties caller_releases callee_releases r
   keep_held t a v before old steps answers new ran honest limited all stays =
       held-stays-held parties caller_releases callee_releases exact t a v before old (map (step_of r) steps) answers new ran honest limited (are_standard r steps all) stays
+
+  pub read_held : StepsReadHeld parties caller_releases callee_releases r
+  read_held t a v before old steps answers new ran answer honest limited all stays reads =
+      held-is-read parties caller_releases callee_releases exact t a v before old (map (step_of r) steps) answers new ran answer honest limited (are_standard r steps all) stays reads
 
   pub place_held : PlacesHeld parties caller_releases callee_releases r
   place_held ty v held old placed honest limited is places =

@@ -31,6 +31,15 @@ module _ (parties : Parties) (caller_releases callee_releases : Release) (r : Re
       → AreHonest parties caller_releases callee_releases → AreLimited parties old → All (IsStep r) steps
       → StaysLive parties caller_releases exact t a v before old (map (step_of r) steps) answers new ran → IsKept t a v old.caller new.caller
 
+  -- so what is then read of it is the value, or the host has no memory
+  abbrev pub StepsReadHeld : Type 0
+  StepsReadHeld =
+      (t : ClosedType) (a : ℕ) (v : Value) (before : List SessionAnswer) (old : World) (steps : List Step) (answers : List SessionAnswer) (new : World)
+      (ran : Ran before old steps answers new) (answer : SessionAnswer)
+      → AreHonest parties caller_releases callee_releases → AreLimited parties old → All (IsStep r) steps
+      → StaysLive parties caller_releases exact t a v before old (map (step_of r) steps) answers new ran
+      → ReadsStep new.caller (Some (record { ty = t; at = a })) answer → ReadAnswers v answer
+
   -- what is placed is held, and live, in blocks that it asked for and that were free, and nothing else is changed
   abbrev pub PlacesHeld : Type 0
   PlacesHeld =
@@ -39,14 +48,14 @@ module _ (parties : Parties) (caller_releases callee_releases : Release) (r : Re
       → PlacesValue parties.caller_allocates (closed_type r ty) v old.caller (Ok held) placed.caller
       → IsPlaced parties.caller_allocates (closed_type r ty) held.at v old.caller placed.caller
 
-  -- so what was placed is read, or the host has no memory, until a release ends life in what it stands in
+  -- so what was placed is read, or the host has no memory, until a release takes back what it stands in
   abbrev pub StepsReadPlaced : Type 0
   StepsReadPlaced =
       (ty : ValType) (v : Value) (held : Held) (before : List SessionAnswer) (old placed : World) (steps : List Step) (answers : List SessionAnswer) (new : World)
       (answer : SessionAnswer)
       → AreHonest parties caller_releases callee_releases → AreLimited parties old → IsTypeOf r ty → All (IsStep r) steps
       → PlacesValue parties.caller_allocates (closed_type r ty) v old.caller (Ok held) placed.caller → Ran before placed steps answers new
-      → ReleasesMiss (Reads (closed_type r ty) placed.caller.bytes held.at) (map (step_of r) steps) → ReadsStep new.caller (Some held) answer → ReadAnswers v answer
+      → ReleasesMiss (Reads (closed_type r ty) placed.caller.bytes held.at) (map (step_of r) steps) answers → ReadsStep new.caller (Some held) answer → ReadAnswers v answer
 
 module _ (parties : Parties) (other : Allocation) (caller_releases other_releases callee_releases : Release) (r : Resolve) where
   -- the same callee and body, called from another caller

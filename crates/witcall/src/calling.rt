@@ -16,7 +16,7 @@ use crate::output::write_bytes;
 use crate::refused::Refused;
 use crate::session::call_typed;
 use crate::signature::{function_named, result_type};
-use adapter::Body;
+use adapter::{Body, BoxedBody, Export};
 use atoms::Sink;
 use lift_lower::Val;
 use memory::{FirstFit, Guest, MemoryError, Space};
@@ -35,7 +35,7 @@ const MAX_MEMORY: u32 = 1_048_576;
 /// once, and is then as that call left it. Faults come in this order: 63, those of `args` (61, 62), those
 /// of the call, 65; only after 65 a beginning may have been written. With 63, faults of `args` and 54 the
 /// body was not run.
-pub fn run_call<W: Sink, B: Body<Space>>(
+pub fn run_call_with<W: Sink, B: Body<Space>>(
     alloc: Global,
     package: &Package,
     iface: &str,
@@ -73,6 +73,33 @@ pub fn run_call<W: Sink, B: Body<Space>>(
     let output = output_of(alloc, package, func, answer)?;
     write_bytes(writer, output.as_bytes())?;
     Ok(())
+}
+
+/// The same with a body in a box, which the call ends.
+pub fn run_call<W: Sink>(
+    alloc: Global,
+    package: &Package,
+    iface: &str,
+    func: &str,
+    args: &str,
+    body: Box<dyn Export>,
+    writer: &mut W,
+) -> Result<(), Refused>
+    requires { W.has_failed writer.old ≡ false }
+    ensures ok { OnOk result ((after output : List ℕ)
+        × Prints «package».now.resolve iface.now func.now args.now (runs body) (posts body) (state body) after output
+        × Appends (W.contents writer.old) (W.contents writer.new) output) }
+    ensures begun { IsErrOf result Refused.Write → (after output : List ℕ) × (count : ℕ)
+        × Prints «package».now.resolve iface.now func.now args.now (runs body) (posts body) (state body) after output
+        × (count ≤ length output) × Appends (W.contents writer.old) (W.contents writer.new) (take count output) }
+    ensures err { IfErr result (λ e. (after : List ℕ)
+        × RunCallRefuses «package».now.resolve iface.now func.now args.now (runs body) (posts body) (state body) after e) }
+    ensures broken { IsErrOf result Refused.Write → W.has_failed writer.new ≡ true }
+    ensures unbroken { W.has_failed writer.new ≡ true → IsErrOf result Refused.Write }
+    ensures unwritten { IfErr result (λ e. e ≢ Refused.Write → Keeps (W.contents writer.old) (W.contents writer.new)) }
+{
+    let mut body = BoxedBody::new(body);
+    run_call_with(alloc, package, iface, func, args, &mut body, writer)
 }
 
 /// A memory of so many zeros that may grow to so many.

@@ -1,17 +1,23 @@
 //! Laws of packages that were opened, and of their sessions.
 
 ghost use Rattle.canonical_abi.specs.Call.{exact};
+ghost use Rattle.canonical_abi.specs.Causes.{TrapsHaveCauses};
+ghost use Rattle.canonical_abi.specs.Few.{VisitsFewNodes};
+ghost use Rattle.canonical_abi.specs.Halves.{HalvesAreACall};
 ghost use Rattle.canonical_abi.specs.Keeping.{CalleeKeepsHeld};
+ghost use Rattle.canonical_abi.specs.OnlyValues.{OnlyValuesCross, TrapsShowValues};
+ghost use Rattle.memory.specs.Space.{SpaceAllocates, SpaceReleases, spaces};
 ghost use Rattle.tables.specs.Package.{IsClosedByNames};
 ghost use Rattle.tables.specs.Labelled.{labelled_type};
 ghost use Rattle.tables.specs.declared.tables.ValType.{ValType};
 ghost use Rattle.package_form.specs.Laws.{HasOneOfEachName};
 ghost use Rattle.value_json.specs.Apart.{HasApartLabels};
 ghost use Rattle.value_json.specs.Json.{HasDistinctLabels};
-ghost use Rattle.witcall.specs.Laws.{PlacesHeld, StepsKeepHeld, StepsReadPlaced, StepsTellCallee};
+ghost use Rattle.witcall.specs.Laws.{PlacesHeld, StepsKeepHeld, StepsReadHeld, StepsReadPlaced, StepsTellCallee};
 
+use crate::reply::Reply;
 use crate::session::Session;
-use adapter::Body;
+use adapter::{Body, Export};
 use canonical_abi::Guest;
 use opening::Package;
 use package_text::names_are_labels;
@@ -39,11 +45,16 @@ pub fn has_labels_apart(_package: &Package)
 {}
 
 /// What is placed is held in live blocks of its own, and nothing else is changed. Over every list of steps of a session,
-/// traps among them, a value that a component holds at some moment is held with the same footprint: in the caller while its footprint is live, so that what was placed is read, or the host has no
-/// memory, until a release ends life in it; in the callee where no run of the body or of its post-return changed a byte of
+/// traps among them, a value that a component holds at some moment is held with the same footprint, and is read as that value, or the host has no memory: in the caller while its footprint is live, so that what was
+/// placed is read until a release takes it back; in the callee where no run of the body or of its post-return changed a byte of
 /// the footprint or ended its life.
 pub fn keeps_held<C: Guest, E: Guest, B: Body<E>>(_session: &Session<'_, C, E, B>)
     ensures caller { StepsKeepHeld
+        (record { caller_allocates = C.allocates; callee_allocates = E.allocates; runs = B.runs _session.now.body; posts = B.posts _session.now.body })
+        C.releases
+        E.releases
+        _session.now.package.now.resolve }
+    ensures held { StepsReadHeld
         (record { caller_allocates = C.allocates; callee_allocates = E.allocates; runs = B.runs _session.now.body; posts = B.posts _session.now.body })
         C.releases
         E.releases
@@ -76,4 +87,29 @@ pub fn tells_callee<C: Guest, D: Guest, E: Guest, B: Body<E>>(_session: &Session
         D.releases
         E.releases
         _session.now.package.now.resolve }
+{}
+
+/// The laws of a call of `canonical_abi` for the body of a session: only values cross, a trap shows only values, each trap has the cause of its step, a
+/// call visits few nodes, and two halves are a call.
+pub fn calls_keep_laws<C: Guest, D: Guest, E: Guest, B: Body<E>>(_body: &B)
+    ensures only_values { OnlyValuesCross E.allocates C.allocates D.allocates (B.runs _body.now) (B.posts _body.now) }
+    ensures shown { TrapsShowValues
+        (record { caller_allocates = C.allocates; callee_allocates = E.allocates; runs = B.runs _body.now; posts = B.posts _body.now })
+        C.releases E.releases }
+    ensures causes { TrapsHaveCauses
+        (record { caller_allocates = C.allocates; callee_allocates = E.allocates; runs = B.runs _body.now; posts = B.posts _body.now })
+        exact }
+    ensures few { VisitsFewNodes
+        (record { caller_allocates = C.allocates; callee_allocates = E.allocates; runs = B.runs _body.now; posts = B.posts _body.now }) }
+    ensures halves { HalvesAreACall
+        (record { caller_allocates = C.allocates; callee_allocates = E.allocates; runs = B.runs _body.now; posts = B.posts _body.now }) }
+{}
+
+/// The same of the program's own calls: of a `Reply` over two memories of the kind `Space`.
+pub fn replies_keep_laws(_reply: &Reply)
+    ensures only_values { OnlyValuesCross SpaceAllocates SpaceAllocates SpaceAllocates (⟦<Reply as Export>⟧.runs _reply.now) (⟦<Reply as Export>⟧.posts _reply.now) }
+    ensures shown { TrapsShowValues (spaces (⟦<Reply as Export>⟧.runs _reply.now) (⟦<Reply as Export>⟧.posts _reply.now)) SpaceReleases SpaceReleases }
+    ensures causes { TrapsHaveCauses (spaces (⟦<Reply as Export>⟧.runs _reply.now) (⟦<Reply as Export>⟧.posts _reply.now)) exact }
+    ensures few { VisitsFewNodes (spaces (⟦<Reply as Export>⟧.runs _reply.now) (⟦<Reply as Export>⟧.posts _reply.now)) }
+    ensures halves { HalvesAreACall (spaces (⟦<Reply as Export>⟧.runs _reply.now) (⟦<Reply as Export>⟧.posts _reply.now)) }
 {}

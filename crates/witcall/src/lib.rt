@@ -24,7 +24,7 @@ mod typing;
 // What a host needs beside them, under one name.
 pub use adapter::{Body, BoxedBody, Export, Link, Request, Stopped};
 pub use atoms::{Failed, Sink, Source, Watched};
-pub use calling::run_call;
+pub use calling::{run_call, run_call_with};
 pub use canonical_abi::{
     CoreKind, Fault, Flat, Full, Guest, Honest, NotTaken, Step as TrapStep, Trap, TrapKind,
 };
