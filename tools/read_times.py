@@ -48,4 +48,5 @@ SHAPES = {
     "comments": (PACKAGE, "/* /* {} */ */ // x\n", "}"),
 }
 
-growth.main(__doc__, {name: filled(*parts) for name, parts in SHAPES.items()})
+if __name__ == "__main__":
+    growth.main(__doc__, {name: filled(*parts) for name, parts in SHAPES.items()})

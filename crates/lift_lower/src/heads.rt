@@ -100,7 +100,8 @@ fn case_head(number: u32, cases: usize) -> Result<Head, TrapKind>
 }
 
 /// The head of the node at an address of a memory, with the tests of that node: a character's code, a case's number, the
-/// alignment and the end of a list's block, the end of a text's. The bytes of a text are not read, so not tested either.
+/// alignment and the end of a list's block, the end of a text's. A text's bytes are not read, so that a
+/// head takes the same time for every text: `str_at` tests them (K5 utf8).
 pub fn head_at(table: &Types, ty: ValType, memory: &[u8], at: usize) -> Result<Head, TrapKind>
     requires inside { IsInside table.now ty }
     requires fits { at + size (closed_type table.now ty) ≤ length memory.now }
