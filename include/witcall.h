@@ -39,7 +39,7 @@
 /* The version of this header, and the number of the binary interface that it declares. witcall_version and witcall_abi return those of the
  * library. A host may use a library whose interface has the same number. */
 #define WITCALL_VERSION "0.1.0"
-#define WITCALL_ABI 1
+#define WITCALL_ABI 2
 
 #ifdef __cplusplus
 extern "C" {
@@ -74,6 +74,7 @@ extern "C" {
 #define WITCALL_OTHER_BLOCK 73 /* the block of index count has another size or alignment than was asked for */
 #define WITCALL_BAD_LENGTHS 74 /* the lengths of a set's inputs are not together that of their bytes, or there is no input */
 #define WITCALL_NOT_THERE 75   /* no row, no member, no interface or no world has this number */
+#define WITCALL_ABOVE_LIMIT 76 /* the requests ask together for more bytes than limit */
 
 /* The kind of a type. Those from WITCALL_LIST on are kinds of rows. */
 #define WITCALL_NO_TYPE 0 /* a case without payload, a label of flags, a function without result */
@@ -244,9 +245,14 @@ witcall_status witcall_lowered_params(witcall_package *package, uint32_t func, u
 witcall_status witcall_lowered_result(witcall_package *package, uint32_t func, uint32_t *kinds, size_t kinds_len);
 
 /* Tells the blocks that witcall_enter will ask the callee for, in order: count in all, of which as many are told as there is room
- * for. So a host may ask with no room first. flats are those of a whole call, the return area's address behind the arguments. */
+ * for. So a host may ask with no room first. flats are those of a whole call, the return area's address behind the arguments.
+ *
+ * limit is the most bytes that all of them may have together, and bounds the time of the call (docs/C.md). Pass the greatest
+ * size of the callee's memory. As soon as the blocks have more bytes, this is 76, so arguments that are no values may be 76 too,
+ * before their trap is found. If this is not done, requests says nothing. */
 witcall_status witcall_enter_requests(witcall_package *package, uint32_t func, const witcall_value *flats, size_t flats_len,
-                                      uint8_t *caller, size_t caller_len, witcall_request *requests, size_t requests_len);
+                                      uint8_t *caller, size_t caller_len, witcall_request *requests, size_t requests_len,
+                                      uint64_t limit);
 
 /* Puts the arguments into the callee's blocks: count values for its core function. The caller is only read. handed has room for
  * WITCALL_MAX_VALUES, whatever the function. The number and kinds of flats are tested first, and then the blocks, before a byte is
@@ -255,9 +261,11 @@ witcall_status witcall_enter(witcall_package *package, uint32_t func, const witc
                              uint8_t *caller, size_t caller_len, uint8_t *callee, size_t callee_len,
                              const witcall_block *blocks, size_t blocks_len, witcall_value *handed, size_t handed_len);
 
-/* Tells the blocks that witcall_leave will ask the caller for, in the same way. answer is what the core function answered. */
+/* Tells the blocks that witcall_leave will ask the caller for, in the same way, and limit is the greatest size of the caller's
+ * memory. answer is what the core function answered. */
 witcall_status witcall_leave_requests(witcall_package *package, uint32_t func, const witcall_value *answer, size_t answer_len,
-                                      uint8_t *callee, size_t callee_len, witcall_request *requests, size_t requests_len);
+                                      uint8_t *callee, size_t callee_len, witcall_request *requests, size_t requests_len,
+                                      uint64_t limit);
 
 /* Puts what the core function answered into the caller's blocks and its return area: count values for the caller. flats are those
  * that witcall_enter was given: if their number or their kinds are not the function's, this is K8 in step WITCALL_LOWER_RESULT, and no
@@ -273,13 +281,13 @@ witcall_status witcall_begin(witcall_package *package, uint32_t func, const witc
 
 /* The halves of a call that was begun, and what they will ask for: as the functions of these names above, of its function and its flats. */
 witcall_status witcall_call_enter_requests(witcall_package *package, const witcall_call *call, uint8_t *caller, size_t caller_len,
-                                           witcall_request *requests, size_t requests_len);
+                                           witcall_request *requests, size_t requests_len, uint64_t limit);
 witcall_status witcall_call_enter(witcall_package *package, const witcall_call *call, uint8_t *caller, size_t caller_len,
                                   uint8_t *callee, size_t callee_len, const witcall_block *blocks, size_t blocks_len,
                                   witcall_value *handed, size_t handed_len);
 witcall_status witcall_call_leave_requests(witcall_package *package, const witcall_call *call, const witcall_value *answer,
                                            size_t answer_len, uint8_t *callee, size_t callee_len, witcall_request *requests,
-                                           size_t requests_len);
+                                           size_t requests_len, uint64_t limit);
 witcall_status witcall_call_leave(witcall_package *package, const witcall_call *call, const witcall_value *answer, size_t answer_len,
                                   uint8_t *callee, size_t callee_len, uint8_t *caller, size_t caller_len,
                                   const witcall_block *blocks, size_t blocks_len, witcall_value *back, size_t back_len);

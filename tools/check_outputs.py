@@ -1,3 +1,4 @@
+
 #!/usr/bin/env python3
 """Runs the commands of README.md and docs/ whose output a page shows, and compares the two to the letter.
 
@@ -5,14 +6,17 @@ usage: tools/check_outputs.py [--program WITCALL] [--verbose]
 
 What is checked:
 
-- Blocks of `sh`. Below a command stands what it prints, on standard output or standard error, each line after `# ` (or `#` alone, if it is
-  empty). The commands of COMMANDS are run, one after another, in a folder that has `examples` and `witcall`, and print just that. The others
-  need a toolchain or change the machine, and --verbose names them. A block in which no command of COMMANDS has a line is not run at all.
-- docs/ERRORS.md: each line that has an example is the one that answers it. If the example is a text or a call, it is run; otherwise errors.rows
-  has its answer.
+- Blocks of `sh`. Below a command stands what it prints, each line after `# ` (or `#` alone, if it is empty). The commands of COMMANDS are run, one
+  after another, in a folder that has `examples` and `witcall`, and print just that. The others need a toolchain or change the machine, and
+  --verbose names them. A block in which no command of COMMANDS has a line is not run at all.
+- docs/ERRORS.md: each line of an error, of a trap or of the usage. An example is a row of errors.rows, whose input is given to the program, and so
+  is what stands in the page. RUNS has commands for lines without an example. Each other line is in a stored answer of ANSWERS.
 - docs/FORMATS.md: each example of the table of JSON is read as a value of its type and written as it stands. The rows in blocks without a
   language are stored rows. A row may be broken into lines, of which each but the first begins with a space.
 - Blocks without a language of the pages of HOSTS: the lines are those of a stored run of an example, one after another.
+
+Of each command the exit status, standard output and standard error are compared, each by itself. FAILURES has the status of a line that a failure
+writes, which has to be alone on standard error; all else has to be on standard output, with status 0.
 
 The program is the one that was built, crates/program/out/program, if no other is named. The exit status is 1 if a page is wrong, and if one of
 these has nothing to compare.
@@ -25,7 +29,9 @@ import subprocess
 import sys
 import tempfile
 
+import refused_allocations
 from check_names import columns
+from models.text_rows import Inputs
 
 ROOT = pathlib.Path(__file__).resolve().parent.parent
 COMMANDS = ("witcall", "./witcall", "~/.local/bin/witcall", "cd", "cat", "echo", "printf", "wc")
@@ -39,6 +45,21 @@ JSON = re.compile(r"`([^`]*)`: ((?:`[^`]*`(?:, )?)+)")
 # a row of a text file, and one of JSON
 ROW = re.compile(r"let \w+ = |[^:|]+: .*=>|\{\"", re.M)
 EXAMPLES = "example, and its answer"
+ROWS = ROOT / "crates" / "rows_texts" / "data"
+# the status of a failure, by how its line begins
+FAILURES = {"error ": 1, "usage: ": 2, "trap ": 3}
+# commands that are answered by lines of docs/ERRORS.md without an example
+RUNS = {
+    "error 20 read at P": "witcall show examples",
+    "error 36 limit at 1048576..1048576": "head -c 1048577 /dev/zero > long.wit && witcall show long.wit",
+    "error 64 file": "witcall show absent.wit",
+    "error 65 write": "witcall show examples/c.wit > /dev/full",
+    "usage: witcall show|bin|text|layout FILE, or call FILE IFACE FUNC ARGS REPLY": "witcall show",
+}
+NO_MEMORY = "error 21 no memory"
+# the stored answers of what the program doesn't do: of the library, and of calls over other memories than its own
+ANSWERS = ("examples/c/faults.expected", "crates/rows_texts/data/reading.rows", "crates/vectors/stdout")
+TOLD = re.compile(r"(?:error|trap) [^\n\"]+")
 
 
 class Pages:
@@ -61,16 +82,30 @@ class Pages:
             print(f"{place}: {what}\n  the page says: {said!r}\n  it prints:     {found!r}")
 
     def witcall(self, *words):
-        """What the program prints on these words, on either stream."""
-        done = subprocess.run([self.folder / "witcall", *words], cwd=self.folder, stdout=subprocess.PIPE, stderr=subprocess.STDOUT, text=True)
-        return done.stdout.removesuffix("\n")
+        """What the program does on these words: its status, and what it prints on each stream."""
+        run = [self.folder / "witcall", *words]
+        ran = subprocess.run(run, cwd=self.folder, capture_output=True, text=True, check=False)
+        return ran.returncode, ran.stdout, ran.stderr
 
     def shell(self, commands):
-        """What each of these commands prints, run one after another in one shell."""
+        """What each of these commands does, run one after another in one shell."""
         outputs = [self.folder / f"output.{number}" for number in range(len(commands))]
-        script = "\n".join(f"{{ {command}\n}} >'{output}' 2>&1" for command, output in zip(commands, outputs))
-        subprocess.run(["sh", "-c", script], cwd=self.folder, env=self.environment, stdin=subprocess.DEVNULL, check=False)
-        return [it.read_text().splitlines() for it in outputs]
+        script = "".join(
+            f"{{ {command}\n}} >'{output}' 2>'{output}.errors'; echo $? >'{output}.status'\n"
+            for command, output in zip(commands, outputs))
+        run = ["sh", "-c", script]
+        subprocess.run(run, cwd=self.folder, env=self.environment, stdin=subprocess.DEVNULL, check=False)
+        streams = [[pathlib.Path(f"{it}{end}").read_text() for end in (".status", "", ".errors")] for it in outputs]
+        return [(int(status), output, errors) for status, output, errors in streams]
+
+
+def done(*lines):
+    """What a command does that prints these lines: its status, and what it prints on each stream."""
+    text = "".join(f"{line}\n" for line in lines)
+    for begin, status in FAILURES.items():
+        if len(lines) == 1 and text.startswith(begin):
+            return status, "", text
+    return 0, text, ""
 
 
 def commands_of(block):
@@ -105,7 +140,7 @@ def check_shell(pages, name, text):
         if not any(output for _, output in commands):
             continue
         for (command, said), printed in zip(commands, pages.shell([it[0] for it in commands])):
-            pages.expect("sh", place, command, printed, said)
+            pages.expect("sh", place, command, printed, done(*said))
 
 
 def examples(text):
@@ -123,26 +158,82 @@ def is_line(line, answer):
     return re.fullmatch(re.sub(r"\b[A-Z]+\b", ".+", re.escape(line)), answer) is not None
 
 
-def check_errors(pages, name, text):
-    """The examples of docs/ERRORS.md, by the program or by their rows."""
-    rows = (ROOT / "crates" / "rows_texts" / "data" / "errors.rows").read_text()
-    answers = {line.partition(" => ")[2] for line in rows.splitlines() if not line.startswith("#")}
+def check_examples(pages, name, text, answers):
+    """The examples of docs/ERRORS.md, by the program, and by the answers of errors.rows."""
     file = pages.folder / "example.wit"
     for number, line, example in examples(text):
         place = f"{name}:{number}"
         if found := SHELL.search(example):
-            pages.expect("errors", place, found[1], pages.shell([found[1]])[0], [line])
+            pages.expect("errors", place, found[1], pages.shell([found[1]])[0], done(line))
             continue
         if found := EXAMPLE.search(example):
             file.write_text(found[1])
             first = ["--with", file.name] if found[2] else []
-            pages.expect("errors", place, found[1], pages.witcall("show", *first, file.name), found[3])
+            pages.expect("errors", place, found[1], pages.witcall("show", *first, file.name), done(found[3]))
         elif found := CALL.search(example):
             file.write_text(f"package a:b; interface c {{ {found[1]}; }}")
             reply = "[0]" if "->" in found[1] else "[]"
-            pages.expect("errors", place, found[1], pages.witcall("call", file.name, "a:b/c", "f", found[2], reply), found[3])
+            pages.expect("errors", place, found[1], pages.witcall("call", file.name, "a:b/c", "f", found[2], reply), done(found[3]))
         said = re.findall(r"`(error [^`]*)`", example)[-1:] or ["no answer"]
-        pages.expect("errors", place, "an answer to its line, and a row of errors.rows", [it for it in said if it in answers and is_line(line, it)], said)
+        there = [it for it in said if it in answers and is_line(line, it)]
+        pages.expect("errors", place, "an answer to its line, and a row of errors.rows", there, said)
+
+
+def words_of(pages, command, given):
+    """The words by which the program is asked for a row's command, whose inputs are written to files."""
+    *words, inputs = given.split(" ", 4) if command == "call" else [given]
+    files = []
+    for number, data in enumerate(Inputs(ROWS).of(inputs)):
+        files.append(f"input.{number}")
+        (pages.folder / files[-1]).write_bytes(data)
+    earlier = [word for file in files[:-1] for word in ("--with", file)]
+    return ["call" if words else "show", *earlier, files[-1], *words]
+
+
+def check_errors_rows(pages):
+    """The rows of errors.rows, by the program. Returns their answers."""
+    answers = set()
+    for line in (ROWS / "errors.rows").read_text().splitlines():
+        if line and not line.startswith("#"):
+            name, command, given = line.partition(" => ")[0].replace(": ", " ", 1).split(" ", 2)
+            answer = re.sub(r" \(\d\)$", "", line.partition(" => ")[2])
+            pages.expect("rows of errors", "errors.rows", name, pages.witcall(*words_of(pages, command, given)), done(answer))
+            answers.add(answer)
+    return answers
+
+
+def without_memory():
+    """The lines that the sample of tools/refused_allocations.py asks for."""
+    asked = [words for _, words in (*refused_allocations.WORDS["rows_texts"], *refused_allocations.COMMANDS)]
+    return {word for words in asked for word in words if isinstance(word, int)}
+
+
+def check_lines(pages, name, text):
+    """The lines of docs/ERRORS.md without an example, by RUNS or by stored answers; and the steps."""
+    with_example = {line for _, line, _ in examples(text)}
+    stored = {line for path in ANSWERS for line in TOLD.findall((ROOT / path).read_text())}
+    steps = {line.rpartition(" in ")[2] for line in stored if line.startswith("trap ")}
+    for number, head, cell in columns(text):
+        place, line = f"{name}:{number}", cell.partition("`, ")[0].strip("`").replace("\\|", "|")
+        if head not in ("line", "step") or set(cell) <= set("-|") or line in with_example:
+            continue
+        if head == "step":
+            pages.expect("steps", place, "a step of a stored answer", line if line in steps else None, line)
+        elif line in RUNS:
+            status, output, errors = pages.shell([RUNS[line]])[0]
+            told = line if is_line(line, errors.removesuffix("\n")) else errors
+            pages.expect("lines", place, RUNS[line], (status, output, f"{told}\n"), done(line))
+        else:
+            pages.expect("lines", place, "a stored answer", line if any(is_line(line, it) for it in stored) else None, line)
+        if line == NO_MEMORY:
+            numbers = {int(it) for it in re.findall(r"\d+", cell)}
+            pages.expect("lines", place, "the numbers of tools/refused_allocations.py", without_memory(), numbers)
+
+
+def check_errors(pages, name, text):
+    """docs/ERRORS.md."""
+    check_examples(pages, name, text, check_errors_rows(pages))
+    check_lines(pages, name, text)
 
 
 def check_json(pages, text):
@@ -160,7 +251,7 @@ def check_json(pages, text):
         item, name = (f"{kind} t {members}", "t") if members.startswith("{") else ("", shape)
         file.write_text(f"package a:b; interface c {{ {item} f: func(x: {name}) -> {name}; }}")
         for said in re.findall(r"`([^`]*)`", said_of_it):
-            pages.expect("json", "docs/FORMATS.md", shape, pages.witcall("call", file.name, "a:b/c", "f", f"[{said}]", f"[{said}]"), said)
+            pages.expect("json", "docs/FORMATS.md", shape, pages.witcall("call", file.name, "a:b/c", "f", f"[{said}]", f"[{said}]"), done(said))
 
 
 def plain_blocks(name, text):
@@ -209,11 +300,12 @@ def main():
             if page.name == "FORMATS.md":
                 check_json(pages, text)
                 check_rows(pages, name, text)
-    nothing = [kind for kind in ("sh", "errors", "json", "rows", "hosts") if not pages.checked[kind]]
+    nothing = [kind for kind in ("sh", "errors", "rows of errors", "lines", "steps", "json", "rows", "hosts") if not pages.checked[kind]]
     if nothing:
         print(f"nothing is compared of: {', '.join(nothing)}")
     print(f"{sum(pages.checked.values())} outputs of pages compared, {pages.faults} differ")
     sys.exit(pages.faults > 0 or bool(nothing))
 
 
-main()
+if __name__ == "__main__":
+    main()

@@ -1,7 +1,7 @@
 #!/bin/sh
 # Compares the version in VERSION with those that stand in other files: the header, the library's sources, the man pages, the changelog,
 # the pages that show what an installation prints, and the release if it was built from these sources. The other files of an installation
-# take it from VERSION (tools/install.sh).
+# take it from VERSION (tools/install.sh). The number of the binary interface is compared too: the header's, and the library's.
 #
 # usage: tools/check_version.sh
 #
@@ -34,5 +34,11 @@ for page in README.md docs/INSTALL.md; do
 done
 if [ "$(cat release/sources 2>/dev/null)" = "$(tools/sources.sh program)" ]; then
     compare release/version "$(cat release/version 2>/dev/null || echo none)"
+fi
+declared=$(sed -n 's/^#define WITCALL_ABI \([0-9]*\)$/\1/p' include/witcall.h)
+returned=$(sed -n 's/^const ABI: u32 = \([0-9]*\);$/\1/p' crates/witcall_c/src/exports.rt)
+if [ -z "$declared" ] || [ "$declared" != "$returned" ]; then
+    echo "include/witcall.h declares the binary interface '$declared', and the library returns '$returned'"
+    status=1
 fi
 exit $status

@@ -269,4 +269,5 @@ def main():
     sys.exit(not right)
 
 
-main()
+if __name__ == "__main__":
+    main()

@@ -113,7 +113,11 @@ static void free_call(call c) {
 }
 
 static witcall_status requests(call c, witcall_request *out, size_t room) {
-    return witcall_enter_requests(&package, function, c.flats, 5, c.caller, LENGTH, out, room);
+    return witcall_enter_requests(&package, function, c.flats, 5, c.caller, LENGTH, out, room, LENGTH);
+}
+
+static witcall_status requests_within(call c, uint64_t limit) {
+    return witcall_enter_requests(&package, function, c.flats, 5, c.caller, LENGTH, NULL, 0, limit);
 }
 
 static witcall_status enter(call c, size_t blocks) {
@@ -174,14 +178,14 @@ static void a_memory_that_moved(void) {
 static void null_pointers(void) {
     witcall_value *flat = array(1, sizeof *flat), *values = array(ROOM, sizeof *values);
     flat->bits = 7;
-    expect("no memories: requests", witcall_enter_requests(&package, number, flat, 1, NULL, 0, NULL, 0), done(0));
+    expect("no memories: requests", witcall_enter_requests(&package, number, flat, 1, NULL, 0, NULL, 0, 0), done(0));
     expect("no memories: enter", witcall_enter(
         &package, number, flat, 1, NULL, 0, NULL, 0, NULL, 0, values, ROOM), done(1));
     holds("the number", values[0].kind == 0 && values[0].bits == 7);
-    expect("no memories: requests back", witcall_leave_requests(&package, number, flat, 1, NULL, 0, NULL, 0), done(0));
+    expect("no memories: requests back", witcall_leave_requests(&package, number, flat, 1, NULL, 0, NULL, 0, 0), done(0));
     expect("no memories: leave", witcall_leave(
         &package, number, flat, 1, flat, 1, NULL, 0, NULL, 0, NULL, 0, values, ROOM), done(1));
-    expect("no values", witcall_enter_requests(&package, number, NULL, 0, NULL, 0, NULL, 0), trap(8, WITCALL_LIFT_ARGS));
+    expect("no values", witcall_enter_requests(&package, number, NULL, 0, NULL, 0, NULL, 0, 0), trap(8, WITCALL_LIFT_ARGS));
     expect("no names", witcall_find(&package, NULL, 0, NULL, 0), refused(WITCALL_NO_FUNCTION));
     expect("no room for the values", witcall_enter(
         &package, number, flat, 1, NULL, 0, NULL, 0, NULL, 0, NULL, 0), no_room(ROOM));
@@ -222,7 +226,7 @@ static void a_memory_that_is_too_long(void) {
         exit(2);
     call c = new_call();
     expect("a caller of 2^32 bytes: requests", witcall_enter_requests(
-        &package, function, c.flats, 5, memory, length, NULL, 0), refused(WITCALL_BAD_BLOCK));
+        &package, function, c.flats, 5, memory, length, NULL, 0, length), refused(WITCALL_BAD_BLOCK));
     expect("a caller of 2^32 bytes: enter", witcall_enter(
         &package, function, c.flats, 5, memory, length, c.callee, LENGTH, c.blocks, 2, c.handed, ROOM), refused(WITCALL_BAD_BLOCK));
     expect("a callee of 2^32 bytes", witcall_enter(
@@ -278,13 +282,37 @@ static void short_arrays(void) {
     free(one), free(part), free_call(c);
 }
 
+/* What the call asks for has 8 bytes, and its answer 2: both are told with just these as the limit, and with less refused. */
+static void limits(void) {
+    call c = new_call();
+    witcall_request *asked = array(2, sizeof *asked);
+    witcall_value *back = array(1, sizeof *back), *flat = array(1, sizeof *flat);
+    expect("a limit of what is asked for", witcall_enter_requests(
+        &package, function, c.flats, 5, c.caller, LENGTH, asked, 2, 8), done(2));
+    holds("what is asked for within it", asked[0].size == 2 && asked[1].size == 6);
+    expect("a limit of one byte less", witcall_enter_requests(
+        &package, function, c.flats, 5, c.caller, LENGTH, asked, 2, 7), refused(WITCALL_ABOVE_LIMIT));
+    expect("no bytes at all", requests_within(c, 0), refused(WITCALL_ABOVE_LIMIT));
+    expect("the most that a limit can be", requests_within(c, UINT64_MAX), done(2));
+    expect("no bytes for a number", witcall_enter_requests(&package, number, flat, 1, NULL, 0, NULL, 0, 0), done(0));
+    answer(c, back);
+    expect("a limit of what the answer asks for", witcall_leave_requests(
+        &package, function, back, 1, c.callee, LENGTH, asked, 1, 2), done(1));
+    expect("a limit of one byte less for the answer", witcall_leave_requests(
+        &package, function, back, 1, c.callee, LENGTH, asked, 1, 1), refused(WITCALL_ABOVE_LIMIT));
+    holds("both memories are as they were", memcmp(c.caller, "hi\0\0\1\0\2\0\3\0", 10) == 0 && memcmp(c.callee + 8, "yo", 2) == 0);
+    c.flats[1].bits = 0, c.flats[3].bits = 0;
+    expect("no bytes for an empty text and an empty list", requests_within(c, 0), done(2));
+    free(asked), free(back), free(flat), free_call(c);
+}
+
 static void core_values(void) {
     call c = new_call();
     witcall_value *many = array(ROOM + 1, sizeof *many);
     expect("four values of five", witcall_enter(
         &package, function, c.flats, 4, c.caller, LENGTH, c.callee, LENGTH, c.blocks, 2, c.handed, ROOM),
         trap(8, WITCALL_LIFT_ARGS));
-    expect("eighteen values", witcall_enter_requests(&package, function, many, ROOM + 1, c.caller, LENGTH, NULL, 0),
+    expect("eighteen values", witcall_enter_requests(&package, function, many, ROOM + 1, c.caller, LENGTH, NULL, 0, LENGTH),
         trap(8, WITCALL_LIFT_ARGS));
     c.flats[0].kind = 1;
     expect("an i64 for an i32", requests(c, NULL, 0), trap(8, WITCALL_LIFT_ARGS));
@@ -329,7 +357,7 @@ static void bad_texts(void) {
     memcpy(c.callee + 8, "\300\200", 2);
     c.blocks[0].at = 30;
     expect("a result that is no UTF-8: requests", witcall_leave_requests(
-        &package, function, back, 1, c.callee, LENGTH, NULL, 0), trap(5, WITCALL_LIFT_RESULT));
+        &package, function, back, 1, c.callee, LENGTH, NULL, 0, LENGTH), trap(5, WITCALL_LIFT_RESULT));
     expect("a result that is no UTF-8: leave", leave(c, back, 1), trap(5, WITCALL_LIFT_RESULT));
     free(back), free_call(c);
 }
@@ -337,12 +365,12 @@ static void bad_texts(void) {
 static void bad_chars_and_cases(void) {
     witcall_value *flats = array(3, sizeof *flats), *values = array(ROOM, sizeof *values);
     flats[0].bits = 0xd800;
-    expect("a surrogate", witcall_enter_requests(&package, pick, flats, 3, NULL, 0, NULL, 0), trap(1, WITCALL_LIFT_ARGS));
+    expect("a surrogate", witcall_enter_requests(&package, pick, flats, 3, NULL, 0, NULL, 0, 0), trap(1, WITCALL_LIFT_ARGS));
     flats[0].bits = 'a', flats[1].bits = 2;
     expect("the third case of an option", witcall_enter(
         &package, pick, flats, 3, NULL, 0, NULL, 0, NULL, 0, values, ROOM), trap(2, WITCALL_LIFT_ARGS));
     flats[0].bits = 0x110000;
-    expect("an answer that is no char", witcall_leave_requests(&package, pick, flats, 1, NULL, 0, NULL, 0), trap(1, WITCALL_LIFT_RESULT));
+    expect("an answer that is no char", witcall_leave_requests(&package, pick, flats, 1, NULL, 0, NULL, 0, 0), trap(1, WITCALL_LIFT_RESULT));
     free(flats), free(values);
 }
 
@@ -384,9 +412,9 @@ static void each_call(const char *name, witcall_package *handle) {
     witcall_row_info row;
     witcall_member_info member;
     expect(name, witcall_find(handle, BYTES("a:b/c"), BYTES("f")), not_open);
-    expect("its requests", witcall_enter_requests(handle, 0, NULL, 0, NULL, 0, NULL, 0), not_open);
+    expect("its requests", witcall_enter_requests(handle, 0, NULL, 0, NULL, 0, NULL, 0, 0), not_open);
     expect("its enter", witcall_enter(handle, 0, NULL, 0, NULL, 0, NULL, 0, NULL, 0, values, ROOM), not_open);
-    expect("its requests back", witcall_leave_requests(handle, 0, NULL, 0, NULL, 0, NULL, 0), not_open);
+    expect("its requests back", witcall_leave_requests(handle, 0, NULL, 0, NULL, 0, NULL, 0, 0), not_open);
     expect("its leave", witcall_leave(handle, 0, NULL, 0, NULL, 0, NULL, 0, NULL, 0, NULL, 0, values, ROOM), not_open);
     expect("its parameters", witcall_parameters(handle, 0, NULL, 0), not_open);
     expect("its result", witcall_result(handle, 0, NULL, 0), not_open);
@@ -395,9 +423,9 @@ static void each_call(const char *name, witcall_package *handle) {
     expect("its lowered parameters", witcall_lowered_params(handle, 0, NULL, 0), not_open);
     expect("its lowered result", witcall_lowered_result(handle, 0, NULL, 0), not_open);
     expect("its begin", witcall_begin(handle, 0, NULL, 0, kept), not_open);
-    expect("its requests of a call", witcall_call_enter_requests(handle, kept, NULL, 0, NULL, 0), not_open);
+    expect("its requests of a call", witcall_call_enter_requests(handle, kept, NULL, 0, NULL, 0, 0), not_open);
     expect("its enter of a call", witcall_call_enter(handle, kept, NULL, 0, NULL, 0, NULL, 0, values, ROOM), not_open);
-    expect("its requests back of a call", witcall_call_leave_requests(handle, kept, NULL, 0, NULL, 0, NULL, 0), not_open);
+    expect("its requests back of a call", witcall_call_leave_requests(handle, kept, NULL, 0, NULL, 0, NULL, 0, 0), not_open);
     expect("its leave of a call", witcall_call_leave(handle, kept, NULL, 0, NULL, 0, NULL, 0, NULL, 0, values, ROOM), not_open);
     expect("its rows", witcall_row(handle, 0, &row), not_open);
     expect("its members", witcall_member(handle, 0, 0, &member), not_open);
@@ -572,14 +600,18 @@ static void a_call_that_is_kept(void) {
     witcall_request *asked = array(2, sizeof *asked);
     expect("begin", witcall_begin(&package, function, c.flats, 5, kept), DONE_WITH_NONE);
     memset(c.flats, 0xff, 5 * sizeof *c.flats);
-    expect("its requests", witcall_call_enter_requests(&package, kept, c.caller, LENGTH, asked, 2), done(2));
+    expect("its requests", witcall_call_enter_requests(&package, kept, c.caller, LENGTH, asked, 2, LENGTH), done(2));
     holds("what it asks for", asked[0].size == 2 && asked[1].size == 6);
     expect("its enter", witcall_call_enter(
         &package, kept, c.caller, LENGTH, c.callee, LENGTH, c.blocks, 2, c.handed, ROOM), done(4));
     holds("its arguments", memcmp(c.callee + 50, "hi", 2) == 0 && memcmp(c.callee + 40, "\1\0\2\0\3\0", 6) == 0);
+    expect("its requests and a limit of one byte less", witcall_call_enter_requests(
+        &package, kept, c.caller, LENGTH, asked, 2, 7), refused(WITCALL_ABOVE_LIMIT));
     answer(c, back);
     c.blocks[0].at = 30;
-    expect("its requests back", witcall_call_leave_requests(&package, kept, back, 1, c.callee, LENGTH, asked, 2), done(1));
+    expect("its requests back and a limit of one byte less", witcall_call_leave_requests(
+        &package, kept, back, 1, c.callee, LENGTH, asked, 2, 1), refused(WITCALL_ABOVE_LIMIT));
+    expect("its requests back", witcall_call_leave_requests(&package, kept, back, 1, c.callee, LENGTH, asked, 2, LENGTH), done(1));
     expect("its leave", witcall_call_leave(
         &package, kept, back, 1, c.callee, LENGTH, c.caller, LENGTH, c.blocks, 1, c.handed, ROOM), done(0));
     holds("its result", memcmp(c.caller + 16, "\36\0\0\0\2\0\0\0", 8) == 0 && memcmp(c.caller + 30, "yo", 2) == 0);
@@ -590,9 +622,9 @@ static void a_call_that_is_kept(void) {
     expect("begin no function", witcall_begin(&package, 4711, many, 4, kept), refused(WITCALL_NO_FUNCTION));
     holds("a call that is not begun is as it was", memcmp(&before, kept, sizeof before) == 0);
     memset(kept, 0xff, sizeof *kept);
-    expect("a call of other bytes", witcall_call_enter_requests(&package, kept, c.caller, LENGTH, asked, 2), refused(WITCALL_NO_FUNCTION));
+    expect("a call of other bytes", witcall_call_enter_requests(&package, kept, c.caller, LENGTH, asked, 2, LENGTH), refused(WITCALL_NO_FUNCTION));
     kept->func = function;
-    expect("a call of too many values", witcall_call_enter_requests(&package, kept, c.caller, LENGTH, asked, 2), trap(8, WITCALL_LIFT_ARGS));
+    expect("a call of too many values", witcall_call_enter_requests(&package, kept, c.caller, LENGTH, asked, 2, LENGTH), trap(8, WITCALL_LIFT_ARGS));
     free(kept), free(back), free(many), free(asked), free_call(c);
 }
 
@@ -691,7 +723,7 @@ static witcall_status enters(call c) {
 static witcall_status asks_back(call c) {
     witcall_value back;
     answer(c, &back);
-    return witcall_leave_requests(&package, function, &back, 1, c.callee, LENGTH, NULL, 0);
+    return witcall_leave_requests(&package, function, &back, 1, c.callee, LENGTH, NULL, 0, LENGTH);
 }
 
 static witcall_status leaves(call c) {
@@ -745,7 +777,7 @@ static void names_and_numbers(void) {
     expect("an interface that is not there", witcall_find(&package, BYTES("a:b/d"), BYTES("f")), refused(63));
     expect("a function that is not there", witcall_find(&package, BYTES("a:b/c"), BYTES("g")), refused(63));
     expect("a name that is no UTF-8", witcall_find(&package, BYTES("a:b/\377"), BYTES("f")), refused(63));
-    expect("a number of no function", witcall_enter_requests(&package, 4711, NULL, 0, NULL, 0, NULL, 0), refused(63));
+    expect("a number of no function", witcall_enter_requests(&package, 4711, NULL, 0, NULL, 0, NULL, 0, 0), refused(63));
     uint8_t line[8];
     witcall_status told = witcall_line(&package, line, sizeof line);
     holds("an open package has no line", told.code == WITCALL_DONE && told.count == 0);
@@ -767,6 +799,7 @@ int main(void) {
     null_pointers();
     blocks();
     short_arrays();
+    limits();
     core_values();
     other_flats_at_leave();
     bad_texts();

@@ -10,6 +10,7 @@
  */
 #include "shop.h"
 #include "witcall.h"
+#include <stdbool.h>
 #include <stdio.h>
 #include <stdlib.h>
 #include <string.h>
@@ -30,15 +31,24 @@ typedef demo_shop_desk_order_parameters arguments;
 static uint8_t caller[LENGTH], callee[LENGTH];
 static uint32_t caller_top = 0, callee_top = LENGTH;
 
+static void check_room(bool has_room) {
+    if (has_room)
+        return;
+    printf("a memory is full\n");
+    exit(1);
+}
+
 /* The caller's allocator goes up. */
 static uint32_t caller_alloc(uint32_t align, uint32_t size) {
-    uint32_t at = (caller_top + align - 1) / align * align;
+    size_t at = ((size_t)caller_top + align - 1) / align * align;
+    check_room(at <= LENGTH && size <= LENGTH - at);
     caller_top = at + size;
     return at;
 }
 
 /* The callee's goes down. */
 static uint32_t callee_alloc(uint32_t align, uint32_t size) {
+    check_room(size <= callee_top);
     return callee_top = (callee_top - size) / align * align;
 }
 
@@ -116,10 +126,9 @@ static void enter(witcall_package *package, uint32_t func, const witcall_value *
     witcall_request asked[MOST_BLOCKS];
     witcall_block blocks[MOST_BLOCKS];
     witcall_status status = witcall_enter_requests(
-        package, func, flats, DEMO_SHOP_DESK_ORDER_FLATS, caller, LENGTH, asked, MOST_BLOCKS);
+        package, func, flats, DEMO_SHOP_DESK_ORDER_FLATS, caller, LENGTH, asked, MOST_BLOCKS, LENGTH);
     check(status);
-    if (status.count > MOST_BLOCKS)
-        exit(1);
+    check_room(status.count <= MOST_BLOCKS);
     grant("callee", callee_alloc, asked, status.count, blocks);
     check(witcall_enter(
         package, func, flats, DEMO_SHOP_DESK_ORDER_FLATS, caller, LENGTH, callee, LENGTH, blocks, status.count, handed,
@@ -130,10 +139,10 @@ static void enter(witcall_package *package, uint32_t func, const witcall_value *
 static void leave(witcall_package *package, uint32_t func, const witcall_value *flats, witcall_value answer) {
     witcall_request asked[MOST_BLOCKS];
     witcall_block blocks[MOST_BLOCKS];
-    witcall_status status = witcall_leave_requests(package, func, &answer, 1, callee, LENGTH, asked, MOST_BLOCKS);
+    witcall_status status = witcall_leave_requests(
+        package, func, &answer, 1, callee, LENGTH, asked, MOST_BLOCKS, LENGTH);
     check(status);
-    if (status.count > MOST_BLOCKS)
-        exit(1);
+    check_room(status.count <= MOST_BLOCKS);
     grant("caller", caller_alloc, asked, status.count, blocks);
     witcall_value back[WITCALL_MAX_VALUES];
     check(witcall_leave(

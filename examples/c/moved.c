@@ -24,7 +24,7 @@ static bool works(witcall_package *package) {
     demo_shop_desk_order_fill(flats, &given, 16);
     witcall_status found = witcall_find(package, BYTES(DEMO_SHOP_DESK_INTERFACE), BYTES(DEMO_SHOP_DESK_ORDER_NAME));
     witcall_status asked = witcall_enter_requests(
-        package, found.count, flats, DEMO_SHOP_DESK_ORDER_FLATS, memory, sizeof memory, NULL, 0);
+        package, found.count, flats, DEMO_SHOP_DESK_ORDER_FLATS, memory, sizeof memory, NULL, 0, sizeof memory);
     witcall_status owner = witcall_owner_name(package, WITCALL_INTERFACE, 0, name, sizeof name);
     return found.code == WITCALL_DONE && asked.code == WITCALL_DONE && owner.code == WITCALL_DONE;
 }

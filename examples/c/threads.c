@@ -47,7 +47,7 @@ static bool is_trapped(witcall_package *package, uint32_t func) {
     static const char WANTED[] = "trap K5 utf8 in lift-args";
     uint8_t caller[LENGTH] = {0xc0, 0x80}, line[WITCALL_MAX_STATUS_LINE];
     const witcall_value flats[] = {{0, 0}, {0, 2}, {0, 16}};
-    witcall_status trap = witcall_enter_requests(package, func, flats, 3, caller, LENGTH, NULL, 0);
+    witcall_status trap = witcall_enter_requests(package, func, flats, 3, caller, LENGTH, NULL, 0, LENGTH);
     witcall_status told = witcall_status_line(trap, line, sizeof line);
     return told.count == strlen(WANTED) && memcmp(line, WANTED, told.count) == 0;
 }

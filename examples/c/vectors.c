@@ -18,6 +18,8 @@
 /* More than any call of the vectors has. */
 #define MOST_VALUES 32
 #define MOST_BLOCKS 256
+/* The stored calls are made without a limit. */
+#define NO_LIMIT UINT64_MAX
 
 typedef struct {
     witcall_value at[MOST_VALUES];
@@ -159,7 +161,7 @@ static bool has_entered(witcall_package *package, uint32_t func, call *c, answer
     witcall_request requests[MOST_BLOCKS];
     memory *from = &c->caller, *to = &c->callee;
     witcall_status asked = witcall_enter_requests(
-        package, func, c->flats.at, c->flats.len, from->bytes, from->len, requests, MOST_BLOCKS);
+        package, func, c->flats.at, c->flats.len, from->bytes, from->len, requests, MOST_BLOCKS, NO_LIMIT);
     if (failed(a, asked))
         return false;
     size_t granted = grant(to, requests, asked.count);
@@ -179,7 +181,7 @@ static void leave(witcall_package *package, uint32_t func, call *c, answer *a) {
     witcall_request requests[MOST_BLOCKS];
     memory *from = &c->callee, *to = &c->caller;
     witcall_status asked = witcall_leave_requests(
-        package, func, c->answer.at, c->answer.len, from->bytes, from->len, requests, MOST_BLOCKS);
+        package, func, c->answer.at, c->answer.len, from->bytes, from->len, requests, MOST_BLOCKS, NO_LIMIT);
     if (failed(a, asked))
         return;
     size_t granted = grant(to, requests, asked.count);

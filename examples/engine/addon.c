@@ -4,13 +4,14 @@
  *   open(bytes) -> package
  *   openSet(bytes, [length]) -> package        bytes has all texts, and length is that of each
  *   find(package, interface, function) -> number
- *   enterRequests(package, function, flats, caller) -> [{align, size}]
+ *   enterRequests(package, function, flats, caller, limit) -> [{align, size}]
  *   enter(package, function, flats, caller, callee, [{align, size, at}]) -> flats
- *   leaveRequests(package, function, answer, callee) -> [{align, size}]
+ *   leaveRequests(package, function, answer, callee, limit) -> [{align, size}]
  *   leave(package, function, flats, answer, callee, caller, [{align, size, at}]) -> flats
  *   close(package)
  *
- * Flat values are numbers (i32) and bigints (i64). A package is not to be used once it is closed.
+ * Flat values are numbers (i32) and bigints (i64). A limit is a number: the greatest size of the memory that is asked for blocks.
+ * A package is not to be used once it is closed.
  */
 #define NAPI_VERSION 8
 #include "witcall.h"
@@ -95,7 +96,7 @@ static bool blocks_of(napi_env env, napi_value list, blocks *out) {
     uint32_t count;
     if (napi_get_array_length(env, list, &count) != napi_ok)
         return false;
-    out->at = malloc((count + 1) * sizeof(witcall_block));
+    out->at = calloc((size_t)count + 1, sizeof(witcall_block));
     out->len = count;
     for (uint32_t i = 0; out->at && i < count; i++) {
         napi_value object;
@@ -105,6 +106,15 @@ static bool blocks_of(napi_env env, napi_value list, blocks *out) {
         }
     }
     return out->at != NULL;
+}
+
+/* A limit is a whole number of bytes from 0 up to the greatest that a number of JavaScript counts. */
+static bool limit_of(napi_env env, napi_value number, uint64_t *out) {
+    double limit;
+    if (napi_get_value_double(env, number, &limit) != napi_ok || !(limit >= 0 && limit <= 9007199254740991.0))
+        return false;
+    *out = (uint64_t)limit;
+    return true;
 }
 
 static bool sizes_of(napi_env env, napi_value list, sizes *out) {
@@ -258,48 +268,72 @@ static napi_value find(napi_env env, napi_callback_info info) {
 }
 
 /* What a half asks for, which is asked twice: for how many blocks they are, and for the blocks. */
-static napi_value requests_or_fault(napi_env env, witcall_status asked, witcall_request *requests) {
-    napi_value list = asked.code == WITCALL_DONE ? requests_to(env, requests, asked.count) : told(env, asked);
+
+/* The most requests within a limit. Each is that of an address and a length, 8 bytes, which are core values, or lie in a record of at most
+ * 16,777,216 bytes or in another block. */
+static size_t most_requests(uint64_t limit) {
+    uint64_t most = limit / 8 + 16777216 / 8 + WITCALL_MAX_VALUES;
+    return most < SIZE_MAX / sizeof(witcall_request) ? most : SIZE_MAX / sizeof(witcall_request) - 1;
+}
+
+/* Room for so many requests; NULL if there is none, or they are more than the limit allows. */
+static witcall_request *room_for(size_t count, uint64_t limit) {
+    return count <= most_requests(limit) ? calloc(count + 1, sizeof(witcall_request)) : NULL;
+}
+
+/* The blocks that the second call told. They are no more than the first one counted, unless another thread changed the memory. */
+static napi_value requests_or_fault(napi_env env, witcall_status asked, witcall_request *requests, uint32_t counted) {
+    napi_value list = NULL;
+    if (asked.code != WITCALL_DONE)
+        told(env, asked);
+    else if (asked.count > counted)
+        thrown(env, "the memory changed");
+    else
+        list = requests_to(env, requests, asked.count);
     free(requests);
     return list;
 }
 
 static napi_value enter_requests(napi_env env, napi_callback_info info) {
-    napi_value arguments[4];
+    napi_value arguments[5];
     witcall_package *package;
     uint32_t func;
+    uint64_t limit;
     values flats;
     bytes caller;
-    if (!arguments_of(env, info, arguments, 4) || !function_of(env, arguments, &package, &func) ||
-        !values_of(env, arguments[2], &flats) || !bytes_of(env, arguments[3], &caller))
-        return thrown(env, "enterRequests(package, function, flats, caller)");
-    witcall_status asked = witcall_enter_requests(package, func, flats.at, flats.len, caller.at, caller.len, NULL, 0);
+    if (!arguments_of(env, info, arguments, 5) || !function_of(env, arguments, &package, &func) ||
+        !values_of(env, arguments[2], &flats) || !bytes_of(env, arguments[3], &caller) || !limit_of(env, arguments[4], &limit))
+        return thrown(env, "enterRequests(package, function, flats, caller, limit)");
+    witcall_status asked = witcall_enter_requests(package, func, flats.at, flats.len, caller.at, caller.len, NULL, 0, limit);
     if (asked.code != WITCALL_DONE)
         return told(env, asked);
-    witcall_request *requests = calloc(asked.count + 1, sizeof *requests);
+    const uint32_t count = asked.count;
+    witcall_request *requests = room_for(count, limit);
     if (!requests)
         return thrown(env, "no memory");
-    asked = witcall_enter_requests(package, func, flats.at, flats.len, caller.at, caller.len, requests, asked.count);
-    return requests_or_fault(env, asked, requests);
+    asked = witcall_enter_requests(package, func, flats.at, flats.len, caller.at, caller.len, requests, count, limit);
+    return requests_or_fault(env, asked, requests, count);
 }
 
 static napi_value leave_requests(napi_env env, napi_callback_info info) {
-    napi_value arguments[4];
+    napi_value arguments[5];
     witcall_package *package;
     uint32_t func;
+    uint64_t limit;
     values answer;
     bytes callee;
-    if (!arguments_of(env, info, arguments, 4) || !function_of(env, arguments, &package, &func) ||
-        !values_of(env, arguments[2], &answer) || !bytes_of(env, arguments[3], &callee))
-        return thrown(env, "leaveRequests(package, function, answer, callee)");
-    witcall_status asked = witcall_leave_requests(package, func, answer.at, answer.len, callee.at, callee.len, NULL, 0);
+    if (!arguments_of(env, info, arguments, 5) || !function_of(env, arguments, &package, &func) ||
+        !values_of(env, arguments[2], &answer) || !bytes_of(env, arguments[3], &callee) || !limit_of(env, arguments[4], &limit))
+        return thrown(env, "leaveRequests(package, function, answer, callee, limit)");
+    witcall_status asked = witcall_leave_requests(package, func, answer.at, answer.len, callee.at, callee.len, NULL, 0, limit);
     if (asked.code != WITCALL_DONE)
         return told(env, asked);
-    witcall_request *requests = calloc(asked.count + 1, sizeof *requests);
+    const uint32_t count = asked.count;
+    witcall_request *requests = room_for(count, limit);
     if (!requests)
         return thrown(env, "no memory");
-    asked = witcall_leave_requests(package, func, answer.at, answer.len, callee.at, callee.len, requests, asked.count);
-    return requests_or_fault(env, asked, requests);
+    asked = witcall_leave_requests(package, func, answer.at, answer.len, callee.at, callee.len, requests, count, limit);
+    return requests_or_fault(env, asked, requests, count);
 }
 
 static napi_value flats_or_fault(napi_env env, witcall_status status, const witcall_value *flats) {

@@ -15,7 +15,7 @@ static text words(const char *at, size_t len) {
 
 /* What stands on a label: the title, the color and the first letters of the line. */
 static text printed(text title, text color, text line) {
-    char *at = block_of(1, title.len + color.len + 16);
+    char *at = block_of(1, (uint64_t)title.len + color.len + 16);
     size_t len = 0;
     append(at, &len, title, title.len);
     append(at, &len, words(" on ", 4), 4);
@@ -35,7 +35,7 @@ __attribute__((export_name("demo:labels/press#print"))) outcome *print(
         return &answer;
     }
     text on = paper == COLORED ? words(color, color_len) : words("plain", 5);
-    text *all = block_of(4, lines_len * sizeof(text));
+    text *all = block_of(4, (uint64_t)lines_len * sizeof(text));
     for (size_t i = 0; i < lines_len; i++)
         all[i] = printed(words(title, title_len), on, lines[i]);
     answer = (outcome){.is = PRINTED, .printed = {all, lines_len}};

@@ -26,16 +26,17 @@ __attribute__((export_name("go_wrong_in"))) void go_wrong_in(int step) {
 extern char __heap_base;
 static uintptr_t top;
 
-/* The next block of so many bytes. The memory grows by as many pages as it takes. */
-static void *block_of(size_t align, size_t size) {
-    uintptr_t from = top ? top : (uintptr_t)&__heap_base;
-    uintptr_t at = (from + align - 1) / align * align;
-    uintptr_t end = at + size;
-    size_t pages = (end + PAGE - 1) / PAGE, has = __builtin_wasm_memory_size(0);
+/* The next block of so many bytes. The memory grows by as many pages as it takes. Sums have 64 bits, since addresses have 32. */
+static void *block_of(size_t align, uint64_t size) {
+    uint64_t from = top ? top : (uintptr_t)&__heap_base;
+    uint64_t at = (from + align - 1) / align * align;
+    if (size > UINT32_MAX - at)
+        __builtin_trap();
+    uint64_t end = at + size, pages = (end + PAGE - 1) / PAGE, has = __builtin_wasm_memory_size(0);
     if (pages > has && __builtin_wasm_memory_grow(0, pages - has) == (size_t)-1)
         __builtin_trap();
     top = end;
-    return (void *)at;
+    return (void *)(uintptr_t)at;
 }
 
 /* The allocator that the Canonical ABI asks for. Here it only makes new blocks. If it has none, it traps. */

@@ -1,5 +1,8 @@
 // One core instance calls another through the library. This is what a host over an engine needs, and host.mjs uses it.
 
+// The greatest size of a memory: examples/run.sh links each module with it. No call asks for more bytes.
+export const GREATEST_MEMORY = 1048576;
+
 // The bytes of an instance's memory. A view is good only up to the next call into the instance, whose memory may grow.
 export const bytesOf = (instance) => new Uint8Array(instance.exports.memory.buffer);
 
@@ -53,12 +56,12 @@ export class Link {
     const post = callee.exports[`cabi_post_${iface}#${name}`];
     return (...flats) => {
       const { caller } = this;
-      const asked = library.enterRequests(opened, func, flats, bytesOf(caller));
+      const asked = library.enterRequests(opened, func, flats, bytesOf(caller), GREATEST_MEMORY);
       const blocks = this.grant(callee, asked);
       const handed = library.enter(opened, func, flats, bytesOf(caller), bytesOf(callee), blocks);
       const answer = [ran(body, handed, stop("body"))].filter((value) => value !== undefined);
 
-      const wanted = library.leaveRequests(opened, func, answer, bytesOf(callee));
+      const wanted = library.leaveRequests(opened, func, answer, bytesOf(callee), GREATEST_MEMORY);
       const places = this.grant(caller, wanted);
       const [result] = library.leave(opened, func, flats, answer, bytesOf(callee), bytesOf(caller), places);
       if (post) ran(post, answer, stop("post"));

@@ -49,8 +49,8 @@ class Reader:
         raise Refused(f"{words} at {at}")
 
     def byte(self):
-        """The next byte."""
-        if self.end is not None and self.at >= self.end and self.end < len(self.data):
+        """The next byte. Behind a section's end it is missing there, if the input has all of the section."""
+        if self.end is not None and self.at >= self.end and self.end <= len(self.data):
             self.fault("18 size mismatch", self.end)
         if self.at >= len(self.data):
             self.fault("11 truncated", len(self.data))
@@ -182,7 +182,7 @@ class Reader:
             self.valtype()
 
     def entry(self, at):
-        """Counts one more thing that takes a type index."""
+        """Counts one more thing that takes a type index, and that begins with the byte there, which is allowed."""
         self.entries += 1
         if self.entries > MOST_ENTRIES:
             self.fault("17 limit", at)
@@ -195,9 +195,10 @@ class Reader:
         bodies = {0x72: lambda: self.fields(1), 0x71: self.cases, 0x70: self.valtype, 0x6F: self.tuple, 0x6E: lambda: self.labels(MOST_LABELS)}
         bodies |= {0x6D: lambda: self.labels(MOST_CASES), 0x6B: self.valtype, 0x6A: self.results, 0x40: self.function}
         bodies |= {0x41: lambda: self.scope(at, True), 0x42: lambda: self.scope(at, False)}
-        if byte not in PRIMITIVES:
-            if byte not in bodies:
-                self.unknown(at)
+        if byte not in bodies and byte not in PRIMITIVES:
+            self.unknown(at)
+        self.entry(at)
+        if byte in bodies:
             bodies[byte]()
         self.scopes[-1].types += 1
 
@@ -216,18 +217,17 @@ class Reader:
         if byte not in (1, 2, 3, 4) or byte == 3 and not self.scopes[-1].is_component:
             self.unknown(at)
         if byte == 1:
-            self.entry(at)
             self.type()
         elif byte == 2:
-            self.alias(at)
+            self.alias()
         else:
             self.extern_name()
-            self.description(at)
+            self.description()
 
-    def alias(self, at):
+    def alias(self):
         """A type of an instance, or of a scope around."""
-        self.entry(at)
         self.one_of(3)
+        self.entry(self.at - 1)
         if self.one_of(0, 2):
             place, count = self.at, self.u32()
             self.index(count, len(self.scopes), place)
@@ -239,12 +239,12 @@ class Reader:
             self.label()
         self.scopes[-1].types += 1
 
-    def description(self, at):
+    def description(self):
         """What is imported or exported."""
         byte = self.one_of(1, 3, 4, 5)
         if byte == 3:
+            self.entry(self.at - 1)
             self.one_of(0)
-            self.entry(at)
         self.type_index()
         self.scopes[-1].types += byte == 3
         self.scopes[-1].instances += byte == 5
@@ -267,7 +267,6 @@ class Reader:
     def types(self):
         """The type section."""
         for _ in range(self.u32()):
-            self.entry(self.at)
             self.type()
         self.counts = [self.scopes[0].types]
 

@@ -6,4 +6,4 @@ abbrev pub library_version : List ℕ
 library_version = 0x30 ∷ 0x2e ∷ 0x31 ∷ 0x2e ∷ 0x30 ∷ []
 
 abbrev pub abi : ℕ
-abi = 1
+abi = 2

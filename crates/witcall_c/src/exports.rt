@@ -35,7 +35,7 @@ use std::alloc::Global;
 const VERSION: &[u8] = b"0.1.0";
 
 /// The number of the binary interface that the header declares. Another number means that a host has to be compiled anew.
-const ABI: u32 = 1;
+const ABI: u32 = 2;
 
 /// The number of the binary interface.
 #[unsafe(no_mangle)]

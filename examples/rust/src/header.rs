@@ -55,7 +55,7 @@ pub struct Status {
 }
 
 /// The number of the binary interface that this file declares.
-pub const ABI: u32 = 1;
+pub const ABI: u32 = 2;
 
 // The sizes of the structs, as the header asserts them.
 const _: () = assert!(size_of::<Value>() == 16 && size_of::<Request>() == 8 && size_of::<Block>() == 12);
@@ -90,6 +90,7 @@ extern "C" {
         caller_len: usize,
         requests: *mut Request,
         requests_len: usize,
+        limit: u64,
     ) -> Status;
     pub fn witcall_enter(
         package: *mut Handle,
@@ -114,6 +115,7 @@ extern "C" {
         callee_len: usize,
         requests: *mut Request,
         requests_len: usize,
+        limit: u64,
     ) -> Status;
     pub fn witcall_leave(
         package: *mut Handle,

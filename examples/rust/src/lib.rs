@@ -126,10 +126,17 @@ impl Package {
         status.count().map(Function)
     }
 
-    /// The blocks that the arguments need in the callee, in the order in which its allocator is to grant them.
-    pub fn enter_requests(&mut self, function: Function, flats: &[Value], caller: &mut [u8]) -> Result<Vec<Request>, Error> {
+    /// The blocks that the arguments need in the callee, in the order in which its allocator is to grant them. `limit` is the
+    /// greatest size of the callee's memory. If the blocks are larger together, this is 76.
+    pub fn enter_requests(
+        &mut self,
+        function: Function,
+        flats: &[Value],
+        caller: &mut [u8],
+        limit: u64,
+    ) -> Result<Vec<Request>, Error> {
         // SAFETY: the handle is open, and each pointer goes with the length of its slice, which is borrowed for the call.
-        asked(|requests| unsafe {
+        asked(limit, |requests| unsafe {
             header::witcall_enter_requests(
                 &mut self.handle,
                 function.0,
@@ -139,6 +146,7 @@ impl Package {
                 caller.len(),
                 requests.as_mut_ptr(),
                 requests.len(),
+                limit,
             )
         })
     }
@@ -171,10 +179,16 @@ impl Package {
         })
     }
 
-    /// The blocks that what the core function answered needs in the caller.
-    pub fn leave_requests(&mut self, function: Function, answer: &[Value], callee: &mut [u8]) -> Result<Vec<Request>, Error> {
+    /// The blocks that what the core function answered needs in the caller. `limit` is the greatest size of the caller's memory.
+    pub fn leave_requests(
+        &mut self,
+        function: Function,
+        answer: &[Value],
+        callee: &mut [u8],
+        limit: u64,
+    ) -> Result<Vec<Request>, Error> {
         // SAFETY: as above.
-        asked(|requests| unsafe {
+        asked(limit, |requests| unsafe {
             header::witcall_leave_requests(
                 &mut self.handle,
                 function.0,
@@ -184,6 +198,7 @@ impl Package {
                 callee.len(),
                 requests.as_mut_ptr(),
                 requests.len(),
+                limit,
             )
         })
     }
@@ -228,12 +243,28 @@ impl Drop for Package {
     }
 }
 
+/// The most requests within a limit. Each is that of an address and a length, 8 bytes, which are core values, or lie in a record of
+/// at most 16,777,216 bytes or in another block.
+fn most_requests(limit: u64) -> u64 {
+    limit / 8 + 16_777_216 / 8 + MAX_VALUES as u64
+}
+
+/// Room for so many requests, if the limit allows them and there is memory.
+fn room_for(count: usize, limit: u64) -> Result<Vec<Request>, Error> {
+    let mut requests = Vec::new();
+    if count as u64 > most_requests(limit) || requests.try_reserve_exact(count).is_err() {
+        return Err(Error::NoMemory);
+    }
+    requests.resize(count, Request::default());
+    Ok(requests)
+}
+
 /// The blocks that something asks for. Where they are more than there is room for at first, it is asked again.
-fn asked(mut ask: impl FnMut(&mut [Request]) -> Status) -> Result<Vec<Request>, Error> {
-    let mut requests = vec![Request::default(); 16];
+fn asked(limit: u64, mut ask: impl FnMut(&mut [Request]) -> Status) -> Result<Vec<Request>, Error> {
+    let mut requests = room_for(16, limit)?;
     let count = ask(&mut requests).count()? as usize;
     if count > requests.len() {
-        requests.resize(count, Request::default());
+        requests = room_for(count, limit)?;
         ask(&mut requests).count()?;
     }
     requests.truncate(count);
