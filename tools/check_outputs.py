@@ -1,4 +1,3 @@
-
 #!/usr/bin/env python3
 """Runs the commands of README.md and docs/ whose output a page shows, and compares the two to the letter.
 
