@@ -9,7 +9,7 @@ use Rattle.canonical_abi.specs.Layout.{prim_kind, field_kinds, fits_flat, passed
 use Rattle.canonical_abi.specs.Lowering.{core_of, FieldsLower}
 use Rattle.canonical_abi.specs.Flat.{FieldsLift}
 use Rattle.canonical_abi.specs.Reading.{kind_of, number_of, low_bits}
-use Rattle.canonical_abi.specs.Guest.{Memory, Allocation}
+use Rattle.canonical_abi.specs.Guest.{Memory, Allocation, IsLimited}
 use Rattle.canonical_abi.specs.Trace.{Event, node, nodes_of, TraceLeads}
 use Rattle.canonical_abi.specs.Call.{argument_flats, KindsFit}
 use Rattle.canonical_abi.specs.Halves.{HasEntered, HasReturned}
@@ -100,30 +100,35 @@ own-fit ts flats limit own few =
 own-passed : (ts : Fields) (flats : List Flat) (limit : ℕ) → AreOwn ts flats → length flats ≤ limit → map kind_of flats ≡ passed_kinds limit ts
 own-passed ts flats limit own few = rw (own-fit ts flats limit own few) (own-kinds ts flats own)
 
-pub plain-entered : (allocates : Allocation) (f : FunctionType) (flats : List Flat) (m : List ℕ) (callee : Memory) (c : ℕ) → PassAsTheyAre f flats → c ≡ length flats → HasEntered allocates f flats m callee flats callee c
-plain-entered allocates f flats m callee c (goes, few, own) counted =
+-- they are of the function's kinds
+pub plain-kinds : (f : FunctionType) (flats : List Flat) → PassAsTheyAre f flats → KindsFit f flats
+plain-kinds f flats (goes, few, own) = rw goes (own-passed f.params flats max_flat_params own few)
+
+pub plain-entered : (allocates : Allocation) (f : FunctionType) (flats : List Flat) (m : List ℕ) (callee : Memory) (c : ℕ) → PassAsTheyAre f flats → c ≡ length flats → IsLimited callee
+    → HasEntered allocates f flats m callee flats callee c
+plain-entered allocates f flats m callee c (goes, few, own) counted small =
     let fits = own-fit f.params flats max_flat_params own few in
     let passed = own-passed f.params flats max_flat_params own few in
     let count : length (passed_kinds max_flat_params f.params) ≡ length flats = sym (ap length passed) ∙ length-map flats kind_of in
     let whole : argument_flats f flats ≡ flats = ap (λ n. take n flats) count ∙ take-length flats in
-    let kinds : KindsFit f flats = rw goes passed in
     let (vs, lifts, lowers) = own-cross f.params flats own m in (
       vs,
       only-nodes flats,
       record {
-        kinds = kinds;
+        kinds = plain-kinds f flats (goes, few, own);
         denoted = rw whole (passed, inl (fits, lifts));
         passes = inl (fits, lowers);
         leads = nodes-lead allocates callee flats;
+        small = small;
         same_caller = refl;
         same_body = refl;
       },
       omega (arith, counted, count-nodes flats, few),
     )
 
-pub plain-returned : (allocates : Allocation) (f : FunctionType) (flats answer : List Flat) (m : List ℕ) (caller : Memory) (c : ℕ) → AreOwn (result_fields f.result) answer → length answer ≤ 1 → c ≡ length answer
+pub plain-returned : (allocates : Allocation) (f : FunctionType) (flats answer : List Flat) (m : List ℕ) (caller : Memory) (c : ℕ) → AreOwn (result_fields f.result) answer → length answer ≤ 1 → c ≡ length answer → IsLimited caller
     → HasReturned allocates f flats m answer caller answer caller c
-plain-returned allocates f flats answer m caller c own few counted =
+plain-returned allocates f flats answer m caller c own few counted small =
     let ts = result_fields f.result in
     let fits = own-fit ts answer max_flat_results own few in
     let (vs, lifts, lowers) = own-cross ts answer own m in (
@@ -134,6 +139,7 @@ plain-returned allocates f flats answer m caller c own few counted =
         area_stands = inl fits;
         passes = inl (fits, lowers);
         leads = nodes-lead allocates caller answer;
+        small = small;
         same_callee = refl;
         same_body = refl;
       },

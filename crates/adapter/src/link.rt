@@ -339,6 +339,8 @@ impl<'a> Link<'a> {
     {
         self.there = call.flats.len() as u64;
         self.back = 0;
+        // A memory's length is a number of 32 bits.
+        let _len = callee.len();
         let Ok(answer) = body.call(callee, call.flats) else {
             return Err(trap(TrapKind::Body, Step::Body));
         };
@@ -411,6 +413,8 @@ impl<'a> Link<'a> {
     {
         if is_plain_answer(&Types::new(self.resolve, self.layouts), call.func, answer) {
             self.back = answer.len() as u64;
+            // A memory's length is a number of 32 bits.
+            let _len = caller.len();
             return Ok(flat_results(answer));
         }
         self.give_walked(call, answer, caller, callee)
