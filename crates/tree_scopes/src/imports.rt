@@ -1,5 +1,5 @@
 //! The interfaces of other packages that a tree may name, its imports.
-ghost use Rattle.std.specs.Prelude.{◌≡◌, ◌++◌, ◌+◌, filter_map, length, IfOk, OnOk, MatchOption, None, Some};
+ghost use Rattle.std.specs.Prelude.{◌≡◌, ◌<◌, ◌++◌, ◌+◌, filter_map, length, IfOk, IfErr, OnOk, MatchOption, None, Some};
 ghost use Rattle.std.specs.List.{list_any};
 ghost use Rattle.package_form.specs.Closed.{is_same_package};
 ghost use Rattle.package_form.specs.Entries.{Table};
@@ -132,7 +132,8 @@ fn import_scope(
 
 /// The id of the interface at this place. No memory where an id can't tell it.
 pub fn interface_id(place: usize) -> Result<InterfaceId, AllocError>
-    ensures { IfOk result (λ id. id.0 ≡ place) }
+    ensures ok { IfOk result (λ id. id.0 ≡ place) }
+    ensures err { IfErr result (λ _. u32.MAX < place) }
 {
     match u32::try_from(place) {
         Ok(place) => Ok(InterfaceId(place)),
@@ -159,7 +160,8 @@ pub fn import_scopes(
 
 /// The place behind so many imports. No memory where no number can tell it.
 pub fn place_behind(imports: &IndexedTable<'_>, place: usize) -> Result<usize, AllocError>
-    ensures { IfOk result (λ n. n ≡ length imports.now.interfaces + place) }
+    ensures ok { IfOk result (λ n. n ≡ length imports.now.interfaces + place) }
+    ensures err { IfErr result (λ _. usize.MAX < length imports.now.interfaces + place) }
 {
     match imports.table().interfaces.len().checked_add(place) {
         Some(place) => Ok(place),

@@ -1,5 +1,5 @@
 //! The interface that a path names.
-ghost use Rattle.std.specs.Prelude.{◌≡◌, IfOk};
+ghost use Rattle.std.specs.Prelude.{◌≡◌, ◌<◌, ℕ, IfOk, IfErr, Some};
 ghost use Rattle.wit_syntax.specs.View.{path_view};
 ghost use Rattle.tree_meaning.specs.Declarations.{path_interface};
 ghost use Rattle.tree_meaning.specs.Imports.{interfaces_of};
@@ -19,7 +19,8 @@ pub fn interface_place(
     names: &Names,
     path: &Path,
 ) -> Result<Option<usize>, AllocError>
-    ensures { IfOk result (λ o. o ≡ path_place (interfaces_of imports.now) names.now (path_view path.now)) }
+    ensures ok { IfOk result (λ o. o ≡ path_place (interfaces_of imports.now) names.now (path_view path.now)) }
+    ensures err { IfErr result (λ _. (n : ℕ) × (path_place (interfaces_of imports.now) names.now (path_view path.now) ≡ Some n) × (usize.MAX < n)) }
 {
     match path {
         Path::Local(name) => match names.place_of(name) {

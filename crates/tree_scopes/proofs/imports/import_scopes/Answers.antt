@@ -19,9 +19,9 @@ loop-place-preserved c =
     let l : k < length r.interfaces = omega (arith, ap length same) in
     let at = c.interface-item.is ∙ ap (λ (is : List Interface). get_or is k i) same in
     let names : scope_names s ≡ types_within r.definitions k i =
-    c.in_ok-import_scope.ensures.names ∙ ap (λ (n : ℕ). types_within c.as_slice-rows.result.now n i) c.in_ok-id.ensures ∙ ap (λ (ds : List Definition). types_within ds k i) c.as_slice-rows.ensures in
+    c.in_ok-import_scope.ensures.names ∙ ap (λ (n : ℕ). types_within c.as_slice-rows.result.now n i) c.in_ok-id.ensures.ok ∙ ap (λ (ds : List Definition). types_within ds k i) c.as_slice-rows.ensures in
     scopes-more r k c.loop-place.scopes.items c.push.new.self.items s i l at c.loop-place.invariant names
-    (ap (λ (p : InterfaceId). p.0) c.in_ok-import_scope.ensures.place ∙ c.in_ok-id.ensures)
+    (ap (λ (p : InterfaceId). p.0) c.in_ok-import_scope.ensures.place ∙ c.in_ok-id.ensures.ok)
     (λ t e. c.in_ok-import_scope.ensures.scoped t (e ∙ sym c.as_slice-rows.ensures)) c.in_ok-push.ensures.items
 
 pub returns : goal.returns
