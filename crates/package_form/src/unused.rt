@@ -1,5 +1,5 @@
 //! Whether rows without names stand in postfix order.
-ghost use Rattle.std.specs.Prelude.{◌≡◌, ◌==◌, ◌++◌, [], slice_get, Decides, IfOk, OnOk};
+ghost use Rattle.std.specs.Prelude.{◌≡◌, ◌<◌, ◌==◌, ◌++◌, [], slice_get, Decides, IfOk, IfErr, OnOk};
 ghost use Rattle.std.specs.List.{ends_with};
 ghost use Rattle.package_form.specs.Postfix.{is_unnamed, is_unnamed_row, is_inner, IsPostfix};
 ghost use Rattle.package_form.specs.Unused.{unnamed_at, inner_rows, is_alias, can_use, closes, is_next, are_used};
@@ -101,7 +101,8 @@ fn is_next(unused: &[u32], inner: &[u32], row: &Definition) -> bool
 
 /// The id of the row at this place. No memory where an id can't tell it.
 fn row_id(place: usize) -> Result<u32, AllocError>
-    ensures { IfOk result (λ id. id ≡ place) }
+    ensures ok { IfOk result (λ id. id ≡ place) }
+    ensures err { IfErr result (λ _. u32.MAX < place) }
 {
     match u32::try_from(place) {
         Ok(id) => Ok(id),
