@@ -1,91 +1,43 @@
-use Rattle.std.proofs.Common.{map, Ok, Err, ap, refl, ◌∙◌}
-use Rattle.std.proofs.lemmas.Result.{err_from_is_err_and}
-use Rattle.std.specs.Option.{option_map}
-use Rattle.values.specs.Val.{value_of}
-use Rattle.witcall.proofs.Printing.{asks, answers, call-refuses, not-before}
-use Rattle.witcall.proofs.Written.{appended, begun}
+-- The body in the box is the one that was given.
+use Rattle.std.proofs.Common.{ℕ, ◌≤◌, List, length, take, Result, Ok, Err, OnOk, IfErr, subst}
+use Rattle.std.specs.Io.KnownBytes.{Appends}
+use Rattle.witcall.specs.Calling.{Prints, RunCallRefuses}
 use Rattle.witcall.proofs.calling.run_call.Goals as goal
 
-pub returns-in_err-write_bytes-clause-begun : goal.returns-in_err-write_bytes-clause-begun
-returns-in_err-write_bytes-clause-begun g c = λ write.
-    let asked = asks c.args.package.now.resolve c.args.iface.now c.args.func.now c.args.args.now c.in_ok-func.func _ _
-    c.in_ok-func.ensures.named c.in_ok-arguments.ensures.ok c.as_slice.ensures.value in
-    let called = answers (g.B.Body.runs c.args.body.now) (g.B.Body.posts c.args.body.now) (g.B.Body.state c.args.body.now) (g.B.Body.state c.call_typed.new.body)
-    c.args.package.now.resolve c.in_ok-func.func (map value_of c.as_slice.result.now) (Ok (option_map value_of c.in_ok-answer.answer)) _ _ _ _
-    c.in_ok-caller.ensures.fresh c.in_ok-callee.ensures.fresh c.in_ok-answer.ensures.call in
-    let part = begun _ _ _ _ c.as_bytes.ensures.value c.in_err-write_bytes.ensures.begun in
-    (_, part.0, record { function = c.in_ok-func.func; arguments = map value_of c.as_slice.result.now; asked = asked; answer = option_map value_of c.in_ok-answer.answer; called = called; printed = c.in_ok-output.ensures }, part.1, part.2)
+on-ok : {T E P Q : Type 0} → (r : Result T E) → (P → Q) → OnOk r P → OnOk r Q
+on-ok (Ok x) f h = f h
+on-ok (Err e) f h = h
 
-pub returns-in_err-write_bytes-clause-err : goal.returns-in_err-write_bytes-clause-err
-returns-in_err-write_bytes-clause-err g c =
-    let asked = asks c.args.package.now.resolve c.args.iface.now c.args.func.now c.args.args.now c.in_ok-func.func _ _
-    c.in_ok-func.ensures.named c.in_ok-arguments.ensures.ok c.as_slice.ensures.value in
-    let called = answers (g.B.Body.runs c.args.body.now) (g.B.Body.posts c.args.body.now) (g.B.Body.state c.args.body.now) (g.B.Body.state c.call_typed.new.body)
-    c.args.package.now.resolve c.in_ok-func.func (map value_of c.as_slice.result.now) (Ok (option_map value_of c.in_ok-answer.answer)) _ _ _ _
-    c.in_ok-caller.ensures.fresh c.in_ok-callee.ensures.fresh c.in_ok-answer.ensures.call in
-    let p = err_from_is_err_and c.from_residual-in_err-write_bytes.result c.from_residual-in_err-write_bytes.ensures.1 in
-    rw (p.1, p.2, c.in_err-write_bytes.ensures.err)
-    (_, record { function = c.in_ok-func.func; arguments = map value_of c.as_slice.result.now; asked = asked; answer = option_map value_of c.in_ok-answer.answer; called = called; printed = c.in_ok-output.ensures })
+if-err : {T E : Type 0} {P Q : E → Type 0} → (r : Result T E) → ((e : E) → P e → Q e) → IfErr r P → IfErr r Q
+if-err (Ok x) f h = h
+if-err (Err e) f h = f e h
 
 pub returns-clause-ok : goal.returns-clause-ok
 returns-clause-ok g c =
-    let asked = asks c.args.package.now.resolve c.args.iface.now c.args.func.now c.args.args.now c.in_ok-func.func _ _
-    c.in_ok-func.ensures.named c.in_ok-arguments.ensures.ok c.as_slice.ensures.value in
-    let called = answers (g.B.Body.runs c.args.body.now) (g.B.Body.posts c.args.body.now) (g.B.Body.state c.args.body.now) (g.B.Body.state c.call_typed.new.body)
-    c.args.package.now.resolve c.in_ok-func.func (map value_of c.as_slice.result.now) (Ok (option_map value_of c.in_ok-answer.answer)) _ _ _ _
-    c.in_ok-caller.ensures.fresh c.in_ok-callee.ensures.fresh c.in_ok-answer.ensures.call in
-    (_, record { function = c.in_ok-func.func; arguments = map value_of c.as_slice.result.now; asked = asked; answer = option_map value_of c.in_ok-answer.answer; called = called; printed = c.in_ok-output.ensures }, appended _ _ _ _ c.as_bytes.ensures.value c.in_ok-write_bytes.ensures.ok)
+    let r = c.args.package.now.resolve in
+    let left = c.run_call_with.new.body.export in
+    let after : List ℕ = (g.dyn-1.0.entry left.vtable).1.state left.value in
+    let P : _ → Type 0 = λ b. OnOk c.run_call_with.result ((output : List ℕ)
+    × Prints r c.args.iface.now c.args.func.now c.args.args.now ((g.dyn-1.0.entry b.vtable).1.runs b.value) ((g.dyn-1.0.entry b.vtable).1.posts b.value) ((g.dyn-1.0.entry b.vtable).1.state b.value) after output
+    × Appends (g.W.Sink.contents c.args.writer.now) (g.W.Sink.contents c.run_call_with.new.writer) output) in
+    on-ok c.run_call_with.result (λ done. (after, done.0, done.1, done.2)) (subst P c.new-body.ensures c.run_call_with.ensures.ok)
 
-pub returns-in_err-output-clause-err : goal.returns-in_err-output-clause-err
-returns-in_err-output-clause-err g c =
-    let asked = asks c.args.package.now.resolve c.args.iface.now c.args.func.now c.args.args.now c.in_ok-func.func _ _
-    c.in_ok-func.ensures.named c.in_ok-arguments.ensures.ok c.as_slice.ensures.value in
-    let called = answers (g.B.Body.runs c.args.body.now) (g.B.Body.posts c.args.body.now) (g.B.Body.state c.args.body.now) (g.B.Body.state c.call_typed.new.body)
-    c.args.package.now.resolve c.in_ok-func.func (map value_of c.as_slice.result.now) (Ok (option_map value_of c.in_ok-answer.answer)) _ _ _ _
-    c.in_ok-caller.ensures.fresh c.in_ok-callee.ensures.fresh c.in_ok-answer.ensures.call in
-    let p = err_from_is_err_and c.from_residual-in_err-output.result c.from_residual-in_err-output.ensures.1 in
-    rw (p.1, p.2) (c.in_ok-func.func, map value_of c.as_slice.result.now, asked, (Ok (option_map value_of c.in_ok-answer.answer), called, tt {0}))
+pub returns-clause-begun : goal.returns-clause-begun
+returns-clause-begun g c = λ failed.
+    let r = c.args.package.now.resolve in
+    let left = c.run_call_with.new.body.export in
+    let after : List ℕ = (g.dyn-1.0.entry left.vtable).1.state left.value in
+    let P : _ → Type 0 = λ b. (output : List ℕ) × (count : ℕ)
+    × Prints r c.args.iface.now c.args.func.now c.args.args.now ((g.dyn-1.0.entry b.vtable).1.runs b.value) ((g.dyn-1.0.entry b.vtable).1.posts b.value) ((g.dyn-1.0.entry b.vtable).1.state b.value) after output
+    × (count ≤ length output) × Appends (g.W.Sink.contents c.args.writer.now) (g.W.Sink.contents c.run_call_with.new.writer) (take count output) in
+    let front = subst P c.new-body.ensures (c.run_call_with.ensures.begun failed) in
+    (after, front.0, front.1, front.2, front.3, front.4)
 
-pub returns-in_err-write_bytes-clause-unbroken : goal.returns-in_err-write_bytes-clause-unbroken
-returns-in_err-write_bytes-clause-unbroken g c = λ failed.
-    let p = err_from_is_err_and c.from_residual-in_err-write_bytes.result c.from_residual-in_err-write_bytes.ensures.1 in
-    p.1 ∙ ap Err (p.2 ∙ c.in_err-write_bytes.ensures.err)
-
-pub returns-in_err-caller-clause-err : goal.returns-in_err-caller-clause-err
-returns-in_err-caller-clause-err g c =
-    let asked = asks c.args.package.now.resolve c.args.iface.now c.args.func.now c.args.args.now c.in_ok-func.func _ _
-    c.in_ok-func.ensures.named c.in_ok-arguments.ensures.ok refl in
-    let p = err_from_is_err_and c.from_residual-in_err-caller.result c.from_residual-in_err-caller.ensures.1 in
-    rw (p.1, p.2) (c.in_ok-func.func, _, asked, c.in_err-caller.ensures.err)
-
-pub returns-in_err-callee-clause-err : goal.returns-in_err-callee-clause-err
-returns-in_err-callee-clause-err g c =
-    let asked = asks c.args.package.now.resolve c.args.iface.now c.args.func.now c.args.args.now c.in_ok-func.func _ _
-    c.in_ok-func.ensures.named c.in_ok-arguments.ensures.ok refl in
-    let p = err_from_is_err_and c.from_residual-in_err-callee.result c.from_residual-in_err-callee.ensures.1 in
-    rw (p.1, p.2) (c.in_ok-func.func, _, asked, c.in_err-callee.ensures.err)
-
-pub returns-in_err-answer-clause-err : goal.returns-in_err-answer-clause-err
-returns-in_err-answer-clause-err g c =
-    let asked = asks c.args.package.now.resolve c.args.iface.now c.args.func.now c.args.args.now c.in_ok-func.func _ _
-    c.in_ok-func.ensures.named c.in_ok-arguments.ensures.ok c.as_slice.ensures.value in
-    let called = answers (g.B.Body.runs c.args.body.now) (g.B.Body.posts c.args.body.now) (g.B.Body.state c.args.body.now) (g.B.Body.state c.call_typed.new.body)
-    c.args.package.now.resolve c.in_ok-func.func (map value_of c.as_slice.result.now) (Err c.in_err-answer.field-0.0) _ _ _ _
-    c.in_ok-caller.ensures.fresh c.in_ok-callee.ensures.fresh c.in_err-answer.ensures.call in
-    let p = err_from_is_err_and c.from_residual-in_err-answer.result c.from_residual-in_err-answer.ensures.1 in
-    rw (p.1, p.2) (call-refuses _ _ _ _ _ _ _ _ _ _ c.in_err-answer.field-0.0 asked called)
-
-pub returns-in_err-answer-clause-not_run : goal.returns-in_err-answer-clause-not_run
-returns-in_err-answer-clause-not_run g c =
-    let p = err_from_is_err_and c.from_residual-in_err-answer.result c.from_residual-in_err-answer.ensures.1 in
-    rw (p.1, p.2) (not-before c.in_err-answer.field-0.0 _)
-
-pub returns-in_err-output-clause-not_run : goal.returns-in_err-output-clause-not_run
-returns-in_err-output-clause-not_run g c =
-    let p = err_from_is_err_and c.from_residual-in_err-output.result c.from_residual-in_err-output.ensures.1 in
-    rw (p.1, p.2) (λ never. absurd never)
-
-pub returns-in_err-write_bytes-clause-not_run : goal.returns-in_err-write_bytes-clause-not_run
-returns-in_err-write_bytes-clause-not_run g c =
-    let p = err_from_is_err_and c.from_residual-in_err-write_bytes.result c.from_residual-in_err-write_bytes.ensures.1 in
-    rw (p.1, p.2, c.in_err-write_bytes.ensures.err) (λ never. absurd never)
+pub returns-clause-err : goal.returns-clause-err
+returns-clause-err g c =
+    let r = c.args.package.now.resolve in
+    let left = c.run_call_with.new.body.export in
+    let after : List ℕ = (g.dyn-1.0.entry left.vtable).1.state left.value in
+    let P : _ → Type 0 = λ b. IfErr c.run_call_with.result
+    (RunCallRefuses r c.args.iface.now c.args.func.now c.args.args.now ((g.dyn-1.0.entry b.vtable).1.runs b.value) ((g.dyn-1.0.entry b.vtable).1.posts b.value) ((g.dyn-1.0.entry b.vtable).1.state b.value) after) in
+    if-err c.run_call_with.result (λ e refuses. (after, refuses)) (subst P c.new-body.ensures c.run_call_with.ensures.err)

@@ -5,16 +5,16 @@ use Rattle.canonical_abi.proofs.OnlyValues.{only-values-cross, traps-show-values
 use Rattle.witcall.proofs.laws.replies_keep_laws.Goals as goal
 
 pub returns-clause-only_values : goal.returns-clause-only_values
-returns-clause-only_values g c = only-values-cross _ _ _ _ _
+returns-clause-only_values c = only-values-cross _ _ _ _ _
 
 pub returns-clause-shown : goal.returns-clause-shown
-returns-clause-shown g c = traps-show-values _ _ _
+returns-clause-shown c = traps-show-values _ _ _
 
 pub returns-clause-causes : goal.returns-clause-causes
-returns-clause-causes g c = traps-have-causes _ _
+returns-clause-causes c = traps-have-causes _ _
 
 pub returns-clause-few : goal.returns-clause-few
-returns-clause-few g c = visits-few-nodes _
+returns-clause-few c = visits-few-nodes _
 
 pub returns-clause-halves : goal.returns-clause-halves
-returns-clause-halves g c = halves-are-a-call _
+returns-clause-halves c = halves-are-a-call _
