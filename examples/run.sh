@@ -1,9 +1,10 @@
 #!/bin/sh
 # Installs witcall into a folder, and builds and runs hosts over what is there. What each prints is compared with its expected file.
 #
-# usage: examples/run.sh [--all] [--released | --built] [BUILD]
+# usage: examples/run.sh [--all | --c] [--released | --built] [BUILD]
 #
-# BUILD is the folder that it builds in, else a temporary one. --released and --built are those of tools/install.sh.
+# BUILD is the folder that it builds in, else a temporary one. --released and --built are those of tools/install.sh. With --c only those hosts
+# are run that need a C compiler alone, with its sanitizers and pkg-config if these are there: host, faults, threads, moved, lists and vectors.
 #
 # | host           | is                                                | needs                                               |
 # |----------------|---------------------------------------------------|-----------------------------------------------------|
@@ -23,10 +24,11 @@
 set -eu
 root=$(cd "$(dirname "$0")/.." && pwd)
 here="$root/examples"
-all='' origin=''
+all='' only_c='' origin=''
 while :; do
     case "${1-}" in
         --all) all=yes ;;
+        --c) only_c=yes ;;
         --released | --built) origin=$1 ;;
         *) break ;;
     esac
@@ -79,10 +81,13 @@ skipped() {
     [ -z "$all" ] || failed=1
 }
 
-# Whether a host's tools are there.
+# Whether a host's tools are there, and it is not left out by --c.
 has() {
     name=$1
     shift
+    case "$only_c $name" in
+        'yes cmake' | 'yes rust' | 'yes helgrind' | 'yes bindings' | 'yes engine') return 1 ;;
+    esac
     for tool; do
         command -v "$tool" >/dev/null && continue
         skipped "$name" "no $tool"
@@ -103,11 +108,20 @@ install_witcall() {
     "$root/tools/install.sh" --prefix "$prefix" $origin
 }
 
+# The compiler's flags for the library, which pkg-config knows.
+flags() {
+    if command -v pkg-config >/dev/null; then
+        pkg-config --cflags --libs witcall
+    else
+        echo "-I$prefix/include -L$prefix/lib -lwitcall"
+    fi
+}
+
 # shellcheck disable=SC2046 # the flags are words
 c_program() {
     source=$1 program=$2
     shift 2
-    "$CC" -std=gnu11 -O2 -Wall -Wextra -Werror "$@" -o "$program" "$source" $(pkg-config --cflags --libs witcall)
+    "$CC" -std=gnu11 -O2 -Wall -Wextra -Werror "$@" -o "$program" "$source" $(flags)
 }
 
 checked_c_program() {
@@ -162,17 +176,21 @@ if has helgrind valgrind; then
         same "helgrind-$host" "$here/c/$host.expected" valgrind --quiet --tool=helgrind "$build/$host-plain"
     done
 fi
-if has lists "$CC"; then
+if has lists "$CC" && has_sanitizer lists address,undefined; then
     step build-lists checked_c_program "$here/c/lists.c" "$build/lists"
     same lists "$here/c/lists.expected" "$build/lists"
 fi
 if has vectors python3; then
     step build-vectors c_program "$here/c/vectors.c" "$build/vectors"
     same vectors "$here/c/vectors.expected" python3 "$here/c/vectors.py" "$build/vectors"
-    step build-vectors-checked checked_c_program "$here/c/vectors.c" "$build/vectors-checked"
-    same vectors-checked "$here/c/vectors.expected" python3 "$here/c/vectors.py" "$build/vectors-checked"
+    if has_sanitizer vectors-checked address,undefined; then
+        step build-vectors-checked checked_c_program "$here/c/vectors.c" "$build/vectors-checked"
+        same vectors-checked "$here/c/vectors.expected" python3 "$here/c/vectors.py" "$build/vectors-checked"
+    fi
 fi
-same bindings "$here/c/shop.h" "$prefix/bin/wit-explain" bind c "$here/c/shop.wit"
+if has bindings; then
+    same bindings "$here/c/shop.h" "$prefix/bin/wit-explain" bind c "$here/c/shop.wit"
+fi
 if has engine clang wasm-ld node; then
     step build-callee wasm_module "$here/engine/callee.c" "$build/callee.wasm" 131072
     step build-caller wasm_module "$here/engine/caller.c" "$build/caller.wasm" 196608

@@ -8,7 +8,8 @@ out, they are `open_set` and `Session::call`, which the program's answer rests o
 From their clauses it follows every name: definitions of specs/, those of blocks (`mutual`, `module`) too, and the structs and enums of src/ that
 these cite. It counts their lines without comments and blank lines, and prints the sums by file; with --names also each name. The toolchain's own
 definitions are left out, and of a struct or an enum its attributes and its invariants: a clause speaks of its fields, and what holds of them
-besides is proved, not believed. It reads text alone: a local name that is also a definition's counts as one.
+besides is proved, not believed. A name means what the file that cites it defines or imports; of src/ an import leads to the file of the crate that
+declares the name, or to what the crate exports of another. It reads text alone: a local name that is also a definition's counts as one.
 """
 import argparse
 import collections
@@ -23,6 +24,26 @@ IMPORT = re.compile(r"^(?:ghost )?(?:pub )?use (Rattle\.[\w.+]+?)(?:\.\{(.*)\})?
 HEAD = re.compile(r"^(?:(?:abbrev|unfoldable|opaque|instance|pub|record|data)\s+)*(\S+)")
 BLOCK = re.compile(r"^(?:(?:abbrev|unfoldable|opaque|pub)\s+)*(?:mutual$|module )")
 DECLARED = re.compile(r"^pub (?:struct|enum) (\w+)")
+# an import of src/, and what one imports: a path, or a path and several in braces
+USE = re.compile(r"^(?:pub(?:\(\w+\))? )?use ([^;]+);", re.M)
+BRACES = re.compile(r"^((?:\w+::)*)\{(.*)\}$", re.S)
+
+
+def imports(text):
+    """Returns what an import of src/ imports: of each name the path and the name there."""
+    found = BRACES.match(text.strip())
+    if not found:
+        path, _, alias = text.strip().partition(" as ")
+        *modules, own = path.split("::")
+        return {alias or own: (modules, own)}
+    parts, depth = [""], 0
+    for sign in found[2]:
+        depth += {"{": 1, "}": -1}.get(sign, 0)
+        if sign == "," and not depth:
+            parts.append("")
+        else:
+            parts[-1] += sign
+    return {name: it for part in parts if part.strip() for name, it in imports(found[1] + part.strip()).items()}
 
 
 def code_lines(text):
@@ -39,7 +60,10 @@ class File:
         self.definitions = collections.defaultdict(list)
         self.names, self.modules = {}, {}
         text = path.read_text()
-        self.imported = set(re.findall(r"\w+", " ".join(re.findall(r"^(?:pub )?use ([^;]+);", text, re.M))))
+        # of src/: each imported name with its path
+        self.imported = {}
+        for found in USE.findall(text) if path.suffix == ".rt" else ():
+            self.imported |= imports(found)
         for line in text.split("\n"):
             found = IMPORT.match(line.strip())
             if found:
@@ -115,10 +139,25 @@ def meant(all_files, types, file, word):
         return place_of(all_files, file.modules[first], rest.partition(".")[0])
     if rest and (first in file.definitions or first in file.names):
         return meant(all_files, types, file, first)
-    if file.path.suffix == ".rt":
-        crate = file.module.split(".")[1]
-        return types.get((crate, word)) or (types.get(word) if word in file.imported else None)
-    return None
+    return imported_type(all_files, types, file, word) if file.path.suffix == ".rt" else None
+
+
+def imported_type(all_files, types, file, word):
+    """Returns where a struct or an enum is declared that a file of src/ imports under this name, if it is in this repository."""
+    modules, own = file.imported.get(word, ([], word))
+    if not modules:
+        return None
+    own_crate = file.module.split(".")[1]
+    crate = own_crate if modules[0] in ("crate", "self", "super") else modules[0]
+    places = types.get((crate, own), [])
+    named = [place for place in places if modules[1:] and place[0].endswith("." + ".".join(modules[1:]))]
+    found = named or places
+    if len(found) > 1:
+        sys.exit(f"tools/believed.py: {file.path}: {word} may be of any of {', '.join(module for module, _ in found)}")
+    library = all_files.get(f"Rattle.{crate}.specs.declared.lib")
+    if found or library is None or library is file:
+        return found[0] if found else None
+    return imported_type(all_files, types, library, own)
 
 
 def clauses(call):
@@ -141,7 +180,7 @@ def believed(all_files, calls):
     types = {}
     for file in all_files.values():
         for name in file.definitions if file.path.suffix == ".rt" else ():
-            types[name] = types[file.module.split(".")[1], name] = file.module, name
+            types.setdefault((file.module.split(".")[1], name), []).append((file.module, name))
     seen, left = set(), [clauses(call) for call in calls]
     while left:
         module, lines = left.pop()

@@ -16,7 +16,7 @@ What is checked of the pages:
 - Words in backquotes behind a crate `rows_..` or `vectors` are names of rows. Each has to be a line of the output of that crate, or the name in
   a line of its input.
 
-- The numbers of COUNTS are those of the stored rows, of the laws and of tools/believed.py.
+- The numbers of COUNTS are those of the stored rows, of the laws and of tools/believed.py. So are the lines of each subject of DEFINITIONS.md.
 - Each script of tools/ and bench/ is named on a page, in the gate or in another script.
 
 In the tables of docs/guarantees/ the cells of the column `clause` hold functions and clauses alone, as `open_set`: ok, only; `Package::takes`,
@@ -24,6 +24,7 @@ each of which has to be there; a function without a clause has one that has no n
 docs/guarantees/edits.md has to name every one beside its crate. The text that an edit replaces has to be there once, and to change by it. The exit
 status is 1 where something isn't there.
 """
+import collections
 import json
 import pathlib
 import re
@@ -70,7 +71,10 @@ COUNTS = {
     "laws": re.compile(r"([\d,]+) laws of them are\s+proved"),
     "lines to believe": re.compile(r"follows the names and counts: ([\d,]+) lines"),
     "definitions to believe": re.compile(r"lines in ([\d,]+) definitions"),
+    "lines of two clauses": re.compile(r"these two clauses alone\s+need: ([\d,]+) lines"),
 }
+# the two clauses, which a page gives to tools/believed.py
+TWO = ["opening/set.rt:open_set:ok", "witcall/session.rt:call:promise"]
 
 
 def sources():
@@ -289,6 +293,7 @@ def counted():
     laws = code(ROOT / "crates" / "canonical_abi" / "src" / "laws.rt")
     definitions = believed.files()
     to_believe = believed.believed(definitions, believed.CALLS)
+    of_two = believed.believed(definitions, TWO)
     return {
         "calls": calls,
         "calls and values": len(rows) - steps,
@@ -297,7 +302,21 @@ def counted():
         "laws": len(re.findall(r"^ *pub (?:const )?fn ", laws, re.M)),
         "lines to believe": sum(len(definitions[module].definitions[name]) for module, name in to_believe),
         "definitions to believe": len(to_believe),
+        "lines of two clauses": sum(len(definitions[module].definitions[name]) for module, name in of_two),
     }
+
+
+def wrong_subjects(page):
+    """The subjects of docs/DEFINITIONS.md of which another number of lines is to be believed, and the crates that none has."""
+    definitions, lines = believed.files(), collections.Counter()
+    for module, name in believed.believed(definitions, believed.CALLS):
+        lines[module.split(".")[1]] += len(definitions[module].definitions[name])
+    rows = re.findall(r"^\| [^|]+ \| ((?:`\w+`(?:, )?)+) \| ([\d,]+) \|$", page.read_text(), re.M)
+    for cell, number in rows:
+        there = sum(lines.pop(crate, 0) for crate in SPAN.findall(cell))
+        if int(number.replace(",", "")) != there:
+            yield f"{page.relative_to(ROOT)}: {number} lines of {cell}, and there are {there}"
+    yield from (f"{page.relative_to(ROOT)}: no subject has {crate}" for crate in lines)
 
 
 def wrong_counts(pages):
@@ -344,7 +363,7 @@ def faults_of(page, words, all_contracts, all_edits):
 def main():
     words, all_contracts, all_edits = known(), contracts(), edits()
     pages = [ROOT / "README.md", *sorted((ROOT / "docs").rglob("*.md"))]
-    faults = [*stale_edits(), *wrong_counts(pages), *unnamed_scripts(pages)]
+    faults = [*stale_edits(), *wrong_counts(pages), *wrong_subjects(ROOT / "docs" / "DEFINITIONS.md"), *unnamed_scripts(pages)]
     for page in pages:
         faults += [f"{page.relative_to(ROOT)}:{number}: {fault}" for number, fault in faults_of(page, words, all_contracts, all_edits)]
     for fault in faults:

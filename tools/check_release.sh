@@ -1,14 +1,35 @@
 #!/bin/sh
 # Compares the programs that the gate built with the released ones. Where the release was built from other sources there is nothing to compare.
 #
-# usage: tools/check_release.sh
+# usage: tools/check_release.sh [--library]
 #
 # The exit status is 1 if release/ has other bytes than crates/program/out/program or crates/explain/out/explain though both were built from the
 # same sources, if what is unpacked of release/ isn't what release/SHA256SUMS says, or if release/ lacks a file. crates/explain/out/explain may be
-# absent, and release/ may have no file at all. The library is not built here, so it is not compared.
+# absent, and release/ may have no file at all. The gate builds no library, since that would prove the crates below it again. So the library is
+# compared if `rt lib` left one here that no source of it is newer than. With --library it prints nothing, and the exit status is 0 if the
+# released library was built from these sources.
 set -eu
 cd "$(dirname "$0")/.."
 
+is_of_library() {
+    [ "$(cat release/library-sources 2>/dev/null)" = "$(tools/sources.sh witcall_c)" ]
+}
+
+# Whether the library was built here since its sources last changed.
+has_library() {
+    library=crates/witcall_c/out/libwitcall_c.a
+    [ -f "$library" ] || return 1
+    for name in $(tools/sources.sh witcall_c --names); do
+        for part in src specs proofs; do
+            [ ! -d "crates/$name/$part" ] || [ -z "$(find "crates/$name/$part" -newer "$library")" ] || return 1
+        done
+    done
+}
+
+if [ "${1-}" = --library ]; then
+    is_of_library && exit 0
+    exit 1
+fi
 [ -n "$(find release -maxdepth 1 -type f 2>/dev/null)" ] || { echo "no release"; exit 0; }
 for file in sources explain-sources library-sources toolchain version SHA256SUMS; do
     [ -s "release/$file" ] || { echo "release/ has no $file: tools/release.sh was not run to its end"; exit 1; }
@@ -33,6 +54,12 @@ elif gzip -dc release/wit-explain.gz | cmp - crates/explain/out/explain; then
 else
     exit 1
 fi
-if [ "$(cat release/library-sources)" != "$(tools/sources.sh witcall_c)" ]; then
+if ! is_of_library; then
     echo "the released library was built from other sources than these"
+elif ! has_library; then
+    echo "the library was not built here, so it is not compared"
+elif gzip -dc release/libwitcall_c.a.gz | cmp - crates/witcall_c/out/libwitcall_c.a; then
+    echo "the released library is what was built here"
+else
+    exit 1
 fi

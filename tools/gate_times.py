@@ -78,7 +78,8 @@ def table(rows):
     sums = {}
     for row in rows:
         sums.setdefault(row["crate"], dict.fromkeys(KINDS, 0))[row["kind"]] += row["cpu"]
-    sums["all"] = {kind: sum(it[kind] for it in sums.values()) for kind in KINDS}
+    # of the seconds as they are shown
+    sums["all"] = {kind: sum(round(it[kind]) for it in sums.values()) for kind in KINDS}
     lines = ["| crate | proof | tests | edits | builds |", "|---|---|---|---|---|"]
     for crate, used in sums.items():
         cells = [f"{round(used[kind]):,}" if used[kind] else "" for kind in KINDS]

@@ -1,14 +1,16 @@
 #!/usr/bin/env python3
 """Records the largest single request for memory of the program's commands, on inputs that state large counts and on long ones.
 
-usage: tools/largest_request.py [PROGRAM]
+usage: tools/largest_request.py [--brief] [PROGRAM]
 
 PROGRAM is crates/program/out/program, as `rt run` in crates/program leaves it. A binary of 1 MiB states a count, three items follow,
 and then bytes that begin no item. It is opened with the largest count that its list may state, and with 4: the largest request has to be
 the same, and so has the sum of all requests, since the largest is the one for the binary itself; SLACK is for the line of the refusal. The program
 has to refuse both for the same reason. Long texts, binaries and JSON are recorded beside these, by the bytes that were read; nothing is asked of them.
+With --brief they are left out, and one line is printed besides the shapes whose requests change.
 Needs `cc`, which builds what stands before the C library's `malloc`. The exit status is 1 if a stated count changes the requests.
 """
+import argparse
 import os
 import pathlib
 import re
@@ -173,7 +175,7 @@ def reason(line):
     return line.partition(" at ")[0]
 
 
-def stated(runner):
+def stated(runner, is_brief):
     """Whether no stated count changes the requests."""
     right = True
     for shape, (made, most) in STATED.items():
@@ -182,7 +184,8 @@ def stated(runner):
         *many, line_of_many = runner.requests(["bin", runner.kept(content)])
         alike = few[0] == many[0] > 0 and abs(many[1] - few[1]) <= SLACK and REFUSED.fullmatch(line) and reason(line) == reason(line_of_many)
         right &= bool(alike)
-        row(shape, len(content), few[0], many[0], few[1], many[1], line_of_many, "" if alike else "NOT ALIKE")
+        if not (alike and is_brief):
+            row(shape, len(content), few[0], many[0], few[1], many[1], line_of_many, "" if alike else "NOT ALIKE")
     return right
 
 
@@ -200,14 +203,22 @@ def recorded(runner):
 
 
 def main():
-    program = pathlib.Path(sys.argv[1] if len(sys.argv) > 1 else ROOT / "crates/program/out/program").resolve()
+    options = argparse.ArgumentParser(usage=__doc__.split("\n\n")[1].removeprefix("usage: "))
+    options.add_argument("--brief", action="store_true")
+    options.add_argument("program", nargs="?", type=pathlib.Path, default=ROOT / "crates/program/out/program")
+    given = options.parse_args()
     with tempfile.TemporaryDirectory() as folder:
-        runner = Runner(program, pathlib.Path(folder))
+        runner = Runner(given.program.resolve(), pathlib.Path(folder))
+        if given.brief:
+            right = stated(runner, True)
+            print(f"{len(STATED)} shapes of binaries; {'no' if right else 'a'} stated count changes the requests for memory")
+            sys.exit(not right)
         print("stated: bytes read, largest request if 4 is stated, and if the most is, and the same of the sum of all requests")
-        right = stated(runner)
+        right = stated(runner, False)
         print("long: bytes read, largest request")
         recorded(runner)
     sys.exit(not right)
 
 
-main()
+if __name__ == "__main__":
+    main()

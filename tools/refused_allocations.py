@@ -1,15 +1,17 @@
 #!/usr/bin/env python3
 """Answers rows while one of the allocations that they make is refused: the first, the second, and so on.
 
-usage: tools/refused_allocations.py [CRATE ..]
+usage: tools/refused_allocations.py [--brief] [CRATE ..]
 
 CRATE is `rows_texts`, `vectors` or `program`, each as `rt run` in its folder leaves it; all three where none is named. Each of the
 rows below is asked twice in one run, and there is a run for each allocation that such a run makes. The row whose allocation was refused has to
 tell a want of memory in the words of one of the layers that it passes (WORDS), or in those of the program that asks it (OWN); the other one has to be
 answered as with all memory; and each word of WORDS has to be told at least once. A refusal of what the program itself asks for, as for a line that it
 reads, ends the run with status 1. The program's commands are run in the same way: each ends with one line `error N no memory` and status 1, or as it
-does with all memory. Needs `cc`, which builds what stands before the C library's `malloc`. The exit status is 1 where an answer is another.
+does with all memory. With --brief it prints the last line, and the calls that are wrong. Needs `cc`, which builds what stands before the C library's
+`malloc`. The exit status is 1 where an answer is another.
 """
+import argparse
 import collections
 import json
 import os
@@ -155,8 +157,8 @@ def built(folder):
 class Refuser:
     """Runs programs in which one allocation is refused."""
 
-    def __init__(self, folder):
-        self.library, self.made = built(folder), folder / "made"
+    def __init__(self, folder, is_brief):
+        self.library, self.made, self.is_brief = built(folder), folder / "made", is_brief
         self.refused = self.calls = 0
 
     def run(self, command, data, refused):
@@ -187,7 +189,8 @@ class Refuser:
         wrong += [f"  never told: {words(word)}" for word in wanted if not counts[words(word)]]
         self.calls, self.refused = self.calls + 1, self.refused + count
         listed = ", ".join(f"{word} {number}" for word, number in sorted(counts.items()))
-        print("\n".join([f"{name}: {count} allocations; {listed}", *wrong]), flush=True)
+        if wrong or not self.is_brief:
+            print("\n".join([f"{name}: {count} allocations; {listed}", *wrong]), flush=True)
         return not wrong
 
 
@@ -259,13 +262,18 @@ def program_is_right(refuser):
 
 
 def main():
+    options = argparse.ArgumentParser(usage=__doc__.split("\n\n")[1].removeprefix("usage: "))
+    options.add_argument("--brief", action="store_true")
+    options.add_argument("crates", nargs="*")
+    given = options.parse_args()
     begun, right = time.monotonic(), True
     with tempfile.TemporaryDirectory() as folder:
         folder = pathlib.Path(folder)
-        refuser = Refuser(folder)
-        for crate in sys.argv[1:] or [*WORDS, "program"]:
+        refuser = Refuser(folder, given.brief)
+        for crate in given.crates or [*WORDS, "program"]:
             right &= program_is_right(refuser) if crate == "program" else rows_are_right(refuser, crate, folder)
-    print(f"{refuser.calls} calls, {refuser.refused} allocations refused, {time.monotonic() - begun:.0f} seconds; {'all right' if right else 'not right'}")
+    told = f"{refuser.calls} calls, {refuser.refused} allocations refused, {time.monotonic() - begun:.0f} seconds"
+    print(f"{told}; {'all right' if right else 'not right'}")
     sys.exit(not right)
 
 

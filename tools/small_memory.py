@@ -1,12 +1,14 @@
 #!/usr/bin/env python3
 """Runs the program's commands under a limit of its memory, from 20 MB up to where all of them are done.
 
-usage: tools/small_memory.py [PROGRAM]
+usage: tools/small_memory.py [--brief] [PROGRAM]
 
 PROGRAM is crates/program/out/program, as `rt run` in crates/program leaves it. Under each limit each command writes what it writes
-without one, or nothing and one line that ends with status 1 or 3: a want of memory. The exit status is 1 where a run ends by
-a signal, or otherwise, and where no command wants memory.
+without one, or nothing and one line that ends with status 1 or 3: a want of memory. With --brief it prints one line, and what
+is wrong. The exit status is 1 where a run ends by a signal, or otherwise, and where no command wants memory.
 """
+import argparse
+import collections
 import pathlib
 import resource
 import subprocess
@@ -19,6 +21,8 @@ WORDS = {
     b"error 54 no memory", b"error 66 no memory", b"trap K7 body in body",
 }
 MEGABYTE = 1000000
+# of megabytes, with which each command is done
+MOST = 200
 
 
 def text():
@@ -48,33 +52,44 @@ def limited(program, words, limit):
     return subprocess.run([program, *words], capture_output=True, preexec_fn=limits if limit else None)
 
 
+def tried(program, words, whole):
+    """How often a command reports each want of memory, what it does otherwise, and the megabytes with which it is done."""
+    told, wrong, limit = collections.Counter(), [], 20
+    while True:
+        ran = limited(program, words, limit * MEGABYTE)
+        if ran.returncode == 0 and ran.stdout == whole.stdout:
+            return told, wrong, limit
+        line = ran.stderr.rstrip(b"\n")
+        told[line] += 1
+        if ran.returncode not in (1, 3) or ran.stdout or line not in WORDS:
+            wrong.append(f"{words[0]} at {limit} MB: status {ran.returncode}, {ran.stderr[:200]!r}")
+        if limit == MOST:
+            return told, [*wrong, f"{words[0]} isn't done with {limit} MB"], limit
+        limit += 1
+
+
 def main():
-    program = pathlib.Path(sys.argv[1] if len(sys.argv) > 1 else ROOT / "crates/program/out/program").resolve()
-    failed, wanted = False, 0
+    options = argparse.ArgumentParser(usage=__doc__.split("\n\n")[1].removeprefix("usage: "))
+    options.add_argument("--brief", action="store_true")
+    options.add_argument("program", nargs="?", type=pathlib.Path, default=ROOT / "crates/program/out/program")
+    given = options.parse_args()
+    program, runs, faults, most = given.program.resolve(), 0, [], 0
     with tempfile.TemporaryDirectory() as folder:
         folder = pathlib.Path(folder)
-        tried = list(commands(folder))
-        made = limited(program, ["bin", folder / "long.wit"], 0)
-        (folder / "long.wasm").write_bytes(made.stdout)
-        for words in tried:
+        asked = list(commands(folder))
+        (folder / "long.wasm").write_bytes(limited(program, ["bin", folder / "long.wit"], 0).stdout)
+        for words in asked:
             whole = limited(program, words, 0)
             if whole.returncode:
                 sys.exit(f"{words[0]}: {whole.stderr[:200]!r}")
-            told, limit = {}, 20 * MEGABYTE
-            while True:
-                ran = limited(program, words, limit)
-                if ran.returncode == 0 and ran.stdout == whole.stdout:
-                    break
-                line = ran.stderr.rstrip(b"\n")
-                told[line] = told.get(line, 0) + 1
-                wanted += 1
-                if ran.returncode not in (1, 3) or ran.stdout or line not in WORDS:
-                    failed = True
-                    print(f"{words[0]} at {limit}: status {ran.returncode}, {ran.stderr[:200]!r}")
-                limit += MEGABYTE
+            told, wrong, limit = tried(program, words, whole)
+            runs, faults, most = runs + told.total(), faults + wrong, max(most, limit)
             lines = ", ".join(f"{line.decode(errors='replace')} {count} times" for line, count in told.items())
-            print(f"{words[0]} {words[1].name}: done with {limit // MEGABYTE} MB; {lines}", flush=True)
-    sys.exit(failed or not wanted)
+            if not given.brief:
+                print(f"{words[0]} {words[1].name}: done with {limit} MB; {lines}", flush=True)
+    print("\n".join([*faults, f"{len(asked)} commands, {runs} runs with little memory; all are done with {most} MB"]))
+    sys.exit(bool(faults) or not runs)
 
 
-main()
+if __name__ == "__main__":
+    main()

@@ -3,7 +3,8 @@ runs and of rows, and nothing in them comes from the program's sources.
 
 | module | models |
 |---|---|
-| `wit` | texts as trees |
+| `tokens`, `reading`, `wit` | texts with the first fault of each, and as trees |
+| `component`, `shape` | binaries with the first fault of each, and which of them have the layout of packages |
 | `names` | which names stand in one scope, and which aren't there |
 | `sets` | sets of packages: what refuses them, their tables, what `show` and `layout` print |
 | `printing`, `binary` | canonical texts; component type binaries, both ways |
@@ -13,7 +14,7 @@ runs and of rows, and nothing in them comes from the program's sources.
 | `calls` | calls by core values |
 | `json_values` | values as JSON |
 | `sessions` | typed calls, and what is placed, read and released |
-| `jobs`, `layouts`, `rows`, `text_rows` | lines that ask, and lines that answer |
+| `jobs`, `layouts`, `rows`, `text_rows`, `reading_rows`, `atoms`, `memory_rows` | lines that ask, and lines that answer |
 | `cases` | the lines that are asked: stored ones and random ones |
 | `stored` | the files in which these are kept |
 

@@ -1,8 +1,8 @@
-"""Component type binaries of packages, in the layout of docs/FORMATS.md: written, and read where they are of that layout."""
+"""Component type binaries of packages, in the layout of docs/FORMATS.md: written, and read if they are of that layout."""
 from dataclasses import replace
 
 from . import wit
-from .faults import NotModelled
+from .component import index_number, number
 from .wit import Built, Name, PackageName, Path, Primitive
 
 OPCODES = {"bool": 0x7F, "s8": 0x7E, "u8": 0x7D, "s16": 0x7C, "u16": 0x7B, "s32": 0x7A, "u32": 0x79, "s64": 0x78, "u64": 0x77}
@@ -17,16 +17,6 @@ TYPE, ALIAS, IMPORT, EXPORT = 1, 2, 3, 4
 
 
 # ---- writing
-
-
-def number(value):
-    """The shortest spelling of a number."""
-    return bytes([value]) if value < 0x80 else bytes([value & 0x7F | 0x80]) + number(value >> 7)
-
-
-def index_number(value):
-    """The shortest spelling as a signed number."""
-    return bytes([value]) if value < 0x40 else bytes([value & 0x7F | 0x80]) + index_number(value >> 7)
 
 
 def label(name):
@@ -393,12 +383,9 @@ class PackageReader:
 
 
 def read(data):
-    """The package of a binary, and its imports."""
+    """The package of a binary that has the layout of packages and the shortest spelling, and its imports."""
     source = Bytes(data)
-    try:
-        source.bytes(*PREAMBLE, SECTION_TYPE)
-        source.number()
-        source.bytes(1, COMPONENT)
-        return PackageReader(source).package()
-    except (AttributeError, LookupError, TypeError, ValueError) as error:
-        raise NotModelled(f"a binary that is no package: {error}") from error
+    source.bytes(*PREAMBLE, SECTION_TYPE)
+    source.number()
+    source.bytes(1, COMPONENT)
+    return PackageReader(source).package()

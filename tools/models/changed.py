@@ -1,6 +1,6 @@
 """Binaries of packages that are cut after each byte, and with each byte changed to each of its 256 values."""
 from . import component
-from .faults import NotModelled, Refused
+from .faults import Refused
 from .jobs import JOBS
 from .opening import opened
 
@@ -11,13 +11,10 @@ def is_cut(data, length):
 
 
 def is_package(earlier, data):
-    """Whether a binary is a package behind these inputs: it is a component, and what is written of its package are its own bytes."""
-    if not component.answer(data).startswith("types"):
-        return False
+    """Whether a binary is a package behind these inputs, and what is written of it are its own bytes."""
     try:
         return bytes.fromhex(*JOBS["bin"](opened([*earlier, data]))) == data
-    # What the models don't read has another layout than packages have.
-    except (Refused, NotModelled, AttributeError, RuntimeError, StopIteration):
+    except Refused:
         return False
 
 

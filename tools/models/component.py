@@ -1,7 +1,6 @@
 """Component type binaries, as docs/FORMATS.md has them ("Component type binary"): what reading one answers, with each fault at its place."""
 import re
 
-from . import memory_rows
 from .faults import Refused
 
 MOST_BYTES, MOST_CASES, MOST_LABELS, MOST_NESTED, MOST_ENTRIES = 1_048_576, 100_000, 32, 4, 65_535
@@ -20,13 +19,28 @@ def is_label(text):
     return len(text) <= 255 and bool(LABEL.fullmatch(text))
 
 
+def is_version(text):
+    """Whether a text is a version."""
+    return len(text) <= 255 and bool(VERSION.fullmatch(text))
+
+
 def is_full_name(text):
     """Whether a text is a full name."""
     front, at, version = text.partition("@")
     package, _, name = front.partition("/")
     parts = package.split(":")
     named = len(parts) == 2 and all(len(part) <= 255 and LOWER.fullmatch(part) for part in parts) and is_label(name)
-    return named and (not at or (len(version) <= 255 and bool(VERSION.fullmatch(version))))
+    return named and (not at or is_version(version))
+
+
+def number(value):
+    """The shortest spelling of a number."""
+    return bytes([value]) if value < 0x80 else bytes([value & 0x7F | 0x80]) + number(value >> 7)
+
+
+def index_number(value):
+    """The shortest spelling as a signed number."""
+    return bytes([value]) if value < 0x40 else bytes([value & 0x7F | 0x80]) + index_number(value >> 7)
 
 
 class Scope:
@@ -42,6 +56,8 @@ class Reader:
 
     def __init__(self, data):
         self.data, self.at, self.end, self.entries = data, 0, None, 0
+        # the same component in its shortest spelling, without custom sections
+        self.out = bytearray()
         self.scopes = [Scope(True)]
 
     def fault(self, words, at):
@@ -55,6 +71,7 @@ class Reader:
         if self.at >= len(self.data):
             self.fault("11 truncated", len(self.data))
         self.at += 1
+        self.out.append(self.data[self.at - 1])
         return self.data[self.at - 1]
 
     def unknown(self, at):
@@ -81,15 +98,19 @@ class Reader:
 
     def u32(self):
         """An unsigned number."""
-        return self.groups(lambda byte: byte < 0x10)[0]
+        mark = len(self.out)
+        found, _, _ = self.groups(lambda byte: byte < 0x10)
+        self.out[mark:] = number(found)
+        return found
 
     def s33(self):
         """A signed number of 33 bits, which may not be negative."""
-        start = self.at
-        number, last, count = self.groups(lambda byte: byte & 0x70 in (0, 0x70))
+        start, mark = self.at, len(self.out)
+        found, last, count = self.groups(lambda byte: byte & 0x70 in (0, 0x70))
         if last & 0x40 and count < 6:
             self.unknown(start)
-        return number
+        self.out[mark:] = index_number(found)
+        return found
 
     def name(self, is_right):
         """A name that is right."""
@@ -129,6 +150,7 @@ class Reader:
         if byte in PRIMITIVES:
             return
         self.at = at
+        self.out.pop()
         self.index(self.s33(), self.scopes[-1].types, at)
 
     def optional(self):
@@ -251,12 +273,15 @@ class Reader:
 
     def section(self, body):
         """A section of this body."""
+        mark = len(self.out)
         size = self.u32()
+        del self.out[mark:]
         self.end = self.at + size
         body()
         if self.at < self.end:
             self.fault("18 size mismatch", self.end)
         self.end = None
+        self.out[mark:] = number(len(self.out) - mark) + self.out[mark:]
 
     def custom(self):
         """A section of no meaning."""
@@ -291,7 +316,9 @@ class Reader:
         while wanted or self.at < len(self.data):
             at, kind = self.at, self.byte()
             if kind == 0:
+                mark = len(self.out) - 1
                 self.section(self.custom)
+                del self.out[mark:]
             elif wanted and kind == wanted[0][0]:
                 self.section(wanted.pop(0)[1])
             elif not wanted and kind in (7, 11):
@@ -301,15 +328,17 @@ class Reader:
         return self.counts
 
 
-def read(data):
-    """How many types and exports a component has."""
-    return Reader(data).file()
+def canonical(data):
+    """A component in its shortest spelling, without custom sections."""
+    reader = Reader(data)
+    reader.file()
+    return bytes(reader.out)
 
 
 def answer(data):
     """What reading it answers."""
     try:
-        return "types {} exports {}".format(*read(data))
+        return "types {} exports {}".format(*Reader(data).file())
     except Refused as refused:
         return str(refused)
 
@@ -329,6 +358,22 @@ def decode_row(digits):
     return answer(bytes.fromhex(digits))
 
 
+def encode_row(digits):
+    """The bytes of the component, behind two that are there before."""
+    return (b"ab" + canonical(bytes.fromhex(digits))).hex()
+
+
+def failing_row(arguments):
+    """What decoding answers if the input fails behind so many bytes."""
+    length, digits = arguments.split(" ")
+    return f"error 20 read at {length}" if int(length) <= len(digits) // 2 else decode_row(digits)
+
+
+def endless_row(_):
+    """What decoding answers of zeros without an end."""
+    return answer(bytes(MOST_BYTES + 1))
+
+
 def cuts_row(digits):
     """That each front is told as cut at its end."""
     data = bytes.fromhex(digits)
@@ -344,13 +389,7 @@ def changes_row(digits):
     return f"{256 * len(data)} changed: {count} components"
 
 
-COMMANDS = {"decode": decode_row, "drip": decode_row, "component-cuts": cuts_row, "component-changes": changes_row, **memory_rows.COMMANDS}
-
-
-def answers(lines):
-    """Rows with the answers that this model knows; the others as they are."""
-    for line in lines:
-        front, _, stored = line.partition(" => ")
-        command, _, rest = front.partition(": ")[2].partition(" ")
-        known = command in COMMANDS and not line.startswith("#")
-        yield f"{front} => {COMMANDS[command](rest) if known else stored}" if stored else line
+COMMANDS = {
+    "decode": decode_row, "drip": decode_row, "encode": encode_row, "failing": failing_row, "endless": endless_row,
+    "component-cuts": cuts_row, "component-changes": changes_row,
+}

@@ -1,7 +1,10 @@
 """What the program's jobs print of a set: `show`, `layout`, `text` and `bin` of its last package."""
 from . import binary
+from .faults import Refused
 from .names import owner_names
 from .printing import text_lines
+
+MOST_BYTES = 1_048_576
 
 
 def show(packages):
@@ -18,7 +21,10 @@ def show(packages):
 
 def text(packages):
     """The lines of `text`."""
-    return text_lines(packages.packages[-1])
+    lines = list(text_lines(packages.packages[-1]))
+    if sum(len(line) + 1 for line in lines) > MOST_BYTES:
+        raise Refused(f"36 limit at {MOST_BYTES}..{MOST_BYTES}")
+    return lines
 
 
 def signature(core):
@@ -42,7 +48,10 @@ def layout(packages):
 
 def bin_of(packages):
     """The one line of `bin`, in hexadecimal."""
-    return [binary.write(packages).hex()]
+    data = binary.write(packages)
+    if len(data) > MOST_BYTES:
+        raise Refused(f"17 limit at {MOST_BYTES}")
+    return [data.hex()]
 
 
 JOBS = {"show": show, "layout": layout, "text": text, "bin": bin_of}

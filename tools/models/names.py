@@ -1,5 +1,5 @@
 """The names of a package: which stand in one scope, which are referred to, and which of these aren't there."""
-from .wit import Built, Interface, Name
+from .wit import Built, Function, Interface, Name, TypeDef, Use, WorldItem
 
 
 def names_in(ty):
@@ -36,18 +36,40 @@ def item_name(package, item):
     return (item.path.package or package.name).full(item.path.name)
 
 
-def scopes(package):
-    """The names of each scope: of the package, of its interfaces and worlds, and of their members and parameters."""
-    for item in package.items:
-        if isinstance(item, Interface):
-            yield from [labels(typedef.members) for typedef in item.types]
-            yield from [labels(function.parameters) for function in item.functions]
-            yield owner_names(item) + [function.name for function in item.functions]
-        else:
-            yield from [labels(it.function.parameters) for it in item.items if it.function]
-            for direction in ("import", "export"):
-                yield [item_name(package, it) for it in item.items if it.direction == direction]
-    yield [item.name for item in package.items]
+def inner_labels(part):
+    """The labels in a type or a function."""
+    return labels(part.parameters if isinstance(part, Function) else part.members)
+
+
+def names_of_text(package):
+    """The names of a text in source order, each with what tells its scope from others."""
+    for number, item in enumerate(package.items):
+        yield "package", item.name
+        for place, part in enumerate(in_order(item) if isinstance(item, Interface) else item.items):
+            inner = (number, place)
+            if isinstance(part, WorldItem):
+                yield (number, part.direction), item_name(package, part)
+                yield from ((inner, label) for label in (inner_labels(part.function) if part.function else []))
+            elif isinstance(part, Use):
+                yield number, part.local
+            else:
+                yield number, part.name
+                yield from ((inner, label) for label in inner_labels(part))
+
+
+def names_of_binary(package):
+    """The names of a binary in the order of the bytes, each with what tells its scope from others; those in a definition come before its own."""
+    for number, item in enumerate(package.items):
+        parts = [*item.uses, *item.types, *item.functions] if isinstance(item, Interface) else item.items
+        for place, part in enumerate(parts):
+            function = part.function if isinstance(part, WorldItem) else part
+            if function and not isinstance(part, Use):
+                yield from (((number, place), label) for label in inner_labels(function))
+            if isinstance(part, WorldItem):
+                yield (number, part.direction), item_name(package, part)
+            else:
+                yield number, part.local if isinstance(part, Use) else part.name
+        yield "package", item.name
 
 
 def source_order(package):
@@ -60,34 +82,25 @@ def source_order(package):
 
 
 def unknown_names(package, names_of):
-    """The names that aren't there, where `names_of` has the names of types of the interface that a path means, or None.
-
-    Of an interface those of uses come first, then those of types, then those of functions.
-    """
+    """The names that aren't there in source order, where `names_of` has the names of types of the interface that a path means, or None."""
     for item in package.items:
-        for path, name in referred(item):
-            there = names_of(path)
-            if there is None:
-                yield path.name
-            elif name is not None and name not in there:
-                yield name
-        yield from unknown_types(item)
+        is_interface = isinstance(item, Interface)
+        own = owner_names(item) if is_interface else []
+        for part in in_order(item) if is_interface else item.items:
+            path, names = referred(part)
+            there = own if path is None else names_of(path)
+            yield from [path.name] if there is None else [name for name in names if name not in there]
 
 
-def referred(item):
-    """The interfaces that an interface or world refers to, each with a name there or None."""
-    if isinstance(item, Interface):
-        return [(use.path, use.name) for use in item.uses]
-    return [(it.path, None) for it in item.items if it.path]
+def in_order(interface):
+    """The uses, types and functions of an interface in source order."""
+    return sorted([*interface.uses, *interface.types, *interface.functions], key=lambda part: part.place)
 
 
-def unknown_types(item):
-    """The names in types and functions of an interface or world that it doesn't have."""
-    if isinstance(item, Interface):
-        there = owner_names(item)
-        used = [name for typedef in item.types for name in type_names(typedef)]
-        used += [name for function in item.functions for name in function_names(function)]
-    else:
-        there = []
-        used = [name for it in item.items if it.function for name in function_names(it.function)]
-    return [name for name in used if name not in there]
+def referred(part):
+    """The interface that a part of an interface or world refers to, or None, and the names that are meant to be there."""
+    if isinstance(part, Use):
+        return part.path, [part.name]
+    if isinstance(part, WorldItem):
+        return part.path, function_names(part.function) if part.function else []
+    return None, type_names(part) if isinstance(part, TypeDef) else function_names(part)

@@ -1,14 +1,13 @@
-"""Sets that are opened from texts and binaries, and what refuses them.
-
-Of several faults of one class the first is told as `names` has them, which is the order of the source but among the items of one interface.
-"""
-from . import binary, wit
+"""Sets that are opened from texts and binaries, and what refuses them."""
+from . import reading, shape
 from .faults import Refused
-from .names import owner_names, scopes, source_order, unknown_names
+from .names import names_of_text, owner_names, source_order, unknown_names
 from .sets import Set
 from .tables import entries, set_rows
 
 MOST_PACKAGES = 64
+# the bytes that begin a binary
+MARK = b"\0asm"
 MOST_ENTRIES = 65535
 MOST_MEMBERS = {"variant": 100000, "enum": 100000, "flags": 32}
 MOST_DEPTH, MOST_SIZE = 64, 16777216
@@ -20,18 +19,19 @@ def opened(inputs):
     for data in inputs:
         if len(packages.packages) == MOST_PACKAGES:
             raise Refused("49 set limit")
-        add = add_text if isinstance(data, str) else add_binary
+        data = data.encode() if isinstance(data, str) else data
+        add = add_binary if data.startswith(MARK) else add_text
         add(packages, data)
     test_layouts(packages)
     return packages
 
 
-def add_text(packages, text):
+def add_text(packages, data):
     """Opens one more package, from a text."""
-    package = wit.read(text)
+    package = reading.read(data)
     test_empty(package)
     test_new(packages, package)
-    test_scopes(package)
+    test_names(names_of_text(package))
     test_packages(packages, [path.package for path in source_order(package) if path.package])
     test_unknown(packages, package)
     packages.keep(package)
@@ -39,10 +39,9 @@ def add_text(packages, text):
 
 
 def add_binary(packages, data):
-    """Opens one more package, from a binary that is of the layout of packages."""
-    package, imports = binary.read(data)
-    test_empty(package)
-    test_scopes(package)
+    """Opens one more package, from a binary."""
+    package, imports = shape.read(data)
+    test_names(shape.names(package, imports))
     test_new(packages, package)
     test_packages(packages, [name for name, _ in imports])
     test_imports(packages, imports)
@@ -61,14 +60,13 @@ def test_new(packages, package):
         raise Refused(f"48 same package {package.name.full()}")
 
 
-def test_scopes(package):
+def test_names(names):
     """Refuses a name that its scope has before, but for the case of its letters."""
-    for scope in scopes(package):
-        seen = set()
-        for name in scope:
-            if name.lower() in seen:
-                raise Refused(f"40 duplicate {name}")
-            seen.add(name.lower())
+    seen = set()
+    for scope, name in names:
+        if (scope, name.lower()) in seen:
+            raise Refused(f"40 duplicate {name}")
+        seen.add((scope, name.lower()))
 
 
 def test_packages(packages, names):

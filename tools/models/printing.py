@@ -1,5 +1,6 @@
 """The canonical text of a package, as `text` prints it."""
-from .wit import KEYWORDS, Built, Interface, Name
+from .tokens import KEYWORDS
+from .wit import Built, Interface, Name
 
 
 def plain(name):

@@ -3,7 +3,7 @@ import collections
 import itertools
 import pathlib
 
-from . import calls, component, sessions, text_rows
+from . import calls, reading_rows, sessions, text_rows
 from .cases import acted
 from .cases import calls as call_cases
 from .cases import steps as step_cases
@@ -66,6 +66,10 @@ class Rows:
         """The rows with the answers to them."""
         return list(text_rows.answers(lines_of(self.path), self.path.parent))
 
+    def not_computed(self):
+        """The names of the rows that keep their answer."""
+        return text_rows.not_computed(lines_of(self.path))
+
     def faults(self, wanted):
         """The names that two of these rows have."""
         names = collections.Counter(line.split(": ", 1)[0] for line in wanted if text_rows.is_row(line))
@@ -81,7 +85,7 @@ class Reading(Rows):
 
     def wanted(self):
         """The rows with the answers to them."""
-        return list(component.answers(lines_of(self.path)))
+        return list(reading_rows.answers(lines_of(self.path)))
 
 
 class Names:
@@ -161,11 +165,14 @@ def is_right(it):
 
 
 def check(paths):
-    """Whether what is stored is what the models answer; prints where it isn't."""
+    """Whether what is stored is what the models answer; prints where it isn't, and which rows keep their answer."""
     missing = [] if paths else unlisted()
     for line in missing:
         print(line)
-    return all([is_right(it) for it in named(paths)]) and not missing
+    right = all([is_right(it) for it in named(paths)])
+    left = [name for it in named(paths) if isinstance(it, Rows) for name in it.not_computed()]
+    print(f"not computed: {len(left)} ({', '.join(left)})")
+    return right and not missing and (bool(paths) or left == list(text_rows.NOT_COMPUTED))
 
 
 def write(paths):

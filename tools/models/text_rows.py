@@ -1,24 +1,19 @@
 """Text rows, which are of texts, binaries and sets of packages (docs/FORMATS.md, "Text rows").
 
-The faults of texts that the grammar doesn't read, those of binaries and their shape, and whether a package of many bytes is opened again, are not
-modelled, nor is which of several unknown names of an interface is told. Such rows keep their answer.
+NOT_COMPUTED has the rows that keep their answer.
 """
 import re
 
-from . import changed, rows, sessions, wit
-from .faults import NotModelled, Refused, Trap
+from . import changed, reading, rows, sessions
+from .faults import Refused, Trap
 from .jobs import JOBS
 from .opening import opened
 from .tables import set_rows, work
 
 TOKEN = re.compile(r'"([^"]*)"|([^\s",]+)|(,)')
 STATUS = {Trap: " (3)"}
-# answers by a first fault of the bytes themselves
-UNREAD = re.compile(r"error ([12]\d|3[0-6]) (?!expected package)")
-UNKNOWN = re.compile(r"error 41 unknown ")
-# a binary of another layout
-SHAPE = re.compile(r"error 44 ")
-MOST_BYTES = 500_000
+# opening a package of so many bytes again takes minutes
+NOT_COMPUTED = ("entries-65535-again",)
 
 
 def letters(number):
@@ -71,31 +66,78 @@ class Inputs:
         return parts if word == "each" else [b"".join(parts)]
 
 
-def data_of(given):
-    """An input as the models take it: a text, or a binary."""
-    if given.startswith(b"\0asm"):
-        return given
-    try:
-        return given.decode()
-    except UnicodeDecodeError as fault:
-        raise Refused(f"60 not UTF-8 at {fault.start}") from fault
-
-
 def again(inputs):
     """Whether the set's binary and its text are the last input."""
-    if sum(map(len, inputs)) > MOST_BYTES:
-        raise NotModelled("a package of many bytes, opened again")
     packages = opened(inputs)
     made = {name: job(packages) for name, job in JOBS.items()}
     written = bytes.fromhex(*made["bin"]), "\n".join(made["text"])
     return all({name: job(opened([*inputs[:-1], data])) for name, job in JOBS.items()} == made for data in written)
 
 
+def told(inputs):
+    """What opening a set answers."""
+    try:
+        opened(inputs)
+        return "opened"
+    except Refused as refused:
+        return str(refused)
+
+
+def cuts(inputs):
+    """What each front of a text answers, with its length."""
+    *earlier, data = inputs
+    return [f"{length} {told([*earlier, data[:length]])}" for length in range(len(data))]
+
+
+def fronts(inputs):
+    """How many fronts of a text are opened, how many refused, and how many end within a character; and what the whole answers."""
+    *earlier, data = inputs
+    answers = [told([*earlier, data[:length]]) for length in range(len(data))]
+    opened_fronts = answers.count("opened")
+    within = sum(answer.startswith("error 60 ") for answer in answers)
+    refused = len(answers) - opened_fronts - within
+    counts = f"{opened_fronts} opened, {refused} refused, {within} within a character"
+    return [f"{len(answers)} fronts: {counts}; the whole: {told(inputs)}"]
+
+
+def short(lines, room):
+    """What is written of an output where there is so much room, in hexadecimal digits, and how that ends."""
+    data = "".join(f"{line}\n" for line in lines).encode() if isinstance(lines, list) else lines
+    end = "done" if len(data) <= room else "error 65 write"
+    return f"{data[:room].hex()}, {end}"
+
+
+def streamed(job, inputs, length, room):
+    """What a job writes into so much room of an input that fails behind so many bytes."""
+    if length <= len(inputs[-1]):
+        return f", error 20 read at {length}"
+    lines = JOBS[job](opened(inputs))
+    return short(bytes.fromhex(*lines) if job == "bin" else lines, room)
+
+
+def called(inputs, words):
+    """What a call prints."""
+    interface, name, arguments, reply = words
+    return sessions.called(opened(inputs).function(interface, name), arguments, reply)
+
+
+def stream_answer(kept, command, rest):
+    """The answer to a row whose streams end early."""
+    if command == "streamed":
+        length, room, job, rest = rest.split(" ", 3)
+        return streamed(job, kept.of(rest), int(length), int(room))
+    room, *words, rest = rest.split(" ", 5)
+    printed = called(kept.of(rest), words)
+    return short([printed] if printed else [], int(room))
+
+
 def answer_to(command, inputs):
     """The lines of an answer."""
     if command == "parse":
-        wit.read(inputs[-1])
+        reading.read(inputs[-1])
         return ["read"]
+    if command in ("cuts", "fronts"):
+        return {"cuts": cuts, "fronts": fronts}[command](inputs)
     if command == "again":
         return ["the same" if again(inputs) else "something else"]
     packages = opened(inputs)
@@ -107,21 +149,20 @@ def answer_to(command, inputs):
 def answer(kept, asked):
     """The lines of the answer to a row, and whether they are one line by its command."""
     command, rest = asked.split(" ", 1)
-    if command in ("streamed", "short-call", "cuts", "fronts"):
-        raise NotModelled("streams that fail, and texts that are cut")
     if command in rows.COMMANDS:
         return [rows.answer(command, rest)], True
     words = []
     if command == "call":
         *words, rest = rest.split(" ", 4)
     try:
-        inputs = [data_of(given) for given in kept.of(rest)]
+        if command in ("streamed", "short-call"):
+            return [stream_answer(kept, command, rest)], True
+        inputs = kept.of(rest)
         if words:
-            interface, name, arguments, reply = words
-            return [sessions.called(opened(inputs).function(interface, name), arguments, reply)], True
+            return [called(inputs, words)], True
         if command == "changes":
             return [changed.told(inputs)], True
-        return answer_to(command, inputs), command in ("parse", "open", "bin", "again", "work")
+        return answer_to(command, inputs), command in ("parse", "open", "bin", "again", "work", "fronts")
     except (Refused, Trap) as fault:
         return [f"{fault}{STATUS.get(type(fault), '')}"], True
 
@@ -150,17 +191,17 @@ def is_row(line):
 
 
 def known(kept, row):
-    """A row with the answer of the models, or as it is where they don't know that."""
-    front, _, stored = row[0].partition(" =>")
-    if UNREAD.match(stored.strip()):
+    """A row with the answer of the models, or as it is if they don't compute that."""
+    front = row[0].partition(" =>")[0]
+    name, asked = front.split(": ", 1)
+    if name in NOT_COMPUTED:
         return row
-    try:
-        lines, is_one = answer(kept, front.split(": ", 1)[1])
-    except NotModelled:
-        return row
-    if SHAPE.match(stored.strip()) or UNKNOWN.match(stored.strip()) and UNKNOWN.match(lines[0]):
-        return row
-    return spelled(front, lines, is_one)
+    return spelled(front, *answer(kept, asked))
+
+
+def not_computed(lines):
+    """The names of the rows that keep their answer."""
+    return [name for name in (line.split(": ", 1)[0] for line in lines if is_row(line)) if name in NOT_COMPUTED]
 
 
 def answers(lines, folder):

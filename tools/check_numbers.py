@@ -1,0 +1,255 @@
+#!/usr/bin/env python3
+"""Checks numbers on pages, and the names of theorems, against what they are of.
+
+usage: tools/check_numbers.py
+
+- docs/EXAMPLES.md: each number in the column `answer` is one in the stored answers of the rows that the line names, or
+  the length of one. Each word in backquotes is in such an answer, as text or as bytes; in one of a test in code it is
+  in the test's file. PHRASES has the parts of answers that no row has as they are.
+- docs/WORKED_EXAMPLES.md: what stands in the columns of examples is a theorem of proofs/Examples.antt of the section's
+  crates, or of the crate that follows it in parentheses. The numbers in the column `examples` are those of theorems.
+- docs/DEFINITIONS.md: what stands in the columns `tested by` and `refused by` is a theorem of the crate canonical_abi,
+  or one of its laws or must-fail edits.
+- docs/GATE.md: the sums of the table of seconds, and the seconds of the longest chain. `rt ci` passes each crate and
+  each must-fail edit of the gate, of which there are as many as PASSED finds.
+- The numbers that each group of ALIKE finds on several pages are one.
+
+It prints each place that is wrong; the exit status is 1 then, and if nothing of a page is compared.
+"""
+import collections
+import json
+import pathlib
+import re
+import sys
+
+from check_names import SPAN, columns, edits
+
+ROOT = pathlib.Path(__file__).resolve().parent.parent
+CODE = ("tests_in_code", "tests_of_formats", "tests_of_hosts")
+ROWS = ("rows_texts", "vectors", *CODE)
+NUMBER = re.compile(r"-?\b\d[\d,]*\b")
+# `row-1` to `row-3`
+RANGE = re.compile(r"`([^`]+-)(\d+)` to `\1(\d+)`")
+NOTE = re.compile(r"\(\d\)")
+# what answers say besides the rows: what would come later, what a limit is, and what fits a whole class of rows
+PHRASES = (
+    "before 41 unknown", "depth 64", "(16,777,216 bytes)", "(65,535 type entries)", "33 with its feature", "before 47",
+    "a type 64 deep", "n of 0 is 32, and n of 1 to 3 is 30 (a text)", "11 truncated at n", "byte 17 is as before",
+    "1,048,577 bytes are requested", "bytes 64 to 67", "status 1", "status 2", "status 3", "names without `%`",
+    "`c` and `a:b/c` are two names", "with `%` before both", "`show`, `layout` and a call", "`show` of c.wit",
+    "as `show --with a.wit c.wit`", "`error N WORDS`",
+)
+PASSED = re.compile(r"`(\d+) passed, 0 failed`")
+SECONDS = re.compile(r"^```\n([a-z_ ]+)\n([\d ]+)\n```$", re.M)
+MINUTES = re.compile(r"Up to `(\w+)` they are (\d+) minutes")
+# what several pages say: of each page a pattern
+ALIKE = (
+    {"README.md": r"From nothing it took (\d+) minutes", "docs/INSTALL.md": r"From nothing it took (\d+) minutes",
+     "docs/GATE.md": r"beside\s+it, it took (\d+) minutes"},
+    {"README.md": r"these sources took (\d+) minutes", "docs/GATE.md": r"Together they took (\d+) minutes"},
+    {"docs/GATE.md": r"would have taken (\d+) minutes", "docs/BENCHMARKS.md": r"in minutes, computed \| (\d+) \|"},
+    {"docs/GATE.md": MINUTES.pattern.replace(r"`(\w+)`", r"`\w+`"),
+     "docs/BENCHMARKS.md": r"up to `witcall`, in minutes of processor time \| (\d+) \|"},
+)
+THEOREM = re.compile(r"^(?:pub )?([a-zA-Z0-9][^ ]*) :", re.M)
+# what else pages name of the examples: an abbreviation, or a field of a proof
+PART = re.compile(r"^(?:abbrev (?:pub )?|  )([a-zA-Z0-9][^ ]*) [:=]", re.M)
+NAME = re.compile(r"`([a-z0-9]+(?:-[a-z0-9]+)*)`(?: \(`(\w+)`\))?")
+HEADING = re.compile(r"^## (.*)$", re.M)
+LAW = re.compile(r"\bfn (\w+)")
+
+
+# ---- rows
+
+
+def stored_rows():
+    """The stored answer of each row, by its crate and its name."""
+    found = {}
+    for path in sorted((ROOT / "crates" / "rows_texts" / "data").glob("*.rows")):
+        row = None
+        for line in path.read_text().splitlines():
+            if line.startswith("|") and row:
+                found[row] += line[2:] + "\n"
+            elif line and not line.startswith(("#", "let ")):
+                row = "rows_texts", line.partition(": ")[0]
+                found[row] = line.partition(" =>")[2][1:]
+    folder = ROOT / "crates" / "vectors"
+    asked, answers = ((folder / name).read_text().splitlines() for name in ("stdin", "stdout"))
+    return found | {("vectors", json.loads(row)["name"]): answer for row, answer in zip(asked, answers)}
+
+
+def spread(cell):
+    """A cell in which a range of rows names each of them."""
+    return RANGE.sub(lambda it: ", ".join(f"`{it[1]}{n}`" for n in range(int(it[2]), int(it[3]) + 1)), cell)
+
+
+def answers_of(cell, rows):
+    """The stored answers of the rows that a cell names, and the files of the tests."""
+    crate, found = "", []
+    for name in SPAN.findall(spread(cell)):
+        if name in ROWS:
+            crate = name
+        elif crate in CODE:
+            found.append((ROOT / "crates" / crate / "src" / f"{name.partition('::')[0]}.rt").read_text())
+        elif (crate, name) in rows:
+            found.append(rows[crate, name])
+    return found
+
+
+def squeezed(text):
+    """A text without blanks, quotes and the marks that escape them."""
+    return re.sub(r"[\s\\\"]", "", text)
+
+
+def is_answered(word, answers):
+    """Whether a word is in an answer: as text, or as bytes, of which zeros at the end may be left out."""
+    whole = squeezed("".join(answers))
+    word = squeezed(word)
+    is_hexadecimal = re.fullmatch(r"(?:[0-9a-f]{2})+", word) is not None
+    return word in whole or word.encode().hex() in whole or is_hexadecimal and re.sub(r"(?:00)+$", "", word) in whole
+
+
+def wrong_examples(text, counts):
+    """The numbers and words in answers of docs/EXAMPLES.md that no row has that is named there."""
+    rows, line = stored_rows(), {}
+    used = set()
+    for number, head, cell in columns(text):
+        line = {**(line if line.get("number") == number else {}), "number": number, head: cell}
+        if head != "test" or "answer" not in line or set(cell) == {"-"}:
+            continue
+        said, answers = NOTE.sub("", line["answer"]), answers_of(cell, rows)
+        for phrase in PHRASES:
+            if phrase in said:
+                used.add(phrase)
+                said = said.replace(phrase, "")
+        there = set(re.findall(r"-?\d+", " ".join(answers)))
+        there |= {str(length) for it in answers for length in (len(it.encode()), len(it) // 2)}
+        counts["numbers of examples"] += len(NUMBER.findall(SPAN.sub("", said)))
+        yield from ((number, f"no row answers {it}: {line['answer'][:60]}") for it in NUMBER.findall(SPAN.sub("", said))
+                    if it.rstrip(",").replace(",", "") not in there)
+        yield from ((number, f"no row answers `{it}`") for it in SPAN.findall(said) if not is_answered(it, answers))
+    yield from ((1, f"no answer has the phrase: {it}") for it in PHRASES if it not in used)
+
+
+# ---- theorems
+
+
+def found_in_examples(pattern):
+    """What a pattern finds in the examples of each crate."""
+    return {path.parent.parent.name: pattern.findall(path.read_text())
+            for path in sorted(ROOT.glob("crates/*/proofs/Examples.antt"))}
+
+
+def section_crates(text):
+    """The crates in the heading above each line of a page."""
+    crates = []
+    for line in text.splitlines():
+        found = HEADING.match(line)
+        crates = SPAN.findall(found[1]) if found else crates
+        yield crates
+
+
+def wrong_theorems(text, counts):
+    """The names on docs/WORKED_EXAMPLES.md that nothing in the examples has, and the numbers that differ."""
+    all_theorems, parts = found_in_examples(THEOREM), found_in_examples(PART)
+    crates, of_row = list(section_crates(text)), []
+    for number, head, cell in columns(text):
+        if head in ("crate", "crates"):
+            of_row = SPAN.findall(cell) or of_row
+        if head == "examples" and cell.isdigit():
+            there = sum(len(all_theorems.get(crate, [])) for crate in of_row)
+            counts["numbers of theorems"] += 1
+            if int(cell) != there:
+                yield number, f"{cell} examples of {', '.join(of_row)}, and there are {there}"
+        if head in ("example that holds", "example that must not", "refused by"):
+            allowed = of_row if head == "refused by" else crates[number - 1]
+            for name, crate in NAME.findall(cell):
+                counts["theorems"] += 1
+                places = [crate] if crate else [it for it in allowed if it in all_theorems] or all_theorems
+                if not any(name in all_theorems.get(it, []) + parts.get(it, []) for it in places):
+                    yield number, f"{name} is no theorem of {', '.join(places)}"
+
+
+def wrong_tests(text, counts):
+    """The names on docs/DEFINITIONS.md that no theorem, law or edit has."""
+    folder = ROOT / "crates" / "canonical_abi"
+    there = {name for path in folder.glob("proofs/*Examples.antt") for name in THEOREM.findall(path.read_text())}
+    laws = {name for path in folder.glob("src/**/*.rt") for name in LAW.findall(path.read_text())}
+    for number, head, cell in columns(text):
+        for name in SPAN.findall(cell) if head in ("tested by", "refused by") else ():
+            counts["tests of definitions"] += 1
+            if "::" not in name and name not in there | laws | {edit for _, edit in edits()}:
+                yield number, f"{name} is no theorem, law or edit"
+
+
+# ---- the gate
+
+
+def table_of_seconds(text):
+    """The seconds of each crate by kind, and those that the table has of all."""
+    crates, crate = {}, ""
+    for _, head, cell in columns(text):
+        if head == "crate":
+            crate = cell.strip("`")
+        elif head in ("proof", "tests", "edits", "builds") and set(cell) != {"-"}:
+            crates.setdefault(crate, collections.Counter())[head] = int(cell.replace(",", "") or 0)
+    return crates, crates.pop("all")
+
+
+def wrong_times(text, counts):
+    """The sums and the chain of docs/GATE.md that are not those of its table."""
+    crates, whole = table_of_seconds(text)
+    sums = sum(crates.values(), collections.Counter())
+    total, parts = sum(whole.values()), round(100 * whole["edits"] / sum(whole.values()))
+    chain = SECONDS.search(text)
+    names, seconds = chain[1].split(), [int(it) for it in chain[2].split()]
+    last, minutes = MINUTES.search(text).groups()
+    so_far = sum(seconds[: names.index(last) + 1])
+    counts["numbers of the gate"] += len(whole) + len(names) + 3
+    yield from (f"{number} seconds of {kind}, and their sum is {sums[kind]}" for kind, number in whole.items()
+                if number != sums[kind])
+    yield from (f"{number} seconds of {name} in the chain" for name, number in zip(names, seconds)
+                if crates[name]["proof"] != number)
+    if f"{total:,} in all" not in text or f"The edits take {parts} of 100 parts" not in " ".join(text.split()):
+        yield f"the seconds are {total:,} in all, and the edits take {parts} of 100 parts"
+    if int(minutes) != round(so_far / 60):
+        yield f"up to {last} they are {so_far} seconds"
+
+
+def wrong_passes(counts):
+    """The pages on which `rt ci` passes another number than there are crates and must-fail edits of the gate."""
+    crates = len(re.findall(r"^\w+(?: staticlib)?:", (ROOT / "crates.txt").read_text(), re.M))
+    there = crates + len(list(ROOT.glob("crates/*/must-fail/*.edit")))
+    for page in [ROOT / "README.md", *sorted((ROOT / "docs").rglob("*.md"))]:
+        for number in PASSED.findall(page.read_text()):
+            counts["numbers of what passes"] += 1
+            if int(number) != there:
+                yield f"{page.relative_to(ROOT)}: {number} passed, and there are {there} crates and must-fail edits"
+
+
+def different(counts):
+    """The groups of ALIKE whose numbers are not one, or are missing on a page."""
+    for group in ALIKE:
+        found = {page: re.findall(pattern, (ROOT / page).read_text()) for page, pattern in group.items()}
+        counts["numbers on several pages"] += sum(map(len, found.values()))
+        if not all(found.values()) or len({it for each in found.values() for it in each}) != 1:
+            yield f"the pages differ: {found}"
+
+
+def main():
+    counts, faults = collections.Counter(), []
+    for name, check in (
+        ("EXAMPLES", lambda text: wrong_examples(text, counts)),
+        ("WORKED_EXAMPLES", lambda text: wrong_theorems(text, counts)),
+        ("DEFINITIONS", lambda text: wrong_tests(text, counts)),
+        ("GATE", lambda text: ((1, fault) for fault in wrong_times(text, counts))),
+    ):
+        page = ROOT / "docs" / f"{name}.md"
+        faults += [f"{page.relative_to(ROOT)}:{number}: {fault}" for number, fault in check(page.read_text())]
+    faults += [*wrong_passes(counts), *different(counts)]
+    print("\n".join([*faults, ", ".join(f"{number} {what}" for what, number in counts.items()) + " compared"]))
+    sys.exit(bool(faults) or len(counts) < 7 or not all(counts.values()))
+
+
+if __name__ == "__main__":
+    main()
