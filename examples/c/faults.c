@@ -328,7 +328,7 @@ static void core_values(void) {
     free(many), free_call(c);
 }
 
-/* The flats of another signature at the second half, which are found before the blocks. */
+/* Core values of another signature at the second half, which are found before the blocks. */
 static void other_flats_at_leave(void) {
     call c = new_call();
     witcall_value *back = array(1, sizeof *back), *many = array(ROOM + 1, sizeof *many);
@@ -340,6 +340,9 @@ static void other_flats_at_leave(void) {
     expect("leave with eighteen values", witcall_leave(
         &package, function, many, ROOM + 1, back, 1, c.callee, LENGTH, c.caller, LENGTH, c.blocks, 1, c.handed, ROOM),
         trap(8, WITCALL_LOWER_RESULT));
+    expect("leave with nothing answered and a bad block", witcall_leave(
+        &package, function, c.flats, 5, NULL, 0, c.callee, LENGTH, c.caller, LENGTH, c.blocks, 1, c.handed, ROOM),
+        trap(8, WITCALL_LIFT_RESULT));
     c.flats[4].kind = 1;
     expect("leave with an i64 for an i32", leave(c, back, 1), trap(8, WITCALL_LOWER_RESULT));
     free(back), free(many), free_call(c);

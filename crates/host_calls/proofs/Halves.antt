@@ -7,14 +7,15 @@ use Rattle.host_calls.specs.Values.{flat_of}
 use Rattle.host_calls.specs.declared.half_error.HalfError.{HalfError}
 use Rattle.host_calls.specs.declared.half_error.HalfError.TheVariants as half
 use Rattle.host_calls.specs.declared.value.Value.{Value}
-use Rattle.host_calls.specs.Calling.{of_half, KeepsArea, EnterRefuses, LeaveRefuses}
+use Rattle.host_calls.specs.Calling.{of_half, ArgumentsCanEnter, AnswerCanReturn, EnterRefuses, LeaveRefuses}
 
 module _ (f : FunctionType) (flats : List Value) (m old : List ℕ) (blocks : List Block) (out : List Value) (new : List ℕ) where
-  pub enter-refuses : (e : HalfError) → ((name : ℕ) × EntryOfLentFails name f (map flat_of flats) m old blocks e new) → EnterRefuses f flats m old blocks out (of_half e) new
-  enter-refuses (half.OtherBlock index) failed = failed
-  enter-refuses (half.Fault fault) failed = inr failed
+  pub enter-refuses : (e : HalfError) → ArgumentsCanEnter f flats m old blocks out
+      → ((name : ℕ) × EntryOfLentFails name f (map flat_of flats) m old blocks e new) → EnterRefuses f flats m old blocks out (of_half e) new
+  enter-refuses (half.OtherBlock index) can failed = (can, failed)
+  enter-refuses (half.Fault fault) can failed = inr (can, failed)
 
-  pub leave-refuses : (answer : List Value) (e : HalfError) → KeepsArea f (map flat_of flats) old blocks
+  pub leave-refuses : (answer : List Value) (e : HalfError) → AnswerCanReturn f flats m answer old blocks out
       → ((name : ℕ) × ReturnOfLentFails name f (map flat_of flats) m (map flat_of answer) old blocks e new) → LeaveRefuses f flats m answer old blocks out (of_half e) new
-  leave-refuses answer (half.OtherBlock index) area failed = (area, failed)
-  leave-refuses answer (half.Fault fault) area failed = inr (area, failed)
+  leave-refuses answer (half.OtherBlock index) can failed = (can, failed)
+  leave-refuses answer (half.Fault fault) can failed = inr (inr (can, failed))

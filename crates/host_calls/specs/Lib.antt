@@ -1,5 +1,6 @@
 pub mod Calling
 pub mod Halves
+pub mod Lines
 pub mod Parts
 pub mod Signatures
 pub mod Status

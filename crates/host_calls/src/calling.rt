@@ -9,7 +9,7 @@ ghost use Rattle.adapter.specs.Plain.{AreOwn, PassAsTheyAre};
 ghost use Rattle.canonical_abi.specs.Types.{result_fields};
 ghost use Rattle.canonical_abi.specs.Call.{KindsFit};
 ghost use Rattle.canonical_abi.specs.declared.trap.Step.TheVariants.{LiftArgs};
-ghost use Rattle.host_calls.specs.Calling.{AreTooMany, AreOtherKinds, of_half, EnterDone, LeaveDone, EnterAsks, LeaveAsks};
+ghost use Rattle.host_calls.specs.Calling.{AnswerFits, AreTooMany, AreOtherKinds, IsOtherAnswer, of_half, EnterDone, LeaveDone, EnterAsks, LeaveAsks};
 
 use crate::error::CallError;
 use crate::half::{Half, NOWHERE};
@@ -18,7 +18,7 @@ use crate::value::{MAX_VALUES, Value, put_flats, tell};
 use adapter::{Link, Request, Unasked, are_plain, is_plain_answer};
 use arrayvec::ArrayVec;
 use canonical_abi::{Fault, Flat, Step, Trap, TrapKind};
-use lift_lower::{Flats, Types};
+use lift_lower::{Flats, Types, are_kinds};
 use memory::{Lent, can_lend};
 use tables::FunctionId;
 
@@ -38,6 +38,16 @@ pub fn function_of(types: &Types, number: u32) -> Result<FunctionId, CallError>
     Err(CallError::NoFunction)
 }
 
+/// K8 in this step: core values of another number or of other kinds than a signature's.
+fn core_signature(step: Step) -> CallError
+    ensures { result ≡ CallError.Fault (Fault.Trap (record { kind = TrapKind.CoreSignature; step = step })) }
+{
+    CallError::Fault(Fault::Trap(Trap {
+        kind: TrapKind::CoreSignature,
+        step,
+    }))
+}
+
 /// Puts core values as flat values where there were none; a trap of their number where they are more than any core function takes.
 fn put_values(values: &[Value], flats: &mut Flats, step: Step) -> Result<(), CallError>
     requires empty { flats.old.items ≡ [] }
@@ -48,10 +58,7 @@ fn put_values(values: &[Value], flats: &mut Flats, step: Step) -> Result<(), Cal
     if put_flats(values, flats) {
         return Ok(());
     }
-    Err(CallError::Fault(Fault::Trap(Trap {
-        kind: TrapKind::CoreSignature,
-        step,
-    })))
+    Err(core_signature(step))
 }
 
 /// Why a half was broken off.
@@ -73,10 +80,20 @@ fn fit(types: &Types, func: FunctionId, flats: &[Flat], step: Step) -> Result<()
     if types.layouts().takes(func, flats) {
         return Ok(());
     }
-    Err(CallError::Fault(Fault::Trap(Trap {
-        kind: TrapKind::CoreSignature,
-        step,
-    })))
+    Err(core_signature(step))
+}
+
+/// Tests that core values of an answer are those of the core function's signature, by their number and kinds.
+fn fit_answer(types: &Types, func: FunctionId, answer: &[Flat]) -> Result<(), CallError>
+    requires function { IsFunction types.now func }
+    ensures ok { OnOk result (AnswerFits (function_type types.now func) answer.now) }
+    ensures other { IfErr result (IsOtherAnswer (function_type types.now func) answer.now) }
+{
+    let kind = types.layouts().lifted_result(func);
+    if are_kinds(kind.as_slice(), answer) {
+        return Ok(());
+    }
+    Err(core_signature(Step::LiftResult))
 }
 
 /// Tests that core values are those of a whole call, the return area's address behind the arguments: K8 in `lift-args` if they are of another
@@ -238,6 +255,7 @@ impl Half<'_> {
             → LeaveDone (function_type self.now.types.now self.now.func) values callee.old answers caller.old self.now.blocks.now back.old result caller.new back.new }
         ensures same_callee { callee.new ≡ callee.old }
     {
+        fit_answer(self.types, self.func, answer)?;
         if u32::try_from(callee.len()).is_err() {
             return Err(CallError::BadBlock);
         }
@@ -285,10 +303,11 @@ impl Half<'_> {
         self.leave_values(flats, answers.as_slice(), callee, caller, back)
     }
 
-    /// The second half: puts what the core function answered into the caller's blocks and its return area, and tells the core values for the caller at
-    /// the front of `back`, which has room for 17. Answers how many they are. `flats` are those that the first half was given; if they are
-    /// not of the function's kinds, this is K8 in `lower-result`, before the blocks are tested. The callee is only read. Refused as the first
-    /// half is, and by 72, too, if a block meets the return area.
+    /// The second half: puts what the core function answered into the caller's blocks and its return area, and tells
+    /// the core values for the caller at the front of `back`, which has room for 17. Answers how many they are. `flats`
+    /// are those that the first half was given: K8 in `lower-result` if they are not of the function's kinds, and then
+    /// in `lift-result` if those of the answer are not, before the blocks are tested. The callee is only read. Refused
+    /// as the first half is, and by 72, too, if a block meets the return area.
     pub fn leave(
         &self,
         flats: &[Value],
@@ -313,8 +332,10 @@ impl Half<'_> {
     }
 }
 
-/// Tells what the first half will ask the callee for, in its order: as many requests as there is room for, and how many there are in all.
-/// 72 bad block if the caller has 2^32 bytes or more; else the trap of the arguments. After a trap the slots of `requests` say nothing.
+/// Tells what the first half will ask the callee for, in its order: as many requests as there is room for, and how many
+/// there are in all. The slots behind them stay. K8 if the values are of another number or kind; 72 if the caller has
+/// 2^32 bytes or more; then the trap of the arguments, or 76 if they ask for more than `limit` bytes. After an error
+/// the slots of `requests` say nothing.
 pub fn enter_requests(
     types: &Types,
     func: FunctionId,
@@ -330,6 +351,7 @@ pub fn enter_requests(
 {
     let mut values = Flats::new();
     put_values(flats, &mut values, Step::LiftArgs)?;
+    fit(types, func, values.as_slice(), Step::LiftArgs)?;
     if u32::try_from(caller.len()).is_err() {
         return Err(CallError::BadBlock);
     }
@@ -342,8 +364,8 @@ pub fn enter_requests(
     }
 }
 
-/// Tells what the second half will ask the caller for, in the same way: of what the core function answered, which lies in the callee. After a
-/// trap the slots of `requests` say nothing.
+/// Tells what the second half will ask the caller for, in the same way: of what the core function answered, which lies
+/// in the callee.
 pub fn leave_requests(
     types: &Types,
     func: FunctionId,
@@ -359,6 +381,7 @@ pub fn leave_requests(
 {
     let mut answers = Flats::new();
     put_values(answer, &mut answers, Step::LiftResult)?;
+    fit_answer(types, func, answers.as_slice())?;
     if u32::try_from(callee.len()).is_err() {
         return Err(CallError::BadBlock);
     }

@@ -1,5 +1,6 @@
 //! What an export answers.
-ghost use Rattle.std.specs.Prelude.{◌≡◌, IfSome};
+ghost use Rattle.std.specs.Prelude.{◌≡◌, Some};
+ghost use Rattle.host_calls.specs.Lines.{numbered_kind, numbered_step, numbered_error, status_words, line_of};
 ghost use Rattle.host_calls.specs.Status.{kind_number, step_number, told, status_of, refused, out_of_memory};
 
 use crate::error::CallError;
@@ -84,7 +85,8 @@ pub fn out_of_memory(number: u32) -> Status
 impl Status {
     /// The status of a call that was done, with how many things it returned, or of why it was not done.
     pub fn of(done: Result<usize, CallError>) -> Status
-        ensures { result ≡ status_of done }
+        ensures status { result ≡ status_of done }
+        ensures line { status_words result ≡ line_of done }
     {
         match done {
             Ok(count) => Status {
@@ -116,7 +118,7 @@ impl Status {
 
 /// The kind of trap with this number; none has another one than 1 to 8.
 fn numbered_kind(number: u32) -> Option<TrapKind>
-    ensures { IfSome result (λ k. kind_number k ≡ number) }
+    ensures { result ≡ numbered_kind number }
 {
     match number {
         1 => Some(TrapKind::Char),
@@ -133,7 +135,7 @@ fn numbered_kind(number: u32) -> Option<TrapKind>
 
 /// The step with this number.
 fn numbered_step(number: u32) -> Option<Step>
-    ensures { IfSome result (λ s. step_number s ≡ number) }
+    ensures { result ≡ numbered_step number }
 {
     match number {
         0 => Some(Step::Place),
@@ -149,7 +151,9 @@ fn numbered_step(number: u32) -> Option<Step>
 }
 
 /// The error of this number; none where that tells too little.
-fn numbered_error(number: u32, count: u32) -> Option<CallError> {
+fn numbered_error(number: u32, count: u32) -> Option<CallError>
+    ensures { result ≡ numbered_error number count }
+{
     match number {
         63 => Some(CallError::NoFunction),
         70 => Some(CallError::NotOpen),
@@ -158,11 +162,14 @@ fn numbered_error(number: u32, count: u32) -> Option<CallError> {
         73 => Some(CallError::OtherBlock(count as usize)),
         74 => Some(CallError::BadLengths),
         75 => Some(CallError::NotThere),
+        76 => Some(CallError::AboveLimit),
         _ => None,
     }
 }
 
 impl fmt::Display for Status {
+    ghost output = { λ s. Some (status_words s) };
+
     fn fmt<W: fmt::Write>(&self, f: &mut fmt::Formatter<W>) -> fmt::Result {
         match self.code {
             0 => Ok(()),

@@ -262,3 +262,29 @@ fn blocks_beside_the_return_area(rt: HostRuntime) -> Result<(), Fail> {
     }
     Ok(())
 }
+
+/// The second half where nothing was answered, with a block past the end of the caller.
+fn left_unanswered(alloc: Global, package: &Package) -> Result<usize, CallError> {
+    let types = package.types();
+    let half = Half {
+        alloc,
+        types: &types,
+        func: function_of(&types, number(package))?,
+        blocks: &[block(1, 4, 61)],
+    };
+    let (mut caller, mut callee, mut back) = (*CALLER, *ANSWERED, [word(9); 17]);
+    half.leave(&flats(), &[], &mut callee, &mut caller, &mut back)
+}
+
+/// The kinds of the answer are tested before the blocks.
+#[test]
+fn no_answer_and_a_bad_block(rt: HostRuntime) -> Result<(), Fail> {
+    let package = open(rt.alloc(), TEXT)?;
+    let status = Status::of(left_unanswered(rt.alloc(), &package));
+    assert_line(
+        &rt,
+        rt.alloc(),
+        status,
+        "trap K8 coresignature in lift-result",
+    )
+}

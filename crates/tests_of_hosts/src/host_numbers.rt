@@ -110,13 +110,14 @@ fn kinds_of_core_signatures(rt: HostRuntime) -> Result<(), Fail> {
 }
 
 /// Code, number, step and count, and the line.
-const STATUSES: [(u32, u32, u32, u32, &str); 11] = [
+const STATUSES: [(u32, u32, u32, u32, &str); 12] = [
     (0, 0, 0, 3, ""),
     (1, 63, 0, 0, "error 63 no function"),
     (1, 70, 0, 0, "error 70 not open"),
     (1, 71, 0, 17, "error 71 no room for 17"),
     (1, 73, 0, 2, "error 73 other block 2"),
     (1, 72, 0, 0, "error 72 bad block"),
+    (1, 76, 0, 0, "error 76 above the limit"),
     (1, 41, 0, 0, "error 41"),
     (2, 5, 2, 0, "trap K5 utf8 in lift-args"),
     (2, 8, 7, 0, "trap K8 coresignature in post"),

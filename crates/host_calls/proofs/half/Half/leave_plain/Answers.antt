@@ -1,5 +1,5 @@
 -- The answer crosses as it is, and no block is handed out.
-use Rattle.std.proofs.Common.{◌≡◌, true, map, length, refl, sym, ◌∙◌, subst}
+use Rattle.std.proofs.Common.{◌≡◌, ◌<◌, true, map, length, refl, sym, ◌∙◌, subst, rules}
 use Rattle.canonical_abi.specs.Call.{KindsFit}
 use Rattle.canonical_abi.specs.Halves.{HasReturned}
 use Rattle.memory.specs.Blocks.{can_lend}
@@ -8,7 +8,7 @@ use Rattle.tables.specs.Closed.{function_type}
 use Rattle.adapter.proofs.OwnValues.{plain-returned}
 use Rattle.host_calls.specs.Calling.{area_block}
 use Rattle.host_calls.specs.Values.{flat_of}
-use Rattle.host_calls.proofs.Areas.{keeps-area}
+use Rattle.host_calls.proofs.Areas.{keeps-area, lent-limited}
 use Rattle.host_calls.proofs.half.Half.leave_plain.Goals as goal
 
 pub returns-clause-done : goal.returns-clause-done
@@ -19,11 +19,10 @@ returns-clause-done c values answers is answered =
     let callee = c.args.callee.now in
     let blocks = c.args.self.now.blocks.now in
     let caller = lent 0 c.args.caller.now blocks in
+    let short : length callee < 4294967296 = search rules in
     let can = subst (λ fl. can_lend (length c.args.caller.now) (area_block f fl) blocks ≡ true) is (sym c.in_ok-can_return.ensures.can ∙ c.if-not-branch.false) in
-    let returned = subst (λ an. HasReturned LentAllocates f flats callee an caller answer caller (length answer)) answered (plain-returned LentAllocates f flats answer callee caller (length answer) c.requires.own c.requires.few refl) in (
-      answer,
-      record { told = c.tell.ensures.told; counted = refl; rest = c.tell.ensures.rest },
-      subst (KindsFit f) is c.requires.kinds,
-      keeps-area f flats c.args.caller.now blocks can,
-      (0, (length answer, blocks, returned)),
+    let limited = lent-limited (length c.args.caller.now) (area_block f flats) blocks can in
+    let returned = subst (λ an. HasReturned LentAllocates f flats callee an caller answer caller (length answer)) answered (plain-returned LentAllocates f flats answer callee caller (length answer) c.requires.own c.requires.few refl limited) in (
+      ((c.requires.room, subst (KindsFit f) is c.requires.kinds, returned.2.denoted.0), (short, can), keeps-area f flats c.args.caller.now blocks can),
+      (answer, record { told = c.tell.ensures.told; counted = refl; rest = c.tell.ensures.rest }, (0, (length answer, blocks, returned))),
     )
