@@ -14,6 +14,7 @@
 # | faults         | wrong calls in C, under the sanitizers            | the compiler's sanitizers                           |
 # | threads, moved | threads with handles of their own or one handle   | the compiler's thread sanitizer                     |
 # | helgrind       | the same under helgrind                           | valgrind                                            |
+# | hostile        | memories that ask for more than they hold, in C   | the compiler's sanitizers                           |
 # | lists          | what packages have, beside examples/c/shop.h      | the compiler's sanitizers                           |
 # | vectors        | the stored calls of crates/vectors, in C          | python3                                             |
 # | bindings       | examples/c/shop.h, made anew                      |                                                     |
@@ -138,7 +139,7 @@ rust_host() {
 
 wasm_module() {
     clang --target=wasm32 -O1 -Wall -Wextra -Werror -mbulk-memory -nostdlib -Wl,--no-entry -Wl,-z,stack-size=16384 \
-        -Wl,--initial-memory="$3" -o "$2" "$1"
+        -Wl,--initial-memory="$3" -Wl,--max-memory=1048576 -o "$2" "$1"
 }
 
 node_addon() {
@@ -175,6 +176,10 @@ if has helgrind valgrind; then
         step "build-helgrind-$host" c_program "$here/c/$host.c" "$build/$host-plain" -pthread -gdwarf-4
         same "helgrind-$host" "$here/c/$host.expected" valgrind --quiet --tool=helgrind "$build/$host-plain"
     done
+fi
+if has hostile "$CC" && has_sanitizer hostile address,undefined; then
+    step build-hostile checked_c_program "$here/c/hostile.c" "$build/hostile"
+    same hostile "$here/c/hostile.expected" "$build/hostile"
 fi
 if has lists "$CC" && has_sanitizer lists address,undefined; then
     step build-lists checked_c_program "$here/c/lists.c" "$build/lists"

@@ -203,7 +203,7 @@ witcall_status witcall_open_set(const uint8_t *bytes, size_t bytes_len, const si
 void witcall_close(witcall_package *package);
 
 /* The line of the refusal of a handle, as the program writes it, with no line end: count bytes, 0 if it is open. It is as long as the names in
- * it: if there is no room, count is its length. */
+ * it: if there is no room, this is 71, count is its length, and its front is written. */
 witcall_status witcall_line(witcall_package *package, uint8_t *line, size_t line_len);
 
 /* The line of a status, of one that is done 0 bytes; WITCALL_MAX_STATUS_LINE bytes are room for each. A refusal by witcall_open has more to

@@ -1,0 +1,263 @@
+#!/usr/bin/env python3
+"""Compares what the library did with inputs of the harnesses with the models of tools/models.
+
+usage: tests/fuzz/compare.py FILE      FILE has a case a line, as a harness writes it if WITCALL_CASES names that file
+
+- open: a package is opened by the model too, and its text is the same. A refusal of names or of limits is the model's, and so is one of a
+  binary that is no component. What the models don't know is counted: faults of the grammar of texts, the shape of binaries, and which of
+  several names is told ("another name").
+- enter, leave: what is asked for, or the trap of the source, or that it is more than the limit; then the status of the half, its core
+  values, and each byte of the memory that it writes.
+
+It prints how many cases of each kind were the same, and each one that differs; the exit status is 1 then.
+"""
+import collections
+import json
+import pathlib
+import re
+import sys
+
+ROOT = pathlib.Path(__file__).resolve().parent.parent.parent
+sys.path.insert(0, str(ROOT))
+sys.dont_write_bytecode = True
+from tools.models import component  # noqa: E402
+from tools.models.abi import up  # noqa: E402
+from tools.models.calls import Link, numbers_of  # noqa: E402
+from tools.models.crossing import Flat, Stored, Way  # noqa: E402
+from tools.models.faults import NotModelled, Refused, Trap  # noqa: E402
+from tools.models.jobs import JOBS  # noqa: E402
+from tools.models.memory import Bump, Memory, Scripted  # noqa: E402
+from tools.models.opening import opened  # noqa: E402
+from tools.models.text_rows import data_of  # noqa: E402
+
+# the numbers of a status
+DONE, REFUSED, TRAP = 0, 1, 2
+STEPS = {"lift-args": 2, "lower-args": 3, "lift-result": 5, "lower-result": 6}
+BAD_BLOCK, OTHER_BLOCK, ABOVE_LIMIT = 72, 73, 76
+# the model doesn't know these: faults of the grammar, and of the shape of binaries
+GRAMMAR = re.compile(r"error 3[0-6] ")
+SHAPE = re.compile(r"error 44 ")
+NAMES = re.compile(r"error (40|41|47) ")
+
+
+class AboveLimit(Exception):
+    """More bytes are asked for than the limit."""
+
+
+class OtherBlock(Exception):
+    """A block of another size or alignment than was asked for, by its index."""
+
+
+class Limited(Bump):
+    """Grants each block, up to so many bytes in all. An alignment adds at most 7 bytes to a block."""
+
+    def __init__(self, place, limit):
+        super().__init__(place + 8 * limit + 8, place)
+        self.left = limit
+
+    def alloc(self, align, size):
+        """The address of a block."""
+        self.left -= size
+        if self.left < 0:
+            raise AboveLimit
+        return super().alloc(align, size)
+
+
+class Granting(Scripted):
+    """Grants these blocks in turn, if they are those that are asked for."""
+
+    def __init__(self, length, blocks):
+        super().__init__(length, [at for _, _, at in blocks])
+        self.blocks, self.index = blocks, 0
+
+    def alloc(self, align, size):
+        """The address of the next block, or None."""
+        if self.index < len(self.blocks) and self.blocks[self.index][:2] != [align, size]:
+            raise OtherBlock(self.index)
+        self.index += 1
+        return super().alloc(align, size)
+
+
+def text_of(digits):
+    """A text of its bytes."""
+    return bytes.fromhex(digits).decode()
+
+
+# ---- packages that are opened
+
+
+def model_of(data):
+    """What the model says of an input: its text, or the line of its refusal."""
+    try:
+        given = data_of(data)
+        if isinstance(given, bytes):
+            component.read(given)
+        return "\n".join(JOBS["text"](opened([given]))) + "\n"
+    except Refused as refused:
+        return str(refused)
+
+
+def compare_opened(case):
+    """By which rule an input is opened or refused as it has to be; None if it isn't."""
+    found = bytes.fromhex(case["line"] if "line" in case else case["text"]).decode()
+    if GRAMMAR.match(found) or SHAPE.match(found):
+        return "not modelled"
+    try:
+        wanted = model_of(bytes.fromhex(case["input"]))
+    except (NotModelled, AttributeError, LookupError, StopIteration, RecursionError):
+        return "not modelled"
+    if wanted == found:
+        return "the same"
+    one, other = NAMES.match(wanted), NAMES.match(found)
+    return "another name" if one and other and one[1] == other[1] else None
+
+
+# ---- halves
+
+
+class Half:
+    """A half of a case, in the model."""
+
+    def __init__(self, case):
+        self.case, self.leaves = case, case["of"] == "leave"
+        text = bytes.fromhex(case["text"])
+        package = opened([text if text.startswith(b"\0asm") else text.decode()])
+        self.function = package.function(text_of(case["iface"]), text_of(case["func"]))
+
+    def kinds(self, key):
+        """Core values with their kinds in words; the library takes each kind but 0 as an i64."""
+        return [("i64" if kind else "i32", bits if kind else bits % (1 << 32)) for kind, bits in self.case[key]]
+
+    def source(self):
+        """The memory that is read."""
+        data = bytes.fromhex(self.case["source"])
+        return Memory(Scripted(len(data), []), data)
+
+    def cross(self, source, target):
+        """The core values that a half hands out, between these memories."""
+        if not self.leaves:
+            params, _ = self.function.lowered
+            return Link(self.function, source, target).arguments(numbers_of(self.kinds("flats"), params, "lift-args"))
+        params, _ = self.function.lowered
+        given = numbers_of(self.kinds("flats"), params, "lower-result")
+        return Link(self.function, target, source).results(self.answered(), given)
+
+    def answered(self):
+        """The numbers of the answer."""
+        _, results = self.function.lifted
+        return numbers_of(self.kinds("answer"), results, "lift-result")
+
+    def ask(self):
+        """Takes the values into a memory with room for all, within the limit; what they ask for."""
+        t, source = self.function.result, self.source()
+        place = up(t.size, 8) if self.leaves and t else 0
+        target = Memory(Limited(place, self.case["limit"]))
+        if not self.leaves:
+            self.cross(source, target)
+        elif self.function.has_area:
+            at, = self.answered()
+            source.test(t.align, t.size, at, "lift-result")
+            Way().cross(t, Stored(source, at, "lift-result"), Stored(target, 0, "lower-result"))
+        else:
+            numbers = self.answered()
+            if numbers:
+                Way().cross(t, Flat(source, numbers, 0, "lift-result"), Flat(target, [0], 0, "lower-result"))
+        return [[align, size] for align, size, _ in target.log]
+
+    def area(self):
+        """The return area, as a block."""
+        if not (self.leaves and self.function.has_area):
+            return 1, 0, 0
+        return 1, self.function.result.size, self.kinds("flats")[-1][1]
+
+
+def trap_status(trap):
+    """The status of a trap."""
+    kind, step = trap.args
+    return [TRAP, int(kind[1]), STEPS[step], 0]
+
+
+def asked_of(half):
+    """The status of the requests, and the requests."""
+    try:
+        requests = half.ask()
+    except AboveLimit:
+        return [REFUSED, ABOVE_LIMIT, 0, 0], []
+    except Trap as trap:
+        return trap_status(trap), []
+    return [DONE, 0, 0, len(requests)], requests
+
+
+def meet(one, other):
+    """Whether two blocks have a byte in common."""
+    (_, size, at), (_, length, start) = one, other
+    return size > 0 and length > 0 and at < start + length and start < at + size
+
+
+def can_be_lent(blocks, length, area):
+    """Whether the blocks may be written."""
+    placed = all(align in (1, 2, 4, 8) and at % align == 0 and at + size <= length for align, size, at in blocks)
+    if not placed or any(meet(area, block) for block in blocks):
+        return False
+    full = sorted((at, at + size) for _, size, at in blocks if size)
+    return all(end <= start for (_, end), (start, _) in zip(full, full[1:]))
+
+
+def half_of(half):
+    """The status of a half, its core values, and the memory that it writes."""
+    case = half.case
+    before = bytes.fromhex(case["target"])
+    target = Memory(Granting(len(before), case["blocks"]), before)
+    params, _ = half.function.lowered
+    try:
+        numbers_of(half.kinds("flats"), params, "lower-result" if half.leaves else "lift-args")
+        if not can_be_lent(case["blocks"], len(before), half.area()):
+            return [REFUSED, BAD_BLOCK, 0, 0], [], before
+        values = half.cross(half.source(), target)
+    except OtherBlock as other:
+        return [REFUSED, OTHER_BLOCK, 0, other.args[0]], [], bytes(target.bytes)
+    except Trap as trap:
+        return trap_status(trap), [], bytes(target.bytes)
+    return [DONE, 0, 0, len(values)], [[int(kind == "i64"), bits] for kind, bits in values], bytes(target.bytes)
+
+
+def compare_half(case):
+    """By which rule a half did what it had to; None if it didn't."""
+    if "iface" not in case:
+        return "of a world"
+    half = Half(case)
+    status, requests = asked_of(half)
+    is_early = case["asked"] == [REFUSED, ABOVE_LIMIT, 0, 0] and status[0] == TRAP
+    if not is_early and (status, requests) != (case["asked"], case["requests"]):
+        return None
+    found = case["half"], case["values"], bytes.fromhex(case["after"])
+    if half_of(half) != found:
+        return None
+    kind = "done" if case["half"][0] == DONE else "a trap" if case["half"][0] == TRAP else "refused"
+    return "76 before a trap" if is_early else f"{kind}, {'asked' if status[0] == DONE else 'not asked'}"
+
+
+COMPARE = {"open": compare_opened, "enter": compare_half, "leave": compare_half}
+
+
+def main():
+    if len(sys.argv) != 2:
+        sys.exit(__doc__)
+    counts, differ = collections.Counter(), 0
+    with open(sys.argv[1], encoding="utf-8") as lines:
+        for line in lines:
+            case = json.loads(line)
+            rule = COMPARE[case["of"]](case)
+            counts[case["of"], rule or "DIFFER"] += 1
+            if rule is None:
+                differ += 1
+                if differ <= 5:
+                    print(line, end="")
+    for (of, rule), count in sorted(counts.items()):
+        print(f"{of}: {count} {rule}")
+    print(f"{sum(counts.values())} cases, {differ} differ")
+    sys.exit(differ > 0)
+
+
+if __name__ == "__main__":
+    main()

@@ -1,0 +1,36 @@
+/* Texts and binaries of a stranger: each is opened or refused. What is opened is written, and opens again as the same package. */
+#include "opened.h"
+
+/* The input, and what it came to: its text, or its line. */
+static void put_case(const uint8_t *data, size_t len, witcall_package *package, witcall_status status) {
+    uint8_t line[4096];
+    size_t told = 0;
+    if (!cases())
+        return;
+    put_words("{\"of\":\"open\",\"input\":"), put_hex(data, len);
+    put_words(",\"status\":"), put_status(status);
+    if (is_done(status)) {
+        uint8_t *text = written(package, witcall_to_text, 36, &told);
+        put_words(",\"text\":"), put_hex(text, text ? told : 0);
+        free(text);
+    } else {
+        told = witcall_line(package, line, sizeof line).count;
+        put_words(",\"line\":"), put_hex(line, told < sizeof line ? told : 0);
+    }
+    put_words("}\n");
+}
+
+int LLVMFuzzerTestOneInput(const uint8_t *data, size_t len) {
+    if (len > FENCED)
+        return -1;
+    uint8_t *bytes = fenced(0, len, true);
+    if (len)
+        memcpy(bytes, data, len);
+    witcall_package package = WITCALL_NONE;
+    witcall_status status = witcall_open(bytes, len, &package);
+    check_opened(&package, status, NULL, NULL, 0);
+    put_case(data, len, &package, status);
+    witcall_close(&package);
+    HOLDS(!package.at && !package.is_open);
+    return 0;
+}

@@ -1,0 +1,145 @@
+#!/usr/bin/env python3
+"""Makes the first inputs of the harnesses from the stored rows.
+
+usage: tests/fuzz/seeds.py FOLDER      a folder for each harness is made in it, and a dictionary of words of WIT
+
+- open: the texts and binaries of crates/rows_texts/data, of crates/vectors and of examples/, each once.
+- set: the sets of crates/rows_texts/data, in the form of tests/fuzz/set.c.
+- halves: the calls of crates/vectors, in the form of tests/fuzz/halves.c, and pseudorandom bytes that build types and values.
+- status: a status of each number.
+
+Inputs of more than MOST bytes are left out.
+"""
+import hashlib
+import json
+import pathlib
+import re
+import sys
+
+ROOT = pathlib.Path(__file__).resolve().parent.parent.parent
+sys.path.insert(0, str(ROOT))
+sys.dont_write_bytecode = True
+from tools.models import text_rows  # noqa: E402
+
+MOST = 4096
+DATA = ROOT / "crates/rows_texts/data"
+BINARY = re.compile(r"\b0061736d[0-9a-f]*\b")
+FUNCTION = re.compile(r"%?([A-Za-z][A-Za-z0-9-]*) *: *func\b")
+WORDS = (
+    "package interface world import export use as type record variant enum flags func list option result tuple string char bool u8 s8 u16 s16 "
+    "u32 s32 u64 s64 -> : ; , . { } ( ) < > @1.0.0 % = _ a:b a:b/c d:e/y@1.0.0.{t} // /* */"
+).split()
+BYTES = ("0061736d0d000100", "0141", "0142", "0140", "0400", "0500", "7061636b616765", "0b0d0100077061636b616765030000")
+
+
+def little(number, width):
+    """A number in so many bytes."""
+    return (number % (1 << 8 * width)).to_bytes(width, "little")
+
+
+def inputs_of_rows():
+    """The inputs of each row of texts, binaries and sets."""
+    for path in sorted(DATA.glob("*.rows")):
+        lines = path.read_text().splitlines()
+        kept = text_rows.Inputs(DATA)
+        for row in text_rows.rows_of(lines):
+            try:
+                if row[0].startswith("let "):
+                    kept.keep(row[0].removeprefix("let "))
+                elif text_rows.is_row(row[0]):
+                    command, _, rest = row[0].partition(" =>")[0].partition(": ")[2].partition(" ")
+                    yield kept.of(rest.split(" ", 4)[4] if command == "call" else rest)
+            except (KeyError, IndexError, ValueError, TypeError, AttributeError):
+                continue
+        for found in BINARY.findall(path.read_text()):
+            if len(found) % 2 == 0:
+                yield [bytes.fromhex(found)]
+
+
+def calls():
+    """The stored calls."""
+    rows = map(json.loads, (ROOT / "crates/vectors/stdin").read_text().splitlines())
+    return [row for row in rows if "flats" in row]
+
+
+def package_of(row):
+    """The text or binary of a row."""
+    return bytes.fromhex(row["binary"]) if "binary" in row else row["text"].encode()
+
+
+def open_seeds():
+    """Texts and binaries."""
+    for path in sorted((ROOT / "examples").rglob("*.wit")):
+        yield path.read_bytes()
+    for inputs in inputs_of_rows():
+        yield from inputs
+    for row in calls():
+        yield package_of(row)
+
+
+def set_seeds():
+    """Sets: how many inputs, the length of each, and their bytes."""
+    for inputs in inputs_of_rows():
+        if 1 <= len(inputs) <= 16 and all(len(data) < 65536 for data in inputs):
+            lengths = b"".join(little(len(data), 2) for data in inputs)
+            yield little(len(inputs), 1) + lengths + b"".join(inputs) + b"\5a:b/c\1f"
+
+
+def values(flats):
+    """Core values: how many, and a kind and eight bytes for each."""
+    pairs = (little(int(kind == "i64"), 1) + little(number, 8) for kind, number in flats or [])
+    return little(len(flats or []), 1) + b"".join(pairs)
+
+
+def call_seed(row):
+    """A call as tests/fuzz/halves.c reads it."""
+    text = package_of(row)
+    names = FUNCTION.findall(row.get("text", ""))
+    index = names.index(row["func"]) if row["func"] in names else 0
+    memories = b"".join(little(len(data), 2) + data for data in (bytes.fromhex(row[side]) for side in ("caller", "callee")))
+    return b"\1" + little(len(text), 2) + text + little(index, 1) + memories + values(row["flats"]) + values(row["answer"]) + bytes(8)
+
+
+def bytes_of(number):
+    """Pseudorandom bytes, of which the first is even."""
+    blocks = (hashlib.sha256(f"{number} {block}".encode()).digest() for block in range(1 + number % 24))
+    return b"\0" + b"".join(blocks)
+
+
+def half_seeds():
+    """Calls that are stored, and bytes that build some."""
+    yield from map(call_seed, calls())
+    yield from map(bytes_of, range(400))
+
+
+def status_seeds():
+    """A status of each code and number, with room for its line."""
+    for code in range(5):
+        for number in range(80):
+            yield little(code, 4) + little(number, 4) + little(number % 9, 4) + little(number, 4) + b"\x40\0"
+
+
+SEEDS = {"open": open_seeds, "set": set_seeds, "halves": half_seeds, "status": status_seeds}
+
+
+def dictionary():
+    """The words of WIT and parts of binaries, as libFuzzer reads them."""
+    spelled = ["".join(f"\\x{byte:02x}" for byte in data) for data in (*(word.encode() for word in WORDS), *map(bytes.fromhex, BYTES))]
+    return "".join(f'"{word}"\n' for word in spelled)
+
+
+def main():
+    if len(sys.argv) != 2:
+        sys.exit(__doc__)
+    folder = pathlib.Path(sys.argv[1])
+    for name, seeds in SEEDS.items():
+        (folder / name).mkdir(parents=True, exist_ok=True)
+        found = {hashlib.sha1(data).hexdigest(): data for data in seeds() if len(data) <= MOST}
+        for digest, data in found.items():
+            (folder / name / digest).write_bytes(data)
+        print(f"{name}: {len(found)} seeds")
+    (folder / "words.dict").write_text(dictionary())
+
+
+if __name__ == "__main__":
+    main()
