@@ -3,8 +3,9 @@
 #
 # usage: examples/run.sh [--all | --c] [--released | --built] [BUILD]
 #
-# BUILD is the folder that it builds in, else a temporary one. --released and --built are those of tools/install.sh. With --c only those hosts
-# are run that need a C compiler alone, with its sanitizers and pkg-config if these are there: host, faults, threads, moved, lists and vectors.
+# BUILD is the folder that it builds in, else a temporary one. --released and --built are those of tools/install.sh.
+# With --c only those hosts are run that need a C compiler alone, with its sanitizers and pkg-config if these are there:
+# host, faults, threads, moved, lists and vectors.
 #
 # | host           | is                                                | needs                                               |
 # |----------------|---------------------------------------------------|-----------------------------------------------------|

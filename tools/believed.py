@@ -3,13 +3,15 @@
 
 usage: tools/believed.py [--names] [FUNCTION..]
 
-A FUNCTION is CRATE/FILE:NAME, as opening/set.rt:open_set; with :CLAUSE behind it, as opening/set.rt:open_set:ok, that clause alone is read. Left
-out, they are `open_set` and `Session::call`, which the program's answer rests on.
-From their clauses it follows every name: definitions of specs/, those of blocks (`mutual`, `module`) too, and the structs and enums of src/ that
-these cite. It counts their lines without comments and blank lines, and prints the sums by file; with --names also each name. The toolchain's own
-definitions are left out, and of a struct or an enum its attributes and its invariants: a clause speaks of its fields, and what holds of them
-besides is proved, not believed. A name means what the file that cites it defines or imports; of src/ an import leads to the file of the crate that
-declares the name, or to what the crate exports of another. It reads text alone: a local name that is also a definition's counts as one.
+A FUNCTION is CRATE/FILE:NAME, as opening/set.rt:open_set; with :CLAUSE behind it, as opening/set.rt:open_set:ok, that
+clause alone is read. Left out, they are `open_set` and `Session::call`, which the program's answer rests on. From
+their clauses it follows every name: definitions of specs/, those of blocks (`mutual`, `module`) too, and the structs
+and enums of src/ that these cite. It counts their lines without comments and blank lines, and prints the sums by
+file; with --names also each name. The toolchain's own definitions are left out, and of a struct or an enum its
+attributes and its invariants: a clause speaks of its fields, and what holds of them besides is proved, not believed.
+A name means what the file that cites it defines or imports; of src/ an import leads to the file of the crate that
+declares the name, or to what the crate exports of another. It reads text alone: a local name that is also a
+definition's counts as one.
 """
 import argparse
 import collections
@@ -143,7 +145,7 @@ def meant(all_files, types, file, word):
 
 
 def imported_type(all_files, types, file, word):
-    """Returns where a struct or an enum is declared that a file of src/ imports under this name, if it is in this repository."""
+    """Returns where a struct or an enum of this repository is declared that a file of src/ imports under this name."""
     modules, own = file.imported.get(word, ([], word))
     if not modules:
         return None

@@ -5,24 +5,28 @@ usage: tools/check_names.py
 
 What is checked of the pages:
 
-- A name is a word in backquotes, or words joined by `::`, that could be one of Rust or of a definition: with a capital letter before a small
-  one, an underscore, or `::`. So is what stands before the `(` of a call. Each of its parts has to stand in a file of crates/ or in a header of
-  include/, out of comments, or be the name of a crate, of a file, of an edit or of a script. The names in blocks of Rust and C have to as well.
-- A function that is named with its type, its module or its crate, as `Package::takes`, has to be one of it. The forms in the column `expected` of
-  a table need not be there.
-- A path in backquotes or in a block of `sh` that begins with a folder of FOLDERS has to be there, and `specs/NAME`, `proofs/NAME` and `src/NAME`
-  in some crate or example. What is built, and paths with a word in capitals for a name, are left out.
+- A name is a word in backquotes, or words joined by `::`, that could be one of Rust or of a definition: with a
+  capital letter before a small one, an underscore, or `::`. So is what stands before the `(` of a call. Each of its
+  parts has to stand in a file of crates/ or in a header of include/, out of comments, or be the name of a crate, of a
+  file, of an edit or of a script. The names in blocks of Rust and C have to as well.
+- A function that is named with its type, its module or its crate, as `Package::takes`, has to be one of it. The forms
+  in the column `expected` of a table need not be there.
+- A path in backquotes or in a block of `sh` that begins with a folder of FOLDERS has to be there, and `specs/NAME`,
+  `proofs/NAME` and `src/NAME` in some crate or example. What is built, and paths with a word in capitals for a name,
+  are left out.
 - Clauses that are named beside functions, as `open`: ok, written, have to be ones of such a function.
-- Words in backquotes behind a crate `rows_..` or `vectors` are names of rows. Each has to be a line of the output of that crate, or the name in
-  a line of its input.
+- Words in backquotes behind a crate `rows_..` or `vectors` are names of rows. Each has to be a line of the output of
+  that crate, or the name in a line of its input.
 
-- The numbers of COUNTS are those of the stored rows, of the laws and of tools/believed.py. So are the lines of each subject of DEFINITIONS.md.
+- The numbers of COUNTS are those of the stored rows, of the laws and of tools/believed.py. So are the lines of each
+  subject of DEFINITIONS.md.
 - Each script of tools/ and bench/ is named on a page, in the gate or in another script.
 
-In the tables of docs/guarantees/ the cells of the column `clause` hold functions and clauses alone, as `open_set`: ok, only; `Package::takes`,
-each of which has to be there; a function without a clause has one that has no name. Those of the column `edit` hold must-fail edits alone, and
-docs/guarantees/edits.md has to name every one beside its crate. The text that an edit replaces has to be there once, and to change by it. The exit
-status is 1 where something isn't there.
+In the tables of docs/guarantees/ the cells of the column `clause` hold functions and clauses alone, as `open_set`:
+ok, only; `Package::takes`, each of which has to be there; a function without a clause has one that has no name. Those
+of the column `edit` hold must-fail edits alone, and docs/guarantees/edits.md has to name every one beside its crate.
+The text that an edit replaces has to be there once, and to change by it. The exit status is 1 where something isn't
+there.
 """
 import collections
 import json
@@ -307,7 +311,7 @@ def counted():
 
 
 def wrong_subjects(page):
-    """The subjects of docs/DEFINITIONS.md of which another number of lines is to be believed, and the crates that none has."""
+    """The subjects of docs/DEFINITIONS.md of which other lines are to be believed, and the crates that none has."""
     definitions, lines = believed.files(), collections.Counter()
     for module, name in believed.believed(definitions, believed.CALLS):
         lines[module.split(".")[1]] += len(definitions[module].definitions[name])
@@ -363,7 +367,8 @@ def faults_of(page, words, all_contracts, all_edits):
 def main():
     words, all_contracts, all_edits = known(), contracts(), edits()
     pages = [ROOT / "README.md", *sorted((ROOT / "docs").rglob("*.md"))]
-    faults = [*stale_edits(), *wrong_counts(pages), *wrong_subjects(ROOT / "docs" / "DEFINITIONS.md"), *unnamed_scripts(pages)]
+    faults = [*stale_edits(), *wrong_counts(pages), *wrong_subjects(ROOT / "docs" / "DEFINITIONS.md")]
+    faults += unnamed_scripts(pages)
     for page in pages:
         faults += [f"{page.relative_to(ROOT)}:{number}: {fault}" for number, fault in faults_of(page, words, all_contracts, all_edits)]
     for fault in faults:

@@ -5,7 +5,9 @@ usage: tools/check_numbers.py
 
 - docs/EXAMPLES.md: each number in the column `answer` is one in the stored answers of the rows that the line names, or
   the length of one. Each word in backquotes is in such an answer, as text or as bytes; in one of a test in code it is
-  in the test's file. PHRASES has the parts of answers that no row has as they are.
+  in the test's file. PHRASES has the parts of answers that no row has as they are. Each word in backquotes in the
+  column `example` is in the input of such a row, unless it is one of OTHERWISE.
+- Blocks of bytes of docs/EXAMPLES.md and docs/FORMATS.md, the first words of their lines: these are in a stored answer.
 - docs/WORKED_EXAMPLES.md: what stands in the columns of examples is a theorem of proofs/Examples.antt of the section's
   crates, or of the crate that follows it in parentheses. The numbers in the column `examples` are those of theorems.
 - docs/DEFINITIONS.md: what stands in the columns `tested by` and `refused by` is a theorem of the crate canonical_abi,
@@ -17,6 +19,7 @@ usage: tools/check_numbers.py
 It prints each place that is wrong; the exit status is 1 then, and if nothing of a page is compared.
 """
 import collections
+import itertools
 import json
 import pathlib
 import re
@@ -51,6 +54,17 @@ ALIKE = (
     {"docs/GATE.md": MINUTES.pattern.replace(r"`(\w+)`", r"`\w+`"),
      "docs/BENCHMARKS.md": r"up to `witcall`, in minutes of processor time \| (\d+) \|"},
 )
+# what examples say otherwise than their rows
+OTHERWISE = (
+    "t1 = tuple<t0, t0>", "t1 = tuple<list<t0>, list<t0>>", "tuple<list<t>, list<t>>",
+    "record r { a: u8, b: u32, c: u16 }", "variant v { a, b(u64), c(string) }", "variant w { a(s32), b(u64) }",
+    "b(5)", 'c("hi")', "a(-1)", "1e",
+    "package a:b@1.0.0; interface c { f: func(); } world w { import c; export g: func(x: u8); }", "datetime",
+    "examples/wasi", "FirstFit", "Bump", "Scripted", "growing", "Bump::growing(65536, 131072)",
+    "FirstFit::growing(65536, 196608)", "show --with a.wit --with b.wit c.wit", "show --with=a.wit c.wit", "clap",
+)
+BLOCK = re.compile(r"^```\n(.*?)^```$", re.M | re.S)
+BYTES = re.compile(r"^ *((?:[0-9a-f]{2} )*[0-9a-f]{2})(?:  .*)?$", re.M)
 THEOREM = re.compile(r"^(?:pub )?([a-zA-Z0-9][^ ]*) :", re.M)
 # what else pages name of the examples: an abbreviation, or a field of a proof
 PART = re.compile(r"^(?:abbrev (?:pub )?|  )([a-zA-Z0-9][^ ]*) [:=]", re.M)
@@ -62,20 +76,33 @@ LAW = re.compile(r"\bfn (\w+)")
 # ---- rows
 
 
-def stored_rows():
-    """The stored answer of each row, by its crate and its name."""
-    found = {}
+def rows_of_texts():
+    """The input and the stored answer of each row of texts, by its name; the input has what stands under its names."""
     for path in sorted((ROOT / "crates" / "rows_texts" / "data").glob("*.rows")):
-        row = None
-        for line in path.read_text().splitlines():
-            if line.startswith("|") and row:
-                found[row] += line[2:] + "\n"
-            elif line and not line.startswith(("#", "let ")):
-                row = "rows_texts", line.partition(": ")[0]
-                found[row] = line.partition(" =>")[2][1:]
+        kept, lines = {}, path.read_text().splitlines()
+        for number, line in enumerate(lines):
+            if line.startswith("let "):
+                name, _, given = line.removeprefix("let ").partition(" = ")
+                kept[name] = whole_input(given, kept)
+            elif line and not line.startswith(("#", "|")):
+                behind = itertools.takewhile(lambda it: it.startswith("|"), lines[number + 1 :])
+                asked, _, answer = line.partition(" =>")
+                name, _, asked = asked.partition(": ")
+                yield name, (whole_input(asked, kept), answer[1:] + "".join(f"{it[2:]}\n" for it in behind))
+
+
+def whole_input(given, kept):
+    """An input, and what it has by its names."""
+    names = re.sub(r'"[^"]*"', "", given).replace(",", " ").split()
+    return " ".join([given, *(kept[name] for name in names if name in kept)])
+
+
+def stored_rows():
+    """The input and the stored answer of each row, by its crate and its name."""
+    found = {("rows_texts", name): row for name, row in rows_of_texts()}
     folder = ROOT / "crates" / "vectors"
     asked, answers = ((folder / name).read_text().splitlines() for name in ("stdin", "stdout"))
-    return found | {("vectors", json.loads(row)["name"]): answer for row, answer in zip(asked, answers)}
+    return found | {("vectors", json.loads(row)["name"]): (row, answer) for row, answer in zip(asked, answers)}
 
 
 def spread(cell):
@@ -83,14 +110,15 @@ def spread(cell):
     return RANGE.sub(lambda it: ", ".join(f"`{it[1]}{n}`" for n in range(int(it[2]), int(it[3]) + 1)), cell)
 
 
-def answers_of(cell, rows):
-    """The stored answers of the rows that a cell names, and the files of the tests."""
+def named_rows(cell, rows):
+    """The inputs and stored answers of the rows that a cell names; of a test, its file."""
     crate, found = "", []
     for name in SPAN.findall(spread(cell)):
         if name in ROWS:
             crate = name
         elif crate in CODE:
-            found.append((ROOT / "crates" / crate / "src" / f"{name.partition('::')[0]}.rt").read_text())
+            text = (ROOT / "crates" / crate / "src" / f"{name.partition('::')[0]}.rt").read_text()
+            found.append((text, text))
         elif (crate, name) in rows:
             found.append(rows[crate, name])
     return found
@@ -109,26 +137,52 @@ def is_answered(word, answers):
     return word in whole or word.encode().hex() in whole or is_hexadecimal and re.sub(r"(?:00)+$", "", word) in whole
 
 
-def wrong_examples(text, counts):
-    """The numbers and words in answers of docs/EXAMPLES.md that no row has that is named there."""
-    rows, line = stored_rows(), {}
-    used = set()
+def example_lines(text):
+    """The lines of tables with a test: the number of each, and its cells by their heads."""
+    line = {}
     for number, head, cell in columns(text):
         line = {**(line if line.get("number") == number else {}), "number": number, head: cell}
-        if head != "test" or "answer" not in line or set(cell) == {"-"}:
-            continue
-        said, answers = NOTE.sub("", line["answer"]), answers_of(cell, rows)
+        if head == "test" and "answer" in line and set(cell) != {"-"}:
+            yield number, line
+
+
+def wrong_answers(said, answers, counts):
+    """The numbers and words in an answer that no row answers."""
+    there = set(re.findall(r"-?\d+", " ".join(answers)))
+    there |= {str(length) for it in answers for length in (len(it.encode()), len(it) // 2)}
+    numbers = NUMBER.findall(SPAN.sub("", said))
+    counts["numbers of examples"] += len(numbers)
+    yield from (f"no row answers {it}" for it in numbers if it.rstrip(",").replace(",", "") not in there)
+    yield from (f"no row answers `{it}`" for it in SPAN.findall(said) if not is_answered(it, answers))
+
+
+def wrong_examples(text, counts):
+    """What docs/EXAMPLES.md says of inputs and answers that no row has that is named there."""
+    rows, used = stored_rows(), set()
+    for number, line in example_lines(text):
+        named, said = named_rows(line["test"], rows), NOTE.sub("", line["answer"])
+        inputs, answers = [row[0] for row in named], [row[1] for row in named]
         for phrase in PHRASES:
-            if phrase in said:
-                used.add(phrase)
-                said = said.replace(phrase, "")
-        there = set(re.findall(r"-?\d+", " ".join(answers)))
-        there |= {str(length) for it in answers for length in (len(it.encode()), len(it) // 2)}
-        counts["numbers of examples"] += len(NUMBER.findall(SPAN.sub("", said)))
-        yield from ((number, f"no row answers {it}: {line['answer'][:60]}") for it in NUMBER.findall(SPAN.sub("", said))
-                    if it.rstrip(",").replace(",", "") not in there)
-        yield from ((number, f"no row answers `{it}`") for it in SPAN.findall(said) if not is_answered(it, answers))
-    yield from ((1, f"no answer has the phrase: {it}") for it in PHRASES if it not in used)
+            used.update([phrase] if phrase in said else [])
+            said = said.replace(phrase, "")
+        yield from ((number, fault) for fault in wrong_answers(said, answers, counts))
+        words = SPAN.findall(line.get("example", ""))
+        used.update(words)
+        counts["words of examples"] += len(words)
+        wrong = [it for it in words if it not in OTHERWISE and not is_answered(it, inputs)]
+        yield from ((number, f"no row asks for `{it}`") for it in wrong)
+    yield from ((1, f"no example has this: {it}") for it in (*PHRASES, *OTHERWISE) if it not in used)
+
+
+def wrong_bytes(text, counts):
+    """The blocks of bytes that no stored row answers."""
+    whole = squeezed(" ".join(answer for _, answer in stored_rows().values()))
+    for block in BLOCK.finditer(text):
+        found = "".join(BYTES.findall(block[1])).replace(" ", "")
+        if found and len(BYTES.findall(block[1])) == len(block[1].splitlines()):
+            counts["blocks of bytes"] += 1
+            if found not in whole:
+                yield text.count("\n", 0, block.start()) + 1, "no stored row answers the bytes of this block"
 
 
 # ---- theorems
@@ -240,6 +294,8 @@ def main():
     counts, faults = collections.Counter(), []
     for name, check in (
         ("EXAMPLES", lambda text: wrong_examples(text, counts)),
+        ("EXAMPLES", lambda text: wrong_bytes(text, counts)),
+        ("FORMATS", lambda text: wrong_bytes(text, counts)),
         ("WORKED_EXAMPLES", lambda text: wrong_theorems(text, counts)),
         ("DEFINITIONS", lambda text: wrong_tests(text, counts)),
         ("GATE", lambda text: ((1, fault) for fault in wrong_times(text, counts))),
@@ -248,7 +304,7 @@ def main():
         faults += [f"{page.relative_to(ROOT)}:{number}: {fault}" for number, fault in check(page.read_text())]
     faults += [*wrong_passes(counts), *different(counts)]
     print("\n".join([*faults, ", ".join(f"{number} {what}" for what, number in counts.items()) + " compared"]))
-    sys.exit(bool(faults) or len(counts) < 7 or not all(counts.values()))
+    sys.exit(bool(faults) or len(counts) < 9 or not all(counts.values()))
 
 
 if __name__ == "__main__":

@@ -5,20 +5,25 @@ usage: tools/check_outputs.py [--program WITCALL] [--verbose]
 
 What is checked:
 
-- Blocks of `sh`. Below a command stands what it prints, each line after `# ` (or `#` alone, if it is empty). The commands of COMMANDS are run, one
-  after another, in a folder that has `examples` and `witcall`, and print just that. The others need a toolchain or change the machine, and
-  --verbose names them. A block in which no command of COMMANDS has a line is not run at all.
-- docs/ERRORS.md: each line of an error, of a trap or of the usage. An example is a row of errors.rows, whose input is given to the program, and so
-  is what stands in the page. RUNS has commands for lines without an example. Each other line is in a stored answer of ANSWERS.
-- docs/FORMATS.md: each example of the table of JSON is read as a value of its type and written as it stands. The rows in blocks without a
-  language are stored rows. A row may be broken into lines, of which each but the first begins with a space.
-- Blocks without a language of the pages of HOSTS: the lines are those of a stored run of an example, one after another.
+- Blocks of `sh`. Below a command stands what it prints, each line after `# ` (or `#` alone, if it is empty). The
+  commands of COMMANDS are run, one after another, in a folder that has `examples` and `witcall`, and print just that.
+  The others need a toolchain or change the machine, and --verbose names them. A block in which no command of COMMANDS
+  has a line is not run at all.
+- docs/ERRORS.md: each line of an error, of a trap or of the usage. An example is a row of errors.rows, whose input is
+  given to the program, and so is what stands in the page. RUNS has commands for lines without an example. Each other
+  line is in a stored answer of ANSWERS.
+- docs/FORMATS.md: each example of the table of JSON is read as a value of its type and written as it stands. The rows
+  in blocks without a language are stored rows. A row may be broken into lines, of which each but the first begins
+  with a space.
+- Blocks without a language of the pages of HOSTS: the lines are those of a stored run of an example, one after
+  another.
 
-Of each command the exit status, standard output and standard error are compared, each by itself. FAILURES has the status of a line that a failure
-writes, which has to be alone on standard error; all else has to be on standard output, with status 0.
+Of each command the exit status, standard output and standard error are compared, each by itself. FAILURES has the
+status of a line that a failure writes, which has to be alone on standard error; all else has to be on standard
+output, with status 0.
 
-The program is the one that was built, crates/program/out/program, if no other is named. The exit status is 1 if a page is wrong, and if one of
-these has nothing to compare.
+The program is the one that was built, crates/program/out/program, if no other is named. The exit status is 1 if a
+page is wrong, and if one of these has nothing to compare.
 """
 import argparse
 import collections
@@ -172,7 +177,8 @@ def check_examples(pages, name, text, answers):
         elif found := CALL.search(example):
             file.write_text(f"package a:b; interface c {{ {found[1]}; }}")
             reply = "[0]" if "->" in found[1] else "[]"
-            pages.expect("errors", place, found[1], pages.witcall("call", file.name, "a:b/c", "f", found[2], reply), done(found[3]))
+            words = ["call", file.name, "a:b/c", "f", found[2], reply]
+            pages.expect("errors", place, found[1], pages.witcall(*words), done(found[3]))
         said = re.findall(r"`(error [^`]*)`", example)[-1:] or ["no answer"]
         there = [it for it in said if it in answers and is_line(line, it)]
         pages.expect("errors", place, "an answer to its line, and a row of errors.rows", there, said)
@@ -196,7 +202,8 @@ def check_errors_rows(pages):
         if line and not line.startswith("#"):
             name, command, given = line.partition(" => ")[0].replace(": ", " ", 1).split(" ", 2)
             answer = re.sub(r" \(\d\)$", "", line.partition(" => ")[2])
-            pages.expect("rows of errors", "errors.rows", name, pages.witcall(*words_of(pages, command, given)), done(answer))
+            words = words_of(pages, command, given)
+            pages.expect("rows of errors", "errors.rows", name, pages.witcall(*words), done(answer))
             answers.add(answer)
     return answers
 
@@ -223,7 +230,8 @@ def check_lines(pages, name, text):
             told = line if is_line(line, errors.removesuffix("\n")) else errors
             pages.expect("lines", place, RUNS[line], (status, output, f"{told}\n"), done(line))
         else:
-            pages.expect("lines", place, "a stored answer", line if any(is_line(line, it) for it in stored) else None, line)
+            is_stored = any(is_line(line, it) for it in stored)
+            pages.expect("lines", place, "a stored answer", line if is_stored else None, line)
         if line == NO_MEMORY:
             numbers = {int(it) for it in re.findall(r"\d+", cell)}
             pages.expect("lines", place, "the numbers of tools/refused_allocations.py", without_memory(), numbers)
@@ -250,7 +258,8 @@ def check_json(pages, text):
         item, name = (f"{kind} t {members}", "t") if members.startswith("{") else ("", shape)
         file.write_text(f"package a:b; interface c {{ {item} f: func(x: {name}) -> {name}; }}")
         for said in re.findall(r"`([^`]*)`", said_of_it):
-            pages.expect("json", "docs/FORMATS.md", shape, pages.witcall("call", file.name, "a:b/c", "f", f"[{said}]", f"[{said}]"), done(said))
+            words = ["call", file.name, "a:b/c", "f", f"[{said}]", f"[{said}]"]
+            pages.expect("json", "docs/FORMATS.md", shape, pages.witcall(*words), done(said))
 
 
 def plain_blocks(name, text):
@@ -299,7 +308,8 @@ def main():
             if page.name == "FORMATS.md":
                 check_json(pages, text)
                 check_rows(pages, name, text)
-    nothing = [kind for kind in ("sh", "errors", "rows of errors", "lines", "steps", "json", "rows", "hosts") if not pages.checked[kind]]
+    kinds = ("sh", "errors", "rows of errors", "lines", "steps", "json", "rows", "hosts")
+    nothing = [kind for kind in kinds if not pages.checked[kind]]
     if nothing:
         print(f"nothing is compared of: {', '.join(nothing)}")
     print(f"{sum(pages.checked.values())} outputs of pages compared, {pages.faults} differ")

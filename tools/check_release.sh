@@ -4,10 +4,10 @@
 # usage: tools/check_release.sh [--library]
 #
 # The exit status is 1 if release/ has other bytes than crates/program/out/program or crates/explain/out/explain though both were built from the
-# same sources, if what is unpacked of release/ isn't what release/SHA256SUMS says, or if release/ lacks a file. crates/explain/out/explain may be
-# absent, and release/ may have no file at all. The gate builds no library, since that would prove the crates below it again. So the library is
-# compared if `rt lib` left one here that no source of it is newer than. With --library it prints nothing, and the exit status is 0 if the
-# released library was built from these sources.
+# same sources, if what is unpacked of release/ isn't what release/SHA256SUMS says, or if release/ lacks a file.
+# crates/explain/out/explain may be absent, and release/ may have no file at all. The gate builds no library, since that
+# would prove the crates below it again. So the library is compared if `rt lib` left one here that no source of it is
+# newer than. With --library it prints nothing, and the exit status is 0 if the released library is of these sources.
 set -eu
 cd "$(dirname "$0")/.."
 

@@ -1,14 +1,15 @@
 #!/usr/bin/env python3
-"""Records the largest single request for memory of the program's commands, on inputs that state large counts and on long ones.
+"""Records the largest single request for memory of the program's commands, on stated counts and on long inputs.
 
 usage: tools/largest_request.py [--brief] [PROGRAM]
 
-PROGRAM is crates/program/out/program, as `rt run` in crates/program leaves it. A binary of 1 MiB states a count, three items follow,
-and then bytes that begin no item. It is opened with the largest count that its list may state, and with 4: the largest request has to be
-the same, and so has the sum of all requests, since the largest is the one for the binary itself; SLACK is for the line of the refusal. The program
-has to refuse both for the same reason. Long texts, binaries and JSON are recorded beside these, by the bytes that were read; nothing is asked of them.
-With --brief they are left out, and one line is printed besides the shapes whose requests change.
-Needs `cc`, which builds what stands before the C library's `malloc`. The exit status is 1 if a stated count changes the requests.
+PROGRAM is crates/program/out/program, as `rt run` in crates/program leaves it. A binary of 1 MiB states a count,
+three items follow, and then bytes that begin no item. It is opened with the largest count that its list may state,
+and with 4: the largest request has to be the same, and so has the sum of all requests, since the largest is the one
+for the binary itself; SLACK is for the line of the refusal. The program has to refuse both for the same reason. Long
+texts, binaries and JSON are recorded beside these, by the bytes that were read; nothing is asked of them. With
+--brief they are left out, and one line is printed besides the shapes whose requests change. Needs `cc`, which builds
+what stands before the C library's `malloc`. The exit status is 1 if a stated count changes the requests.
 """
 import argparse
 import os
@@ -211,7 +212,8 @@ def main():
         runner = Runner(given.program.resolve(), pathlib.Path(folder))
         if given.brief:
             right = stated(runner, True)
-            print(f"{len(STATED)} shapes of binaries; {'no' if right else 'a'} stated count changes the requests for memory")
+            which = "no" if right else "a"
+            print(f"{len(STATED)} shapes of binaries; {which} stated count changes the requests for memory")
             sys.exit(not right)
         print("stated: bytes read, largest request if 4 is stated, and if the most is, and the same of the sum of all requests")
         right = stated(runner, False)

@@ -3,13 +3,15 @@
 
 usage: tools/refused_allocations.py [--brief] [CRATE ..]
 
-CRATE is `rows_texts`, `vectors` or `program`, each as `rt run` in its folder leaves it; all three where none is named. Each of the
-rows below is asked twice in one run, and there is a run for each allocation that such a run makes. The row whose allocation was refused has to
-tell a want of memory in the words of one of the layers that it passes (WORDS), or in those of the program that asks it (OWN); the other one has to be
-answered as with all memory; and each word of WORDS has to be told at least once. A refusal of what the program itself asks for, as for a line that it
-reads, ends the run with status 1. The program's commands are run in the same way: each ends with one line `error N no memory` and status 1, or as it
-does with all memory. With --brief it prints the last line, and the calls that are wrong. Needs `cc`, which builds what stands before the C library's
-`malloc`. The exit status is 1 where an answer is another.
+CRATE is `rows_texts`, `vectors` or `program`, each as `rt run` in its folder leaves it; all three where none is
+named. Each of the rows below is asked twice in one run, and there is a run for each allocation that such a run makes.
+The row whose allocation was refused has to tell a want of memory in the words of one of the layers that it passes
+(WORDS), or in those of the program that asks it (OWN); the other one has to be answered as with all memory; and each
+word of WORDS has to be told at least once. A refusal of what the program itself asks for, as for a line that it
+reads, ends the run with status 1. The program's commands are run in the same way: each ends with one line `error N no
+memory` and status 1, or as it does with all memory. With --brief it prints the last line, and the calls that are
+wrong. Needs `cc`, which builds what stands before the C library's `malloc`. The exit status is 1 where an answer is
+another.
 """
 import argparse
 import collections

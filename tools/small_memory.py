@@ -3,9 +3,10 @@
 
 usage: tools/small_memory.py [--brief] [PROGRAM]
 
-PROGRAM is crates/program/out/program, as `rt run` in crates/program leaves it. Under each limit each command writes what it writes
-without one, or nothing and one line that ends with status 1 or 3: a want of memory. With --brief it prints one line, and what
-is wrong. The exit status is 1 where a run ends by a signal, or otherwise, and where no command wants memory.
+PROGRAM is crates/program/out/program, as `rt run` in crates/program leaves it. Under each limit each command writes
+what it writes without one, or nothing and one line that ends with status 1 or 3: a want of memory. With --brief it
+prints one line, and what is wrong. The exit status is 1 where a run ends by a signal, or otherwise, and where no
+command wants memory.
 """
 import argparse
 import collections
@@ -53,7 +54,7 @@ def limited(program, words, limit):
 
 
 def tried(program, words, whole):
-    """How often a command reports each want of memory, what it does otherwise, and the megabytes with which it is done."""
+    """How often a command reports each want of memory, what else it does, and the megabytes with which it is done."""
     told, wrong, limit = collections.Counter(), [], 20
     while True:
         ran = limited(program, words, limit * MEGABYTE)

@@ -4,7 +4,7 @@ usage: python3 -m tools.models check [FILE ..]        whether the stored answers
        python3 -m tools.models write [FILE ..]        writes the stored inputs and answers anew
        python3 -m tools.models random NAME N [SEED]   prints N random inputs: NAME is vectors, steps, requests or layouts
        python3 -m tools.models answer NAME            answers the lines of standard input: NAME is vectors or rows
-       python3 -m tools.models JOB FILE ..            prints what JOB (show, layout, text, bin) makes of the set of these texts
+       python3 -m tools.models JOB FILE ..            prints what JOB (show, layout, text, bin) makes of these files
        python3 -m tools.models compare PROGRAM N [SEED]
                                                       runs N random calls through the program `vectors`, and compares
        python3 -m tools.models memory PROGRAM         runs 500 random calls and 5,000 through it, and compares their memory
@@ -43,8 +43,8 @@ def answer(name):
 
 
 def job(name, paths):
-    """What a job makes of a set of texts."""
-    return print_lines(JOBS[name](opened([pathlib.Path(path).read_text() for path in paths])))
+    """What a job makes of a set of texts and binaries."""
+    return print_lines(JOBS[name](opened([pathlib.Path(path).read_bytes() for path in paths])))
 
 
 def done(command, words):

@@ -28,7 +28,7 @@ def name_row(is_name, fault, text):
 
 
 def words_of(line):
-    """The files that come before the last one, and the other words behind the command; None if a word is missing or is no word of one."""
+    """The files that come before the last one, and the other words behind the command; None if one is wrong."""
     words, earlier = line.split(" ")[2:], []
     while words and (words[0] == "--with" or words[0].startswith("--with=")):
         flag, _, file = words.pop(0).partition("=")

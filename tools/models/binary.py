@@ -1,4 +1,4 @@
-"""Component type binaries of packages, in the layout of docs/FORMATS.md: written, and read if they are of that layout."""
+"""Component type binaries of packages in the layout of docs/FORMATS.md: written, and read if they have that layout."""
 from dataclasses import replace
 
 from . import wit

@@ -58,7 +58,10 @@ def names_of_text(package):
 
 
 def names_of_binary(package):
-    """The names of a binary in the order of the bytes, each with what tells its scope from others; those in a definition come before its own."""
+    """The names of a binary in the order of the bytes, each with what tells its scope from others.
+
+    Those in a definition come before its own.
+    """
     for number, item in enumerate(package.items):
         parts = [*item.uses, *item.types, *item.functions] if isinstance(item, Interface) else item.items
         for place, part in enumerate(parts):
@@ -82,7 +85,7 @@ def source_order(package):
 
 
 def unknown_names(package, names_of):
-    """The names that aren't there in source order, where `names_of` has the names of types of the interface that a path means, or None."""
+    """The names that aren't there, in source order. `names_of` has the types of a path's interface, or None."""
     for item in package.items:
         is_interface = isinstance(item, Interface)
         own = owner_names(item) if is_interface else []
@@ -98,7 +101,7 @@ def in_order(interface):
 
 
 def referred(part):
-    """The interface that a part of an interface or world refers to, or None, and the names that are meant to be there."""
+    """The interface that a part of an interface or world refers to, or None, and the names that have to be there."""
     if isinstance(part, Use):
         return part.path, [part.name]
     if isinstance(part, WorldItem):

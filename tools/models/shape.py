@@ -1,4 +1,7 @@
-"""Which components have the layout of packages (docs/FORMATS.md, "Package layout"): those that are written of the package that they are."""
+"""Which components have the layout of packages (docs/FORMATS.md, "Package layout").
+
+They are those that are written of the package that they are read as.
+"""
 import itertools
 
 from . import binary, component
@@ -23,7 +26,7 @@ def behind_imports(package, imports):
 
 
 def names(package, imports):
-    """The names of a package behind those of its imports, in the order of the bytes, each with what tells its scope from others."""
+    """The names of a package behind those of its imports in the order of the bytes, each with what tells its scope."""
     for number, it in enumerate(behind_imports(package, imports).packages):
         yield from (((number, scope), name) for scope, name in names_of_binary(it))
 
@@ -39,8 +42,8 @@ def names_of(package):
 def are_used_names(packages):
     """Whether each used name is one of the interface that it is of."""
     interfaces = [(number, it) for number, package in enumerate(packages.packages) for it in package.interfaces]
-    found = [(use.name, packages.find(number, use.path)[1]) for number, interface in interfaces for use in interface.uses]
-    return all(name in owner_names(interface) for name, interface in found)
+    uses = [(number, use) for number, interface in interfaces for use in interface.uses]
+    return all(use.name in owner_names(packages.find(number, use.path)[1]) for number, use in uses)
 
 
 def is_written(data, package, imports):

@@ -90,7 +90,7 @@ def cuts(inputs):
 
 
 def fronts(inputs):
-    """How many fronts of a text are opened, how many refused, and how many end within a character; and what the whole answers."""
+    """How many fronts of a text are opened, are refused, and end within a character; and what the whole answers."""
     *earlier, data = inputs
     answers = [told([*earlier, data[:length]]) for length in range(len(data))]
     opened_fronts = answers.count("opened")
