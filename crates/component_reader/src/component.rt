@@ -1,5 +1,5 @@
 //! The package that a raw component may stand for: whether it does is seen by writing it again.
-ghost use Rattle.std.specs.Prelude.{◌≡◌, ◌-◌, length, map, slice_get, IfOk, OnOk};
+ghost use Rattle.std.specs.Prelude.{◌≡◌, ◌<◌, ◌-◌, length, map, slice_get, IfOk, IfErr, OnOk};
 ghost use Rattle.package_form.specs.Closed.{is_same_package};
 ghost use Rattle.atoms.specs.FullName.{IsFullName, full_name_text};
 ghost use Rattle.ctype_format.specs.Names.{name_view};
@@ -49,7 +49,8 @@ pub struct ComponentReader {
 
 /// The place of the next interface. No memory where an id can't tell it.
 fn next_interface(interfaces: &[Interface]) -> Result<InterfaceId, AllocError>
-    ensures { IfOk result (λ id. id.0 ≡ length interfaces.now) }
+    ensures ok { IfOk result (λ id. id.0 ≡ length interfaces.now) }
+    ensures err { IfErr result (λ _. u32.MAX < length interfaces.now) }
 {
     match u32::try_from(interfaces.len()) {
         Ok(place) => Ok(InterfaceId(place)),
@@ -59,7 +60,8 @@ fn next_interface(interfaces: &[Interface]) -> Result<InterfaceId, AllocError>
 
 /// The place of the next world. No memory where an id can't tell it.
 fn next_world(worlds: &[World]) -> Result<WorldId, AllocError>
-    ensures { IfOk result (λ id. id.0 ≡ length worlds.now) }
+    ensures ok { IfOk result (λ id. id.0 ≡ length worlds.now) }
+    ensures err { IfErr result (λ _. u32.MAX < length worlds.now) }
 {
     match u32::try_from(worlds.len()) {
         Ok(place) => Ok(WorldId(place)),
@@ -293,7 +295,8 @@ fn package_name(alloc: Global, name: FullNameParts<'_>) -> Result<PackageName, A
 
 /// The place of the last package. No memory where an id can't tell it.
 fn last_package(packages: &[PackageName]) -> Result<PackageId, AllocError>
-    ensures { IfOk result (λ id. id ≡ last_package packages.now) }
+    ensures ok { IfOk result (λ id. id ≡ last_package packages.now) }
+    ensures err { IfErr result (λ _. u32.MAX < length packages.now - 1) }
 {
     match u32::try_from(packages.len().saturating_sub(1)) {
         Ok(place) => Ok(PackageId(place)),

@@ -1,5 +1,5 @@
 //! The declarations of an instance type as rows of the table.
-ghost use Rattle.std.specs.Prelude.{◌≡◌, List, length, map, IfOk, OnOk};
+ghost use Rattle.std.specs.Prelude.{◌≡◌, ◌<◌, List, length, map, IfOk, IfErr, OnOk};
 ghost use Rattle.atoms.specs.Label.{IsLabel};
 ghost use Rattle.ctype_format.specs.View.{decl_view, decls_of, type_view};
 ghost use Rattle.tables.specs.declared.tables.Definition.{Definition};
@@ -41,7 +41,8 @@ pub struct InstanceReader {
 
 /// The place of the next row. No memory where an id can't tell it.
 fn next_place(rows: &[Definition]) -> Result<u32, AllocError>
-    ensures { IfOk result (λ place. place ≡ length rows.now) }
+    ensures ok { IfOk result (λ place. place ≡ length rows.now) }
+    ensures err { IfErr result (λ _. u32.MAX < length rows.now) }
 {
     match u32::try_from(rows.len()) {
         Ok(place) => Ok(place),

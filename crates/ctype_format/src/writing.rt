@@ -1,5 +1,5 @@
 //! Writing a component in its shortest spelling.
-ghost use Rattle.std.specs.Prelude.{◌≡◌, ◌++◌, ◌∷◌, [], length, OnOk};
+ghost use Rattle.std.specs.Prelude.{◌≡◌, ◌<◌, ◌++◌, ◌∷◌, [], length, IfOk, IfErr, OnOk};
 ghost use Rattle.ctype_format.specs.View.{defined_view, raw_function_view, type_view, decl_view, export_view};
 ghost use Rattle.ctype_format.specs.Names.{name_view};
 ghost use Rattle.ctype_format.specs.Writing.{u32_bytes, s33_bytes, counted, name_bytes, extern_bytes, primitive_byte, valtype_bytes, optional_bytes, field_bytes, case_bytes, defined_bytes, outcome_bytes, function_bytes, alias_bytes, description_bytes, type_bytes, decl_bytes, exported_bytes, section_bytes};
@@ -31,15 +31,24 @@ fn put_s33(out: &mut Vec<u8>, value: u32) -> Result<(), AllocError>
     }
 }
 
+/// The count in 32 bits. No memory where these have no room for it.
+fn narrow_count(count: usize) -> Result<u32, AllocError>
+    ensures ok { IfOk result (λ narrow. narrow ≡ count) }
+    ensures fits { IfOk result FitsU32 }
+    ensures err { IfErr result (λ _. u32.MAX < count) }
+{
+    match u32::try_from(count) {
+        Ok(narrow) => Ok(narrow),
+        Err(_) => Err(AllocError),
+    }
+}
+
 /// A count, for which there is no memory where it passes 32 bits.
 pub fn put_count(out: &mut Vec<u8>, count: usize) -> Result<(), AllocError>
     ensures bytes { OnOk result (out.new.items ≡ out.old.items ++ u32_bytes count) }
     ensures formed { OnOk result (FitsU32 count) }
 {
-    match u32::try_from(count) {
-        Ok(count) => put_u32(out, count),
-        Err(_) => Err(AllocError),
-    }
+    put_u32(out, narrow_count(count)?)
 }
 
 fn put_name(out: &mut Vec<u8>, text: &[u8]) -> Result<(), AllocError>

@@ -12,7 +12,7 @@ returns c =
     let s = component_view own in
     let ds = decls_of (map decl_view c.args.decls.now) in
     let w = world_with c.read.new.rows.items c.in_ok-reader.reader in
-    let id : c.in_ok-place.place.0 ≡ length own.worlds.items = c.in_ok-place.ensures ∙ ap length c.deref.ensures.value in
+    let id : c.in_ok-place.place.0 ≡ length own.worlds.items = c.in_ok-place.ensures.ok ∙ ap length c.deref.ensures.value in
     let again : world_read own.instances.items (length own.worlds.items) ds own.rows.items ≡ Some w =
     (λ j. world_read (sym c.deref-2.ensures.value j) (sym id j) ds own.rows.items) ∙ c.in_ok-reader.ensures in
     let made : with_component s w ≡ component_view (record { packages = own.packages; rows = c.read.new.rows; interfaces = own.interfaces; exports = own.exports; worlds = own.worlds; indices = c.push.new.self; instances = c.push-2.new.self; awaited = None; awaited_world = Some c.in_ok-reader.reader; keyed = own.keyed }) =

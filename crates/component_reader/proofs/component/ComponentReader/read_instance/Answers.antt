@@ -12,7 +12,7 @@ returns c =
     let s = component_view own in
     let ds = decls_of (map decl_view c.args.decls.now) in
     let i = read_with c.read.new.rows.items c.in_ok-reader.reader in
-    let id : c.in_ok-place.place.0 ≡ length own.interfaces.items = c.in_ok-place.ensures ∙ ap length c.deref.ensures.value in
+    let id : c.in_ok-place.place.0 ≡ length own.interfaces.items = c.in_ok-place.ensures.ok ∙ ap length c.deref.ensures.value in
     let again : instance_read own.indices.items (length own.interfaces.items) ds own.rows.items ≡ Some i =
     (λ j. instance_read (sym c.deref-2.ensures.value j) (sym id j) ds own.rows.items) ∙ c.in_ok-reader.ensures in
     let instances = ap (λ (n : ℕ). s.instances ++ Some (record { 0 = n }) ∷ []) (sym id) ∙ sym c.in_ok-push-2.ensures.items in

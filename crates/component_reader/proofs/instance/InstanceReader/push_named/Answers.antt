@@ -13,7 +13,7 @@ returns c =
     let listed = c.in_ok-list_type.ensures in
     let key = c.in_ok-from_slice.field-0 in
     let id : TypeId = type_id c.in_ok-next_place.field-0 in
-    let placed : id ≡ type_id (length rows) = ap type_id (c.in_ok-next_place.ensures ∙ ap length c.deref.ensures.value) in
+    let placed : id ≡ type_id (length rows) = ap type_id (c.in_ok-next_place.ensures.ok ∙ ap length c.deref.ensures.value) in
     same-instance _ _
     (c.in_ok-push.ensures.items ∙ ap (λ (n : List ℕ). rows ++ named_row c.args.place.0 n c.args.kind ∷ []) c.in_ok-label.ensures)
     (c.in_ok-push-2.ensures.items
