@@ -1,5 +1,5 @@
 //! Where what a closed table has stands in a set with its package.
-ghost use Rattle.std.specs.Prelude.{◌≡◌, ◌++◌, ℕ, ◌≤◌, List, length, take, drop, IfOk, IfErr, OnOk, MatchOption, slice_get, ◌⊎◌};
+ghost use Rattle.std.specs.Prelude.{◌≡◌, ◌++◌, ℕ, ◌<◌, ◌≤◌, List, length, take, drop, IfOk, IfErr, OnOk, MatchOption, slice_get, ◌⊎◌};
 ghost use Rattle.package_form.specs.Ends.{end_of};
 ghost use Rattle.package_form.specs.Closed.{is_same_package};
 ghost use Rattle.package_sets.specs.Joining.{import_count, imports, own_interfaces, has_name_of, place_in, IsFirst, AreFound, end_in, row_places, import_rows, all_places};
@@ -143,6 +143,7 @@ fn found_at(set: &IndexedTable<'_>, closed: &Resolve, import: &Interface) -> Opt
 fn id_of(place: usize) -> Result<u32, AttachError>
     ensures ok { IfOk result (λ id. id ≡ place) }
     ensures err { IfErr result (λ e. e ≡ NoMemory) }
+    ensures large { IfErr result (λ _. u32.MAX < place) }
 {
     match u32::try_from(place) {
         Ok(id) => Ok(id),

@@ -1,5 +1,5 @@
 //! The table of definitions while it is made.
-ghost use Rattle.std.specs.Prelude.{◌≡◌, ◌≢◌, ◌<◌, ◌++◌, ◌∷◌, [], length, IfOk};
+ghost use Rattle.std.specs.Prelude.{◌≡◌, ◌≢◌, ◌<◌, ◌++◌, ◌∷◌, [], length, IfOk, IfErr};
 ghost use Rattle.tables.specs.Package.{Tree, interface_names};
 ghost use Rattle.package_form.specs.Entries.{Table};
 ghost use Rattle.tree_meaning.specs.Building.{LowersInner, LowersType};
@@ -28,6 +28,17 @@ impl<'a> Model for Builder<'a> {
     ghost view = { λ b. record { interfaces = interface_names b.imports.now ++ b.own.now; worlds = []; rows = b.rows.items } };
 }
 
+/// The id of the row at this place. No memory where an id can't tell it.
+fn row_id(place: usize) -> Result<TypeId, AllocError>
+    ensures ok { IfOk result (λ id. id.0 ≡ place) }
+    ensures err { IfErr result (λ _. u32.MAX < place) }
+{
+    match u32::try_from(place) {
+        Ok(place) => Ok(TypeId(place)),
+        Err(_) => Err(AllocError),
+    }
+}
+
 impl<'a> Builder<'a> {
     /// A table of these definitions, those of the imports, which go by their full names.
     pub fn new(imports: &IndexedTable<'a>, own: &'a [Label], rows: Vec<Definition>) -> Self
@@ -52,11 +63,9 @@ impl<'a> Builder<'a> {
         ensures { IfOk result (λ id. (id.0 ≡ length self.old.rows)
             × (self.new ≡ record { interfaces = self.old.interfaces; worlds = self.old.worlds; rows = self.old.rows ++ definition ∷ [] })) }
     {
-        let Ok(place) = u32::try_from(self.rows.len()) else {
-            return Err(AllocError);
-        };
+        let id = row_id(self.rows.len())?;
         self.rows.push(definition)?;
-        Ok(TypeId(place))
+        Ok(id)
     }
 
     /// A type of this kind inside another: a row of its own, but for a name or a primitive.

@@ -142,7 +142,8 @@ pub fn copied_parts(
 
 /// The id of the package behind those of the imports. No memory where an id can't tell it.
 pub fn package_id(imports: &IndexedTable<'_>) -> Result<PackageId, AllocError>
-    ensures { IfOk result (λ id. id.0 ≡ length imports.now.packages) }
+    ensures ok { IfOk result (λ id. id.0 ≡ length imports.now.packages) }
+    ensures err { IfErr result (λ _. u32.MAX < length imports.now.packages) }
 {
     match u32::try_from(imports.table().packages.len()) {
         Ok(place) => Ok(PackageId(place)),

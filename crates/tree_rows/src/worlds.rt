@@ -1,5 +1,5 @@
 //! The worlds of a tree: their functions as rows of the table, and their items.
-ghost use Rattle.std.specs.Prelude.{◌≡◌, ◌++◌, [], map, filter_map, length, All, IfOk};
+ghost use Rattle.std.specs.Prelude.{◌≡◌, ◌<◌, ◌++◌, [], map, filter_map, length, All, IfOk, IfErr};
 ghost use Rattle.wit_syntax.specs.View.{item_view};
 ghost use Rattle.tree_meaning.specs.Declarations.{FunctionOf, world_of, names_in_function};
 ghost use Rattle.tree_meaning.specs.Resolved.{direction_meaning, tree_item_meaning, meaning_of_world};
@@ -124,7 +124,8 @@ fn define_world(
 
 /// The id of the world at this place. No memory where an id can't tell it.
 fn world_id(place: usize) -> Result<WorldId, AllocError>
-    ensures { IfOk result (λ id. id.0 ≡ place) }
+    ensures ok { IfOk result (λ id. id.0 ≡ place) }
+    ensures err { IfErr result (λ _. u32.MAX < place) }
 {
     match u32::try_from(place) {
         Ok(place) => Ok(WorldId(place)),

@@ -36,7 +36,7 @@ define_interface-requires-clause-named c =
     let k = c.loop-place.place in
     let n = name-here p.imports.now (planned_trees p) p.order.now p.types.now c.args.builder.now c.loop-place.builder c.loop-place.scopes.items k p.names.now
     c.requires.starts h.names h.placed (distinct p h) h.imports.apart c.loop-place.invariant (omega arith) k (omega arith) in
-    ap (label_at c.loop-place.builder) (c.in_ok-id.ensures ∙ c.in_ok-place_behind.ensures) ∙ n ∙ ap interface_tree_name (declares p h k c.index-plan-index-in-loop-place.result (omega arith))
+    ap (label_at c.loop-place.builder) (c.in_ok-id.ensures.ok ∙ c.in_ok-place_behind.ensures.ok) ∙ n ∙ ap interface_tree_name (declares p h k c.index-plan-index-in-loop-place.result (omega arith))
 
 pub define_interface-requires-clause-others : goal.define_interface-requires-clause-others
 define_interface-requires-clause-others c =
@@ -94,7 +94,7 @@ loop-place-preserved c =
     let placed = subst (λ (o : List ℕ). IsPlacement (type_uses (declared_tree d)) o) (sym types) (subst (λ (i : InterfaceTree). IsPlacement (type_uses i) (get_or p.types.now j [])) tree (h.types j l)) in
     one-more p.imports.now (planned_trees p) p.order.now p.types.now c.args.builder.now c.loop-place.builder c.loop-place.scopes.items k p.names.now
     c.requires.starts h.names h.placed (distinct p h) h.imports.apart c.loop-place.invariant (omega arith) c.define_interface.new.builder c.in_ok-scope.scope c.in_ok-id.id (declared_tree d)
-    c.as_slice-types.result.now c.push.new.self.items (c.in_ok-id.ensures ∙ c.in_ok-place_behind.ensures) (sym tree) types placed c.in_ok-push.ensures.items c.in_ok-scope.ensures
+    c.as_slice-types.result.now c.push.new.self.items (c.in_ok-id.ensures.ok ∙ c.in_ok-place_behind.ensures.ok) (sym tree) types placed c.in_ok-push.ensures.items c.in_ok-scope.ensures
 
 pub returns : goal.returns
 returns c =

@@ -33,7 +33,7 @@ invariant_of-result c =
     let tested : c.new-4.result ≡ c.deref-else-passes_limit.result.now = c.new-4.ensures ∙ sym c.deref-else-passes_limit.ensures.value in
     let listed : c.deref-3.result.now ≡ t.rows = c.deref-3.ensures.value ∙ c.into_rows-rows.ensures in
     let many : length c.new.result ≡ n + 1 = omega (arith, ap length (c.new.ensures ∙ c.in_ok-push.ensures.items), length-append c.args.packages.items (c.in_ok-package_name.field-0 ∷ []), ap length c.requires.packages) in
-    let last : c.in_ok-id.id.0 ≡ n = c.in_ok-id.ensures in
+    let last : c.in_ok-id.id.0 ≡ n = c.in_ok-id.ensures.ok in
     let behind : c.len.result ≡ first = omega (arith, c.len.ensures, c.args.interfaces.ok.0, ap length c.requires.interfaces) in
     let own : c.in_ok-own.own.items ≡ interfaces_behind n first t.rows names =
     c.in_ok-own.ensures ∙ ap (λ (k : ℕ). interfaces_behind k c.len.result c.deref-3.result.now names) last

@@ -23,4 +23,4 @@ returns c =
     let own = c.in_ok-package.«package» in
     let meant = ap (map tree_item_meaning) (ap (map declared_item) c.deref.ensures.value ∙ sym (map-map item_tree world_entry_view items)) in
     let made = world-defined own old new c.args.id.0 c.in_ok-copy.field-0 c.args.world.now.name c.in_ok-items.items.items c.new.result _ _ c.in_ok-copy.ensures c.new.ensures meant c.in_ok-items.ensures in
-    subst (λ (n : ℕ). DefinesWorld old new n c.args.id.0 (record { «package» = own; name = c.in_ok-copy.field-0; items = c.new.result }) (meaning_of_world (declared_world c.args.world.now))) c.in_ok-package.ensures made
+    subst (λ (n : ℕ). DefinesWorld old new n c.args.id.0 (record { «package» = own; name = c.in_ok-copy.field-0; items = c.new.result }) (meaning_of_world (declared_world c.args.world.now))) c.in_ok-package.ensures.ok made

@@ -40,7 +40,7 @@ loop-item-preserved c =
           let named : map meaning_of_world (filter_map world_of (map item_view (take (k + 1) xs))) ≡ map meaning_of_world before ++ meaning_of_world tree ∷ [] =
           ap (map meaning_of_world) (next ∙ ap (λ (o : Option WorldTree). before ++ cons_option o []) is) ∙ map-append meaning_of_world before (tree ∷ []) in
           let more = worlds-more (length c.args.plan.now.imports.now.packages) c.args.builder.now c.loop-item.builder w.define_world.new.builder c.loop-item.worlds.items (map meaning_of_world before) w.in_ok-id.id.0 w.in_ok-world.world (meaning_of_world tree)
-          (omega (arith, w.in_ok-id.ensures, w.len.ensures, c.loop-item.worlds.ok.0)) c.loop-item.invariant w.in_ok-world.ensures in
+          (omega (arith, w.in_ok-id.ensures.ok, w.len.ensures, c.loop-item.worlds.ok.0)) c.loop-item.invariant w.in_ok-world.ensures in
           rw (w.builder-is, w.worlds-is, w.in_ok-push.ensures.items, named) more
       | in_default w ↦
           let none : filter_map world_of (map item_view (take (k + 1) xs)) ≡ before =
