@@ -84,7 +84,7 @@ def main():
             if whole.returncode:
                 sys.exit(f"{words[0]}: {whole.stderr[:200]!r}")
             told, wrong, limit = tried(program, words, whole)
-            runs, faults, most = runs + told.total(), faults + wrong, max(most, limit)
+            runs, faults, most = runs + sum(told.values()), faults + wrong, max(most, limit)
             lines = ", ".join(f"{line.decode(errors='replace')} {count} times" for line, count in told.items())
             if not given.brief:
                 print(f"{words[0]} {words[1].name}: done with {limit} MB; {lines}", flush=True)

@@ -18,6 +18,7 @@ runs and of rows, and nothing in them comes from the program's sources.
 | `reading_rows`, `atoms`, `memory_rows` | the same of numbers, names, command lines and memories |
 | `cases` | the lines that are asked: stored ones and random ones |
 | `stored` | the files in which these are kept |
+| `programs`, `damaged` | programs beside the models: on random calls, and on inputs that are cut or changed |
 
 One module serves all that need a rule. What finds faults is that the models and the program were written apart; two models of one
 rule would have one author and would err alike.

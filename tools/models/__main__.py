@@ -7,6 +7,8 @@ usage: python3 -m tools.models check [FILE ..]        whether the stored answers
        python3 -m tools.models JOB FILE ..            prints what JOB (show, layout, text, bin) makes of these files
        python3 -m tools.models compare PROGRAM N [SEED]
                                                       runs N random calls through the program `vectors`, and compares
+       python3 -m tools.models damaged PROGRAM N [SEED]
+                                                      gives N cut or changed inputs of rows to the program, and compares
        python3 -m tools.models memory PROGRAM         runs 500 random calls and 5,000 through it, and compares their memory
 
 FILE is a file that holds answers, or the folder of a crate that has such. The exit status is 1 if something differs, and 2 if the words are
@@ -15,7 +17,7 @@ none of these.
 import pathlib
 import sys
 
-from . import programs, stored, text_rows
+from . import damaged, programs, stored, text_rows
 from .cases import calls, layouts, requests, steps
 from .faults import NotModelled, Refused
 from .jobs import JOBS
@@ -61,6 +63,8 @@ def done(command, words):
         return job(command, words)
     if command == "compare" and len(words) in (2, 3):
         return programs.compare(words[0], calls.lines(int(words[1]), *words[2:]))
+    if command == "damaged" and len(words) in (2, 3):
+        return damaged.compare(words[0], stored.TEXT_ROWS, int(words[1]), *words[2:])
     return programs.memory(*words) if command == "memory" and len(words) == 1 else None
 
 
