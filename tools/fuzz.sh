@@ -53,7 +53,7 @@ done
 # ---- building
 
 flags='-std=gnu11 -g -O1 -Wall -Wextra -Werror -fsanitize=fuzzer,address,undefined -fno-sanitize-recover=all'
-echo 'int LLVMFuzzerTestOneInput(const char *data, unsigned long len); int LLVMFuzzerTestOneInput(const char *data, unsigned long len) { return !data && len; }' >"$build/empty.c"
+echo 'int LLVMFuzzerTestOneInput(const char *data, unsigned long len) { return !data && len; }' >"$build/empty.c"
 # shellcheck disable=SC2086 # the flags are words
 clang $flags -o "$build/empty" "$build/empty.c" 2>"$build/log" ||
     fail "clang has no libFuzzer: apt-get install -y libclang-rt-14-dev (or that of clang's version); clang says: $(head -n 1 "$build/log")"
@@ -61,8 +61,10 @@ clang $flags -o "$build/empty" "$build/empty.c" 2>"$build/log" ||
 # shellcheck disable=SC2086 # no word if none was given
 "$root/tools/install.sh" --prefix "$build/installed" $origin >"$build/log" || fail "the library can't be installed"
 for harness in halves open set status; do
+    wrapped=''
+    [ $harness != open ] || wrapped='-Wl,--wrap=malloc -Wl,--wrap=realloc'
     # shellcheck disable=SC2086 # the flags are words
-    clang $flags -I"$build/installed/include" -o "$build/$harness" "$root/tests/fuzz/$harness.c" "$build/installed/lib/libwitcall.a" ||
+    clang $flags $wrapped -I"$build/installed/include" -o "$build/$harness" "$root/tests/fuzz/$harness.c" "$build/installed/lib/libwitcall.a" ||
         fail "$harness can't be built"
 done
 python3 -B "$root/tests/fuzz/seeds.py" "$build/seeds" >"$build/log" || fail "no first inputs can be made"

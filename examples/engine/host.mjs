@@ -5,7 +5,7 @@
 import { readFileSync } from "node:fs";
 import { createRequire } from "node:module";
 import { resolve } from "node:path";
-import { Link, bytesOf, granted } from "./link.mjs";
+import { GREATEST_MEMORY, Link, bytesOf, granted } from "./link.mjs";
 
 const [build] = process.argv.slice(2);
 const library = createRequire(import.meta.url)(resolve(build, "witcall.node"));
@@ -85,5 +85,19 @@ function readDiary() {
   library.close(opened);
 }
 
+// 512 bytes of a stranger: lists of 6 levels whose elements all lie at one address, and so ask for a billion blocks.
+function askForMuch() {
+  const opened = library.open(Buffer.from(`package a:b; interface c { f: func(x: ${"list<".repeat(6)}u8${">".repeat(6)}); }`));
+  const func = library.find(opened, "a:b/c", "f");
+  const memory = new Uint8Array(Uint32Array.from({ length: 128 }, (_, place) => (place % 2) * 64).buffer);
+  try {
+    library.enterRequests(opened, func, [0, 64], memory, GREATEST_MEMORY);
+  } catch (error) {
+    console.log(`stranger: ${error.message}`);
+  }
+  library.close(opened);
+}
+
 print();
 readDiary();
+askForMuch();

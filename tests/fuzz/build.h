@@ -1,4 +1,5 @@
-/* Packages and values that the bytes of an input choose. Values lie in a memory as their types say; blocks may be shared, overlap, or lie anywhere. */
+/* Packages and values that the bytes of an input choose. Values lie in a memory as their types say. Blocks may be shared, overlap, or lie
+ * anywhere. */
 #ifndef BUILD_H
 #define BUILD_H
 #include "fuzz.h"

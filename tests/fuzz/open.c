@@ -1,5 +1,40 @@
-/* Texts and binaries of a stranger: each is opened or refused. What is opened is written, and opens again as the same package. */
+/* Texts and binaries of a stranger: each is opened or refused. What is opened is written, and opens again as the same package. With less memory
+ * an input is out of memory, or is what it was. */
 #include "opened.h"
+
+/* ---- an allocation that is refused: which one from now on, or 0 for none ---- */
+
+static uint32_t refused = 0;
+
+void *__real_malloc(size_t size);
+void *__real_realloc(void *old, size_t size);
+void *__wrap_malloc(size_t size);
+void *__wrap_realloc(void *old, size_t size);
+
+static bool is_granted(void) {
+    return refused == 0 || --refused > 0;
+}
+
+void *__wrap_malloc(size_t size) {
+    return is_granted() ? __real_malloc(size) : NULL;
+}
+
+void *__wrap_realloc(void *old, size_t size) {
+    return is_granted() ? __real_realloc(old, size) : NULL;
+}
+
+/* Opens the input again, while an allocation is refused which its bytes choose. */
+static void check_refused(const uint8_t *bytes, size_t len, witcall_status before) {
+    witcall_package package = WITCALL_NONE;
+    refused = 1 + hash(bytes, len) % 128;
+    witcall_status status = witcall_open(bytes, len, &package);
+    const bool was_refused = refused == 0;
+    refused = 0;
+    check_status(status);
+    HOLDS(is_same(status, before) || (was_refused && status.code == WITCALL_NO_MEMORY));
+    mark(3, status.code == WITCALL_NO_MEMORY ? status.number : 0);
+    witcall_close(&package);
+}
 
 /* The input, and what it came to: its text, or its line. */
 static void put_case(const uint8_t *data, size_t len, witcall_package *package, witcall_status status) {
@@ -32,5 +67,6 @@ int LLVMFuzzerTestOneInput(const uint8_t *data, size_t len) {
     put_case(data, len, &package, status);
     witcall_close(&package);
     HOLDS(!package.at && !package.is_open);
+    check_refused(bytes, len, status);
     return 0;
 }

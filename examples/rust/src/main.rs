@@ -88,6 +88,10 @@ fn main() -> Result<(), Box<dyn error::Error>> {
     package.leave(greet, &flats, &answer, &mut callee.bytes, &mut caller.bytes, &blocks)?;
     println!("{}", caller.text(caller.word(area), caller.word(area + 4)));
 
+    // The name has six bytes, which is more than a memory of five has room for.
+    if let Err(error) = package.enter_requests(greet, &flats, &mut caller.bytes, 5) {
+        println!("{error}");
+    }
     // A text that is no UTF-8 is a trap of the caller's, and a text that is no package is refused.
     caller.put(at, &[0xc0, 0x80]);
     if let Err(error) = package.enter_requests(greet, &flats, &mut caller.bytes, callee.limit()) {
