@@ -1,16 +1,22 @@
 #!/usr/bin/env python3
-"""How the time of opening a set grows with what its packages use of each other.
+"""How the time of opening a set grows with what its packages use of each other, and with their number.
 
-usage: tools/set_times.py PROGRAM
+usage: tools/set_times.py PROGRAM [families [--instructions]]
 
-PROGRAM is the built program, as crates/program/out/program. For each shape, at 1,250 to 10,000 uses, `show` opens three
+PROGRAM is the built program, as crates/program/out/program. Without `families`, for each shape, at 1,250 to 10,000 uses, `show` opens three
 inputs that have the same uses: one package alone, whose interface uses types of its other interfaces; two packages, of
 which the second uses the first's, both as texts; and the same with the second as a binary. The least processor time of
 several runs is printed for each, without that of an empty text, by how much it grew, and how many times as long the two
 packages took as the one. The exit status is 1 where twice as many uses take more than 2.3 times as long, or where two
 packages as texts take more than 1.5 times as long as the one with as many uses.
+
+With `families`, `show` opens 8 to 64 packages of 16 KB and of 64 KB, as texts and as binaries. A package names no other, or it uses
+a type of each earlier one, or many interfaces of the first. Printed is the time of each, without that of an empty text, by how much it
+grew, and how many times as long it took as so many packages of a set of two of its family do, which use no more: at most 1.5 times, or the
+exit status is 1. With `--instructions` valgrind's callgrind counts instructions in place of the time.
 """
 import os
+import re
 import subprocess
 import sys
 import tempfile
@@ -79,7 +85,106 @@ def least_times(commands):
     return best
 
 
+# ---- families of packages
+
+NUMBERS = [8 << step for step in range(4)]
+SIZES = [16000, 64000]
+# how many times as long a package may take in a set as alone
+MOST_IN_A_SET = 1.5
+
+
+def name_of(number):
+    """The name of the package with this number."""
+    return "p" + "abcdefgh"[number // 8] + "abcdefgh"[number % 8]
+
+
+def interfaces(length):
+    """The number of interfaces of one type each that have so many bytes, and their text."""
+    one = len(f"interface {label(0)}{{type t=u8;}}\n")
+    count = -(-length // one)
+    return count, "".join(f"interface {label(n)}{{type t=u8;}}\n" for n in range(count))
+
+
+def of_none(number, count):
+    return ""
+
+
+def of_each(number, count):
+    """A use of a type of each earlier package."""
+    uses = "".join(f"use a:{name_of(n)}/{label(0)}.{{t as t{name_of(n)}}};\n" for n in range(number))
+    return f"interface using{{\n{uses}}}\n" if number else ""
+
+
+def of_first(number, count):
+    """Uses of half of the interfaces of the first package."""
+    uses = "".join(f"use a:{name_of(0)}/{label(n)}.{{t as {label(n)}}};\n" for n in range(count // 2))
+    return f"interface using{{\n{uses}}}\n" if number else ""
+
+
+FAMILIES = {"none": of_none, "one of each": of_each, "many of the first": of_first}
+
+
+def family(folder, uses, length, number):
+    """The files of so many packages of this family, as texts."""
+    count, own = interfaces(length)
+    texts = [f"package a:{name_of(n)};\n{own}{uses(n, count)}" for n in range(number)]
+    return [written(folder, f"{name_of(n)}.wit", text) for n, text in enumerate(texts)]
+
+
+def behind(files):
+    """The words for the last of these files, behind the others."""
+    return [*(word for file in files[:-1] for word in ("--with", file)), files[-1]]
+
+
+def as_binaries(program, folder, files):
+    """The same packages as binaries, each written behind the texts before it."""
+    binaries = []
+    for number in range(len(files)):
+        binaries.append(os.path.join(folder, f"{name_of(number)}.wasm"))
+        with open(binaries[-1], "wb") as file:
+            subprocess.run([program, "bin", *behind(files[: number + 1])], stdout=file, check=True)
+    return binaries
+
+
+def instructions(words):
+    """The instructions of one run, in millions."""
+    ran = subprocess.run(["valgrind", "--tool=callgrind", "--callgrind-out-file=/dev/null", *words], capture_output=True, text=True, check=False)
+    return int(re.search(r"Collected : (\d+)", ran.stderr)[1]) / 1e6
+
+
+def milliseconds(words):
+    return 1000 * min(growth.time_of(words) for _ in range(RUNS))
+
+
+def measured(program, folder, uses, length, kind, measure, nothing):
+    """What opening 8 to 64 packages takes, and how many times as much as so many of the first two take."""
+    files = family(folder, uses, length, NUMBERS[-1])
+    if kind == "binaries":
+        files = as_binaries(program, folder, files)
+    one = measure([program, "show", *behind(files[:1])]) - nothing
+    two = measure([program, "show", *behind(files[:2])]) - nothing
+    return [(number, measure([program, "show", *behind(files[:number])]) - nothing, one + (number - 1) * (two - one)) for number in NUMBERS]
+
+
+def families(program, measure, unit):
+    """Prints what the packages of each family take. Whether one takes too much."""
+    failed = False
+    with tempfile.TemporaryDirectory() as folder:
+        nothing = measure([program, "show", written(folder, "empty", "")])
+        for name, uses in FAMILIES.items():
+            for length in SIZES:
+                for kind in ("texts", "binaries"):
+                    for number, took, alone in measured(program, folder, uses, length, kind, measure, nothing):
+                        more = took / alone
+                        print(f"{name:18} {length // 1000:3} KB {kind:8} {number:3} packages {took:9.1f} {unit} {more:5.2f} times", flush=True)
+                        failed |= more > MOST_IN_A_SET
+    return failed
+
+
 def main():
+    if len(sys.argv) > 2 and sys.argv[2:] in (["families"], ["families", "--instructions"]):
+        counts = len(sys.argv) > 3
+        sys.exit(1 if families(sys.argv[1], *(instructions, "million") if counts else (milliseconds, "ms")) else 0)
     if len(sys.argv) != 2:
         sys.exit(__doc__)
     program, failed = sys.argv[1], False

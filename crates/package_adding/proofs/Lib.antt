@@ -6,7 +6,7 @@ pub mod ImportTables
 pub mod Importing
 pub mod Marks
 pub mod Naming
-pub mod Noting
+pub mod Asking
 pub mod Only
 pub mod OwnRows
 pub mod Refusals

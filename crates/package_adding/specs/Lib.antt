@@ -2,4 +2,4 @@ pub mod Added
 pub mod Alone
 pub mod ImportNames
 pub mod Named
-pub mod Noted
+pub mod Asked

@@ -1,18 +1,18 @@
 //! Whether a closed table stands behind the imports that a set has for it.
-ghost use Rattle.std.specs.Prelude.{◌≡◌, ◌++◌, ℕ, Bool, List, Decides, IfOk, flat_map, length, take};
+ghost use Rattle.std.specs.Prelude.{◌≡◌, ◌++◌, ℕ, Bool, List, Decides, IfOk, OnOk, flat_map, length, take};
 ghost use Rattle.tables.specs.PackageNames.{PackageParts};
 ghost use Rattle.package_form.specs.Marks.{AreMarked};
 ghost use Rattle.package_form.specs.Reached.{reached_by_item, reached_by_row, reached_by_world};
 ghost use Rattle.package_sets.specs.Attached.{others};
 ghost use Rattle.package_sets.specs.Joining.{imports};
-ghost use Rattle.package_adding.specs.Noted.{also, AreNoted};
+ghost use Rattle.package_adding.specs.Asked.{also, AreAsked};
 ghost use Rattle.package_sets.specs.NamedIn.{own_rows, own_reached, AreNamedIn};
 ghost use Rattle.package_adding.specs.ImportNames.{import_names, marked_names};
 ghost use Rattle.package_sets.specs.BehindImports.{HasImportTable, IsBehindImports};
 
-use crate::marking::{Named, mark, mark_named};
+use crate::marking::{Named, mark};
 use package_form::{interfaces_end, own_package, used_name};
-use package_names::{IndexedTable, PackageKey};
+use package_names::{Asked, PackageKey};
 use package_sets::same::are_same_items;
 use package_sets::{imported_interfaces, imports};
 use std::alloc::{AllocError, Global};
@@ -69,27 +69,43 @@ fn reached_marks(alloc: Global, closed: &Resolve) -> Result<Vec<bool>, AllocErro
     Ok(marks)
 }
 
-/// Marks of a set what an import is.
-fn mark_import(set: &IndexedTable<'_>, marks: &mut Named, closed: &Resolve, import: &Interface)
-    ensures { (names : PackageParts → List ℕ → Bool) → AreNoted set.now names marks.old → AreNoted set.now (also names (import_names closed.now import.now)) marks.new }
+/// Asks a set for what an import is.
+fn ask_import<'a>(
+    set: &Resolve,
+    asked: &mut Asked<'a>,
+    closed: &Resolve,
+    import: &'a Interface,
+) -> Result<(), AllocError>
+    ensures { OnOk result ((names : PackageParts → List ℕ → Bool) → AreAsked set.now names asked.old → AreAsked set.now (also names (import_names closed.now import.now)) asked.new) }
 {
     let packages = closed.packages.as_slice();
-    if let Some(package) = packages.get(import.package.0 as usize) {
-        mark_named(set, marks, PackageKey::of(package), &import.name);
+    match packages.get(import.package.0 as usize) {
+        Some(package) => asked.ask(
+            set.packages.as_slice(),
+            PackageKey::of(package),
+            &import.name,
+        ),
+        None => Ok(()),
     }
 }
 
-/// Marks of a set what the imports with marks are.
-fn mark_imports(set: &IndexedTable<'_>, marks: &mut Named, closed: &Resolve, reached: &[bool])
+/// Asks a set for what the imports with marks are.
+fn ask_imports<'a>(
+    set: &Resolve,
+    asked: &mut Asked<'a>,
+    closed: &'a Resolve,
+    reached: &[bool],
+) -> Result<(), AllocError>
     requires { length reached.now ≡ length closed.now.interfaces }
-    ensures { (names : PackageParts → List ℕ → Bool) → AreNoted set.now names marks.old
-        → AreNoted set.now (also names (marked_names closed.now reached.now (imports closed.now))) marks.new }
+    ensures { OnOk result ((names : PackageParts → List ℕ → Bool) → AreAsked set.now names asked.old
+        → AreAsked set.now (also names (marked_names closed.now reached.now (imports closed.now))) asked.new) }
 {
     for (place, import) in imported_interfaces(closed).iter().enumerate() {
         if reached[place] {
-            mark_import(set, marks, closed, import);
+            ask_import(set, asked, closed, import)?;
         }
     }
+    Ok(())
 }
 
 /// Marks of the packages and of the interfaces of a set that the own part of a closed table names: an interface of which
@@ -98,10 +114,9 @@ pub fn named_in(alloc: Global, set: &Resolve, closed: &Resolve) -> Result<Named,
     ensures { IfOk result (λ n. AreNamedIn closed.now set.now n.packages.items n.interfaces.items) }
 {
     let reached = reached_marks(alloc, closed)?;
-    let mut marks = Named::nothing(alloc, set)?;
-    let set = IndexedTable::of(alloc, set)?;
-    mark_imports(&set, &mut marks, closed, &reached);
-    marks.spread(alloc, &set)
+    let mut asked = Asked::nothing(alloc, set.packages.len())?;
+    ask_imports(set, &mut asked, closed, &reached)?;
+    Named::of(alloc, set, asked)
 }
 
 // ---- what it begins with

@@ -2,3 +2,4 @@ mod MetNames
 mod Naming
 pub mod WorldItems
 mod Indexing
+mod Asking

@@ -47,7 +47,7 @@ impl<'a> PackageKey<'a> {
 
 /// Places by names: of each name the place that was put first.
 #[derive(Drop)]
-struct NamePlaces {
+pub(crate) struct NamePlaces {
     places: IndexMap<String, usize, KeyedState>,
 }
 
@@ -82,7 +82,7 @@ impl NamePlaces {
     }
 
     /// The place under a name.
-    fn get(&self, name: &Label) -> Option<usize>
+    pub(crate) fn get(&self, name: &Label) -> Option<usize>
         ensures { result ≡ lookup (bytes_eq name.now) self.now }
     {
         self.places.get(name.as_str()).copied()
@@ -90,14 +90,18 @@ impl NamePlaces {
 }
 
 /// The place of the first package of this name.
-fn package_place(packages: &[PackageName], key: PackageKey<'_>) -> Option<usize>
+pub(crate) fn package_place(packages: &[PackageName], key: PackageKey<'_>) -> Option<usize>
     ensures { result ≡ position (is_same_package (key_parts key.entry)) packages.now }
 {
     packages.iter().position(|package| key.is_of(package))
 }
 
 /// No places of so many packages.
-fn no_places(alloc: Global, keyed: KeyedState, count: usize) -> Result<Vec<NamePlaces>, AllocError>
+pub(crate) fn no_places(
+    alloc: Global,
+    keyed: KeyedState,
+    count: usize,
+) -> Result<Vec<NamePlaces>, AllocError>
     ensures { IfOk result (λ v. v.items ≡ replicate count []) }
 {
     let mut names = Vec::new(alloc);
@@ -108,7 +112,7 @@ fn no_places(alloc: Global, keyed: KeyedState, count: usize) -> Result<Vec<NameP
 }
 
 /// Puts the place of an interface under its name in the first package of its package's name, unless there is one.
-fn put_interface(
+pub(crate) fn put_interface(
     alloc: Global,
     packages: &[PackageName],
     names: &mut Vec<NamePlaces>,

@@ -2,6 +2,7 @@ pub mod Accepting
 pub mod Again
 pub mod Alone
 pub mod Apart
+pub mod Asking
 pub mod Appending
 pub mod Attaching
 pub mod Beginning

@@ -1,3 +1,4 @@
+pub mod Asking
 pub mod Attached
 pub mod BehindImports
 pub mod Follows

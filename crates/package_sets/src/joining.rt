@@ -1,18 +1,21 @@
 //! Where what a closed table has stands in a set with its package.
-ghost use Rattle.std.specs.Prelude.{◌≡◌, ◌++◌, ℕ, ◌<◌, ◌≤◌, List, length, take, drop, IfOk, IfErr, OnOk, MatchOption, slice_get, ◌⊎◌};
+ghost use Rattle.std.specs.Prelude.{◌≡◌, ◌++◌, ◌∷◌, [], ℕ, ◌<◌, ◌≤◌, List, length, take, drop, IfOk, IfErr, OnOk, MatchOption, slice_get, ◌⊎◌};
 ghost use Rattle.package_form.specs.Ends.{end_of};
 ghost use Rattle.package_form.specs.Closed.{is_same_package};
 ghost use Rattle.package_sets.specs.Joining.{import_count, imports, own_interfaces, has_name_of, place_in, IsFirst, AreFound, end_in, row_places, import_rows, all_places};
 ghost use Rattle.package_sets.specs.Attached.{has_package};
+ghost use Rattle.package_sets.specs.Asking.{AsksFor, AsksForOne};
+ghost use Rattle.package_names.specs.Asked.{IsIndexOfAsked};
+ghost use Rattle.tables.specs.declared.tables.Interface.{Interface};
 ghost use Rattle.package_sets.specs.Joined.{joined_places, AreJoined};
 ghost use Rattle.package_sets.specs.declared.error.AttachError.TheVariants.{NotThisShape, NoMemory};
 ghost use Rattle.std.specs.List.{range_with_len};
 
 use crate::error::AttachError;
 use package_form::{end_of, is_same_version, own_package};
-use package_names::{IndexedTable, PackageKey};
+use package_names::{Asked, AskedNames, AskedPlaces, PackageKey};
 use set_rows::moved::Placed;
-use std::alloc::Global;
+use std::alloc::{AllocError, Global};
 use tables::{Definition, Interface, PackageName, Resolve};
 
 /// Where what a closed table has stands in a set with its package: its imports where the set has them, its own
@@ -131,12 +134,57 @@ pub fn own_interfaces(closed: &Resolve) -> &[Interface]
     &closed.interfaces.as_slice()[import_count(closed)..]
 }
 
-/// The place of the first interface of the set that has the name of this one.
-fn found_at(set: &IndexedTable<'_>, closed: &Resolve, import: &Interface) -> Option<usize>
+/// Asks the packages of a set for an import of a closed table.
+fn ask<'a>(
+    asked: &mut Asked<'a>,
+    set: &Resolve,
+    closed: &Resolve,
+    import: &'a Interface,
+) -> Result<(), AllocError>
+    ensures { OnOk result ((is : List Interface) → AsksFor set.now closed.now is asked.old → AsksFor set.now closed.now (is ++ import.now ∷ []) asked.new) }
+{
+    if let Some(package) = closed.packages.as_slice().get(import.package.0 as usize) {
+        asked.ask(
+            set.packages.as_slice(),
+            PackageKey::of(package),
+            &import.name,
+        )?;
+    }
+    Ok(())
+}
+
+/// What these imports of a closed table ask of a set.
+fn asked<'a>(
+    alloc: Global,
+    set: &Resolve,
+    closed: &Resolve,
+    imports: &'a [Interface],
+) -> Result<AskedNames<'a>, AllocError>
+    ensures { IfOk result (AsksFor set.now closed.now imports.now) }
+{
+    let mut asked = Asked::nothing(alloc, set.packages.len())?;
+    for import in imports {
+        ask(&mut asked, set, closed, import)?;
+    }
+    AskedNames::of(alloc, asked)
+}
+
+/// The place of the first interface of the set that has the name of this one, which was asked for.
+fn found_at(
+    set: &Resolve,
+    places: &AskedPlaces,
+    closed: &Resolve,
+    import: &Interface,
+) -> Option<usize>
+    requires { (asked : List (List (List ℕ))) × IsIndexOfAsked set.now.packages set.now.interfaces asked places.now × AsksForOne set.now closed.now asked import.now }
     ensures { MatchOption result ((k : ℕ) → ¬ IsFirst (has_name_of set.now closed.now import.now) set.now.interfaces k) (λ k. IsFirst (has_name_of set.now closed.now import.now) set.now.interfaces k) }
 {
     let package = closed.packages.as_slice().get(import.package.0 as usize)?;
-    set.place(PackageKey::of(package), &import.name)
+    places.place(
+        set.packages.as_slice(),
+        PackageKey::of(package),
+        &import.name,
+    )
 }
 
 /// A place as an id. 46 where there is no id for it.
@@ -154,16 +202,18 @@ fn id_of(place: usize) -> Result<u32, AttachError>
 /// Where these interfaces stand in the set. 44 where one of them doesn't.
 fn found(
     alloc: Global,
-    set: &IndexedTable<'_>,
+    set: &Resolve,
     closed: &Resolve,
     imports: &[Interface],
 ) -> Result<Vec<u32>, AttachError>
     ensures ok { IfOk result (λ places. AreFound set.now closed.now imports.now places.items) }
     ensures err { IfErr result (λ e. (e ≡ NoMemory) ⊎ ((e ≡ NotThisShape) × ((places : List ℕ) → ¬ AreFound set.now closed.now imports.now places))) }
 {
+    let asked = asked(alloc, set, closed, imports)?;
+    let there = AskedPlaces::of(alloc, set, &asked)?;
     let mut places = Vec::new(alloc);
     for import in imports {
-        match found_at(set, closed, import) {
+        match found_at(set, &there, closed, import) {
             Some(place) => places.push(id_of(place)?)?,
             None => return Err(AttachError::NotThisShape),
         }
@@ -232,8 +282,7 @@ pub fn places_of(alloc: Global, set: &Resolve, closed: &Resolve) -> Result<Joine
     ensures ok { IfOk result (λ j. AreJoined set.now closed.now (joined_places j)) }
     ensures err { IfErr result (λ e. (e ≡ NoMemory) ⊎ ((e ≡ NotThisShape) × ((places : List ℕ) → ¬ AreFound set.now closed.now (imports closed.now) places))) }
 {
-    let indexed = IndexedTable::of(alloc, set)?;
-    let mut interfaces = found(alloc, &indexed, closed, imports(closed))?;
+    let mut interfaces = found(alloc, set, closed, imports(closed))?;
     let mut rows = row_places(alloc, set, imports(closed), &interfaces)?;
     let imported = rows.len();
     let mut worlds = Vec::new(alloc);

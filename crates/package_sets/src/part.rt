@@ -17,7 +17,7 @@ pub fn reached_rows(
 ) -> Result<Vec<bool>, AllocError>
     ensures { IfOk result (λ marks. marks.items ≡ map (is_marked reached.now) owners.now) }
 {
-    let mut marks = Vec::new(alloc);
+    let mut marks = Vec::with_capacity(alloc, owners.len())?;
     for owner in owners {
         marks.push(reached.has(*owner))?;
     }

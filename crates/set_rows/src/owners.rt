@@ -24,7 +24,7 @@ fn owner_of(row: &Definition) -> Option<Owner>
 pub fn owners(alloc: Global, rows: &[Definition]) -> Result<Vec<Option<Owner>>, AllocError>
     ensures { IfOk result (λ os. os.items ≡ owners rows.now) }
 {
-    let mut owners = Vec::new(alloc);
+    let mut owners = Vec::with_capacity(alloc, rows.len())?;
     let mut last = None;
     for behind in 0..rows.len() {
         last = owner_of(&rows[rows.len() - 1 - behind]).or(last);

@@ -27,7 +27,7 @@ impl Places {
     pub fn of(alloc: Global, marks: Vec<bool>) -> Result<Places, AllocError>
         ensures { IfOk result (λ p. p ≡ marks.items) }
     {
-        let mut before = Vec::new(alloc);
+        let mut before = Vec::with_capacity(alloc, marks.len() + 1)?;
         let mut count = 0;
         before.push(count)?;
         for mark in &marks {

@@ -33,7 +33,7 @@ fn own_interfaces(
 ) -> Result<Vec<bool>, AllocError>
     ensures { IfOk result (λ marks. marks.items ≡ map (is_interface_of id.0) interfaces.now) }
 {
-    let mut marks = Vec::new(alloc);
+    let mut marks = Vec::with_capacity(alloc, interfaces.len())?;
     for interface in interfaces {
         marks.push(interface.package.0 == id.0)?;
     }
@@ -43,7 +43,7 @@ fn own_interfaces(
 pub fn own_worlds(alloc: Global, worlds: &[World], id: PackageId) -> Result<Vec<bool>, AllocError>
     ensures { IfOk result (λ marks. marks.items ≡ map (is_world_of id.0) worlds.now) }
 {
-    let mut marks = Vec::new(alloc);
+    let mut marks = Vec::with_capacity(alloc, worlds.len())?;
     for world in worlds {
         marks.push(world.package.0 == id.0)?;
     }
@@ -77,7 +77,7 @@ fn mark_at(marks: &[bool], place: usize) -> bool
 pub fn padded(alloc: Global, given: &[bool], count: usize) -> Result<Vec<bool>, AllocError>
     ensures { IfOk result (λ marks. marks.items ≡ padded count given.now) }
 {
-    let mut marks = Vec::new(alloc);
+    let mut marks = Vec::with_capacity(alloc, count)?;
     for place in 0..count {
         marks.push(mark_at(given, place))?;
     }

@@ -1,11 +1,10 @@
-use Rattle.std.proofs.Common.{◌≡◌, Bool, true, List, sym, subst}
-use Rattle.tables.specs.declared.tables.Resolve.{Resolve}
+use Rattle.std.proofs.Common.{◌≡◌, ◌∙◌, ℕ, [], Bool, true, List, replicate, ap, subst}
 use Rattle.tree_meaning.proofs.Trees.{ok-map}
 use Rattle.package_sets.specs.Joining.{imports}
 use Rattle.package_adding.specs.ImportNames.{marked_names}
-use Rattle.package_sets.specs.NamedIn.{AreMarksOf}
+use Rattle.package_adding.proofs.Asking.{nothing-asked}
 use Rattle.package_sets.specs.NamedIn.{NamesIn}
-use Rattle.package_adding.specs.Noted.{nothing, also, AreNoted}
+use Rattle.package_adding.specs.Asked.{nothing, also, AreAsked}
 use Rattle.package_adding.proofs.BehindImports.{imports-tell}
 use Rattle.package_adding.proofs.Marks.{also-marks}
 use Rattle.package_adding.proofs.imported.named_in.Goals as goal
@@ -13,13 +12,11 @@ use Rattle.package_adding.proofs.imported.named_in.Goals as goal
 pub returns : goal.returns
 returns c =
     let closed = c.args.closed.now in
+    let set = c.args.set.now in
     let reached = c.in_ok-reached.reached.items in
-    let set = c.in_ok-set.set in
     let test = marked_names closed reached (imports closed) in
-    let none = subst (λ (r : Resolve). AreNoted r nothing c.in_ok-marks.marks) (sym c.in_ok-set.ensures) c.in_ok-marks.ensures in
-    let noted = subst (λ (bs : List Bool). AreNoted set (also nothing (marked_names closed bs (imports closed))) c.mark_imports.new.marks) c.deref.ensures.value (c.mark_imports.ensures nothing none) in
-    ok-map c.spread.result _ _
-    (λ n h.
-    also-marks (λ q i. also nothing test q i ≡ true) (NamesIn closed) (imports-tell closed reached c.in_ok-reached.ensures) c.args.set.now n.packages.items n.interfaces.items
-    (subst (λ (r : Resolve). AreMarksOf (λ q i. also nothing test q i ≡ true) r n.packages.items n.interfaces.items) c.in_ok-set.ensures (h (also nothing test) noted)))
-    c.spread.ensures
+    let none = nothing-asked set c.in_ok-asked.asked (c.in_ok-asked.ensures ∙ ap (λ (n : ℕ). replicate n []) c.len.ensures) in
+    let asks = subst (λ (bs : List Bool). AreAsked set (also nothing (marked_names closed bs (imports closed))) c.ask_imports.new.asked) c.deref.ensures.value (c.in_ok-ask_imports.ensures nothing none) in
+    ok-map c.of.result _ _
+    (λ n h. also-marks (λ q i. also nothing test q i ≡ true) (NamesIn closed) (imports-tell closed reached c.in_ok-reached.ensures) set n.packages.items n.interfaces.items (h (also nothing test) asks))
+    c.of.ensures

@@ -5,7 +5,7 @@ use Rattle.set_rows.proofs.places.Places.of.Goals as goal
 use Rattle.set_rows.proofs.places.Places.of.Goals.{then-mark, else-mark}
 
 pub loop-mark-init : goal.loop-mark-init
-loop-mark-init c = placed-none c.deref-mark-items.result.now _ (c.in_ok-push.ensures.items ∙ ap (λ x. x ++ 0 ∷ []) c.new-before.ensures.items)
+loop-mark-init c = placed-none c.deref-mark-items.result.now _ (c.in_ok-push.ensures.items ∙ ap (λ x. x ++ 0 ∷ []) c.in_ok-before.ensures.items)
 
 pub loop-mark-preserved : goal.loop-mark-preserved
 loop-mark-preserved c =

@@ -1,0 +1,22 @@
+use Rattle.std.proofs.Common.{List, map, take}
+use Rattle.wit_syntax.specs.View.{entry_view}
+use Rattle.wit_syntax.specs.declared.ast.InterfaceItem.{InterfaceItem}
+use Rattle.package_form.proofs.Meeting.{all-taken}
+use Rattle.package_adding.specs.Named.{entry_names_interface, any_names}
+use Rattle.package_adding.specs.Asked.{also, AreAsked}
+use Rattle.package_adding.proofs.Asking.{asked-none, asked-more}
+use Rattle.package_adding.proofs.named.ask_items.Goals as goal
+
+pub loop-item-init : goal.loop-item-init
+loop-item-init c = λ names asks. asked-none c.args.set.now names c.args.asked.now asks
+
+pub loop-item-preserved : goal.loop-item-preserved
+loop-item-preserved c = λ names asks.
+    let items = c.args.items.now in
+    let k = c.loop-item.item-index in
+    let so_far = also names (any_names entry_names_interface (map entry_view (take k items))) in
+    asked-more c.args.set.now names entry_names_interface entry_view items k c.item-item.result _ c.loop-item-test.true c.item-item.is (c.in_ok-ask_item.ensures so_far (c.loop-item.invariant names asks))
+
+pub returns : goal.returns
+returns c = λ names asks.
+    all-taken (λ (is : List InterfaceItem). AreAsked c.args.set.now (also names (any_names entry_names_interface (map entry_view is))) c.loop-item.asked) c.args.items.now c.loop-item.item-index c.loop-item-test.false (c.loop-item.invariant names asks)
