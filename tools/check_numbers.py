@@ -15,6 +15,7 @@ usage: tools/check_numbers.py
 - docs/GATE.md: the sums of the table of seconds, and the seconds of the longest chain. `rt ci` passes each crate and
   each must-fail edit of the gate, of which there are as many as PASSED finds.
 - The numbers that each group of ALIKE finds on several pages are one.
+- The limits that LIMITS finds on pages are those of the models, and the keywords of docs/FORMATS.md too.
 
 It prints each place that is wrong; the exit status is 1 then, and if nothing of a page is compared.
 """
@@ -26,6 +27,7 @@ import re
 import sys
 
 from check_names import SPAN, columns, edits
+from models import opening, tokens
 
 ROOT = pathlib.Path(__file__).resolve().parent.parent
 CODE = ("tests_in_code", "tests_of_formats", "tests_of_hosts")
@@ -54,6 +56,19 @@ ALIKE = (
     {"docs/GATE.md": MINUTES.pattern.replace(r"`(\w+)`", r"`\w+`"),
      "docs/BENCHMARKS.md": r"up to `witcall`, in minutes of processor time \| (\d+) \|"},
 )
+# limits as pages say them, each with the numbers that it may be
+BYTES_OR_SIZE = (tokens.MOST_BYTES, opening.MOST_SIZE)
+LIMITS = {
+    r"(?:at most|more than|fewer than) ([\d,]+) (?:type entries|types)": (opening.MOST_ENTRIES,),
+    r"([\d,]+) cases or \d+ flags": (opening.MOST_MEMBERS["enum"],),
+    r"cases or (\d+) flags": (opening.MOST_MEMBERS["flags"],),
+    r"(?:at most (\d+) deep|nested more than (\d+))": (opening.MOST_DEPTH,),
+    r"(?:above|more than) ([\d,]{6,}) bytes": BYTES_OR_SIZE,
+    r"text has at most ([\d,]+) bytes": (tokens.MOST_BYTES,),
+    # the packages that one imports are not itself
+    r"(?:at most|more than) (\d+) packages": (opening.MOST_PACKAGES, opening.MOST_PACKAGES - 1),
+}
+WORDS = re.compile(r"\*\*Keywords:\*\*\n\n```\n(.*?)^```$", re.M | re.S)
 # what examples say otherwise than their rows
 OTHERWISE = (
     "t1 = tuple<t0, t0>", "t1 = tuple<list<t0>, list<t0>>", "tuple<list<t>, list<t>>",
@@ -281,6 +296,21 @@ def wrong_passes(counts):
                 yield f"{page.relative_to(ROOT)}: {number} passed, and there are {there} crates and must-fail edits"
 
 
+def wrong_limits(counts):
+    """The limits on pages that are none of the models, and the keywords."""
+    for page in [ROOT / "README.md", *sorted((ROOT / "docs").rglob("*.md"))]:
+        text = " ".join(page.read_text().split())
+        for pattern, limits in LIMITS.items():
+            for found in re.findall(pattern, text, re.I):
+                number = "".join(found).rstrip(",")
+                counts["limits"] += 1
+                if int(number.replace(",", "")) not in limits:
+                    yield f"{page.relative_to(ROOT)}: {number}, and the limit is {limits}: {pattern}"
+    keywords = WORDS.search((ROOT / "docs" / "FORMATS.md").read_text())
+    if not keywords or keywords[1].split() != tokens.KEYWORDS:
+        yield "docs/FORMATS.md: the keywords are not those of tools/models/tokens.py"
+
+
 def different(counts):
     """The groups of ALIKE whose numbers are not one, or are missing on a page."""
     for group in ALIKE:
@@ -302,9 +332,9 @@ def main():
     ):
         page = ROOT / "docs" / f"{name}.md"
         faults += [f"{page.relative_to(ROOT)}:{number}: {fault}" for number, fault in check(page.read_text())]
-    faults += [*wrong_passes(counts), *different(counts)]
+    faults += [*wrong_passes(counts), *different(counts), *wrong_limits(counts)]
     print("\n".join([*faults, ", ".join(f"{number} {what}" for what, number in counts.items()) + " compared"]))
-    sys.exit(bool(faults) or len(counts) < 9 or not all(counts.values()))
+    sys.exit(bool(faults) or len(counts) < 10 or not all(counts.values()))
 
 
 if __name__ == "__main__":
