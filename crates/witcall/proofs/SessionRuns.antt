@@ -9,9 +9,16 @@ use Rattle.canonical_abi.specs.Guest.{Release}
 use Rattle.canonical_abi.specs.Session.{TakesStep, RunsSession}
 use Rattle.canonical_abi.proofs.Longer.{runs-longer}
 use Rattle.tables.specs.declared.tables.Resolve.{Resolve}
-use Rattle.witcall.specs.Steps.{IsKnownAnswer, answer_of, step_of, RunsSteps}
+use Rattle.witcall.specs.Steps.{AreOfSteps, IsKnownAnswer, IsOfStep, answer_of, step_of, RunsSteps}
 use Rattle.witcall.specs.declared.steps.Answer.{Answer}
 use Rattle.witcall.specs.declared.steps.Step.{Step}
+
+types_more : (steps : List Step) (answers : List Answer) (s : Step) (a : Answer) → AreOfSteps steps answers → IsOfStep s a
+    → AreOfSteps (steps ++ s ∷ []) (answers ++ a ∷ [])
+types_more [] [] s a h e = (e, tt)
+types_more [] (b ∷ answers) s a h e = absurd h
+types_more (t ∷ steps) [] s a h e = absurd h
+types_more (t ∷ steps) (b ∷ answers) s a h e = (h.0, types_more steps answers s a h.1 e)
 
 module _ (parties : Parties) (caller_releases : Release) (r : Resolve) (steps : List Step) (before : List Answer) (old : World) where
   pub none_ran : RunsSteps parties caller_releases r [] before old before old
@@ -19,6 +26,7 @@ module _ (parties : Parties) (caller_releases : Release) (r : Resolve) (steps : 
     made = [];
     appended = sym (append-nil before);
     known = All-nil (IsKnownAnswer r);
+    types = tt;
     run = (refl, refl);
   }
 
@@ -32,9 +40,9 @@ module _ (parties : Parties) (caller_releases : Release) (r : Resolve) (steps : 
 
   pub one_more : (n : ℕ) (items : List Answer) (now : World) (s : Step) (a : Answer) (new : World) → n < length steps → s ≡ get_or steps n s
       → RunsSteps parties caller_releases r (take n steps) before old items now
-      → TakesStep parties caller_releases exact (map (answer_of r) (drop (length before) items)) now (step_of r s) (answer_of r a) new → IsKnownAnswer r a
+      → TakesStep parties caller_releases exact (map (answer_of r) (drop (length before) items)) now (step_of r s) (answer_of r a) new → IsKnownAnswer r a → IsOfStep s a
       → RunsSteps parties caller_releases r (take (n + 1) steps) before old (items ++ a ∷ []) new
-  one_more n items now s a new less is ran taken known =
+  one_more n items now s a new less is ran taken known of_type =
       let first = take n steps in
       let more : take (n + 1) steps ≡ first ++ s ∷ [] = take_more steps n s less ∙ ap (λ x. first ++ x ∷ []) (sym is) in
       let here : TakesStep parties caller_releases exact (map (answer_of r) ran.made) now (step_of r s) (answer_of r a) new =
@@ -46,6 +54,7 @@ module _ (parties : Parties) (caller_releases : Release) (r : Resolve) (steps : 
         made = ran.made ++ a ∷ [];
         appended = ap (λ xs. xs ++ a ∷ []) ran.appended ∙ append_assoc before ran.made (a ∷ []);
         known = All-push (IsKnownAnswer r) ran.made a ran.known known;
+        types = subst (λ ss. AreOfSteps ss (ran.made ++ a ∷ [])) (sym more) (types_more first ran.made s a ran.types of_type);
         run = subst (λ ss. RunsSession parties caller_releases exact [] old ss (map (answer_of r) (ran.made ++ a ∷ [])) new) (sym moves)
             (subst (λ xs. RunsSession parties caller_releases exact [] old (map (step_of r) first ++ step_of r s ∷ []) xs new) (sym answers) longer);
       }

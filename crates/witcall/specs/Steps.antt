@@ -1,5 +1,5 @@
 -- Lists of steps of a session, with the values and the closed types that they stand for. CanonicalABI.md has no such section.
-use Rattle.std.specs.Prelude.{◌≡◌, List, [], ◌++◌, Result, Ok, Err, map, is_ok}
+use Rattle.std.specs.Prelude.{◌≡◌, List, [], ◌∷◌, ◌++◌, Result, Ok, Err, IfOk, map, is_ok}
 use Rattle.std.specs.List.{All}
 use Rattle.canonical_abi.specs.Session.{Held as HeldValue, SessionStep, call, place, read, release, SessionAnswer, called, placed, was_read, released, missing, RunsSession}
 use Rattle.canonical_abi.specs.Call.{Parties, World, exact}
@@ -11,6 +11,7 @@ use Rattle.values.specs.Val.{value_of}
 use Rattle.tables.specs.Closed.{closed_type, function_type, IsFunction}
 use Rattle.tables.specs.Standard.{IsTypeOf}
 use Rattle.tables.specs.declared.tables.Resolve.{Resolve}
+use Rattle.tables.specs.declared.tables.ValType.{ValType}
 use Rattle.witcall.specs.Session.{typed_answer}
 use Rattle.witcall.specs.declared.steps.Answer.{Answer}
 use Rattle.witcall.specs.declared.steps.Answer.TheVariants as answer
@@ -54,9 +55,27 @@ abbrev pub IsKnownAnswer : Resolve → Answer → Type 0
 IsKnownAnswer r (answer.Placed (Ok held)) = IsTypeOf r held.ty
 IsKnownAnswer r _ = Unit {0}
 
+-- what was placed is of this type, by its id and not by its closed type alone
+abbrev pub IsOfType : ValType → Answer → Type 0
+IsOfType ty (answer.Placed result) = IfOk result (λ held. held.ty ≡ ty)
+IsOfType ty _ = Unit {0}
+
+-- what the step placed is of the type that it names
+abbrev pub IsOfStep : Step → Answer → Type 0
+IsOfStep (step.Place ty v) a = IsOfType ty a
+IsOfStep _ a = Unit {0}
+
+-- each answer is of the step at its place
+abbrev pub AreOfSteps : List Step → List Answer → Type 0
+AreOfSteps [] [] = Unit {0}
+AreOfSteps [] (a ∷ answers) = ⊥
+AreOfSteps (s ∷ steps) [] = ⊥
+AreOfSteps (s ∷ steps) (a ∷ answers) = IsOfStep s a × AreOfSteps steps answers
+
 -- the steps were taken in turn, and their answers stand behind those that were there
 pub record RunsSteps (parties : Parties) (caller_releases : Release) (r : Resolve) (steps : List Step) (before : List Answer) (old : World) (after : List Answer) (new : World) : Type 0 where
   pub made : List Answer
   pub appended : after ≡ before ++ made
   pub known : All (IsKnownAnswer r) made
+  pub types : AreOfSteps steps made
   pub run : RunsSession parties caller_releases exact [] old (map (step_of r) steps) (map (answer_of r) made) new

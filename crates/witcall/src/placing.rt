@@ -1,6 +1,6 @@
 //! What is put into the caller: the arguments of a call and its return area, and values that stay.
 
-ghost use Rattle.std.specs.Prelude.{map, IfOk, IfErr};
+ghost use Rattle.std.specs.Prelude.{◌≡◌, map, IfOk, IfErr};
 ghost use Rattle.canonical_abi.specs.Guest.{IsLimited};
 ghost use Rattle.canonical_abi.specs.Session.{PlacesValue};
 ghost use Rattle.canonical_abi.specs.Types.{result_fields};
@@ -67,6 +67,7 @@ pub(crate) fn place_value<C: Guest>(
     ensures placed { PlacesValue C.allocates (closed_type «package».now.resolve ty) (value_of value.now) (C.memory caller.old)
         (placed_answer «package».now.resolve result) (C.memory caller.new) }
     ensures known { IfOk result (λ held. IsTypeOf «package».now.resolve held.ty) }
+    ensures same_type { IfOk result (λ held. held.ty ≡ ty) }
 {
     let layouts = package.layouts();
     let Ok(at) = caller.alloc(layouts.align(ty), layouts.size(ty)) else {

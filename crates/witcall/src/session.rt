@@ -12,7 +12,7 @@ ghost use Rattle.canonical_abi.specs.Session.{PlacesValue, ReadsValue, TakesStep
 ghost use Rattle.canonical_abi.specs.Headline.{IsPromised};
 ghost use Rattle.values.specs.Val.{value_of};
 ghost use Rattle.witcall.specs.Session.{typed_answer};
-ghost use Rattle.witcall.specs.Steps.{IsKnownAnswer, IsStep, answer_of, held_of, placed_answer, read_answer, step_of, RunsSteps};
+ghost use Rattle.witcall.specs.Steps.{IsKnownAnswer, IsOfStep, IsStep, answer_of, held_of, placed_answer, read_answer, step_of, RunsSteps};
 
 use crate::placing::{place_call, place_value};
 use crate::steps::{Answer, Held, Step, held_by};
@@ -120,6 +120,7 @@ impl<'a, C: Guest, E: Guest, B: Body<E>> Session<'a, C, E, B> {
         ensures placed { PlacesValue C.allocates (closed_type self.old.package.now.resolve ty) (value_of value.now)
             (C.memory self.old.caller) (placed_answer self.old.package.now.resolve result) (C.memory self.new.caller) }
         ensures known { IfOk result (λ held. IsTypeOf self.old.package.now.resolve held.ty) }
+        ensures same_type { IfOk result (λ held. held.ty ≡ ty) }
         ensures callee { self.new.callee ≡ self.old.callee }
         ensures body { self.new.body ≡ self.old.body }
         ensures package { self.new.package.now ≡ self.old.package.now }
@@ -206,6 +207,7 @@ impl<'a, C: Guest, E: Guest, B: Body<E>> Session<'a, C, E, B> {
             (answer_of r result)
             (record { caller = C.memory self.new.caller; callee = E.memory self.new.callee; body = B.state self.new.body }) }
         ensures known { IsKnownAnswer self.old.package.now.resolve result }
+        ensures same_type { IsOfStep step.now result }
         ensures same_runs { AllowsSameRuns (B.runs self.old.body) (B.runs self.new.body) }
         ensures same_posts { AllowsSamePosts (B.posts self.old.body) (B.posts self.new.body) }
         ensures package { self.new.package.now ≡ self.old.package.now }

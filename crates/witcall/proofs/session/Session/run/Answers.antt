@@ -36,7 +36,7 @@ loop-step-preserved g c =
     let known : IsKnownAnswer r a = subst (λ p. IsKnownAnswer p.resolve a) i.3 c.take_step-answer.ensures.known in
     let less : n < length steps = c.loop-step-test.true in
     let more : RunsSteps first g.C.Guest.releases r (take (n + 1) steps) before old c.push_reserved.new.self.items new =
-    rw c.push_reserved.ensures.items (one_more first g.C.Guest.releases r steps before old n items now s a new less c.step-item.is i.0 taken known) in (
+    rw c.push_reserved.ensures.items (one_more first g.C.Guest.releases r steps before old n items now s a new less c.step-item.is i.0 taken known c.take_step-answer.ensures.same_type) in (
       more,
       same_runs_on runs runs_now (g.B.Body.runs c.take_step-answer.new.self.body) i.1 c.take_step-answer.ensures.same_runs,
       same_posts_on posts posts_now (g.B.Body.posts c.take_step-answer.new.self.body) i.2 c.take_step-answer.ensures.same_posts,
