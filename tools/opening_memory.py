@@ -3,12 +3,13 @@
 
 usage: tools/opening_memory.py PROGRAM
 
-PROGRAM is the built program, as crates/program/out/program. It is asked for a function that no package has, so that each input is read, its
-table made and laid out, and nothing after that. The texts are those of tools/table_times.py, as long as they are accepted and once longer, those
-of tools/read_times.py, which end with a `}` too many, and some of this script. An accepted text is opened as a binary too. For each the script
-prints its bytes, the line of its refusal, the most memory of the run in KiB without that of an empty text, and how many times its bytes that
-is. The exit status is 1 if a run ends otherwise than done or refused. It needs a C compiler, whose program starts each run: a child of Python is
-told to have had at least what Python has.
+PROGRAM is the built program, as crates/program/out/program. It is asked for a function that no package has, so that
+each input is read, its table made and laid out, and nothing after that. The texts are those of tools/table_times.py,
+as long as they are accepted and once longer, those of tools/read_times.py, which end with a `}` too many, and some of
+this script. An accepted text is opened as a binary too. For each the script prints its bytes, the line of its
+refusal, the most memory of the run in KiB without that of an empty text, and how many times its bytes that is. The
+exit status is 1 if a run ends otherwise than done or refused. It needs a C compiler, whose program starts each run: a
+child of Python is told to have had at least what Python has.
 """
 import pathlib
 import subprocess
@@ -46,16 +47,18 @@ def chain(count):
 
 def small_interfaces(count):
     """Interfaces of one type and one function."""
-    return ("package a:b;" + "".join(f"interface {label(n)}{{type t=u8;f:func()->t;}}" for n in range(count))).encode()
+    rest = "".join(f"interface {label(n)}{{type t=u8;f:func()->t;}}" for n in range(count))
+    return ("package a:b;" + rest).encode()
 
 
 def worlds(count):
     """Worlds that import an interface and export a function."""
-    return ("package a:b;interface a{type t=u8;}" + "".join(f"world {label(n)}{{import a;export f:func();}}" for n in range(count))).encode()
+    rest = "".join(f"world {label(n)}{{import a;export f:func();}}" for n in range(count))
+    return ("package a:b;interface a{type t=u8;}" + rest).encode()
 
 
 def records(count):
-    """Records of a field of the type before and of a list; every thirtieth begins anew, since types nest at most 64 deep."""
+    """Records of the type before and of a list. Every thirtieth begins anew, since types nest at most 64 deep."""
     rest = "".join(f"record {label(n)}{{a:{label(n - 1 if n % 30 else 0)},b:list<u8>}}" for n in range(1, count))
     return interface(f"type {label(0)}=u8;" + rest + "\n")
 

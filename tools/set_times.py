@@ -3,17 +3,19 @@
 
 usage: tools/set_times.py PROGRAM [families [--instructions]]
 
-PROGRAM is the built program, as crates/program/out/program. Without `families`, for each shape, at 1,250 to 10,000 uses, `show` opens three
-inputs that have the same uses: one package alone, whose interface uses types of its other interfaces; two packages, of
-which the second uses the first's, both as texts; and the same with the second as a binary. The least processor time of
-several runs is printed for each, without that of an empty text, by how much it grew, and how many times as long the two
-packages took as the one. The exit status is 1 where twice as many uses take more than 2.3 times as long, or where two
-packages as texts take more than 1.5 times as long as the one with as many uses.
+PROGRAM is the built program, as crates/program/out/program. Without `families`, for each shape, at 1,250 to 10,000
+uses, `show` opens three inputs that have the same uses: one package alone, whose interface uses types of its other
+interfaces; two packages, of which the second uses the first's, both as texts; and the same with the second as a
+binary. The least processor time of several runs is printed for each, without that of an empty text, by how much it
+grew, and how many times as long the two packages took as the one. The exit status is 1 where twice as many uses take
+more than 2.3 times as long, or where two packages as texts take more than 1.5 times as long as the one with as many
+uses.
 
-With `families`, `show` opens 8 to 64 packages of 16 KB and of 64 KB, as texts and as binaries. A package names no other, or it uses
-a type of each earlier one, or many interfaces of the first. Printed is the time of each, without that of an empty text, by how much it
-grew, and how many times as long it took as so many packages of a set of two of its family do, which use no more: at most 1.5 times, or the
-exit status is 1. With `--instructions` valgrind's callgrind counts instructions in place of the time.
+With `families`, `show` opens 8 to 64 packages of 16 KB and of 64 KB, as texts and as binaries. A package names no
+other, or it uses a type of each earlier one, or many interfaces of the first. Printed is the time of each, without
+that of an empty text, by how much it grew, and how many times as long it took as so many packages of a set of two of
+its family do, which use no more: at most 1.5 times, or the exit status is 1. With `--instructions` valgrind's
+callgrind counts instructions in place of the time.
 """
 import os
 import re
@@ -148,7 +150,8 @@ def as_binaries(program, folder, files):
 
 def instructions(words):
     """The instructions of one run, in millions."""
-    ran = subprocess.run(["valgrind", "--tool=callgrind", "--callgrind-out-file=/dev/null", *words], capture_output=True, text=True, check=False)
+    counted = ["valgrind", "--tool=callgrind", "--callgrind-out-file=/dev/null", *words]
+    ran = subprocess.run(counted, capture_output=True, text=True, check=False)
     return int(re.search(r"Collected : (\d+)", ran.stderr)[1]) / 1e6
 
 
@@ -163,7 +166,8 @@ def measured(program, folder, uses, length, kind, measure, nothing):
         files = as_binaries(program, folder, files)
     one = measure([program, "show", *behind(files[:1])]) - nothing
     two = measure([program, "show", *behind(files[:2])]) - nothing
-    return [(number, measure([program, "show", *behind(files[:number])]) - nothing, one + (number - 1) * (two - one)) for number in NUMBERS]
+    took = [measure([program, "show", *behind(files[:number])]) - nothing for number in NUMBERS]
+    return [(number, it, one + (number - 1) * (two - one)) for number, it in zip(NUMBERS, took)]
 
 
 def families(program, measure, unit):
@@ -176,7 +180,8 @@ def families(program, measure, unit):
                 for kind in ("texts", "binaries"):
                     for number, took, alone in measured(program, folder, uses, length, kind, measure, nothing):
                         more = took / alone
-                        print(f"{name:18} {length // 1000:3} KB {kind:8} {number:3} packages {took:9.1f} {unit} {more:5.2f} times", flush=True)
+                        what = f"{name:18} {length // 1000:3} KB {kind:8} {number:3} packages"
+                        print(f"{what} {took:9.1f} {unit} {more:5.2f} times", flush=True)
                         failed |= more > MOST_IN_A_SET
     return failed
 
