@@ -85,10 +85,10 @@ def source_order(package):
 
 
 def unknown_names(package, names_of):
-    """The names that aren't there, in source order. `names_of` has the types of a path's interface, or None."""
+    """The names that aren't there, in source order. `names_of` has the set of the types of a path's interface, or None."""
     for item in package.items:
         is_interface = isinstance(item, Interface)
-        own = owner_names(item) if is_interface else []
+        own = set(owner_names(item)) if is_interface else set()
         for part in in_order(item) if is_interface else item.items:
             path, names = referred(part)
             there = own if path is None else names_of(path)

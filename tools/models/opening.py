@@ -1,4 +1,6 @@
 """Sets that are opened from texts and binaries, and what refuses them."""
+import functools
+
 from . import reading, shape
 from .faults import Refused
 from .names import names_of_text, owner_names, source_order, unknown_names
@@ -96,11 +98,12 @@ def import_place(packages, name, interface):
 def test_unknown(packages, package):
     """Refuses names that aren't there."""
 
+    @functools.cache
     def names_of(path):
         """The names of types of the interface that a path means, or None."""
         there = package if path.package is None else packages.packages[packages.number(path.package)]
         found = [interface for interface in there.interfaces if interface.name == path.name]
-        return owner_names(found[0]) if found else None
+        return set(owner_names(found[0])) if found else None
 
     for name in unknown_names(package, names_of):
         raise Refused(f"41 unknown {name}")

@@ -4,7 +4,7 @@ from dataclasses import replace
 from . import abi
 from .faults import NotModelled, Refused
 from .names import type_names
-from .wit import Name, Primitive
+from .wit import Name, Primitive, Use
 
 
 def placed(items, needs):
@@ -37,7 +37,7 @@ class Set:
     """Packages with their interfaces and types in package order."""
 
     def __init__(self):
-        self.packages, self.closed_names = [], {}
+        self.packages, self.closed_names, self.owned = [], {}, {}
 
     def keep(self, package):
         """Takes one more package, which nothing refuses but a cycle."""
@@ -122,12 +122,18 @@ class Set:
             self.closed_names[key] = self.unfolded(package, interface, name)
         return self.closed_names[key]
 
+    def owned_by(self, package, interface):
+        """The uses and the types of an interface by their names."""
+        key = package, interface.name
+        if key not in self.owned:
+            self.owned[key] = {it.name: it for it in interface.types} | {use.local: use for use in interface.uses}
+        return self.owned[key]
+
     def unfolded(self, package, interface, name):
         """A named type of an interface, closed."""
-        for use in interface.uses:
-            if use.local == name:
-                return self.closed_name(*self.find(package, use.path), use.name)
-        typedef = next(it for it in interface.types if it.name == name)
+        typedef = self.owned_by(package, interface)[name]
+        if isinstance(typedef, Use):
+            return self.closed_name(*self.find(package, typedef.path), typedef.name)
         if typedef.kind == "alias":
             return self.closed(package, interface, typedef.target)
         labels = tuple(label for label, _ in typedef.members)
