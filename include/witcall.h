@@ -24,6 +24,7 @@
  *   - Between the halves only the allocators and the core function change the memories. (The library doesn't see them then.)
  *   - malloc, realloc and free are of one allocator. malloc and realloc align a block to each power of two up to 16 that divides its size.
  *     (They are the program's.)
+ *   - The stack has room for 1 MiB more when a call begins. (A call doesn't see where the stack ends.)
  *   - No call is made from a signal handler, or in the forked child of a process with threads. (A call may hold the allocator's lock.)
  * All else is tested, and told in the status.
  *
