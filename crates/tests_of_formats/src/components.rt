@@ -49,7 +49,8 @@ fn interface(alloc: Global, index: u32) -> Result<RawType, Fail> {
 /// The component type of the package.
 fn package(alloc: Global, index: u32) -> Result<RawType, Fail> {
     let interface = interface(alloc, index)?;
-    let name = ExternName::FullName(FullName::parse(alloc, "a:b/c")?);
+    let name = FullName::parse(alloc, "a:b/c")?;
+    let name = ExternName::FullName(Box::new(alloc, name)?);
     let index = RawDescription::Instance(0);
     Ok(RawType::Component(declarations(alloc, interface, name, index)?))
 }
