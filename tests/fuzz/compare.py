@@ -3,9 +3,7 @@
 
 usage: tests/fuzz/compare.py FILE      FILE has a case a line, as a harness writes it if WITCALL_CASES names that file
 
-- open: a package is opened by the model too, and its text is the same. A refusal of names or of limits is the model's, and so is one of a
-  binary that is no component. What the models don't know is counted: faults of the grammar of texts, the shape of binaries, and which of
-  several names is told ("another name").
+- open: the text of what is opened, or the line of its refusal.
 - enter, leave: what is asked for, or the trap of the source, or that it is more than the limit; then the status of the half, its core
   values, and each byte of the memory that it writes.
 
@@ -14,13 +12,11 @@ It prints how many cases of each kind were the same, and each one that differs; 
 import collections
 import json
 import pathlib
-import re
 import sys
 
 ROOT = pathlib.Path(__file__).resolve().parent.parent.parent
 sys.path.insert(0, str(ROOT))
 sys.dont_write_bytecode = True
-from tools.models import component  # noqa: E402
 from tools.models.abi import up  # noqa: E402
 from tools.models.calls import Link, numbers_of  # noqa: E402
 from tools.models.crossing import Flat, Stored, Way  # noqa: E402
@@ -28,16 +24,11 @@ from tools.models.faults import NotModelled, Refused, Trap  # noqa: E402
 from tools.models.jobs import JOBS  # noqa: E402
 from tools.models.memory import Bump, Memory, Scripted  # noqa: E402
 from tools.models.opening import opened  # noqa: E402
-from tools.models.text_rows import data_of  # noqa: E402
 
 # the numbers of a status
 DONE, REFUSED, TRAP = 0, 1, 2
 STEPS = {"lift-args": 2, "lower-args": 3, "lift-result": 5, "lower-result": 6}
 BAD_BLOCK, OTHER_BLOCK, ABOVE_LIMIT = 72, 73, 76
-# the model doesn't know these: faults of the grammar, and of the shape of binaries
-GRAMMAR = re.compile(r"error 3[0-6] ")
-SHAPE = re.compile(r"error 44 ")
-NAMES = re.compile(r"error (40|41|47) ")
 
 
 class AboveLimit(Exception):
@@ -89,10 +80,7 @@ def text_of(digits):
 def model_of(data):
     """What the model says of an input: its text, or the line of its refusal."""
     try:
-        given = data_of(data)
-        if isinstance(given, bytes):
-            component.read(given)
-        return "\n".join(JOBS["text"](opened([given]))) + "\n"
+        return "\n".join(JOBS["text"](opened([data]))) + "\n"
     except Refused as refused:
         return str(refused)
 
@@ -100,16 +88,11 @@ def model_of(data):
 def compare_opened(case):
     """By which rule an input is opened or refused as it has to be; None if it isn't."""
     found = bytes.fromhex(case["line"] if "line" in case else case["text"]).decode()
-    if GRAMMAR.match(found) or SHAPE.match(found):
-        return "not modelled"
     try:
         wanted = model_of(bytes.fromhex(case["input"]))
-    except (NotModelled, AttributeError, LookupError, StopIteration, RecursionError):
+    except (NotModelled, RecursionError):
         return "not modelled"
-    if wanted == found:
-        return "the same"
-    one, other = NAMES.match(wanted), NAMES.match(found)
-    return "another name" if one and other and one[1] == other[1] else None
+    return "the same" if wanted == found else None
 
 
 # ---- halves
