@@ -1,4 +1,5 @@
-/* Measures how long the calls of the C library take over inputs of a stranger: milliseconds of processor time, the least of RUNS runs.
+/* Measures how long the calls of the C library take over inputs of a stranger: milliseconds of processor time, the
+ * least of RUNS runs.
  *
  * usage: hostile
  *
@@ -75,12 +76,15 @@ static void lists(int levels, uint64_t limit, const char *words) {
     double least = 1e18;
     for (int run = 0; run < RUNS; run++) {
         double began = milliseconds();
-        witcall_status status = witcall_enter_requests(&package, func, flats, 2, memory, 512, NULL, 0, limit ? limit : sum);
+        witcall_status status =
+            witcall_enter_requests(&package, func, flats, 2, memory, 512, NULL, 0, limit ? limit : sum);
         double took = milliseconds() - began;
         check(status, limit ? WITCALL_REFUSED : WITCALL_DONE, limit ? WITCALL_ABOVE_LIMIT : 0);
         least = took < least ? took : least;
     }
-    printf("%d levels in 512 bytes, limit %s%llu: %.2f ms\n", levels, words, (unsigned long long)(limit ? limit : sum), least);
+    printf(
+        "%d levels in 512 bytes, limit %s%llu: %.2f ms\n", levels, words, (unsigned long long)(limit ? limit : sum),
+        least);
     witcall_close(&package);
     free(memory);
 }
@@ -100,8 +104,10 @@ static void tuples(void) {
         double began = milliseconds();
         check(witcall_enter_requests(&package, func, flats, 2, memory, NUMBERS, NULL, 0, NUMBERS), WITCALL_DONE, 0);
         double asked = milliseconds();
-        check(witcall_enter(
-            &package, func, flats, 2, memory, NUMBERS, target, NUMBERS, &block, 1, handed, WITCALL_MAX_VALUES), WITCALL_DONE, 0);
+        check(
+            witcall_enter(
+                &package, func, flats, 2, memory, NUMBERS, target, NUMBERS, &block, 1, handed, WITCALL_MAX_VALUES),
+            WITCALL_DONE, 0);
         double entered = milliseconds();
         asking = asked - began < asking ? asked - began : asking;
         entering = entered - asked < entering ? entered - asked : entering;
@@ -116,7 +122,7 @@ static void tuples(void) {
 /* A text that begins so, has these parts with their numbers as often as there is room, and ends so. */
 typedef struct {
     const char *name, *front, *part, *end;
-    uint32_t most;     /* of the parts */
+    uint32_t most; /* of the parts */
 } shape;
 
 static const shape SHAPES[] = {
@@ -164,8 +170,8 @@ static void text(const shape *s) {
         double took = milliseconds() - began;
         getrusage(RUSAGE_SELF, &after);
         printf(
-            "%s, %zu bytes: open %.0f ms, %ld KiB, error %u\n", s->name, strlen(given), took, after.ru_maxrss - before.ru_maxrss,
-            status.number);
+            "%s, %zu bytes: open %.0f ms, %ld KiB, error %u\n", s->name, strlen(given), took,
+            after.ru_maxrss - before.ru_maxrss, status.number);
         exit(0);
     }
     wait(NULL);

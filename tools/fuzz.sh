@@ -1,11 +1,12 @@
 #!/bin/sh
-# Runs the harnesses of tests/fuzz over the library for C, under the address and undefined behaviour sanitizers, and compares what the library did
-# with the models of tools/models.
+# Runs the harnesses of tests/fuzz over the library for C, under the address and undefined behaviour sanitizers, and
+# compares what the library did with the models of tools/models.
 #
 # usage: tools/fuzz.sh [--released | --built] MINUTES [FOLDER]
 #
-# The library is installed by tools/install.sh, whose words --released and --built are. The harnesses run for MINUTES in all, two at a time. Inputs
-# that mark something new stay in FOLDER for the next run; without it a temporary folder is made, and stays if something is found.
+# The library is installed by tools/install.sh, whose words --released and --built are. The harnesses run for MINUTES in
+# all, two at a time. Inputs that mark something new stay in FOLDER for the next run; without it a temporary folder is
+# made, and stays if something is found.
 #
 # | harness | its inputs                                                                | share of the time |
 # |---------|---------------------------------------------------------------------------|-------------------|
@@ -14,9 +15,9 @@
 # | set     | sets of texts and binaries, their lengths, and names that are looked for   | three eighths     |
 # | status  | statuses and the room for their lines                                      | one eighth        |
 #
-# The first inputs are made of the stored rows (tests/fuzz/seeds.py). At the end open and halves run COMPARED more inputs each, and
-# tests/fuzz/compare.py compares what they did. A line for each harness has the number of its inputs. The exit status is 1 if something is found
-# or missing.
+# The first inputs are made of the stored rows (tests/fuzz/seeds.py). At the end open and halves run COMPARED more
+# inputs each, and tests/fuzz/compare.py compares what they did. A line for each harness has the number of its inputs.
+# The exit status is 1 if something is found or missing.
 #
 # It needs clang with libFuzzer, and python3: in Debian `apt-get install -y clang libclang-rt-14-dev python3`.
 set -eu
@@ -56,7 +57,8 @@ flags='-std=gnu11 -g -O1 -Wall -Wextra -Werror -fsanitize=fuzzer,address,undefin
 echo 'int LLVMFuzzerTestOneInput(const char *data, unsigned long len) { return !data && len; }' >"$build/empty.c"
 # shellcheck disable=SC2086 # the flags are words
 clang $flags -o "$build/empty" "$build/empty.c" 2>"$build/log" ||
-    fail "clang has no libFuzzer: apt-get install -y libclang-rt-14-dev (or that of clang's version); clang says: $(head -n 1 "$build/log")"
+    fail "clang has no libFuzzer: apt-get install -y libclang-rt-14-dev (or that of clang's version); clang says:
+$(head -n 1 "$build/log")"
 
 # shellcheck disable=SC2086 # no word if none was given
 "$root/tools/install.sh" --prefix "$build/installed" $origin >"$build/log" || fail "the library can't be installed"
@@ -64,7 +66,8 @@ for harness in halves open set status; do
     wrapped=''
     [ $harness != open ] || wrapped='-Wl,--wrap=malloc -Wl,--wrap=realloc'
     # shellcheck disable=SC2086 # the flags are words
-    clang $flags $wrapped -I"$build/installed/include" -o "$build/$harness" "$root/tests/fuzz/$harness.c" "$build/installed/lib/libwitcall.a" ||
+    clang $flags $wrapped -I"$build/installed/include" -o "$build/$harness" \
+        "$root/tests/fuzz/$harness.c" "$build/installed/lib/libwitcall.a" ||
         fail "$harness can't be built"
 done
 python3 -B "$root/tests/fuzz/seeds.py" "$build/seeds" >"$build/log" || fail "no first inputs can be made"
@@ -74,8 +77,9 @@ python3 -B "$root/tests/fuzz/seeds.py" "$build/seeds" >"$build/log" || fail "no 
 # Runs a harness for so many seconds.
 run() {
     mkdir -p "$build/kept/$1" "$build/found"
-    "$build/$1" -max_total_time="$2" -max_len=4096 -timeout=10 -dict="$build/seeds/words.dict" -artifact_prefix="$build/found/$1-" \
-        -print_final_stats=1 "$build/kept/$1" "$build/seeds/$1" >"$build/$1.log" 2>&1 || echo failed >"$build/$1.failed"
+    "$build/$1" -max_total_time="$2" -max_len=4096 -timeout=10 -dict="$build/seeds/words.dict" \
+        -artifact_prefix="$build/found/$1-" -print_final_stats=1 "$build/kept/$1" "$build/seeds/$1" \
+        >"$build/$1.log" 2>&1 || echo failed >"$build/$1.failed"
 }
 
 rm -f "$build"/*.failed
@@ -106,7 +110,8 @@ done
 # Runs inputs that stay and changed ones, and compares what was done.
 compared() {
     mkdir -p "$build/kept/$1"
-    WITCALL_CASES=/dev/fd/3 "$build/$1" -runs=$COMPARED -max_len=4096 "$build/kept/$1" "$build/seeds/$1" 3>&1 >"$build/$1-cases.log" 2>&1 |
+    WITCALL_CASES=/dev/fd/3 "$build/$1" -runs=$COMPARED -max_len=4096 "$build/kept/$1" "$build/seeds/$1" \
+        3>&1 >"$build/$1-cases.log" 2>&1 |
         python3 -B "$root/tests/fuzz/compare.py" /dev/stdin && grep -q '^Done ' "$build/$1-cases.log"
 }
 

@@ -75,7 +75,8 @@ def inputs(program, folder, shape, count):
     binary = os.path.join(folder, f"binary{count}")
     with open(binary, "wb") as file:
         subprocess.run([program, "bin", "--with", first, second], stdout=file, check=True)
-    return [[program, "show", alone], [program, "show", "--with", first, second], [program, "show", "--with", first, binary]]
+    two = [[program, "show", "--with", first, package] for package in (second, binary)]
+    return [[program, "show", alone], *two]
 
 
 def least_times(commands):
@@ -204,7 +205,8 @@ def main():
             alone, two, binary = took[0::3], took[1::3], took[2::3]
             for what, times in (("one package", alone), ("two texts", two), ("text and binary", binary)):
                 for count, time, grew in zip(COUNTS, times, [None, *growth.growths(times)]):
-                    print(f"{name:10} {what:15} {count:6} uses {time * 1000:8.2f} ms {f'{grew:.2f} times' if grew else ''}", flush=True)
+                    more = f"{grew:.2f} times" if grew else ""
+                    print(f"{name:10} {what:15} {count:6} uses {time * 1000:8.2f} ms {more}", flush=True)
                 failed |= growth.grew_too_much(times)
             more = max(time / single for time, single in zip(two, alone))
             print(f"{name:10} two texts take at most {more:.2f} times as long as one package", flush=True)

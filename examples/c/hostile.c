@@ -1,9 +1,9 @@
-/* Memories of a stranger: lists whose elements all lie at the same address, so that few bytes ask for many blocks. Whatever the values are, the
- * limit bounds what is asked for and the time (docs/C.md, "Time and memory of hostile inputs"). It is built under the address and undefined
- * behaviour sanitizers, and each memory is a block of its own.
+/* Memories of a stranger: lists whose elements all lie at the same address, so that few bytes ask for many blocks.
+ * Whatever the values are, the limit bounds what is asked for and the time (docs/C.md, "Time and memory of hostile
+ * inputs"). It is built under the address and undefined behaviour sanitizers, and each memory is a block of its own.
  *
- * A line for each case goes to standard output. The exit status is 1 where one isn't as wanted, or takes longer than MOST_MILLISECONDS of
- * processor time.
+ * A line for each case goes to standard output. The exit status is 1 where one isn't as wanted, or takes longer than
+ * MOST_MILLISECONDS of processor time.
  */
 #include "witcall.h"
 #include <stdbool.h>
@@ -85,7 +85,7 @@ static uint32_t found(const char *name) {
 
 typedef struct {
     const char *name;
-    uint32_t enter, leave;      /* a function that takes the list, and one that returns it */
+    uint32_t enter, leave; /* a function that takes the list, and one that returns it */
     uint8_t *memory;
     size_t len;
     witcall_value flats[2], answer;
@@ -115,7 +115,8 @@ static witcall_status call_leaves_within(list_case *c, uint64_t limit) {
 
 /* Each way of asking, within a limit. */
 static void ask(list_case *c, const char *words, uint64_t limit) {
-    witcall_status (*const ways[])(list_case *, uint64_t) = {enters_within, leaves_within, call_enters_within, call_leaves_within};
+    witcall_status (*const ways[])(list_case *, uint64_t) = {
+        enters_within, leaves_within, call_enters_within, call_leaves_within};
     for (size_t i = 0; i < sizeof ways / sizeof *ways; i++) {
         double began = milliseconds();
         witcall_status status = ways[i](c, limit);
@@ -141,9 +142,11 @@ static void halves(list_case *c) {
     for (size_t blocks = 0; blocks < 2; blocks++) {
         double began = milliseconds();
         witcall_status entered = witcall_enter(
-            &package, c->enter, c->flats, 2, c->memory, c->len, target, LIMIT, &first, blocks, values, WITCALL_MAX_VALUES);
+            &package, c->enter, c->flats, 2, c->memory, c->len, target, LIMIT, &first, blocks, values,
+            WITCALL_MAX_VALUES);
         witcall_status left = witcall_leave(
-            &package, c->leave, &area, 1, &c->answer, 1, c->memory, c->len, target, LIMIT, &first, blocks, values, WITCALL_MAX_VALUES);
+            &package, c->leave, &area, 1, &c->answer, 1, c->memory, c->len, target, LIMIT, &first, blocks, values,
+            WITCALL_MAX_VALUES);
         in_time(c->name, began);
         print_status(c->name, blocks ? "enter with one block" : "enter with no block", entered);
         print_status(c->name, blocks ? "leave with one block" : "leave with no block", left);
@@ -181,7 +184,9 @@ static void levels(void) {
         char name[32], enter[8], leave[8];
         snprintf(name, sizeof name, "%d levels in 512 bytes", i);
         snprintf(enter, sizeof enter, "take%d", i), snprintf(leave, sizeof leave, "give%d", i);
-        list_case c = {name, found(enter), found(leave), shared_lists(), 8 * ELEMENTS, {{0, 0}, {0, ELEMENTS}}, {0, 0}, of_levels(i)};
+        list_case c = {
+            name, found(enter), found(leave), shared_lists(), 8 * ELEMENTS, {{0, 0}, {0, ELEMENTS}}, {0, 0},
+            of_levels(i)};
         ask(&c, "a limit of 1048576 bytes", LIMIT);
         ask(&c, "a limit of 0 bytes", 0);
         if (c.all.bytes < 32 * LIMIT)
@@ -193,10 +198,11 @@ static void levels(void) {
 
 /* ---- lists of what lies at one place ---- */
 
-/* The elements of a list, whose words are the same for all, and what each of them asks for. What they share begins behind them. */
+/* The elements of a list, whose words are the same for all, and what each of them asks for. What they share begins
+ * behind them. */
 typedef struct {
     const char *name, *take, *give;
-    size_t words, place;     /* how many words an element has, and which of them is the address of what is shared */
+    size_t words, place; /* how many words an element has, and which of them is the address of what is shared */
     uint32_t word[4];
     asked each;
 } shape;
@@ -249,7 +255,8 @@ static void tuples(void) {
     uint8_t *memory = array(len, 1);
     memcpy(memory, (uint32_t[]){8, NUMBERS}, 8);
     list_case c = {
-        "16384 numbers in 60 tuples", found("take-tuples"), found("give-tuples"), memory, len, {{0, 8}, {0, NUMBERS}}, {0, 0},
+        "16384 numbers in 60 tuples", found("take-tuples"), found("give-tuples"), memory, len,
+        {{0, 8}, {0, NUMBERS}}, {0, 0},
         {1, NUMBERS}};
     ask(&c, "a limit of 1048576 bytes", LIMIT);
     ask_around_the_sum(&c);
@@ -265,12 +272,15 @@ static void spilled(void) {
         memcpy(memory + 8 * i, (uint32_t[]){0, 72}, 8);
     const uint32_t func = found("spilled");
     const asked all = {10, 72 + 9 * 72};
-    expect("9 texts in a record", "a limit of just the sum", witcall_enter_requests(
-        &package, func, &flat, 1, memory, 72, NULL, 0, all.bytes), all, all.bytes);
-    expect("9 texts in a record", "one byte less", witcall_enter_requests(
-        &package, func, &flat, 1, memory, 72, NULL, 0, all.bytes - 1), all, all.bytes - 1);
-    expect("9 texts in a record", "the record alone", witcall_enter_requests(
-        &package, func, &flat, 1, memory, 72, NULL, 0, 72), all, 72);
+    expect(
+        "9 texts in a record", "a limit of just the sum",
+        witcall_enter_requests(&package, func, &flat, 1, memory, 72, NULL, 0, all.bytes), all, all.bytes);
+    expect(
+        "9 texts in a record", "one byte less",
+        witcall_enter_requests(&package, func, &flat, 1, memory, 72, NULL, 0, all.bytes - 1), all, all.bytes - 1);
+    expect(
+        "9 texts in a record", "the record alone",
+        witcall_enter_requests(&package, func, &flat, 1, memory, 72, NULL, 0, 72), all, 72);
     free(memory);
 }
 
@@ -294,7 +304,8 @@ static const char *within(const char *outer, int count, const char *inner, char 
 
 static void open_package(void) {
     static char text[8192], type[1024], tuple[1024];
-    size_t len = (size_t)snprintf(text, sizeof text, "package a:b;\ninterface c {\n  record r { a: string, b: list<u16> }\n");
+    size_t len =
+        (size_t)snprintf(text, sizeof text, "package a:b;\ninterface c {\n  record r { a: string, b: list<u16> }\n");
     for (int i = LEAST_LEVELS; i <= MOST_LEVELS; i++) {
         char name[8];
         snprintf(name, sizeof name, "%d", i);
@@ -308,7 +319,8 @@ static void open_package(void) {
     len += put_both(text + len, sizeof text - len, "-tuples", within("list", 1, tuple, type, sizeof type));
     snprintf(
         text + len, sizeof text - len,
-        "  spilled: func(a: string, b: string, c: string, d: string, e: string, f: string, g: string, h: string, i: string);\n}\n");
+        "  spilled: func(a: string, b: string, c: string, d: string, e: string, f: string, g: string, h: string,"
+        " i: string);\n}\n");
     if (witcall_open(BYTES(text), &package).code != WITCALL_DONE)
         exit(2);
 }

@@ -1,5 +1,5 @@
-/* Packages and values that the bytes of an input choose. Values lie in a memory as their types say. Blocks may be shared, overlap, or lie
- * anywhere. */
+/* Packages and values that the bytes of an input choose. Values lie in a memory as their types say. Blocks may be
+ * shared, overlap, or lie anywhere. */
 #ifndef BUILD_H
 #define BUILD_H
 #include "fuzz.h"
@@ -12,10 +12,11 @@
 typedef struct {
     input *in;
     uint32_t nodes, names;
-    char declared[8192];     /* the declarations so far */
+    char declared[8192]; /* the declarations so far */
 } types;
 
-static const char *const PRIMITIVES[] = {"u8", "string", "bool", "s8", "s16", "u16", "s32", "u32", "s64", "u64", "char", "string"};
+static const char *const PRIMITIVES[] = {
+    "u8", "string", "bool", "s8", "s16", "u16", "s32", "u32", "s64", "u64", "char", "string"};
 
 static inline void append(char *text, const char *more) {
     strcat(text, more);
@@ -147,7 +148,8 @@ static inline uint64_t take_number(builder *b, uint32_t size) {
 static inline void put(builder *b, witcall_type_info type, uint32_t at);
 
 static inline pair make_text_value(builder *b) {
-    static const char *const PIECES[] = {"a", "z", "\303\274", "\342\202\254", "\360\237\230\200", "\200", "\355\240\200", "\0"};
+    static const char *const PIECES[] = {
+        "a", "z", "\303\274", "\342\202\254", "\360\237\230\200", "\200", "\355\240\200", "\0"};
     const uint32_t how = take(b->in, 1), count = how % 16;
     pair made = {0, 0};
     if (how >= 240)

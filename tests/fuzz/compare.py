@@ -4,8 +4,8 @@
 usage: tests/fuzz/compare.py FILE      FILE has a case a line, as a harness writes it if WITCALL_CASES names that file
 
 - open: the text of what is opened, or the line of its refusal.
-- enter, leave: what is asked for, or the trap of the source, or that it is more than the limit; then the status of the half, its core
-  values, and each byte of the memory that it writes.
+- enter, leave: what is asked for, or the trap of the source, or that it is more than the limit; then the status of the
+  half, its core values, and each byte of the memory that it writes.
 
 It prints how many cases of each kind were the same, and each one that differs; the exit status is 1 then.
 """

@@ -1,8 +1,8 @@
-/* What the harnesses share: bytes of the input, arrays that end at a page which no one may touch, facts that have to hold, and lines of cases for
- * tests/fuzz/compare.py.
+/* What the harnesses share: bytes of the input, arrays that end at a page which no one may touch, facts that have to
+ * hold, and lines of cases for tests/fuzz/compare.py.
  *
- * The library is no code that libFuzzer instruments. So a harness marks what the library answered, and libFuzzer keeps the inputs that mark
- * something new.
+ * The library is no code that libFuzzer instruments. So a harness marks what the library answered, and libFuzzer keeps
+ * the inputs that mark something new.
  */
 #ifndef FUZZ_H
 #define FUZZ_H

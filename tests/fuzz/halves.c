@@ -1,9 +1,11 @@
-/* The halves of calls over memories of a stranger. An input chooses a function's types and builds values of them (build.h), or has a text, memories
- * and core values as they are. Then an allocator grants blocks, of which the input may change one.
+/* The halves of calls over memories of a stranger. An input chooses a function's types and builds values of them
+ * (build.h), or has a text, memories and core values as they are. Then an allocator grants blocks, of which the input
+ * may change one.
  *
- * What has to hold: the memory that is read is as it was, and the other one outside the blocks. What is asked for is asked for with any limit from
- * its sum on, and is 76 with any less. The half is done with just these blocks. What it put asks for the same blocks again. A call that was
- * begun does the same. tests/fuzz/compare.py compares the rest with the models.
+ * What has to hold: the memory that is read is as it was, and the other one outside the blocks. What is asked for is
+ * asked for with any limit from its sum on, and is 76 with any less. The half is done with just these blocks. What it
+ * put asks for the same blocks again. A call that was begun does the same. tests/fuzz/compare.py compares the rest with
+ * the models.
  */
 #include "build.h"
 
@@ -29,7 +31,7 @@ typedef struct {
     bool leaves, is_begun, at_end;
     values flats, answer;
     memory source, target;
-    uint32_t area, area_size;     /* the return area, which the second half may write */
+    uint32_t area, area_size; /* the return area, which the second half may write */
     witcall_call call;
 } half;
 
@@ -40,7 +42,7 @@ typedef struct {
     witcall_block *blocks;
     uint64_t sum;
     size_t granted;
-    bool is_changed;     /* whether the input changed a block */
+    bool is_changed; /* whether the input changed a block */
 } asked;
 
 /* ---- the calls of the library ---- */
@@ -51,7 +53,8 @@ static witcall_status ask(half *h, witcall_request *requests, size_t len, uint64
         return witcall_call_leave_requests(
             h->package, &h->call, h->answer.at, h->answer.len, m->at, m->len, requests, len, limit);
     if (h->leaves)
-        return witcall_leave_requests(h->package, h->func, h->answer.at, h->answer.len, m->at, m->len, requests, len, limit);
+        return witcall_leave_requests(
+            h->package, h->func, h->answer.at, h->answer.len, m->at, m->len, requests, len, limit);
     if (h->is_begun)
         return witcall_call_enter_requests(h->package, &h->call, m->at, m->len, requests, len, limit);
     return witcall_enter_requests(h->package, h->func, h->flats.at, h->flats.len, m->at, m->len, requests, len, limit);
@@ -61,15 +64,18 @@ static witcall_status cross(half *h, const witcall_block *blocks, size_t len, wi
     memory *s = &h->source, *t = &h->target;
     if (h->leaves && h->is_begun)
         return witcall_call_leave(
-            h->package, &h->call, h->answer.at, h->answer.len, s->at, s->len, t->at, t->len, blocks, len, out, WITCALL_MAX_VALUES);
+            h->package, &h->call, h->answer.at, h->answer.len, s->at, s->len, t->at, t->len, blocks, len, out,
+            WITCALL_MAX_VALUES);
     if (h->leaves)
         return witcall_leave(
-            h->package, h->func, h->flats.at, h->flats.len, h->answer.at, h->answer.len, s->at, s->len, t->at, t->len, blocks, len,
-            out, WITCALL_MAX_VALUES);
+            h->package, h->func, h->flats.at, h->flats.len, h->answer.at, h->answer.len, s->at, s->len, t->at, t->len,
+            blocks, len, out, WITCALL_MAX_VALUES);
     if (h->is_begun)
-        return witcall_call_enter(h->package, &h->call, s->at, s->len, t->at, t->len, blocks, len, out, WITCALL_MAX_VALUES);
+        return witcall_call_enter(
+            h->package, &h->call, s->at, s->len, t->at, t->len, blocks, len, out, WITCALL_MAX_VALUES);
     return witcall_enter(
-        h->package, h->func, h->flats.at, h->flats.len, s->at, s->len, t->at, t->len, blocks, len, out, WITCALL_MAX_VALUES);
+        h->package, h->func, h->flats.at, h->flats.len, s->at, s->len, t->at, t->len, blocks, len, out,
+        WITCALL_MAX_VALUES);
 }
 
 /* ---- what is asked for ---- */
@@ -155,7 +161,8 @@ static void grant(half *h, asked *a, input *in) {
 static void mark_written(half *h, const asked *a, bool *may) {
     memset(may, 0, MEMORY);
     for (size_t i = 0; i < a->granted; i++)
-        for (uint64_t at = a->blocks[i].at; at < (uint64_t)a->blocks[i].at + a->blocks[i].size && at < h->target.len; at++)
+        for (uint64_t at = a->blocks[i].at; at < (uint64_t)a->blocks[i].at + a->blocks[i].size && at < h->target.len;
+             at++)
             may[at] = true;
     for (uint64_t at = h->area; h->leaves && at < (uint64_t)h->area + h->area_size && at < h->target.len; at++)
         may[at] = true;
@@ -172,7 +179,8 @@ static void check_target(half *h, const asked *a, witcall_status status) {
 
 /* The kinds of the core values that a half hands out. */
 static size_t kinds_of(half *h, uint32_t *kinds) {
-    witcall_status told = (h->leaves ? witcall_lowered_result : witcall_lifted_params)(h->package, h->func, kinds, WITCALL_MAX_VALUES);
+    witcall_status told =
+        (h->leaves ? witcall_lowered_result : witcall_lifted_params)(h->package, h->func, kinds, WITCALL_MAX_VALUES);
     HOLDS(is_done(told));
     return told.count;
 }
@@ -278,7 +286,8 @@ static void put_blocks(const asked *a) {
     put_words("]");
 }
 
-static void put_case(half *h, const asked *a, const uint8_t *text, size_t text_len, witcall_status status, const witcall_value *out) {
+static void put_case(
+    half *h, const asked *a, const uint8_t *text, size_t text_len, witcall_status status, const witcall_value *out) {
     if (!cases())
         return;
     put_words("{\"of\":\"%s\",\"text\":", h->leaves ? "leave" : "enter"), put_hex(text, text_len);
@@ -322,8 +331,10 @@ static witcall_type_info result_of(builder *b, uint32_t func) {
 
 /* Whether it goes through memory: the callee answers an address, and the caller gets nothing. */
 static bool has_area(builder *b, uint32_t func) {
-    witcall_status lifted = witcall_lifted_result(b->package, func, (uint32_t[WITCALL_MAX_VALUES]){0}, WITCALL_MAX_VALUES);
-    witcall_status lowered = witcall_lowered_result(b->package, func, (uint32_t[WITCALL_MAX_VALUES]){0}, WITCALL_MAX_VALUES);
+    witcall_status lifted =
+        witcall_lifted_result(b->package, func, (uint32_t[WITCALL_MAX_VALUES]){0}, WITCALL_MAX_VALUES);
+    witcall_status lowered =
+        witcall_lowered_result(b->package, func, (uint32_t[WITCALL_MAX_VALUES]){0}, WITCALL_MAX_VALUES);
     HOLDS(is_done(lifted) && is_done(lowered));
     return lifted.count == 1 && lowered.count == 0;
 }
@@ -449,7 +460,8 @@ static bool is_read(call *c, input *in, bool at_end) {
     return true;
 }
 
-/* Gives both halves what they have in common. The callee of the first is as the answer was built in, the caller of the second as it was read. */
+/* Gives both halves what they have in common. The callee of the first is as the answer was built in, the caller of the
+ * second as it was read. */
 static void complete(call *c, input *in, bool at_end) {
     builder b = {.package = &c->package};
     half *e = &c->enter, *l = &c->leave;

@@ -1,5 +1,5 @@
-/* Texts and binaries of a stranger: each is opened or refused. What is opened is written, and opens again as the same package. With less memory
- * an input is out of memory, or is what it was. */
+/* Texts and binaries of a stranger: each is opened or refused. What is opened is written, and opens again as the same
+ * package. With less memory an input is out of memory, or is what it was. */
 #include "opened.h"
 
 /* ---- an allocation that is refused: which one from now on, or 0 for none ---- */

@@ -22,7 +22,8 @@ static inline uint8_t *written(witcall_package *package, writer *write, uint32_t
 
 /* What is written of a package opens behind the same packages, and is written as the same bytes again. */
 static inline void check_again(
-    witcall_package *package, writer *write, uint32_t too_long, const uint8_t *before, const size_t *lengths, size_t count) {
+    witcall_package *package, writer *write, uint32_t too_long, const uint8_t *before, const size_t *lengths,
+    size_t count) {
     size_t len, again_len, before_len = 0, all_lengths[65];
     uint8_t *bytes = written(package, write, too_long, &len);
     if (!bytes)
@@ -50,7 +51,8 @@ static inline void check_type(witcall_package *package, witcall_type_info type) 
     HOLDS(type.kind == WITCALL_NO_TYPE || type.align == 1 || type.align == 2 || type.align == 4 || type.align == 8);
     HOLDS(type.kind == WITCALL_NO_TYPE ? !type.size : type.size % type.align == 0);
     if (type.kind >= WITCALL_LIST)
-        HOLDS(is_done(witcall_row(package, type.row, &row)) && row.type.kind == type.kind && row.type.size == type.size);
+        HOLDS(
+            is_done(witcall_row(package, type.row, &row)) && row.type.kind == type.kind && row.type.size == type.size);
 }
 
 /* Each row, with its names and members, and what follows the last one. */
@@ -91,7 +93,8 @@ static inline void check_line(witcall_package *package, witcall_status status) {
     mark(words, bits(status.number));
 }
 
-/* A handle after its opening: what it holds, and what each call says of it. `before` has the packages before the last one. */
+/* A handle after its opening: what it holds, and what each call says of it. `before` has the packages before the last
+ * one. */
 static inline void check_opened(
     witcall_package *package, witcall_status status, const uint8_t *before, const size_t *lengths, size_t count) {
     check_status(status);

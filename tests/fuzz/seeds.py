@@ -5,7 +5,8 @@ usage: tests/fuzz/seeds.py FOLDER      a folder for each harness is made in it, 
 
 - open: the texts and binaries of crates/rows_texts/data, of crates/vectors and of examples/, each once.
 - set: the sets of crates/rows_texts/data, in the form of tests/fuzz/set.c.
-- halves: the calls of crates/vectors, in the form of tests/fuzz/halves.c, and pseudorandom bytes that build types and values.
+- halves: the calls of crates/vectors, in the form of tests/fuzz/halves.c, and pseudorandom bytes that build types and
+  values.
 - status: a status of each number.
 
 Inputs of more than MOST bytes are left out.
@@ -26,8 +27,8 @@ DATA = ROOT / "crates/rows_texts/data"
 BINARY = re.compile(r"\b0061736d[0-9a-f]*\b")
 FUNCTION = re.compile(r"%?([A-Za-z][A-Za-z0-9-]*) *: *func\b")
 WORDS = (
-    "package interface world import export use as type record variant enum flags func list option result tuple string char bool u8 s8 u16 s16 "
-    "u32 s32 u64 s64 -> : ; , . { } ( ) < > @1.0.0 % = _ a:b a:b/c d:e/y@1.0.0.{t} // /* */"
+    "package interface world import export use as type record variant enum flags func list option result tuple string "
+    "char bool u8 s8 u16 s16 u32 s32 u64 s64 -> : ; , . { } ( ) < > @1.0.0 % = _ a:b a:b/c d:e/y@1.0.0.{t} // /* */"
 ).split()
 BYTES = ("0061736d0d000100", "0141", "0142", "0140", "0400", "0500", "7061636b616765", "0b0d0100077061636b616765030000")
 
@@ -96,8 +97,10 @@ def call_seed(row):
     text = package_of(row)
     names = FUNCTION.findall(row.get("text", ""))
     index = names.index(row["func"]) if row["func"] in names else 0
-    memories = b"".join(little(len(data), 2) + data for data in (bytes.fromhex(row[side]) for side in ("caller", "callee")))
-    return b"\1" + little(len(text), 2) + text + little(index, 1) + memories + values(row["flats"]) + values(row["answer"]) + bytes(8)
+    memories = [bytes.fromhex(row[side]) for side in ("caller", "callee")]
+    parts = [b"\1", little(len(text), 2), text, little(index, 1)]
+    parts += [little(len(data), 2) + data for data in memories]
+    return b"".join([*parts, values(row["flats"]), values(row["answer"]), bytes(8)])
 
 
 def bytes_of(number):
@@ -124,7 +127,8 @@ SEEDS = {"open": open_seeds, "set": set_seeds, "halves": half_seeds, "status": s
 
 def dictionary():
     """The words of WIT and parts of binaries, as libFuzzer reads them."""
-    spelled = ["".join(f"\\x{byte:02x}" for byte in data) for data in (*(word.encode() for word in WORDS), *map(bytes.fromhex, BYTES))]
+    words = [*(word.encode() for word in WORDS), *map(bytes.fromhex, BYTES)]
+    spelled = ["".join(f"\\x{byte:02x}" for byte in data) for data in words]
     return "".join(f'"{word}"\n' for word in spelled)
 
 

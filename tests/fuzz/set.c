@@ -1,5 +1,5 @@
-/* Sets of a stranger: the first byte is how many inputs, then two bytes for each say its length, and their bytes follow. Each set is opened or
- * refused; names are looked for in it. */
+/* Sets of a stranger: the first byte is how many inputs, then two bytes for each say its length, and their bytes
+ * follow. Each set is opened or refused; names are looked for in it. */
 #include "opened.h"
 
 #define MOST_INPUTS 16
