@@ -22,10 +22,12 @@ abbrev pub named_in : Option TypeName → Option ℕ
 named_in None = None
 named_in (Some n) = Some n.interface.0
 
+-- the interface that a function is of, none if it is a world's
 abbrev pub owned_in : Owner → Option ℕ
 owned_in (owner.Interface i) = Some i.0
 owned_in (owner.World w) = None
 
+-- the interface of a row: of a type with a name or of a function; none for other rows
 abbrev pub definition_interface : Definition → Option ℕ
 definition_interface (row.Type d) = named_in d.name
 definition_interface (row.Function f) = owned_in f.owner
@@ -35,6 +37,7 @@ abbrev pub with_new_type : ℕ → TypeDefKind → Interface → Interface
 with_new_type k (kind.Use t) i = record { «package» = i.«package»; name = i.name; uses = i.uses ++ type_id k ∷ []; types = i.types; functions = i.functions }
 with_new_type k _ i = record { «package» = i.«package»; name = i.name; uses = i.uses; types = i.types ++ type_id k ∷ []; functions = i.functions }
 
+-- the interface with the row at place k: among its used names, its types or its functions
 abbrev pub with_definition : ℕ → Definition → Interface → Interface
 with_definition k (row.Type d) i = with_new_type k d.kind i
 with_definition k (row.Function f) i = record { «package» = i.«package»; name = i.name; uses = i.uses; types = i.types; functions = i.functions ++ function_id k ∷ [] }
@@ -43,7 +46,7 @@ with_definition k (row.Function f) i = record { «package» = i.«package»; nam
 abbrev pub header_name : PackageId → PackageParts
 header_name p = record { namespace = p.namespace; name = p.name; version = option_map string_bytes p.version }
 
--- .. behind its imports, with own interfaces of these names
+-- the package of this name made of a table: after its imports, with own interfaces of these names
 pub record IsFinished (imports : Resolve) (p : PackageParts) (names : List (List ℕ)) (t : Table) (r : Resolve) : Type 0 where
   pub packages : r.packages ≡ imports.packages ++ p ∷ []
   pub worlds : r.worlds ≡ t.worlds

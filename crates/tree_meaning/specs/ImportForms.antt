@@ -20,7 +20,7 @@ pub record AreImportsInForm (imports : Resolve) : Type 0 where
   pub parted : IsTrue (is_parted (length imports.definitions) 0 imports.interfaces [])
   pub interfaces : IsTrue (are_interfaces imports.definitions 0 0 imports.interfaces)
 
--- .. and a file of another package than theirs, whose names make full names too
+-- the imports are in form, and the file is of another package than theirs, whose names make full names too
 pub record IsNamedBehind (imports : Resolve) (f : File) : Type 0 where
   pub form : AreImportsInForm imports
   pub names : IsTrue (file_has_full_names f)

@@ -24,10 +24,11 @@ pub record Imports : Type 0 where
   pub interfaces : List Import
   pub meaning : Package
 
+-- no interfaces, worlds and definitions: what a file that imports nothing begins with
 abbrev pub no_package : Package
 no_package = record { interfaces = []; worlds = []; definitions = [] }
 
--- a file that stands alone
+-- the imports of a file that depends on no other package
 abbrev pub no_imports : Imports
 no_imports = record { packages = []; interfaces = []; meaning = no_package }
 
@@ -35,12 +36,15 @@ no_imports = record { packages = []; interfaces = []; meaning = no_package }
 abbrev pub HasImport : Imports → PackageParts → List ℕ → Type 0
 HasImport m q i = (k : Import) × Contains m.interfaces k × (k.«package» ≡ q) × (k.name ≡ i)
 
+-- a package name without parts, for places that a list doesn't have
 abbrev pub nameless : PackageParts
 nameless = record { namespace = []; name = []; version = None }
 
+-- an import without names, for places that a list doesn't have
 abbrev pub no_import : Import
 no_import = record { «package» = nameless; name = []; types = [] }
 
+-- the import at this place of the list
 abbrev pub import_at : List Import → ℕ → Import
 import_at ks k = slice_index_or ks k no_import
 
@@ -62,12 +66,15 @@ abbrev pub name_within : ℕ → Option TypeName → Option (List ℕ)
 name_within k None = None
 name_within k (Some n) = if n.interface.0 == k then Some n.name else None
 
+-- the name of the type with this id, if it has one in interface k
 abbrev pub type_within : List Definition → ℕ → TypeId → Option (List ℕ)
 type_within rows k t = name_within k (name_at rows (Some t))
 
+-- the names that interface k has for types: the used ones, then its own
 abbrev pub types_within : List Definition → ℕ → Interface → List (List ℕ)
 types_within rows k i = filter_map (type_within rows k) (i.uses ++ i.types)
 
+-- interface k of a table as an import: its package, its own name, and its names of types
 abbrev pub import_of : List PackageParts → List Definition → ℕ → Interface → Import
 import_of ps rows k i = record { «package» = slice_index_or ps i.«package».0 nameless; name = i.name; types = types_within rows k i }
 
@@ -76,8 +83,10 @@ abbrev pub imports_from : List PackageParts → List Definition → ℕ → List
 imports_from ps rows k [] = []
 imports_from ps rows k (i ∷ is) = import_of ps rows k i ∷ imports_from ps rows (k + 1) is
 
+-- the interfaces of a table as imports, in its order
 abbrev pub interfaces_of : Resolve → List Import
 interfaces_of r = imports_from r.packages r.definitions 0 r.interfaces
 
+-- a table of other packages as the imports of a file
 abbrev pub imports_of : Resolve → Imports
 imports_of r = record { packages = r.packages; interfaces = interfaces_of r; meaning = package_of r }

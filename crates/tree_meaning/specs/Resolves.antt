@@ -44,6 +44,7 @@ places ns wanted = filter_map (place_of ns) wanted
 abbrev pub own_uses : InterfaceTree → List (List ℕ)
 own_uses i = filter_map own_use i.uses
 
+-- the places in these names of the file's own interfaces that an interface uses; others are left out
 abbrev pub uses_of_interface : List (List ℕ) → InterfaceTree → List ℕ
 uses_of_interface ns i = places ns (own_uses i)
 
@@ -60,6 +61,7 @@ used_place ks ns (Some q) i = import_place ks q i
 abbrev pub path_place : List Import → List (List ℕ) → PathTo → Option ℕ
 path_place ks ns p = used_place ks ns (path_package p) (path_interface p)
 
+-- the places in these names of the interface's types that a declared type names; others are left out
 abbrev pub uses_of_type : List (List ℕ) → TypeItem → List ℕ
 uses_of_type ns t = places ns (named_definition t.definition)
 
@@ -69,6 +71,7 @@ type_uses i = map (uses_of_type (own_types i)) i.types
 
 -- ---- the package
 
+-- the names of the interfaces in this order of their places
 abbrev pub names_in_order : List InterfaceTree → List ℕ → List (List ℕ)
 names_in_order is order = map (λ k. (interface_at is k).name) order
 
@@ -83,7 +86,7 @@ pub record ResolvesBehind (before : Package) (is : List InterfaceTree) (ws : Lis
   pub worlds : p.worlds ≡ map meaning_of_world ws
   pub definitions : p.definitions ≡ before.definitions ++ flat_map (λ k. interface_meaning (interface_at is k) (types k)) order
 
--- .. of a file that stands alone
+-- the package of a file that depends on no other package
 abbrev pub Resolves : List InterfaceTree → List WorldTree → Package → Type 0
 Resolves is ws p = ResolvesBehind no_package is ws p
 
@@ -136,6 +139,7 @@ PassesLimit t = (65535 < type_entries t) ⊎ (are_standard t.rows ≡ false)
 
 -- ---- faults
 
+-- name n is met again in a scope of the file, up to the case of its letters
 abbrev pub HasDuplicate : File → List ℕ → Type 0
 HasDuplicate f n = (ns : List (List ℕ)) × Contains (scopes f) ns × IsDuplicate ns n
 
@@ -151,7 +155,7 @@ LacksPackage m f p = Contains (other_packages f) p × (¬ Contains m.packages p)
 abbrev pub KnowsPackagesOf : Imports → File → Type 0
 KnowsPackagesOf m f = All (Contains m.packages) (other_packages f)
 
--- .. where none is
+-- the file names no other package
 abbrev pub KnowsPackages : File → Type 0
 KnowsPackages f = KnowsPackagesOf no_imports f
 
@@ -173,6 +177,7 @@ IsLackingIn m is (Some q) i name n =
     ((n ≡ i) × (¬ HasImport m q n))
     ⊎ ((n ≡ name) × ((k : Import) × Contains m.interfaces k × (k.«package» ≡ q) × (k.name ≡ i) × (¬ Contains k.types n)))
 
+-- n is not found for a used name: the interface that it is used of, or the name there
 abbrev pub IsUnknownUse : Imports → List InterfaceTree → UsedItem → List ℕ → Type 0
 IsUnknownUse m is u n = IsLackingIn m is u.«package» u.interface u.name n
 
@@ -180,6 +185,7 @@ IsUnknownUse m is u n = IsLackingIn m is u.«package» u.interface u.name n
 abbrev pub IsUnknownName : InterfaceTree → List (List ℕ) → List ℕ → Type 0
 IsUnknownName i ns n = Contains ns n × (¬ Contains (type_names i) n)
 
+-- n is a name in this interface that is not found: of a used name, or in a type or a function that it declares
 abbrev pub IsUnknownIn : Imports → List InterfaceTree → InterfaceTree → List ℕ → Type 0
 IsUnknownIn m is i n =
     ((u : UsedItem) × Contains i.uses u × IsUnknownUse m is u n)
@@ -192,24 +198,29 @@ IsUnknownItem m names (InterfaceNamed way i) n = (n ≡ i) × (¬ Contains names
 IsUnknownItem m names (ForeignNamed way q i) n = (n ≡ i) × (¬ HasImport m q n)
 IsUnknownItem m names (FunctionOf way f) n = Contains (names_in_function f.function) n
 
+-- n is a name in an item of this world that is not found
 abbrev pub IsUnknownInWorld : Imports → List (List ℕ) → WorldTree → List ℕ → Type 0
 IsUnknownInWorld m names w n = (i : ItemTree) × Contains w.items i × IsUnknownItem m names i n
 
+-- n is a name in an interface or a world of the file that is not found
 abbrev pub HasUnknown : Imports → File → List ℕ → Type 0
 HasUnknown m f n =
     ((i : InterfaceTree) × Contains (interfaces f) i × IsUnknownIn m (interfaces f) i n)
     ⊎ ((w : WorldTree) × Contains (file_worlds f) w × IsUnknownInWorld m (names_of_trees (interfaces f)) w n)
 
+-- each name in interface i is found: a used one in its interface, one in a type or a function in i
 pub record HasKnownNamesOf (m : Imports) (is : List InterfaceTree) (i : InterfaceTree) : Type 0 where
   pub uses : All (IsKnownUseOf m is) i.uses
   pub types : All (λ t. All (Contains (type_names i)) (named_definition t.definition)) i.types
   pub functions : All (λ f. All (Contains (type_names i)) (names_in_function f.function)) i.functions
 
+-- an item of a world names an interface that is one of these or an import, or has a function that names no type
 abbrev pub IsKnownItemOf : Imports → List (List ℕ) → ItemTree → Type 0
 IsKnownItemOf m names (InterfaceNamed way i) = Contains names i
 IsKnownItemOf m names (ForeignNamed way q i) = HasImport m q i
 IsKnownItemOf m names (FunctionOf way f) = names_in_function f.function ≡ []
 
+-- each item of the world is one whose names are found
 abbrev pub IsKnownWorldOf : Imports → List (List ℕ) → WorldTree → Type 0
 IsKnownWorldOf m names w = All (IsKnownItemOf m names) w.items
 
@@ -228,16 +239,20 @@ HasCycle f =
 abbrev pub fits : Ty → Bool
 fits t = nat_le (ty_depth t) 64
 
+-- a payload or a result is nested at most 64 deep, if there is one
 abbrev pub fits_if : Option Ty → Bool
 fits_if None = true
 fits_if (Some t) = fits t
 
+-- the type of a field or a parameter is nested at most 64 deep
 abbrev pub member_fits : Member → Bool
 member_fits m = fits m.ty
 
+-- the payload of a case is nested at most 64 deep, if it has one
 abbrev pub case_fits : CaseOf → Bool
 case_fits c = fits_if c.payload
 
+-- each type after a declared type's name is nested at most 64 deep; names and labels count for nothing
 abbrev pub body_fits : Body → Bool
 body_fits (Alias t) = fits t
 body_fits (Record ms) = list_all member_fits ms
@@ -245,22 +260,27 @@ body_fits (Variant cs) = list_all case_fits cs
 body_fits (Enumeration ns) = true
 body_fits (FlagSet ns) = true
 
+-- each type of a function's parameters and its result is nested at most 64 deep
 abbrev pub signature_fits : Signature → Bool
 signature_fits f = list_all member_fits f.params && fits_if f.result
 
+-- each type in an interface's item is nested at most 64 deep
 abbrev pub entry_fits : Entry → Bool
 entry_fits (Uses at p us) = true
 entry_fits (Defines at n d) = body_fits d
 entry_fits (Declares at n f) = signature_fits f
 
+-- each type in a world's item is nested at most 64 deep
 abbrev pub world_entry_fits : WorldEntry → Bool
 world_entry_fits (Whole way p) = true
 world_entry_fits (Single way at n f) = signature_fits f
 
+-- each type in an interface or a world of a file is nested at most 64 deep
 abbrev pub interface_fits : FileEntry → Bool
 interface_fits (AnInterface n es) = list_all entry_fits es
 interface_fits (AWorld at n es) = list_all world_entry_fits es
 
+-- each type in the file is nested at most 64 deep
 abbrev pub file_fits : File → Bool
 file_fits f = list_all interface_fits f.entries
 
@@ -283,10 +303,12 @@ abbrev pub is_name_of : ℕ → Option TypeName → Bool
 is_name_of n None = true
 is_name_of n (Some m) = nat_lt m.interface.0 n
 
+-- the function is of one of the first n interfaces, and of no world
 abbrev pub is_owned_among : ℕ → Owner → Bool
 is_owned_among n (owner.Interface i) = nat_lt i.0 n
 is_owned_among n (owner.World w) = false
 
+-- the row is a type without a name, or a type or a function of one of the first n interfaces
 abbrev pub is_of_interfaces : ℕ → Definition → Bool
 is_of_interfaces n (row.Type d) = is_name_of n d.name
 is_of_interfaces n (row.Function f) = is_owned_among n f.owner
@@ -306,7 +328,7 @@ in_package n i = record { «package» = package_id n; name = i.name; uses = i.us
 abbrev pub interfaces_behind : ℕ → ℕ → List Definition → List (List ℕ) → List Interface
 interfaces_behind packages interfaces rows names = map (in_package packages) (interfaces_from rows interfaces names)
 
--- .. behind its imports, which stand as in their table: one table of all, closed where each import is reached
+-- the table of a file's package after its imports, which stay as in their table: one table of all
 pub record IsClosedPackageOf (imports : Resolve) (f : File) (r : Resolve) : Type 0 where
   pub earlier : KnowsPackagesOf (imports_of imports) f
   pub packages : r.packages ≡ imports.packages ++ package_named f ∷ []
@@ -323,12 +345,14 @@ pub record IsClosedPackageOf (imports : Resolve) (f : File) (r : Resolve) : Type
 abbrev pub HasEntries : File → Type 0
 HasEntries f = f.entries ≢ []
 
+-- the file has an interface or a world, no name twice in a scope, and each package and name in it is found
 pub record HasNoFaultsOf (m : Imports) (f : File) : Type 0 where
   pub some : HasEntries f
   pub distinct : HasDistinctNames f
   pub packages : KnowsPackagesOf m f
   pub known : KnowsAllOf m f
 
+-- a file that depends on no other package has an interface or a world, no name twice, and each name is found
 abbrev pub HasNoFaults : File → Type 0
 HasNoFaults f = HasNoFaultsOf no_imports f
 
@@ -354,6 +378,7 @@ ResolveRefusesOf m f error.Cycle = HasNoFaultsOf m f × HasCycle f
 ResolveRefusesOf m f error.Limit = (HasEntries f × (file_fits f ≡ false)) ⊎ (HasNoFaultsOf m f × IsTooLargeBehind m.meaning f)
 ResolveRefusesOf m f error.NoMemory = Unit {0}
 
+-- the refusal of a file that depends on no other package: its cause holds, and no earlier one
 abbrev pub ResolveRefuses : File → ResolveError → Type 0
 ResolveRefuses f e = ResolveRefusesOf no_imports f e
 
@@ -363,7 +388,7 @@ pub record HasPackage (f : File) (r : Resolve) : Type 0 where
   pub fits : file_fits f ≡ true
   pub resolved : IsPackageOf f r
 
--- .. behind its imports
+-- the file has no faults with these imports, is nested as a text, and its table after theirs is this
 pub record HasClosedPackage (imports : Resolve) (f : File) (r : Resolve) : Type 0 where
   pub faults : HasNoFaultsOf (imports_of imports) f
   pub fits : file_fits f ≡ true

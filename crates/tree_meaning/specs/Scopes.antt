@@ -11,6 +11,7 @@ abbrev pub interface_scopes : PackageParts → FileEntry → List (List (List �
 interface_scopes p (AnInterface n es) = item_scopes es
 interface_scopes p (AWorld at n es) = world_scopes (meaning_of_world (full_world p (world_tree n es)))
 
+-- the own name of an interface or a world of a file
 abbrev pub file_name : FileEntry → List ℕ
 file_name (AnInterface n es) = n
 file_name (AWorld at n es) = n
@@ -19,5 +20,6 @@ file_name (AWorld at n es) = n
 abbrev pub scopes_in : PackageParts → List FileEntry → List (List (List ℕ))
 scopes_in p es = map file_name es ∷ flat_map (interface_scopes p) es
 
+-- all scopes of a file: that of its interfaces and worlds, then those in each
 abbrev pub scopes : File → List (List (List ℕ))
 scopes f = scopes_in (package_named f) f.entries

@@ -26,6 +26,7 @@ abbrev pub is_typed : List Definition → Option Function → Bool
 is_typed rows None = true
 is_typed rows (Some f) = function_all (is_type rows) f
 
+-- the item is an interface, or a function whose types are in the table
 abbrev pub has_types : List Definition → WorldItemKind → Bool
 has_types rows (item.Interface i) = true
 has_types rows (item.Function f) = is_typed rows (function_of (slice_get rows f.0))
@@ -43,9 +44,11 @@ abbrev pub worlds_stand : ℕ → Table → ℕ → List World → Bool
 worlds_stand own t k [] = true
 worlds_stand own t k (w ∷ ws) = world_stands own t k w && worlds_stand own t (k + 1) ws
 
+-- an item of a world in the table, by the names of what it imports or exports
 abbrev pub item_reads : Table → WorldItem → ItemMeaning
 item_reads t i = item_meaning t.interfaces (table_trees t) t.rows i.direction i.kind
 
+-- a world in the table, with its items by their names
 abbrev pub world_reads : Table → World → WorldMeaning
 world_reads t w = record { name = w.name; items = map (item_reads t) w.items }
 
@@ -59,17 +62,19 @@ pub record DefinesItem (old new : Table) (k : ℕ) (i : WorldItem) (m : ItemMean
   pub stands : item_stands new k i ≡ true
   pub reads : item_reads new i ≡ m
 
+-- the table got the rows of these items of the world at place k, in order, which read so
 pub record DefinesItems (old new : Table) (k : ℕ) (is : List WorldItem) (ms : List ItemMeaning) : Type 0 where
   pub adds : AddsFunctions old new (flat_map functions_in_item is)
   pub stand : list_all (item_stands new k) is ≡ true
   pub read : map (item_reads new) is ≡ ms
 
--- .. of the world at place k
+-- the table got the rows of the items of the world at place k, and the world reads so
 pub record DefinesWorld (old new : Table) (own k : ℕ) (w : World) (m : WorldMeaning) : Type 0 where
   pub adds : AddsFunctions old new (functions_of w)
   pub stands : world_stands own new k w ≡ true
   pub reads : world_reads new w ≡ m
 
+-- the table got the rows of these worlds' items, the first world at place 0, and they read so
 pub record DefinesWorlds (old new : Table) (own : ℕ) (ws : List World) (ms : List WorldMeaning) : Type 0 where
   pub adds : AddsFunctions old new (flat_map functions_of ws)
   pub stand : worlds_stand own new 0 ws ≡ true
