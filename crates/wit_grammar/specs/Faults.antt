@@ -13,9 +13,11 @@ abbrev pub met : ℕ → List Lexeme → Span
 met end [] = record { start = end; end = end }
 met end (t ∷ ts) = span_of t.token
 
+-- the fault of a text that has no such token here, at the span of the token met
 abbrev pub wanted : ℕ → Expected → List Lexeme → TextError
 wanted end e ts = error.Expected e (met end ts)
 
+-- the token is of this kind
 abbrev pub is : TokenKind → Lexeme → Bool
 is k t = same_kind t.token.kind k
 

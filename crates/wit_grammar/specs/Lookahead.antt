@@ -20,9 +20,11 @@ next_behind : (front other met : List Lexeme) → next other ≡ next met → ne
 next_behind [] other met same = same
 next_behind (t ∷ front) other met same = refl
 
+-- the fault of a first production is one of the whole production, known by the token met
 pub looks_first : (end : ℕ) (E E' : List Lexeme → TextError → Type 0) (ts : List Lexeme) (e : TextError) → ((other : List Lexeme) → E other e → E' other e) → Looks end E ts e → Looks end E' ts e
 looks_first end E E' ts e h l = record { front = l.front; met = l.met; whole = l.whole; place = l.place; same = λ other n. h (l.front ++ other) (l.same other n) }
 
+-- the fault of a later production, after what the first spells, is known by the token met
 pub looks_behind : (end : ℕ) (E E' : List Lexeme → TextError → Type 0) (text rest : List Lexeme) (e : TextError) → ((other : List Lexeme) → next other ≡ next rest → E other e → E' (text ++ other) e) → Looks end E rest e → Looks end E' (text ++ rest) e
 looks_behind end E E' text rest e h l = record {
   front = text ++ l.front;
@@ -32,6 +34,7 @@ looks_behind end E E' text rest e h l = record {
   same = λ other n. subst (λ (t : List Lexeme). E' t e) (sym (append_assoc text l.front other)) (h (l.front ++ other) (next_behind l.front other l.met n ∙ ap next (sym l.whole)) (l.same other n));
 }
 
+-- what each production of the grammar keeps: a fault is known by the token met, whatever comes after it
 abbrev pub lookahead : ℕ → Rules Lexeme TextError
 lookahead end = record {
   fits = λ ts. Unit {0};
@@ -41,6 +44,7 @@ lookahead end = record {
   stays_behind = looks_behind end;
 }
 
+-- a production over the tokens of a text, whose faults are those of texts
 abbrev pub Phrase : Type 0 → Type 1
 Phrase X = Production Lexeme TextError X
 
