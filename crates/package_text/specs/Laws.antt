@@ -24,7 +24,8 @@ use Rattle.package_text.specs.Imports.{AreImportsOf}
 abbrev pub IsTreeOfClosed : Resolve → Resolve → Type 0
 IsTreeOfClosed r imports = IsWritable r → AreImportsOf r imports → AreImports imports × HasNoFaultsOf (imports_of imports) (file_of r) × IsClosedPackageOf imports (file_of r) r
 
--- .. and where types nest as in a text, its text is read as a tree without faults, nested as a text, that resolves to it behind them
+-- if types of a closed table nest as in a text, its text is read as a tree nested as a text that has no faults with
+-- these imports and resolves to the table
 abbrev pub IsTextOfClosed : Resolve → Resolve → Type 0
 IsTextOfClosed r imports =
     IsWritable r → AreImportsOf r imports → file_fits (file_of r) ≡ true → length (text_of r) ≤ limit → (g : File) × IsRead (text_of r) g × HasClosedPackage imports g r
@@ -33,7 +34,8 @@ IsTextOfClosed r imports =
 abbrev pub IsTreeOfPackage : Resolve → Type 0
 IsTreeOfPackage r = IsWritable r → IsAlone r → HasNoFaults (file_of r) × IsPackageOf (file_of r) r
 
--- .. and where types nest as in a text, its text is read as a tree without faults, nested as a text, that resolves to the package
+-- if types of a package that depends on no other nest as in a text, its text is read as a tree without faults that
+-- resolves to it
 abbrev pub IsTextOfPackage : Resolve → Type 0
 IsTextOfPackage r = IsWritable r → IsAlone r → file_fits (file_of r) ≡ true → length (text_of r) ≤ limit → (g : File) × IsRead (text_of r) g × HasPackage g r
 
@@ -41,7 +43,7 @@ IsTextOfPackage r = IsWritable r → IsAlone r → file_fits (file_of r) ≡ tru
 abbrev pub IsShallow : Resolve → Type 0
 IsShallow r = (k : ℕ) (d : TypeDef) → slice_get r.definitions k ≡ Some (row.Type d) → depth (slice_index_or (closed_types r) k string_type) ≤ 64
 
--- then the types of the tree nest as in a text
+-- if no type of a table is more than 64 deep, the types of its tree nest as in a text
 abbrev pub NestsAsText : Resolve → Type 0
 NestsAsText r = IsInPackageForm r → IsShallow r → file_fits (file_of r) ≡ true
 
@@ -54,6 +56,6 @@ pub record IsFormed (r : Resolve) : Type 0 where
 abbrev pub HasOneTable : File → Type 0
 HasOneTable f = (r s : Resolve) → IsFormed r → IsFormed s → IsPackageOf f r → IsPackageOf f s → IsSamePackage r s
 
--- .. and behind its imports to one table that can be written
+-- a tree resolves to one table, with the same imports before its own rows, among those that can be written
 abbrev pub HasOneClosedTable : File → Type 0
 HasOneClosedTable f = (imports r s : Resolve) → IsWritable r → IsWritable s → IsClosedPackageOf imports f r → IsClosedPackageOf imports f s → IsSamePackage r s

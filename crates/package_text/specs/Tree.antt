@@ -33,6 +33,7 @@ abbrev pub path_in : Option PackageParts → List ℕ → PathTo
 path_in None n = Local n
 path_in (Some p) n = Foreign p.namespace p.name p.version n
 
+-- the path to this interface of the table, in full if it is one of another package
 abbrev pub path_to : Resolve → Interface → PathTo
 path_to r i = path_in (other_package r i) i.name
 
@@ -41,6 +42,7 @@ abbrev pub path_if : Resolve → Option Interface → PathTo
 path_if r None = Local []
 path_if r (Some i) = path_to r i
 
+-- the path to the interface at this place of the table
 abbrev pub path_at : Resolve → ℕ → PathTo
 path_at r k = path_if r (slice_get r.interfaces k)
 
@@ -60,6 +62,7 @@ row_path r (Some d) = name_path r (name_at r.definitions (used_in d))
 abbrev pub name_here : Resolve → Interface → List ℕ
 name_here r i = full_name_in (other_package r i) i.name
 
+-- the names that the table's interfaces go by in the text, in the order of the table
 abbrev pub own_names : Resolve → List (List ℕ)
 own_names r = map (name_here r) r.interfaces
 
@@ -87,6 +90,7 @@ use_entry p t l = Defines nowhere l (Alias (ty_of t))
 abbrev pub function_by : TreeFields → Option Tree → Function
 function_by fs result = record { params = members_in fs; result = option_map ty_of result }
 
+-- the item that is written for a name with this meaning: a `use` names the interface by this path
 abbrev pub entry_by : PathTo → List ℕ → Meaning → Entry
 entry_by p n (IsUse t) = use_entry p t n
 entry_by p n (IsType t) = Defines nowhere n (body_of t)
@@ -102,10 +106,11 @@ entry_of p d = entry_by p d.key.name d.meaning
 abbrev pub row_entries : Resolve → Option Definition → List Entry
 row_entries r d = map (entry_of (row_path r d)) (definitions_in (own_names r) (own_trees r) d)
 
+-- what is written for the row at this place of the table, if it has a name in an interface
 abbrev pub written_at : Resolve → ℕ → List Entry
 written_at r k = row_entries r (slice_get r.definitions k)
 
--- its used names, its types and its functions
+-- an interface of the own package: its used names, its types and its functions
 abbrev pub interface_entry : Resolve → Interface → FileEntry
 interface_entry r i = AnInterface i.name (flat_map (written_at r) (ids_of i))
 
@@ -125,12 +130,15 @@ abbrev pub item_entry : PathTo → ItemMeaning → WorldEntry
 item_entry p (WithInterface way i) = Whole (direction_for way) p
 item_entry p (WithFunction way n fs result) = Single (direction_for way) nowhere n (function_by fs result)
 
+-- an item of a world by the names that interfaces go by in the text
 abbrev pub own_item : Resolve → WorldItem → ItemMeaning
 own_item r i = item_meaning (own_names r) (own_trees r) r.definitions i.direction i.kind
 
+-- what is written for an item of a world of the table
 abbrev pub item_written : Resolve → WorldItem → WorldEntry
 item_written r i = item_entry (item_path r i.kind) (own_item r i)
 
+-- what is written for a world of the table
 abbrev pub world_written : Resolve → World → FileEntry
 world_written r w = AWorld nowhere w.name (map (item_written r) w.items)
 
@@ -140,6 +148,7 @@ world_written r w = AWorld nowhere w.name (map (item_written r) w.items)
 abbrev pub own_parts : List PackageParts → PackageParts
 own_parts ps = slice_index_or ps (own_package ps) nameless
 
+-- the tree of a table's own package: its interfaces in the order of the table, then its worlds
 abbrev pub file_of : Resolve → File
 file_of r =
     let p = own_parts r.packages in record {

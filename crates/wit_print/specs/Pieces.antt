@@ -10,16 +10,17 @@ abbrev pub comma_at : ℕ → List Word
 comma_at zero = []
 comma_at (suc i) = mark_word [] mark.Comma ∷ []
 
+-- the blanks before an entry of a list with commas, by its place: none before the first
 abbrev pub space_at : ℕ → List ℕ
 space_at zero = []
 space_at (suc i) = blank
 
--- what stands behind `result` where it has no type of an error
+-- what is written after `result` without an error type: nothing, or its type in `<` and `>`
 abbrev pub ok_alone : MaybeTy → List Word
 ok_alone Absent = []
 ok_alone (Present t) = mark_word [] mark.Less ∷ (ty_words [] t ++ mark_word [] mark.Greater ∷ [])
 
--- .. and what stands there up to the comma, where it has one
+-- what is written between `result` and the comma before its error type: `<_`, or `<` and its type
 abbrev pub ok_before : MaybeTy → List Word
 ok_before Absent = mark_word [] mark.Less ∷ mark_word [] mark.Underscore ∷ []
 ok_before (Present t) = mark_word [] mark.Less ∷ ty_words [] t

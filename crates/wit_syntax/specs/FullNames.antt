@@ -5,6 +5,7 @@ use Rattle.atoms.specs.Label.{is_label}
 use Rattle.atoms.specs.FullName.{is_package_label, is_version_or_none}
 use Rattle.wit_syntax.specs.Syntax.{FileEntry, AnInterface, AWorld, File}
 
+-- the name of an interface is a label; a world's may be any
 abbrev pub has_label : FileEntry → Bool
 has_label (AnInterface n es) = is_label n
 has_label (AWorld at n es) = true

@@ -27,6 +27,7 @@ use Rattle.wit_syntax.specs.declared.ast.TypeExpression.{TypeExpression}
 use Rattle.wit_syntax.specs.declared.ast.TypeExpression.TheOpen as one
 use Rattle.wit_syntax.specs.declared.ast.TypeExpression.TheFolds.{fold-TypeExpression}
 
+-- a type of a `result`, of which the trees of the types in it are known
 abbrev pub maybe_ty : Option (Box Ty Global) → MaybeTy
 maybe_ty None = Absent
 maybe_ty (Some b) = Present b.value
@@ -40,34 +41,43 @@ ty_layer (one.Option t) = OptionOf t.value
 ty_layer (one.Tuple ts) = TupleOf (tys_of ts.items)
 ty_layer (one.Result ok error) = ResultOf (maybe_ty ok) (maybe_ty error)
 
+-- the tree of a type expression
 abbrev pub ty_view : TypeExpression → Ty
 ty_view = fold-TypeExpression Ty ty_layer
 
+-- a type of a `result`, absent if there is none
 abbrev pub boxed_view : Option (Box TypeExpression Global) → MaybeTy
 boxed_view None = Absent
 boxed_view (Some b) = Present (ty_view b.value)
 
+-- the type of a payload or of a function's result, if there is one
 abbrev pub optional_view : Option TypeExpression → Option Ty
 optional_view None = None
 optional_view (Some t) = Some (ty_view t)
 
+-- a field of a record or a parameter of a function
 abbrev pub field_view : Field → Member
 field_view f = record { name = f.name; ty = ty_view f.ty }
 
+-- a case of a variant
 abbrev pub case_view : Case → CaseOf
 case_view c = record { name = c.name; payload = optional_view c.payload }
 
+-- a name of a `use`
 abbrev pub used_view : UsedName → UsedAs
 used_view u = record { name = u.name; local = u.local }
 
+-- a version as its bytes, without `@`, if there is one
 abbrev pub version_view : Option (String Global) → Option (List ℕ)
 version_view None = None
 version_view (Some v) = Some (string_bytes v)
 
+-- the path of an interface: of the text's own package, or of another one with its names
 abbrev pub path_view : Path → PathTo
 path_view (path.Local n) = Local n
 path_view (path.Foreign p n) = Foreign p.namespace p.name (version_view p.version) n
 
+-- what is written after the name of a declared type
 abbrev pub definition_view : TypeDefKind → TypeBody
 definition_view (definition.Alias t) = Alias (ty_view t)
 definition_view (definition.Record fs) = Record (map field_view fs.items)
@@ -75,27 +85,34 @@ definition_view (definition.Variant cs) = Variant (map case_view cs.items)
 definition_view (definition.Enum ns) = Enumeration ns.items
 definition_view (definition.Flags ns) = FlagSet ns.items
 
+-- the type of a function
 abbrev pub function_view : FuncType → Function
 function_view f = record { params = map field_view f.params.items; result = optional_view f.result }
 
+-- an item of an interface
 abbrev pub entry_view : InterfaceItem → Entry
 entry_view (entry.Use u) = Uses u.value.span (path_view u.value.interface) (map used_view u.value.names.items)
 entry_view (entry.TypeDef t) = Defines t.span t.name (definition_view t.kind)
 entry_view (entry.Func f) = Declares f.span f.name (function_view f.ty)
 
+-- an item of a world that imports or exports so
 abbrev pub world_kind_view : Direction → WorldItemKind → WorldEntry
 world_kind_view d (world.Interface p) = Whole d (path_view p)
 world_kind_view d (world.Func f) = Single d f.span f.name (function_view f.ty)
 
+-- an item of a world
 abbrev pub world_entry_view : WorldItem → WorldEntry
 world_entry_view w = world_kind_view w.direction w.kind
 
+-- an interface or a world of a text
 abbrev pub item_view : Item → FileEntry
 item_view (item.Interface i) = AnInterface i.name (map entry_view i.items.items)
 item_view (item.World w) = AWorld w.span w.name (map world_entry_view w.items.items)
 
+-- the names of a text's package and its version, if it has one
 abbrev pub header_view : PackageId → HeaderNames
 header_view p = record { namespace = p.namespace; name = p.name; version = version_view p.version }
 
+-- the tree of a whole text
 abbrev pub file_view : Ast → File
 file_view a = record { namespace = a.package.namespace; name = a.package.name; version = version_view a.package.version; entries = map item_view a.items.items }

@@ -13,11 +13,11 @@ use Rattle.wit_text.specs.Reading.{IsRead, IsFile, IsDepth}
 abbrev pub FilesAreExact : ℕ → ℕ → Type 0
 FilesAreExact end n = Exact (lookahead end) AtEnd (file end n)
 
--- where reading a file meets a fault, no file within the limit begins with the tokens up to the one met
+-- if reading a file meets a fault, no file nested at most 64 deep begins with the tokens up to the one met
 abbrev pub FaultsAreFinal : ℕ → Type 0
 FaultsAreFinal end = (ts : List Lexeme) (e : TextError) → (file end nesting).read ts ≡ Err e → NoneBegins end (file end nesting).spells ts e
 
--- and where it isn't the limit, no file at all
+-- if reading a file meets a fault other than nesting, no file of any nesting begins with the tokens up to the one met
 abbrev pub NoneAtAnyNesting : ℕ → Type 0
 NoneAtAnyNesting end = (ts : List Lexeme) (e : TextError) → (IsDepth e → ⊥) → (file end nesting).read ts ≡ Err e → NoneBegins end (IsFile end) ts e
 

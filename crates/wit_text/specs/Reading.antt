@@ -21,6 +21,7 @@ pub record IsRead (text : List ℕ) (f : File) : Type 0 where
 abbrev pub IsFile : ℕ → List Lexeme → File → Type 0
 IsFile end ts f = (n : ℕ) × (file end (suc n)).spells ts f
 
+-- the fault is a type that nests deeper than 64
 abbrev pub IsDepth : TextError → Type 0
 IsDepth e = (s : Span) × (e ≡ error.Depth s)
 

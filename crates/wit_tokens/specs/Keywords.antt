@@ -50,7 +50,7 @@ spelling kw.Variant = codes "variant"
 spelling kw.With = codes "with"
 spelling kw.World = codes "world"
 
--- all of them, in the order of the list
+-- all keywords of WIT, of packages here or left out, in the order of their letters
 unfoldable pub keywords : List Keyword
 keywords = kw.As ∷ kw.Async ∷ kw.Bool ∷ kw.Borrow ∷ kw.Char ∷ kw.Constructor ∷ kw.Enum ∷ kw.ErrorContext ∷ kw.Export ∷ kw.F32 ∷ kw.F64 ∷ kw.Flags ∷ kw.From ∷ kw.Func ∷ kw.Future ∷ kw.Import ∷ kw.Include ∷ kw.Interface ∷ kw.List ∷ kw.Map ∷ kw.Option ∷ kw.Own ∷ kw.Package ∷ kw.Record ∷ kw.Resource ∷ kw.Result ∷ kw.S16 ∷ kw.S32 ∷ kw.S64 ∷ kw.S8 ∷ kw.Static ∷ kw.Stream ∷ kw.String ∷ kw.Tuple ∷ kw.«Type» ∷ kw.U16 ∷ kw.U32 ∷ kw.U64 ∷ kw.U8 ∷ kw.Use ∷ kw.Variant ∷ kw.With ∷ kw.World ∷ []
 
@@ -63,6 +63,7 @@ keyword_in (k ∷ ks) word = if bytes_eq word (spelling k) then Some k else keyw
 abbrev pub keyword_of : List ℕ → Option Keyword
 keyword_of word = keyword_in keywords word
 
+-- the last byte of a word that begins with c and goes on with these
 abbrev pub last_from : ℕ → List ℕ → ℕ
 last_from c [] = c
 last_from c (d ∷ ds) = last_from d ds
@@ -72,6 +73,7 @@ abbrev pub word_place : List ℕ → ℕ
 word_place [] = 0
 word_place (c ∷ cs) = (23 * c + 29 * last_from c cs + length (c ∷ cs)) % 128
 
+-- the first of these keywords that has this place
 abbrev pub placed_in : List Keyword → ℕ → Option Keyword
 placed_in [] place = None
 placed_in (k ∷ ks) place = if word_place (spelling k) == place then Some k else placed_in ks place

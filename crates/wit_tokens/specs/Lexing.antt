@@ -14,6 +14,7 @@ use Rattle.wit_tokens.specs.declared.error.TextError.TheVariants as error
 use Rattle.wit_tokens.specs.declared.lexer.Front.{Front}
 use Rattle.wit_tokens.specs.declared.lexer.Front.TheVariants as front
 
+-- an ASCII letter
 abbrev pub is_letter : ℕ → Bool
 is_letter c = is_lower c || is_upper c
 
@@ -21,19 +22,23 @@ is_letter c = is_lower c || is_upper c
 abbrev pub is_blank : ℕ → Bool
 is_blank c = c == 32 || c == 9 || c == 10 || c == 13
 
+-- the first byte is c
 abbrev pub begins_with : ℕ → List ℕ → Bool
 begins_with c [] = false
 begins_with c (x ∷ xs) = x == c
 
+-- the first two bytes are a and b
 abbrev pub begins_pair : ℕ → ℕ → List ℕ → Bool
 begins_pair a b [] = false
 begins_pair a b (c ∷ []) = false
 begins_pair a b (c ∷ d ∷ cs) = c == a && d == b
 
+-- the first byte is an ASCII letter
 abbrev pub begins_letter : List ℕ → Bool
 begins_letter [] = false
 begins_letter (c ∷ cs) = is_letter c
 
+-- the first byte is an ASCII digit
 abbrev pub begins_digit : List ℕ → Bool
 begins_digit [] = false
 begins_digit (c ∷ cs) = is_digit c
@@ -56,9 +61,11 @@ abbrev pub word_run : List ℕ → ℕ
 word_run [] = 0
 word_run (c ∷ cs) = if is_letter c || is_digit c || (c == 45 && not (begins_with 62 cs)) then suc (word_run cs) else 0
 
+-- the length of the longest run of blanks
 abbrev pub blank_run : List ℕ → ℕ
 blank_run cs = length (take_while is_blank cs)
 
+-- the length of the longest run of digits
 abbrev pub digit_run : List ℕ → ℕ
 digit_run cs = length (take_while is_digit cs)
 
@@ -66,6 +73,7 @@ digit_run cs = length (take_while is_digit cs)
 abbrev pub line_run : List ℕ → ℕ
 line_run cs = length (take_while (λ c. not (c == 10)) cs)
 
+-- n more bytes, if there is a length at all
 abbrev pub plus : ℕ → Option ℕ → Option ℕ
 plus n None = None
 plus n (Some m) = Some (n + m)
@@ -79,6 +87,7 @@ comment_run (suc level) (c ∷ d ∷ cs) =
     if c == 47 && d == 42 then plus 2 (comment_run (suc (suc level)) cs)
     else (if c == 42 && d == 47 then plus 2 (comment_run level cs) else plus 1 (comment_run (suc level) (d ∷ cs)))
 
+-- the mark that this byte alone is, if it is one; `->`, `/` and `@` are told apart elsewhere
 abbrev pub mark_of : ℕ → Option Punctuation
 mark_of c =
     if c == 58 then Some mark.Colon else (if c == 59 then Some mark.Semicolon else (if c == 44 then Some mark.Comma else (if c == 46 then Some mark.Dot else
@@ -89,19 +98,22 @@ mark_of c =
 abbrev pub char_len : ℕ → ℕ
 char_len c = if nat_lt c 128 then 1 else (if nat_lt c 224 then 2 else (if nat_lt c 240 then 3 else 4))
 
+-- a token of this kind and length at the front of a text
 abbrev pub token : TokenKind → ℕ → Front
 token k n = front.Token k n
 
--- behind the slash
+-- a block comment from its `/` on, by the length after that `/`, or one that nothing closes
 abbrev pub closed_comment : Option ℕ → Front
 closed_comment None = front.OpenComment
 closed_comment (Some n) = front.Blank (n + 2)
 
+-- what begins with `/` and goes on so: a comment to the end of its line, a block comment, or a mark
 unfoldable pub slash_front : List ℕ → Front
 slash_front cs =
     if begins_with 47 cs then front.Blank (line_run cs + 1)
     else (if begins_with 42 cs then closed_comment (comment_run 1 (drop 1 cs)) else token (kind.Punctuation mark.Slash) 1)
 
+-- the kind of a word that is this keyword, or an identifier if it is none
 abbrev pub keyword_kind : Option Keyword → TokenKind
 keyword_kind None = kind.Identifier
 keyword_kind (Some k) = kind.Keyword k
@@ -110,23 +122,26 @@ keyword_kind (Some k) = kind.Keyword k
 abbrev pub word_kind : List ℕ → TokenKind
 word_kind word = keyword_kind (keyword_of word)
 
+-- what begins with a letter: a word, if its longest run is a label
 unfoldable pub word_front : List ℕ → Front
 word_front cs = let word = take (word_run cs) cs in if is_label word then token (word_kind word) (word_run cs) else front.Bad (word_run cs)
 
--- behind the `%`, which makes any word an identifier
+-- what begins with `%` and goes on so: an identifier whatever its word, if the word is a label
 unfoldable pub escape_front : List ℕ → Front
 escape_front cs =
     if begins_letter cs then (if is_label (take (word_run cs) cs) then token kind.Identifier (word_run cs + 1) else front.Bad (word_run cs + 1))
     else front.Bad 1
 
--- behind the `@`
+-- what begins with `@` and goes on so: a version if a digit comes next, else a mark
 unfoldable pub at_front : List ℕ → Front
 at_front cs = if begins_digit cs then token kind.Version (version_run cs + 1) else token (kind.Punctuation mark.At) 1
 
+-- what begins with the byte c: this mark, or a character that is no token
 abbrev pub mark_front : Option Punctuation → ℕ → Front
 mark_front None c = front.Bad (char_len c)
 mark_front (Some p) c = token (kind.Punctuation p) 1
 
+-- what begins with the byte c and goes on so: `->`, a mark of one byte, or a character that is no token
 unfoldable pub punctuation_front : ℕ → List ℕ → Front
 punctuation_front c cs = if c == 45 then (if begins_with 62 cs then token (kind.Punctuation mark.Arrow) 2 else front.Bad 1) else mark_front (mark_of c) c
 
@@ -149,6 +164,7 @@ Takes (front.Token k n) len = (0 < n) × (n ≤ len)
 Takes (front.Bad n) len = n ≤ len + 4
 Takes front.OpenComment len = Unit {0}
 
+-- the token of this kind and this length from place `at` on, in bytes
 abbrev pub token_from : TokenKind → ℕ → ℕ → Token
 token_from k at n = record { kind = k; start = at; end = at + n }
 

@@ -3,6 +3,7 @@ use Rattle.std.specs.Prelude.{ℕ, List, [], ◌∷◌}
 use Rattle.wit_tokens.specs.declared.token.Punctuation.{Punctuation}
 use Rattle.wit_tokens.specs.declared.token.Punctuation.TheVariants as mark
 
+-- the bytes of a mark in a text
 abbrev pub mark_text : Punctuation → List ℕ
 mark_text mark.Arrow = 45 ∷ 62 ∷ []
 mark_text mark.Colon = 58 ∷ []

@@ -22,7 +22,7 @@ span_of t = record { start = t.start; end = t.end }
 abbrev pub bytes_of : List ℕ → Token → List ℕ
 bytes_of text t = if nat_le t.start t.end && nat_le t.end (length text) then slice_range text t.start t.end else []
 
--- without the `%` of an escaped word and the `@` of a version
+-- a token's bytes without the `%` of an escaped word and the `@` of a version
 abbrev pub word_of : List ℕ → List ℕ
 word_of [] = []
 word_of (c ∷ cs) = if c == 37 || c == 64 then cs else c ∷ cs
@@ -31,13 +31,16 @@ word_of (c ∷ cs) = if c == 37 || c == 64 then cs else c ∷ cs
 abbrev pub token_name : List ℕ → Token → List ℕ
 token_name text t = word_of (bytes_of text t)
 
+-- a token of this text with the word that it spells
 abbrev pub lexeme : List ℕ → Token → Lexeme
 lexeme text t = record { token = t; text = token_name text t }
 
+-- a token of this text with the word that it spells, if there is one
 abbrev pub optional_lexeme : List ℕ → Option Token → Option Lexeme
 optional_lexeme text None = None
 optional_lexeme text (Some t) = Some (lexeme text t)
 
+-- the tokens of this text with the words that they spell
 abbrev pub lexemes : List ℕ → List Token → List Lexeme
 lexemes text ts = map (lexeme text) ts
 
