@@ -12,9 +12,11 @@ use Rattle.atoms.specs.declared.error.AtomError.{AtomError}
 use Rattle.atoms.specs.declared.error.AtomError.TheVariants as atoms
 use Rattle.atoms.specs.Leb128.{SpellsU32, SpellsS33, EndsEarly, groups_at}
 
+-- a production over bytes, whose faults have their place from the end of the bytes
 abbrev pub Bytes : Type 0 → Type 1
 Bytes X = Production ℕ Stuck X
 
+-- the fault of bytes that end too early
 abbrev pub ended : List ℕ → Stuck
 ended bytes = End
 
@@ -22,10 +24,12 @@ ended bytes = End
 abbrev pub byte : Bytes ℕ
 byte = one (λ b. true) ended
 
+-- the fault with so many bytes from its place on, if there is one
 abbrev pub stuck_if : Option Fault → ℕ → Option Stuck
 stuck_if None left = None
 stuck_if (Some fault) left = Some (At fault left)
 
+-- the fault of a value that was read from the first of these bytes, if it has one
 abbrev pub at : {X : Type 0} → (X → Option Fault) → X → List ℕ → Option Stuck
 at fault x bytes = stuck_if (fault x) (length bytes)
 
@@ -62,6 +66,7 @@ remaining = record {
 abbrev pub NoNumber : (List ℕ → ℕ → Type 0) → List ℕ → Type 0
 NoNumber spells bytes = ((n k : ℕ) → spells (take k bytes) n → ⊥) × (EndsEarly spells bytes → ⊥)
 
+-- the number and the bytes after it, or the fault of a number that the bytes do not hold whole or in range
 abbrev pub number_from : (List ℕ → Fault) → List ℕ → Result (ℕ × ℕ) AtomError → Result (ℕ × List ℕ) Stuck
 number_from fault bytes (Ok x) = Ok (x.0, drop x.1 bytes)
 number_from fault bytes (Err atoms.Truncated) = Err End
@@ -79,6 +84,7 @@ number spells limit fault = record {
   read = λ bytes. number_from fault bytes (groups_at limit 4 bytes);
 }
 
+-- `u32` of Binary.md in unsigned LEB128: at most five bytes, the last below 16 if there are five
 abbrev pub u32 : Bytes ℕ
 u32 = number SpellsU32 128 (λ bytes. Overlong)
 
@@ -88,6 +94,7 @@ is_negative room [] = false
 is_negative zero (b ∷ bs) = nat_le 112 b && nat_lt b 128
 is_negative (suc room) (b ∷ bs) = if nat_lt b 128 then nat_le 64 b else is_negative room bs
 
+-- the fault in place of an index of a value type: a negative number is an opcode, any other too long
 abbrev pub signed_fault : List ℕ → Fault
 signed_fault bytes = if is_negative 4 bytes then UnknownOpcode (slice_index bytes 0) else Overlong
 
@@ -97,7 +104,7 @@ s33 = number SpellsS33 64 signed_fault
 
 -- ---- sections
 
--- a fault within a section, told from the end of the bytes that go on behind it
+-- a fault within a section, its place from the end of the input, which has so many bytes after the section
 abbrev pub in_section : ℕ → Stuck → Stuck
 in_section left End = At SizeMismatch left
 in_section left (At fault n) = At fault (n + left)
@@ -108,12 +115,12 @@ abbrev pub section_from : {X : Type 0} → ℕ → List ℕ → Result (X × Lis
 section_from left rest (Ok x) = if length x.1 == 0 then Ok (x.0, rest) else Err (At SizeMismatch left)
 section_from left rest (Err f) = Err (in_section left f)
 
--- the same, where the input ends before the section does
+-- what reading a section gives if the input ends before the section does, with the fault of that
 abbrev pub cut_section_from : {X : Type 0} → Stuck → Result (X × List ℕ) Stuck → Result (X × List ℕ) Stuck
 cut_section_from short (Ok x) = Err short
 cut_section_from short (Err f) = Err f
 
--- so that the sum fits
+-- the place of a fault in a section, from the end of the input, is a number of 64 bits
 abbrev pub StaysSmall : Stuck → ℕ → Type 0
 StaysSmall End left = Unit {0}
 StaysSmall (At fault n) left = n + left < 2 ^ 64
@@ -142,27 +149,33 @@ sized short size p = record {
 
 -- ---- a choice by the first byte, p or q
 
+-- what the choice of p and q spells: never nothing
 abbrev pub spells_by : {X : Type 0} → (ℕ → Bool) → Bytes X → Bytes X → List ℕ → X → Type 0
 spells_by test p q [] x = ⊥
 spells_by test p q (b ∷ bs) x = MatchBool (test b) (p.spells (b ∷ bs) x) (q.spells (b ∷ bs) x)
 
+-- what the choice of p and q spells if this byte comes next
 abbrev pub stops_by : {X : Type 0} → (ℕ → Bool) → Bytes X → Bytes X → List ℕ → X → Option ℕ → Type 0
 stops_by test p q [] x after = ⊥
 stops_by test p q (b ∷ bs) x after = MatchBool (test b) (p.stops (b ∷ bs) x after) (q.stops (b ∷ bs) x after)
 
+-- the first fault of the choice of p and q: no byte, or that of the one chosen
 abbrev pub fails_by : {X : Type 0} → (ℕ → Bool) → Bytes X → Bytes X → List ℕ → Stuck → Type 0
 fails_by test p q [] f = f ≡ End
 fails_by test p q (b ∷ bs) f = MatchBool (test b) (p.fails (b ∷ bs) f) (q.fails (b ∷ bs) f)
 
+-- how the choice of p and q reads: the first byte is not taken by the choice itself
 abbrev pub read_by : {X : Type 0} → (ℕ → Bool) → Bytes X → Bytes X → List ℕ → Result (X × List ℕ) Stuck
 read_by test p q [] = Err End
 read_by test p q (b ∷ bs) = if test b then p.read (b ∷ bs) else q.read (b ∷ bs)
 
+-- p if the first byte passes the test, else q; the one chosen reads that byte too
 abbrev pub choose : {X : Type 0} → (ℕ → Bool) → Bytes X → Bytes X → Bytes X
 choose test p q = record { spells = spells_by test p q; stops = stops_by test p q; fails = fails_by test p q; read = read_by test p q }
 
 -- ---- what the code answers
 
+-- a reader's error is the fault that reading gives, unless memory ran out
 abbrev pub Stops : {Y : Type 0} → ItemError → Result Y Stuck → Type 0
 Stops errors.Memory read = Unit {0}
 Stops (errors.Stuck f) read = read ≡ Err f

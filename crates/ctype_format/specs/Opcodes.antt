@@ -5,6 +5,7 @@ use Rattle.ctype_format.specs.declared.raw.Primitive.TheVariants as prim
 use Rattle.ctype_format.specs.declared.opcode.Opcode.{Opcode}
 use Rattle.ctype_format.specs.declared.opcode.Opcode.TheVariants as op
 
+-- the primitive type that this byte is in Binary.md; none for floats and other bytes
 unfoldable pub primitive_of : ℕ → Option Primitive
 primitive_of b =
     if b == 0x7f then Some prim.Bool else (if b == 0x7e then Some prim.S8 else (if b == 0x7d then Some prim.U8
@@ -12,6 +13,7 @@ primitive_of b =
     else (if b == 0x79 then Some prim.U32 else (if b == 0x78 then Some prim.S64 else (if b == 0x77 then Some prim.U64
     else (if b == 0x74 then Some prim.Char else (if b == 0x73 then Some prim.String else None))))))))))
 
+-- what a type begins with that has this first byte in Binary.md; none for types that are left out
 unfoldable pub opcode_of : ℕ → Option Opcode
 opcode_of b =
     if b == 0x72 then Some op.Record else (if b == 0x71 then Some op.Variant else (if b == 0x70 then Some op.List
