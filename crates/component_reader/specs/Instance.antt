@@ -23,6 +23,7 @@ use Rattle.tables.specs.declared.tables.Definition.{Definition}
 use Rattle.tables.specs.declared.tables.Definition.TheVariants as row
 use Rattle.component_reader.specs.Types.{all_found, both_found, row_at, optional_type, parameter_read, kind_defined}
 
+-- f of what was found, if it was found and f finds something
 abbrev pub if_found : {A B : Type 0} → Option A → (A → Option B) → Option B
 if_found None f = None
 if_found (Some x) f = f x
@@ -44,22 +45,25 @@ pub record InstanceRead : Type 0 where
   pub types : List TypeId
   pub functions : List FunctionId
 
--- a name stands for the type that was exported last under it
+-- the names with this one for the type: a name is that of the type that was exported last under it
 abbrev pub with_name : List NameEntry → List ℕ → TypeId → List NameEntry
 with_name [] n t = record { name = n; id = t } ∷ []
 with_name (e ∷ es) n t = if bytes_eq n e.name then record { name = e.name; id = t } ∷ es else e ∷ with_name es n t
 
+-- the type of this name, if one was exported under it
 abbrev pub type_named : List NameEntry → List ℕ → Option TypeId
 type_named [] n = None
 type_named (e ∷ es) n = if bytes_eq n e.name then Some e.id else type_named es n
 
--- nothing was read of interface k, behind these rows
+-- an instance type of which nothing was read yet, after these rows
 abbrev pub nothing_read : List Definition → InstanceRead
 nothing_read rows = record { rows = rows; indices = []; awaited = Nothing; names = []; uses = []; types = []; functions = [] }
 
+-- what was read with this definition, whose export may still come
 abbrev pub awaiting : InstanceRead → Awaited → InstanceRead
 awaiting s a = record { rows = s.rows; indices = s.indices; awaited = a; names = s.names; uses = s.uses; types = s.types; functions = s.functions }
 
+-- the table with a row of this kind without a name, which is the next type index
 abbrev pub with_unnamed : InstanceRead → TypeDefKind → InstanceRead
 with_unnamed s k = record {
   rows = s.rows ++ inner_row k ∷ [];
@@ -71,22 +75,26 @@ with_unnamed s k = record {
   functions = s.functions;
 }
 
--- a definition that no export follows is a type without a name
+-- no export of the last definition came: a type is a row without a name, and a function is not of a package's shape
 abbrev pub settled_as : InstanceRead → Awaited → Option InstanceRead
 settled_as s Nothing = Some s
 settled_as s (AType k) = Some (with_unnamed s k)
 settled_as s (AFunction ps result) = None
 
+-- what was read, if no export of the last definition comes
 abbrev pub settled : InstanceRead → Option InstanceRead
 settled s = settled_as s s.awaited
 
+-- the row of a type of interface k under this name
 abbrev pub named_row : ℕ → List ℕ → TypeDefKind → Definition
 named_row k n what = row.Type (record { name = Some (record { interface = record { 0 = k }; name = n }); kind = what })
 
+-- the used names of an interface with this type, if it is one
 abbrev pub uses_with : List TypeId → TypeId → TypeDefKind → List TypeId
 uses_with ts t (kind.Use u) = ts ++ t ∷ []
 uses_with ts t _ = ts
 
+-- the types of an interface with this one, if it is no used name
 abbrev pub types_with : List TypeId → TypeId → TypeDefKind → List TypeId
 types_with ts t (kind.Use u) = ts
 types_with ts t _ = ts ++ t ∷ []
@@ -103,24 +111,26 @@ with_named k n what s = record {
   functions = s.functions;
 }
 
--- an index that stands for no row
+-- the next type index is that of no row
 abbrev pub with_index : InstanceRead → InstanceRead
 with_index s = record { rows = s.rows; indices = s.indices ++ None ∷ []; awaited = s.awaited; names = s.names; uses = s.uses; types = s.types; functions = s.functions }
 
+-- a type declared as a new name of this one
 abbrev pub alias_to : TypeId → TypeDefKind
 alias_to t = kind.Alias (val.Id t)
 
--- a new name of the type at this index
+-- the type at this index exported under a further name of interface k: a row that is a new name of it
 abbrev pub renamed : ℕ → List ℕ → ℕ → InstanceRead → Option InstanceRead
 renamed k n i s = option_map (λ t. with_named k n (alias_to t) s) (row_at s.indices i)
 
--- the name of what was defined last, or a new name
+-- a type of interface k exported under this name: the one that was defined last, or a new name of another one
 abbrev pub type_exported : ℕ → List ℕ → ℕ → InstanceRead → Awaited → Option InstanceRead
 type_exported k n i s (AType what) =
     if i == length s.indices then Some (with_named k n what (with_index s)) else renamed k n i (with_unnamed s what)
 type_exported k n i s Nothing = renamed k n i s
 type_exported k n i s (AFunction ps result) = None
 
+-- the row of a function of interface k
 abbrev pub function_row : ℕ → List ℕ → List Parameter → Option ValType → Definition
 function_row k n ps result = row.Function (record { owner = owner.Interface (record { 0 = k }); name = n; params = ps; result = result })
 
@@ -136,6 +146,7 @@ with_row d s = record {
   functions = s.functions;
 }
 
+-- a function of interface k exported under this name: its type must be what was defined last
 abbrev pub function_exported : ℕ → List ℕ → InstanceRead → Awaited → Option InstanceRead
 function_exported k n s (AFunction ps result) = Some (record {
   rows = s.rows ++ function_row k n ps result ∷ [];
@@ -149,17 +160,19 @@ function_exported k n s (AFunction ps result) = Some (record {
 function_exported k n s Nothing = None
 function_exported k n s (AType what) = None
 
+-- an export of an instance type: a type or a function of interface k, and no other
 abbrev pub exported_read : ℕ → List ℕ → RawDescription → InstanceRead → Option InstanceRead
 exported_read k n (described.TypeEqual i) s = type_exported k n i s s.awaited
 exported_read k n (described.Function i) s = function_exported k n s s.awaited
 exported_read k n (described.Component i) s = None
 exported_read k n (described.Instance i) s = None
 
--- the type around that an outer alias stands for
+-- the row of the type that an outer alias means, among the types of the scope around
 abbrev pub used_type : List (Option TypeId) → RawAlias → Option TypeId
 used_type around (alias.Outer count i) = if count == 1 then row_at around i else None
 used_type around (alias.InstanceExport i n) = None
 
+-- a type declared in an instance type: a value type or a function type, whose export may still come
 abbrev pub defined_read : AnyType → InstanceRead → Option InstanceRead
 defined_read (Define d) s = option_map (λ what. awaiting s (AType what)) (kind_defined s.indices d)
 defined_read (Func f) s =
@@ -167,21 +180,22 @@ defined_read (Func f) s =
 defined_read (Component ds) s = None
 defined_read (Instance ds) s = None
 
--- a used name awaits its export
+-- an alias in an instance type: a used name, whose export may still come
 abbrev pub use_read : List (Option TypeId) → RawAlias → InstanceRead → Option InstanceRead
 use_read around a s = option_map (λ t. awaiting s (AType (kind.Use t))) (used_type around a)
 
--- a declaration of interface k's instance type, where these types stand around it
+-- a declaration of interface k's instance type, with these types in the scope around it
 abbrev pub decl_read : List (Option TypeId) → ℕ → Decl → InstanceRead → Option InstanceRead
 decl_read around k (Entry t) s = if_found (settled s) (defined_read t)
 decl_read around k (Alias a) s = if_found (settled s) (use_read around a)
 decl_read around k (Import n d) s = None
 decl_read around k (Export n d) s = if is_label n then exported_read k n d s else None
 
+-- these declarations of interface k's instance type in turn; none if one is not of a package's shape
 abbrev pub decls_read : List (Option TypeId) → ℕ → Decls → InstanceRead → Option InstanceRead
 decls_read around k none s = Some s
 decls_read around k (more d ds) s = if_found (decl_read around k d s) (decls_read around k ds)
 
--- all of them, behind these rows
+-- interface k's instance type read whole, its rows after these; its last definition may have no export
 abbrev pub instance_read : List (Option TypeId) → ℕ → Decls → List Definition → Option InstanceRead
 instance_read around k ds rows = if_found (decls_read around k ds (nothing_read rows)) settled

@@ -9,6 +9,7 @@ use Rattle.component_reader.specs.declared.names.FullNameParts.{FullNameParts}
 use Rattle.component_reader.specs.declared.names.NameParts.{NameParts}
 use Rattle.component_reader.specs.declared.names.NameParts.TheVariants as name
 
+-- the parts of a full name as bytes
 abbrev pub parts_view : FullNameParts → Parts
 parts_view p = record { namespace = p.namespace.now; package_name = p.«package».now; name = p.name.now; version = option_map string_bytes p.version.now }
 

@@ -14,11 +14,13 @@ use Rattle.component_reader.specs.declared.instance.InstanceReader.{InstanceRead
 use Rattle.component_reader.specs.declared.world.WorldReader.{WorldReader}
 use Rattle.component_reader.specs.declared.component.ComponentReader.{ComponentReader}
 
+-- what the last definition defines, while its export may still come
 abbrev pub awaited_view : Defined → Awaited
 awaited_view defined.Nothing = Nothing
 awaited_view (defined.«Type» k) = AType k
 awaited_view (defined.Function ps result) = AFunction ps result
 
+-- the types that an instance type exports, by name
 abbrev pub names_view : List (Vec ℕ × TypeId) → List NameEntry
 names_view es = map (mapped_entry (λ v. v.items)) es
 
@@ -34,9 +36,11 @@ read_with rows r = record {
   functions = r.functions.items;
 }
 
+-- what was read of a world's component type, with the rows of the table
 abbrev pub world_with : List Definition → WorldReader → WorldRead
 world_with rows w = record { inside = read_with rows w.inside; items = w.items.items; interface = w.interface }
 
+-- what was read of the component type so far
 abbrev pub component_view : ComponentReader → ComponentRead
 component_view c = record {
   packages = c.packages.items;

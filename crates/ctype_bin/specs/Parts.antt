@@ -10,7 +10,7 @@ use Rattle.ctype_format.specs.File.{component_file}
 use Rattle.ctype_format.specs.Writing.{file_bytes}
 use Rattle.ctype_bin.specs.Spellable.{IsSpellable}
 
--- an import in an instance type, whose byte is 3; an index; a count of 0; a limit
+-- a fault that parts can have: an import in an instance type, whose byte is 3, an index, a count of 0, or a limit
 abbrev pub IsOfParts : Fault → Type 0
 IsOfParts (UnknownOpcode b) = b ≡ 3
 IsOfParts BadIndex = Unit {0}
