@@ -4,6 +4,7 @@ use Rattle.std.specs.List.{list_all}
 use Rattle.semver.specs.Parse.{version_parts}
 use Rattle.atoms.specs.Label.{is_upper, is_label}
 
+-- the parts of a full name, in bytes: a version without its `@`, if there is one
 pub record NameParts : Type 0 where
   pub namespace : List ℕ
   pub package_name : List ℕ
@@ -18,6 +19,7 @@ is_package_label text = is_label text && list_all (λ c. not (is_upper c)) text
 unfoldable pub is_version : List ℕ → Bool
 is_version text = nat_le (length text) 255 && is_ok (version_parts text)
 
+-- a version of SemVer 2.0.0 of at most 255 bytes, if there is one
 abbrev pub is_version_or_none : Option (List ℕ) → Bool
 is_version_or_none None = true
 is_version_or_none (Some text) = is_version text
@@ -27,13 +29,15 @@ abbrev pub version_suffix : Option (List ℕ) → List ℕ
 version_suffix None = []
 version_suffix (Some version) = 64 ∷ version
 
--- the text from the name on, from the package on, and whole
+-- a full name from the interface's name on
 abbrev pub name_text : NameParts → List ℕ
 name_text parts = parts.name ++ version_suffix parts.version
 
+-- a full name from the package's name on
 abbrev pub package_text : NameParts → List ℕ
 package_text parts = parts.package_name ++ 47 ∷ name_text parts
 
+-- a full name whole: `namespace:package/name`, and `@version` if there is one
 abbrev pub full_name_text : NameParts → List ℕ
 full_name_text parts = parts.namespace ++ 58 ∷ package_text parts
 

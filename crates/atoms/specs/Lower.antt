@@ -2,7 +2,7 @@
 use Rattle.std.specs.Prelude.{ℕ, List, [], ◌∷◌, if◌then◌else◌}
 use Rattle.atoms.specs.Label.{is_lower}
 
--- what stands behind them
+-- the bytes after the lower-case letters at the front
 abbrev pub behind_lower : List ℕ → List ℕ
 behind_lower [] = []
 behind_lower (c ∷ cs) = if is_lower c then behind_lower cs else c ∷ cs

@@ -2,6 +2,7 @@
 use Rattle.std.specs.Prelude.{ℕ, List, ◌==◌}
 use Rattle.productions.specs.Production.{Production, give, one, optional, ◌>>=◌}
 
+-- perhaps a 0, and then a 1; the value is the 1
 abbrev pub zero_one : Production ℕ (List ℕ) ℕ
 zero_one = do
   o ← optional (λ n. n == 0) give

@@ -11,12 +11,15 @@ use Rattle.tree_meaning.specs.Resolves.{interface_uses, type_uses, names_in_orde
 use Rattle.tree_scopes.specs.Sources.{declared_tree}
 use Rattle.tree_rows.specs.declared.plan.Plan.{Plan}
 
+-- the table of the imports of a file
 abbrev pub imported : Plan → Resolve
 imported p = p.imports.now
 
+-- the file whose table is made
 abbrev pub planned_file : Plan → File
 planned_file p = file_view p.ast.now
 
+-- the interfaces of the file, in source order
 abbrev pub planned_trees : Plan → List InterfaceTree
 planned_trees p = map declared_tree p.all.now
 

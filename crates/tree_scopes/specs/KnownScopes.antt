@@ -6,6 +6,7 @@ use Rattle.tables.specs.declared.tables.Resolve.{Resolve}
 use Rattle.tree_scopes.specs.declared.known.KnownTypes.{KnownTypes}
 use Rattle.tree_meaning.specs.Building.{label_at, IsEntry}
 
+-- each name of the scope is that of a type of its interface in the table
 pub record IsScope (t : Table) (s : KnownTypes) : Type 0 where
   pub each : All (IsEntry t (label_at t s.interface.0)) s.entries
 
@@ -13,6 +14,7 @@ pub record IsScope (t : Table) (s : KnownTypes) : Type 0 where
 abbrev pub scope_name : Table → KnownTypes → List ℕ
 scope_name t s = label_at t s.interface.0
 
+-- the names of types that a scope has, in order
 abbrev pub scope_names : KnownTypes → List (List ℕ)
 scope_names s = map (λ e. e.name) s.entries
 
@@ -28,6 +30,7 @@ ArePlaced scopes = (m : ℕ) (d : KnownTypes) → m < length scopes → (slice_i
 abbrev pub HaveImportNames : Resolve → List KnownTypes → Type 0
 HaveImportNames r scopes = map scope_names scopes ≡ map (λ k. k.types) (interfaces_of r)
 
+-- the scopes of the imports, one for each, in the order of their table: each has the names of its interface's types
 pub record AreImportScopes (r : Resolve) (scopes : List KnownTypes) : Type 0 where
   pub names : HaveImportNames r scopes
   pub placed : ArePlaced scopes

@@ -9,10 +9,12 @@ use Rattle.tables.specs.declared.tables.Resolve.{Resolve}
 use Rattle.wit_component.specs.ToComponent.{ComponentStands}
 use Rattle.package_form.specs.Naming.{Repeats}
 
+-- there are no declarations
 abbrev pub is_none : Decls → Bool
 is_none none = true
 is_none (then d ds) = false
 
+-- the type is a component type without declarations
 abbrev pub has_no_decls : TypeEntry → Bool
 has_no_decls (Component ds) = is_none ds
 has_no_decls _ = false
@@ -23,8 +25,8 @@ is_empty_package [] = false
 is_empty_package (t ∷ []) = has_no_decls t
 is_empty_package (t ∷ u ∷ ts) = false
 
--- Why a component is refused as a closed table: 43 looks at its one type alone, 44 tells that it stands for no package, and 40 names one that
--- stands twice in a scope of a package that it stands for.
+-- Why a component is refused: `43 empty package` if its one type has no declarations, `44 not this shape` if it is the
+-- component of no table, `40 duplicate` if it is that of one with a name twice in a scope. Or out of memory
 abbrev pub ClosedComponentRefuses : RawComponent → ResolveError → Type 0
 ClosedComponentRefuses raw error.EmptyPackage = is_empty_package (raw_component_view raw).types ≡ true
 ClosedComponentRefuses raw error.NotThisShape = (is_empty_package (raw_component_view raw).types ≡ false) × ((r : Resolve) → ComponentStands raw r → ⊥)

@@ -8,7 +8,7 @@ use Rattle.package_form.specs.Naming.{package_scopes}
 use Rattle.component_reader.specs.Component.{candidate_of, Makes}
 use Rattle.wit_component.specs.ToComponent.{ComponentStands}
 
--- each index followed to the declaration that took it, and each declaration to the name of its export, the component reads as the
--- package that it stands for
+-- read declaration by declaration, each index followed to the declaration that took it, a component reads as the table
+-- that it is the component of
 abbrev pub FollowsComponent : RawComponent → Type 0
 FollowsComponent raw = (r : Resolve) → ComponentStands raw r → All AreDistinct (package_scopes r) → Makes (candidate_of (raw_component_view raw)) (Ok r)

@@ -27,6 +27,7 @@ use Rattle.tables.specs.declared.tables.Definition.TheVariants as row
 
 -- ---- value types, over the type index of each row
 
+-- a primitive type of a table as the binary has it
 abbrev pub raw_primitive : Primitive → RawPrimitive
 raw_primitive primitive.Bool = raw.Bool
 raw_primitive primitive.S8 = raw.S8
@@ -39,37 +40,42 @@ raw_primitive primitive.S64 = raw.S64
 raw_primitive primitive.U64 = raw.U64
 raw_primitive primitive.Char = raw.Char
 
+-- a value type of a table as the binary has it, with the type index of each row
 abbrev pub valtype_of : List ℕ → ValType → RawValType
 valtype_of indices (val.Primitive p) = valtype.Primitive (raw_primitive p)
 valtype_of indices val.String = valtype.Primitive raw.String
 valtype_of indices (val.Id t) = valtype.Index (slice_index indices t.0)
 
+-- a field of a record as the binary has it
 abbrev pub field_of : List ℕ → Field → RawField
 field_of indices f = record { label = f.name; ty = valtype_of indices f.ty }
 
+-- a parameter of a function as the binary has it
 abbrev pub parameter_of : List ℕ → Parameter → RawField
 parameter_of indices p = record { label = p.name; ty = valtype_of indices p.ty }
 
+-- a case of a variant as the binary has it
 abbrev pub case_of : List ℕ → Case → RawCase
 case_of indices c = record { label = c.name; payload = option_map (valtype_of indices) c.ty }
 
+-- the function type of a function of the table
 abbrev pub signature_of : List ℕ → Function → BinaryFunction
 signature_of indices f = record { params = map (parameter_of indices) f.params; outcome = option_map (valtype_of indices) f.result }
 
 -- ---- rows
 
--- Where a row of an interface stands: the type index of each row of the table before it, how many types the instance type has before it,
--- and the component type's index of the used type, if the row is a used name.
+-- what an instance type or a world's component type has before a row: the type index of each row of the table so far in
+-- its own scope, the count of types in it, and the index one scope outward of the next used type
 pub record Place : Type 0 where
   pub indices : List ℕ
   pub types : ℕ
   pub used : ℕ
 
--- an outer alias's target: the type of the component type around, at this index
+-- an outer alias of the type at this index of the component type one scope outward
 abbrev pub outer_alias : ℕ → Decl
 outer_alias n = Alias (alias.Outer 1 n)
 
--- how a type is defined: a used name and a new name of another named type have no definition of their own
+-- the value type that a row declares; a used name and a new name of another row declare none
 abbrev pub defined_of : List ℕ → TypeDefKind → Option Defined
 defined_of indices (kind.Use t) = None
 defined_of indices (kind.Alias (val.Primitive p)) = Some (Prim (raw_primitive p))
@@ -84,46 +90,53 @@ defined_of indices (kind.Variant cs) = Some (Variant (map (case_of indices) cs))
 defined_of indices (kind.Enum names) = Some (Enumeration names)
 defined_of indices (kind.Flags names) = Some (FlagSet names)
 
+-- the declaration of this value type, if there is one
 abbrev pub definition_if : Option Defined → List Decl
 definition_if None = []
 definition_if (Some d) = Entry (Define d) ∷ []
 
--- what stands before a type's export: an outer alias of a used type, or its definition
+-- what a row declares before its export: an outer alias of the used type, its value type, or nothing for a new name of
+-- another row
 abbrev pub definition_declared : Place → TypeDefKind → List Decl
 definition_declared at k = if is_use k then outer_alias at.used ∷ [] else definition_if (defined_of at.indices k)
 
--- the index of what it is: of its definition, or of the type that it is a new name of
+-- the type index that a row's export is equal to: of its alias or its value type, or of the row that it is a new name
+-- of
 abbrev pub definition_index : Place → TypeDefKind → ℕ
 definition_index at (kind.Alias (val.Id t)) = slice_index at.indices t.0
 definition_index at _ = at.types
 
--- a type with a name is exported under it, equal to its definition
+-- the export of a row with a name: a type under this name, equal to the one at index i; none without a name
 abbrev pub type_export : Option TypeName → ℕ → List Decl
 type_export None i = []
 type_export (Some n) i = Export n.name (described.TypeEqual i) ∷ []
 
+-- what an instance type declares for a row: a type and its export, or a function type and the function's export
 abbrev pub row_declarations : Place → Definition → List Decl
 row_declarations at (row.Type d) = definition_declared at d.kind ++ type_export d.name (definition_index at d.kind)
 row_declarations at (row.Function f) = Entry (Func (signature_of at.indices f)) ∷ Export f.name (described.Function at.types) ∷ []
 
--- A definition, an alias and an export each take a type index, and a function its definition's.
+-- how many type indices a row takes before its export: none if it is a new name of another row
 abbrev pub defined_types : TypeDefKind → ℕ
 defined_types (kind.Alias (val.Id t)) = 0
 defined_types _ = 1
 
+-- how many type indices a row takes: its alias or its type, and its export if it is a type with a name
 abbrev pub row_types : Definition → ℕ
 row_types (row.Type d) = defined_types d.kind + option_len d.name
 row_types (row.Function f) = 1
 
--- a type with a name is referred to by the index that its export took, one without by its definition's
+-- where a row's own type index is among those that it takes: its export's if it has a name, else its type's
 abbrev pub export_offset : Option TypeName → TypeDefKind → ℕ
 export_offset None k = 0
 export_offset (Some n) k = defined_types k
 
+-- where a row's own type index is among those that it takes, from 0
 abbrev pub row_offset : Definition → ℕ
 row_offset (row.Type d) = export_offset d.name d.kind
 row_offset (row.Function f) = 0
 
+-- the place after a row
 abbrev pub place_after : Place → Definition → Place
 place_after at d = record {
   indices = at.indices ++ (at.types + row_offset d) ∷ [];
@@ -131,11 +144,12 @@ place_after at d = record {
   used = at.used + 1;
 }
 
--- the declarations of these rows, the first of which stands at this place, and the place after them
+-- what an instance type declares for these rows, the first of which is at this place
 abbrev pub declarations_of : Place → List Definition → List Decl
 declarations_of at [] = []
 declarations_of at (d ∷ ds) = row_declarations at d ++ declarations_of (place_after at d) ds
 
+-- the place after these rows, the first of which is at this place
 abbrev pub places_after : Place → List Definition → Place
 places_after at [] = at
 places_after at (d ∷ ds) = places_after (place_after at d) ds

@@ -14,27 +14,28 @@ use Rattle.wit_component.specs.Component.{component_of}
 use Rattle.package_form.specs.Ends.{end_of, rows_of, interfaces_end, world_end, world_rows}
 use Rattle.package_form.specs.Form.{IsInPackageForm}
 
+-- the name of a type is a label, if it has one
 abbrev pub is_label_if : Option TypeName → Bool
 is_label_if None = true
 is_label_if (Some n) = is_label n.name
 
--- a row's name, if it has one, is a label
+-- the name of a row is a label, if it has one
 abbrev pub is_labelled : Definition → Bool
 is_labelled (row.Type d) = is_label_if d.name
 is_labelled (row.Function f) = is_label f.name
 
--- so are the names of these interfaces, the first of whose rows begin at start
+-- the names of these interfaces and of their rows are labels; the rows of the first begin at start
 abbrev pub are_labelled : List Definition → ℕ → List Interface → Bool
 are_labelled rows start [] = true
 are_labelled rows start (i ∷ is) = (is_label i.name && list_all is_labelled (rows_of rows start i)) && are_labelled rows (end_of start i) is
 
--- .. and those of these worlds
+-- the names of these worlds and of their rows are labels; the rows of the first begin at start
 abbrev pub are_worlds_labelled : List Definition → ℕ → List World → Bool
 are_worlds_labelled rows start [] = true
 are_worlds_labelled rows start (w ∷ ws) =
     (is_label w.name && list_all is_labelled (world_rows rows start w)) && are_worlds_labelled rows (world_end start w) ws
 
--- the component is the package's, in the layout of packages
+-- the component is that of the table, whose names of interfaces, worlds and rows are labels
 pub record ComponentStands (raw : RawComponent) (r : Resolve) : Type 0 where
   pub component : raw_component_view raw ≡ component_of r
   pub form : IsInPackageForm r
