@@ -134,7 +134,7 @@ type_exported k n i s (AFunction ps result) = None
 abbrev pub function_row : ℕ → List ℕ → List Parameter → Option ValType → Definition
 function_row k n ps result = row.Function (record { owner = owner.Interface (record { 0 = k }); name = n; params = ps; result = result })
 
--- a function at the end of the table
+-- the table with this function's row at its end; the next type index, that of its function type, is that of no row
 abbrev pub with_row : Definition → InstanceRead → InstanceRead
 with_row d s = record {
   rows = s.rows ++ d ∷ [];

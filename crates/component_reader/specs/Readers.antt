@@ -24,7 +24,7 @@ awaited_view (defined.Function ps result) = AFunction ps result
 abbrev pub names_view : List (Vec ℕ × TypeId) → List NameEntry
 names_view es = map (mapped_entry (λ v. v.items)) es
 
--- what was read of an instance type, whose rows stand in the table
+-- what was read of an instance type, with the rows of the table
 abbrev pub read_with : List Definition → InstanceReader → InstanceRead
 read_with rows r = record {
   rows = rows;

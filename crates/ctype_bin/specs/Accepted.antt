@@ -14,7 +14,7 @@ use Rattle.ctype_bin.specs.InRange.{FileInRange}
 abbrev pub Among : ℕ → ℕ → Type 0
 Among limit n = (0 < n) × (n ≤ limit)
 
--- the value type has as many fields, cases, members or labels as it may have; each has one at least
+-- the count of fields, members, cases or labels is at least 1, and within the limit of cases or of flags
 abbrev pub AllowedDefined : Defined → Type 0
 AllowedDefined (Record fs) = 0 < length fs
 AllowedDefined (Variant cs) = Among max_cases (length cs)

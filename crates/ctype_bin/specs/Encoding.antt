@@ -3,7 +3,8 @@ use Rattle.std.specs.Prelude.{◌≡◌, ◌≤◌, ℕ, List, ◌++◌, length,
 use Rattle.ctype_format.specs.Raw.{BinaryFile}
 use Rattle.ctype_format.specs.File.{component_file, decoded, max_length}
 
--- New is old with bytes behind it that spell the component, and decode to it where they are not too many.
+-- The new bytes are the old ones, and then bytes that spell the component, and that decode to it if they are not too
+-- many.
 pub record AppendsSpelling (old new : List ℕ) (f : BinaryFile) : Type 0 where
   pub bytes : List ℕ
   pub appended : new ≡ old ++ bytes

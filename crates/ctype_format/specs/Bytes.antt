@@ -62,7 +62,7 @@ remaining = record {
 
 -- ---- numbers
 
--- No number begins here, nor with more bytes behind these.
+-- no front of these bytes is a number, and no number begins with them
 abbrev pub NoNumber : (List ℕ → ℕ → Type 0) → List ℕ → Type 0
 NoNumber spells bytes = ((n k : ℕ) → spells (take k bytes) n → ⊥) × (EndsEarly spells bytes → ⊥)
 

@@ -80,7 +80,7 @@ abbrev pub trailing_fault : List ℕ → Stuck
 trailing_fault [] = End
 trailing_fault (b ∷ bs) = At (trailing_byte b) (length (b ∷ bs))
 
--- a custom section, if one stands there
+-- a custom section, or nothing if the next byte isn't 0
 abbrev pub custom_next : Bytes (Option ℕ)
 custom_next = general.optional (λ b. b == 0) (λ b. custom)
 

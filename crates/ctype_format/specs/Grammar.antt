@@ -238,7 +238,7 @@ max_entries = 65535
 abbrev pub IsScopeWithin : Scope → Type 0
 IsScopeWithin scope = (scope.types ≤ scope.entries) × (scope.entries ≤ max_entries)
 
--- as many type entries as all scopes may have
+-- all scopes together have as many type entries as they may
 abbrev pub is_full : ℕ → Bool
 is_full entries = nat_le max_entries entries
 

@@ -20,22 +20,22 @@ use Rattle.package_text.specs.Text.{text_of}
 use Rattle.package_text.specs.Writable.{IsWritable}
 use Rattle.package_text.specs.Imports.{AreImportsOf}
 
--- of a closed table, the imports are such as trees resolve behind, and behind them the tree is without faults and resolves to it
+-- the imports of a closed table are ones that a file may have, and with them its tree has no faults and resolves to it
 abbrev pub IsTreeOfClosed : Resolve → Resolve → Type 0
 IsTreeOfClosed r imports = IsWritable r → AreImportsOf r imports → AreImports imports × HasNoFaultsOf (imports_of imports) (file_of r) × IsClosedPackageOf imports (file_of r) r
 
--- if types of a closed table nest as in a text, its text is read as a tree nested as a text that has no faults with
--- these imports and resolves to the table
+-- if the types of a writable closed table nest as in a text and its text is not too long, the text is read as a tree
+-- that has no faults with these imports and resolves to the table
 abbrev pub IsTextOfClosed : Resolve → Resolve → Type 0
 IsTextOfClosed r imports =
     IsWritable r → AreImportsOf r imports → file_fits (file_of r) ≡ true → length (text_of r) ≤ limit → (g : File) × IsRead (text_of r) g × HasClosedPackage imports g r
 
--- of a package that stands alone, the tree is without faults and resolves to it
+-- the tree of a package that depends on no other has no faults and resolves to it
 abbrev pub IsTreeOfPackage : Resolve → Type 0
 IsTreeOfPackage r = IsWritable r → IsAlone r → HasNoFaults (file_of r) × IsPackageOf (file_of r) r
 
--- if types of a package that depends on no other nest as in a text, its text is read as a tree without faults that
--- resolves to it
+-- if the types of a writable package that depends on no other nest as in a text and its text is not too long, the text
+-- is read as a tree that has no faults and resolves to the package
 abbrev pub IsTextOfPackage : Resolve → Type 0
 IsTextOfPackage r = IsWritable r → IsAlone r → file_fits (file_of r) ≡ true → length (text_of r) ≤ limit → (g : File) × IsRead (text_of r) g × HasPackage g r
 
@@ -43,7 +43,7 @@ IsTextOfPackage r = IsWritable r → IsAlone r → file_fits (file_of r) ≡ tru
 abbrev pub IsShallow : Resolve → Type 0
 IsShallow r = (k : ℕ) (d : TypeDef) → slice_get r.definitions k ≡ Some (row.Type d) → depth (slice_index_or (closed_types r) k string_type) ≤ 64
 
--- if no type of a table is more than 64 deep, the types of its tree nest as in a text
+-- if no type of a table in form is more than 64 deep, the types of its tree nest as in a text
 abbrev pub NestsAsText : Resolve → Type 0
 NestsAsText r = IsInPackageForm r → IsShallow r → file_fits (file_of r) ≡ true
 
@@ -52,7 +52,7 @@ pub record IsFormed (r : Resolve) : Type 0 where
   pub form : IsInPackageForm r
   pub distinct : All AreDistinct (package_scopes r)
 
--- a tree resolves to one such table of a package that stands alone
+-- a tree that depends on no other package resolves to one table, among those in form whose names differ
 abbrev pub HasOneTable : File → Type 0
 HasOneTable f = (r s : Resolve) → IsFormed r → IsFormed s → IsPackageOf f r → IsPackageOf f s → IsSamePackage r s
 

@@ -66,7 +66,7 @@ name_here r i = full_name_in (other_package r i) i.name
 abbrev pub own_names : Resolve → List (List ℕ)
 own_names r = map (name_here r) r.interfaces
 
--- what the rows of a table stand for, where interfaces go by these names
+-- the type tree of each row of a table, with interfaces by the names that they go by in the text
 abbrev pub own_trees : Resolve → List Tree
 own_trees r = references (own_names r) [] r.definitions
 
@@ -77,7 +77,7 @@ definitions_in ns trees (Some d) = definition_of ns trees d
 
 -- ---- what is written for a definition
 
--- the local name, where it is another
+-- the local name after `as`, if it isn't the used name itself
 abbrev pub local_of : List ℕ → List ℕ → Option (List ℕ)
 local_of n l = if bytes_eq n l then None else Some l
 

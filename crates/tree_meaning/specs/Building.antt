@@ -36,7 +36,7 @@ label_at t i = slice_index_or t.interfaces i []
 abbrev pub world_functions : Table → List ℕ
 world_functions t = places_where is_world_function 0 t.rows
 
--- new is old with more rows behind it
+-- the new table is the old one with more rows after its own
 pub record IsTableFront (old new : Table) : Type 0 where
   pub interfaces : new.interfaces ≡ old.interfaces
   pub rows : (more : List Definition) × (new.rows ≡ old.rows ++ more)
@@ -73,7 +73,7 @@ pub record LowersIf (old new : Table) (v : Option ValType) (tree : Option Tree) 
   pub typed : option_all (is_type new.rows) v ≡ true
   pub reads : option_map (read_val (table_trees new)) v ≡ tree
 
--- the table got the rows that these need, which stand in it and read so
+-- the table got the rows that these fields, parameters, cases or types need: their types are in it, and they read so
 pub record LowersEach {A X : Type 0} (typed : List Definition → A → Bool) (read : List Tree → A → X) (rest : List Definition → A → List ℕ) (old new : Table) (vs : List A) (xs : List X) : Type 0 where
   pub extends : Extends old new (flat_map (rest new.rows) vs)
   pub within : list_all (typed new.rows) vs ≡ true
@@ -147,13 +147,13 @@ pub record IsEntry (t : Table) (i : List ℕ) (e : NameEntry) : Type 0 where
 abbrev pub names_of : List NamedDefinition → List (List ℕ)
 names_of ds = map (λ d. d.key.name) ds
 
--- each type names only what stands before it: these names, and those of the types before it in the order
+-- each type names only these names, and those of the types before it in the order
 abbrev pub NamesEarlier : List (List ℕ) → List TypeItem → List ℕ → Type 0
 NamesEarlier names types order = (k : ℕ) → k < length order → (slice_index_or order k 0 < length types)
     × All (Contains (names ++ map (λ j. (slice_index_or types j no_type).name) (take k order)))
     (named_definition (slice_index_or types (slice_index_or order k 0) no_type).definition)
 
--- the table of the imports, behind which the own interfaces of these names are to come
+-- the table that building begins with: the rows of the imports, and own interfaces of these names after theirs
 abbrev pub start_table : Resolve → List (List ℕ) → Table
 start_table r names = record { interfaces = interface_names r ++ names; worlds = []; rows = r.definitions }
 

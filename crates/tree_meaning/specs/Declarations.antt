@@ -194,7 +194,7 @@ interface_at is k = slice_index_or is k no_interface
 
 -- the names that a type names, from the left
 abbrev mutual
-  -- the names of types that a type expression has, those of a `result` from the left
+  -- the names of types in a type expression, from the left
   pub named : Ty → List (List ℕ)
   named (Prim p) = []
   named (Named n) = n ∷ []
@@ -275,7 +275,7 @@ used_names i = map use_local i.uses
 abbrev pub own_types : InterfaceTree → List (List ℕ)
 own_types i = map type_name i.types
 
--- the names by which types stand in an interface
+-- the names of types in an interface: those that it uses, then those that it declares
 abbrev pub type_names : InterfaceTree → List (List ℕ)
 type_names i = used_names i ++ own_types i
 

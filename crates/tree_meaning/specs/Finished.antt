@@ -27,12 +27,12 @@ abbrev pub owned_in : Owner → Option ℕ
 owned_in (owner.Interface i) = Some i.0
 owned_in (owner.World w) = None
 
--- the interface of a row: of a type with a name or of a function; none for other rows
+-- the interface of a row: that of a type's name or of a function; none if the row has no name or is a world's
 abbrev pub definition_interface : Definition → Option ℕ
 definition_interface (row.Type d) = named_in d.name
 definition_interface (row.Function f) = owned_in f.owner
 
--- the interface with one more definition, which stands at place k
+-- the interface with one more type, at place k of the rows: among its used names or among its types
 abbrev pub with_new_type : ℕ → TypeDefKind → Interface → Interface
 with_new_type k (kind.Use t) i = record { «package» = i.«package»; name = i.name; uses = i.uses ++ type_id k ∷ []; types = i.types; functions = i.functions }
 with_new_type k _ i = record { «package» = i.«package»; name = i.name; uses = i.uses; types = i.types ++ type_id k ∷ []; functions = i.functions }

@@ -18,7 +18,7 @@ pub record Import : Type 0 where
   pub name : List ℕ
   pub types : List (List ℕ)
 
--- the packages, their interfaces, and all as their names tell it
+-- what a file may import: other packages, their interfaces, and all their definitions by names
 pub record Imports : Type 0 where
   pub packages : List PackageParts
   pub interfaces : List Import

@@ -34,12 +34,12 @@ LacksAny m is i es n = (e : Entry) × Contains es e × LacksEntry m is i e n
 abbrev pub LacksItem : Imports → List (List ℕ) → List ItemTree → List ℕ → Type 0
 LacksItem m names is n = (i : ItemTree) × Contains is i × IsUnknownItem m names i n
 
--- the interface that a path names is there
+-- the interface that a path names is there: among own interfaces of these names, or among the imports
 abbrev pub IsThere : Imports → List (List ℕ) → PathTo → Type 0
 IsThere m names (Local i) = Contains names i
 IsThere m names (Foreign namespace name v i) = HasImport m (record { namespace = namespace; name = name; version = v }) i
 
--- an interface or a world of a file
+-- each name in an interface or a world of a file is found
 abbrev pub KnowsFileEntry : Imports → List InterfaceTree → FileEntry → Type 0
 KnowsFileEntry m is (AnInterface n es) = HasKnownNamesOf m is (interface_tree n es)
 KnowsFileEntry m is (AWorld at n es) = IsKnownWorldOf m (names_of_trees is) (world_tree n es)
@@ -66,6 +66,6 @@ RefusesPackage there ps (error.NoPackage p) = IsLacking there ps p
 RefusesPackage there ps error.NoMemory = Unit {0}
 RefusesPackage there ps _ = ⊥
 
--- the entries give each name its first place
+-- the map gives the first place of each name in these names, and no place to other names
 abbrev pub TellsPlaces : {V : Type 0} → (V → List ℕ) → List (V × ℕ) → List (List ℕ) → Type 0
 TellsPlaces items entries names = (n : List ℕ) → lookup (λ v. bytes_eq n (items v)) entries ≡ place_of names n

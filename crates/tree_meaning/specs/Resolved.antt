@@ -127,7 +127,7 @@ definition_meaning i (Variant cs) = VariantTree Plain (choices_of (map (case_mea
 definition_meaning i (Enumeration ns) = VariantTree AsEnum (read_enum ns)
 definition_meaning i (FlagSet ns) = FlagsTree ns
 
--- a used name as a definition of the interface of this name: it refers to the name that it is used as
+-- a used name as a definition of the interface of this name: it refers to the name in the interface that it is used of
 abbrev pub use_meaning : List ℕ → UsedItem → NamedDefinition
 use_meaning i u = record {
   key = record { interface = i; name = u.local };

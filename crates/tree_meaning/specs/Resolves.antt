@@ -36,7 +36,7 @@ abbrev pub place_of : List (List ℕ) → List ℕ → Option ℕ
 place_of [] n = None
 place_of (m ∷ ms) n = if bytes_eq m n then Some 0 else option_map suc (place_of ms n)
 
--- the places of these names, without those that don't stand in the list
+-- the places of these names in the list; names that it doesn't have are left out
 abbrev pub places : List (List ℕ) → List (List ℕ) → List ℕ
 places ns wanted = filter_map (place_of ns) wanted
 
@@ -48,11 +48,11 @@ own_uses i = filter_map own_use i.uses
 abbrev pub uses_of_interface : List (List ℕ) → InterfaceTree → List ℕ
 uses_of_interface ns i = places ns (own_uses i)
 
--- which interfaces of its own package each interface uses: those of others stand before all
+-- the places of the own interfaces that each interface uses; those of other packages come before all
 abbrev pub interface_uses : List InterfaceTree → List (List ℕ)
 interface_uses is = map (uses_of_interface (names_of_trees is)) is
 
--- the place of an interface of the file's own package, of these names, or of another one: imports stand before the own interfaces
+-- the place of an interface of another package among the imports, or of an own one after them; none if it isn't there
 abbrev pub used_place : List Import → List (List ℕ) → Option PackageParts → List ℕ → Option ℕ
 used_place ks ns None i = option_map (λ j. length ks + j) (place_of ns i)
 used_place ks ns (Some q) i = import_place ks q i
@@ -75,8 +75,8 @@ type_uses i = map (uses_of_type (own_types i)) i.types
 abbrev pub names_in_order : List InterfaceTree → List ℕ → List (List ℕ)
 names_in_order is order = map (λ k. (interface_at is k).name) order
 
--- Behind its imports, the package has the interfaces in the order in which each is placed, and each one's uses, its types in the order in
--- which each is placed, and its functions.
+-- After its imports, the package has the interfaces in the order in which each is placed, and each one's uses, its
+-- types in the order in which each is placed, and its functions.
 pub record ResolvesBehind (before : Package) (is : List InterfaceTree) (ws : List WorldTree) (p : Package) : Type 0 where
   pub order : List ℕ
   pub placed : IsPlacement (interface_uses is) order
@@ -94,7 +94,7 @@ Resolves is ws p = ResolvesBehind no_package is ws p
 abbrev pub full_names : PackageParts → Table → List (List ℕ)
 full_names p t = map (own_name p) t.interfaces
 
--- the package that a table stands for, under these names of interfaces
+-- the package that a table means, with these names of its interfaces
 abbrev pub package_under : List (List ℕ) → PackageParts → Table → Package
 package_under names p t = record {
   interfaces = names;
@@ -102,7 +102,7 @@ package_under names p t = record {
   definitions = definitions_from names [] t.rows;
 }
 
--- the package of this name that a table of its own interfaces stands for, behind imports of these names
+-- the package that a table of own interfaces means, after imports of these names
 abbrev pub package_behind : List (List ℕ) → PackageParts → Table → Package
 package_behind before p t = package_under (before ++ full_names p t) p t
 
@@ -119,7 +119,7 @@ abbrev pub is_behind : Definition → Bool
 is_behind (row.Type d) = not (is_some d.name)
 is_behind (row.Function f) = is_of_worlds f.owner
 
--- the rows of worlds stand behind those of interfaces
+-- the rows of worlds come after those of interfaces
 pub record HasWorldsBehind (rows : List Definition) : Type 0 where
   pub front : List Definition
   pub back : List Definition
@@ -143,7 +143,7 @@ PassesLimit t = (65535 < type_entries t) ⊎ (are_standard t.rows ≡ false)
 abbrev pub HasDuplicate : File → List ℕ → Type 0
 HasDuplicate f n = (ns : List (List ℕ)) × Contains (scopes f) ns × IsDuplicate ns n
 
--- in no scope a name stands twice
+-- no scope of the file has a name twice, up to the case of its letters
 abbrev pub HasDistinctNames : File → Type 0
 HasDistinctNames f = All AreDistinct (scopes f)
 
@@ -159,16 +159,16 @@ KnowsPackagesOf m f = All (Contains m.packages) (other_packages f)
 abbrev pub KnowsPackages : File → Type 0
 KnowsPackages f = KnowsPackagesOf no_imports f
 
--- the name stands in an interface of this name, of the file's own package or of another one
+-- an interface of name i, of the file's own package or of another one, has a type of name n
 abbrev pub IsKnownIn : Imports → List InterfaceTree → Option PackageParts → List ℕ → List ℕ → Type 0
 IsKnownIn m is None i n = (j : InterfaceTree) × Contains is j × (j.name ≡ i) × Contains (type_names j) n
 IsKnownIn m is (Some q) i n = (k : Import) × Contains m.interfaces k × (k.«package» ≡ q) × (k.name ≡ i) × Contains k.types n
 
--- a used name stands in the interface
+-- the interface of a used name has a type of that name
 abbrev pub IsKnownUseOf : Imports → List InterfaceTree → UsedItem → Type 0
 IsKnownUseOf m is u = IsKnownIn m is u.«package» u.interface u.name
 
--- n is the interface's name where the interface isn't there, or the name where the interface lacks it
+-- n is i, if there is no such interface, or the name that interface i doesn't have
 abbrev pub IsLackingIn : Imports → List InterfaceTree → Option PackageParts → List ℕ → List ℕ → List ℕ → Type 0
 IsLackingIn m is None i name n =
     ((n ≡ i) × (¬ Contains (names_of_trees is) n))
@@ -181,7 +181,7 @@ IsLackingIn m is (Some q) i name n =
 abbrev pub IsUnknownUse : Imports → List InterfaceTree → UsedItem → List ℕ → Type 0
 IsUnknownUse m is u n = IsLackingIn m is u.«package» u.interface u.name n
 
--- a type is named by a name of its own interface
+-- n is one of these names, which a declaration of the interface has, and no type of the interface has this name
 abbrev pub IsUnknownName : InterfaceTree → List (List ℕ) → List ℕ → Type 0
 IsUnknownName i ns n = Contains ns n × (¬ Contains (type_names i) n)
 
@@ -224,7 +224,7 @@ IsKnownItemOf m names (FunctionOf way f) = names_in_function f.function ≡ []
 abbrev pub IsKnownWorldOf : Imports → List (List ℕ) → WorldTree → Type 0
 IsKnownWorldOf m names w = All (IsKnownItemOf m names) w.items
 
--- each name stands for something
+-- each name in the file is found
 pub record KnowsAllOf (m : Imports) (f : File) : Type 0 where
   pub in_interfaces : All (HasKnownNamesOf m (interfaces f)) (interfaces f)
   pub in_worlds : All (IsKnownWorldOf m (names_of_trees (interfaces f))) (file_worlds f)
@@ -252,7 +252,7 @@ member_fits m = fits m.ty
 abbrev pub case_fits : CaseOf → Bool
 case_fits c = fits_if c.payload
 
--- each type after a declared type's name is nested at most 64 deep; names and labels count for nothing
+-- each type in what is written after a declared type's name is nested at most 64 deep
 abbrev pub body_fits : Body → Bool
 body_fits (Alias t) = fits t
 body_fits (Record ms) = list_all member_fits ms
@@ -286,8 +286,8 @@ file_fits f = list_all interface_fits f.entries
 
 -- ---- what is answered
 
--- The package of a tree. The rows without names, where functions of worlds stand and the ids of the interfaces are told as well, so that
--- there is one answer alone.
+-- The table of a file that depends on no other package. Rows without names, places of worlds' functions and ids are
+-- fixed too, so that there is one answer alone.
 pub record IsPackageOf (f : File) (r : Resolve) : Type 0 where
   pub earlier : KnowsPackages f
   pub packages : r.packages ≡ package_named f ∷ []
@@ -298,7 +298,7 @@ pub record IsPackageOf (f : File) (r : Resolve) : Type 0 where
   pub ids : r.interfaces ≡ interfaces_in (table_of r)
   pub within : type_entries (table_of r) ≤ 65535
 
--- the row is a type without a name, or stands in one of so many interfaces
+-- the type has no name, or one in the first n interfaces
 abbrev pub is_name_of : ℕ → Option TypeName → Bool
 is_name_of n None = true
 is_name_of n (Some m) = nat_lt m.interface.0 n
@@ -324,7 +324,7 @@ pub record AreImports (r : Resolve) : Type 0 where
 abbrev pub in_package : ℕ → Interface → Interface
 in_package n i = record { «package» = package_id n; name = i.name; uses = i.uses; types = i.types; functions = i.functions }
 
--- The interfaces of a table of these rows, that stand behind so many others and are of the package behind so many.
+-- the interfaces of these names with their rows, after so many packages and so many interfaces
 abbrev pub interfaces_behind : ℕ → ℕ → List Definition → List (List ℕ) → List Interface
 interfaces_behind packages interfaces rows names = map (in_package packages) (interfaces_from rows interfaces names)
 
@@ -367,7 +367,7 @@ pub record IsTooLargeBehind (before : Package) (f : File) : Type 0 where
   pub typed : IsTrue (name_types table.rows)
   pub passes : PassesLimit (with_names before.interfaces table)
 
--- a refusal: its cause stands, and no cause of an earlier class does
+-- a refusal: its cause holds, and no cause of an earlier class does; or out of memory
 abbrev pub ResolveRefusesOf : Imports → File → ResolveError → Type 0
 ResolveRefusesOf m f error.EmptyPackage = f.entries ≡ []
 ResolveRefusesOf m f error.NotThisShape = ⊥
@@ -394,6 +394,6 @@ pub record HasClosedPackage (imports : Resolve) (f : File) (r : Resolve) : Type 
   pub fits : file_fits f ≡ true
   pub resolved : IsClosedPackageOf imports f r
 
--- where a tree has a closed table, that table is answered, by its names, or only memory is wanting
+-- if the tree has a table after these imports, the answer is a table that means the same by names, or out of memory
 abbrev pub AnswersOnlyBehind : Resolve → File → Result Resolve ResolveError → Type 0
 AnswersOnlyBehind imports f answer = (r : Resolve) → HasClosedPackage imports f r → MatchResult answer (λ p. package_of p ≡ package_of r) (λ e. e ≡ error.NoMemory)

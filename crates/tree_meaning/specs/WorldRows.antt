@@ -21,7 +21,7 @@ pub record AddsFunctions (old new : Table) (functions : List ℕ) : Type 0 where
   pub postfix : Leaves old.rows [] → Leaves new.rows []
   pub own : world_functions new ≡ world_functions old ++ functions
 
--- the types of a function stand in the table
+-- the types of the function are primitives, string or rows of the table, if there is a function
 abbrev pub is_typed : List Definition → Option Function → Bool
 is_typed rows None = true
 is_typed rows (Some f) = function_all (is_type rows) f
@@ -31,15 +31,15 @@ abbrev pub has_types : List Definition → WorldItemKind → Bool
 has_types rows (item.Interface i) = true
 has_types rows (item.Function f) = is_typed rows (function_of (slice_get rows f.0))
 
--- an item of the world at place k
+-- the item of world k is an interface of the table, or a function of that world whose types are in the table
 abbrev pub item_stands : Table → ℕ → WorldItem → Bool
 item_stands t k i = is_placed_item t.rows (length t.interfaces) k i.kind && has_types t.rows i.kind
 
--- a world of the package behind so many others, at place k
+-- the world is of the package after so many others, and its items are in the table as those of world k
 abbrev pub world_stands : ℕ → Table → ℕ → World → Bool
 world_stands own t k w = w.«package».0 == own && list_all (item_stands t k) w.items
 
--- these worlds, the first of which is at place k
+-- each of these worlds is in the table with its items, the first as world k
 abbrev pub worlds_stand : ℕ → Table → ℕ → List World → Bool
 worlds_stand own t k [] = true
 worlds_stand own t k (w ∷ ws) = world_stands own t k w && worlds_stand own t (k + 1) ws

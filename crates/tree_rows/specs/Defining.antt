@@ -24,7 +24,8 @@ abbrev pub DefinesNamed : Table → KnownTypes → Table → KnownTypes → List
 DefinesNamed old before new after name k = (first : Table) (m : Meaning) → IsScope first before → LowersKind first old k m
     → Grows first before new after (record { key = record { interface = scope_name first before; name = name }; meaning = m } ∷ [])
 
--- the used interface stands before, at a place among the imports or the own interfaces of these names, and has the type
+-- the used interface comes before, among the imports or the own interfaces of these names, and has a type of the used
+-- name
 pub record CanUse (ks : List Import) (names : List (List ℕ)) (t : Table) (scopes : List KnownTypes) (u : UsedItem) : Type 0 where
   pub place : ℕ
   pub found : used_place ks names u.«package» u.interface ≡ Some place

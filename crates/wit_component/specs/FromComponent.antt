@@ -25,8 +25,8 @@ is_empty_package [] = false
 is_empty_package (t ∷ []) = has_no_decls t
 is_empty_package (t ∷ u ∷ ts) = false
 
--- Why a component is refused: `43 empty package` if its one type has no declarations, `44 not this shape` if it is the
--- component of no table, `40 duplicate` if it is that of one with a name twice in a scope. Or out of memory
+-- Why a component is refused: `43 empty package` if its one type is a component type without declarations, `44 not this
+-- shape` if it is that of no table, `40 duplicate` if it is that of one with a name twice in a scope. Or out of memory
 abbrev pub ClosedComponentRefuses : RawComponent → ResolveError → Type 0
 ClosedComponentRefuses raw error.EmptyPackage = is_empty_package (raw_component_view raw).types ≡ true
 ClosedComponentRefuses raw error.NotThisShape = (is_empty_package (raw_component_view raw).types ≡ false) × ((r : Resolve) → ComponentStands raw r → ⊥)

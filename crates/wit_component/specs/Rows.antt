@@ -95,13 +95,11 @@ abbrev pub definition_if : Option Defined → List Decl
 definition_if None = []
 definition_if (Some d) = Entry (Define d) ∷ []
 
--- what a row declares before its export: an outer alias of the used type, its value type, or nothing for a new name of
--- another row
+-- what a row declares before its export: an outer alias of the used type, or its value type if it declares one
 abbrev pub definition_declared : Place → TypeDefKind → List Decl
 definition_declared at k = if is_use k then outer_alias at.used ∷ [] else definition_if (defined_of at.indices k)
 
--- the type index that a row's export is equal to: of its alias or its value type, or of the row that it is a new name
--- of
+-- the type index that a row's export is equal to: its alias's, its value type's, or that of the row that it renames
 abbrev pub definition_index : Place → TypeDefKind → ℕ
 definition_index at (kind.Alias (val.Id t)) = slice_index at.indices t.0
 definition_index at _ = at.types

@@ -35,7 +35,7 @@ are_worlds_labelled rows start [] = true
 are_worlds_labelled rows start (w ∷ ws) =
     (is_label w.name && list_all is_labelled (world_rows rows start w)) && are_worlds_labelled rows (world_end start w) ws
 
--- the component is that of the table, whose names of interfaces, worlds and rows are labels
+-- the component is that of the table, which is in form, and whose interfaces, worlds and rows have labels as names
 pub record ComponentStands (raw : RawComponent) (r : Resolve) : Type 0 where
   pub component : raw_component_view raw ≡ component_of r
   pub form : IsInPackageForm r

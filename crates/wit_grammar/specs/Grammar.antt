@@ -145,7 +145,8 @@ gate_feature t = first_feature t.token.kind
 unfoldable pub first_fault : ℕ → List Lexeme → TextError
 first_fault end = unless_feature end gate_feature (want.Keyword kw.Package)
 
--- what is expected at this token before a mark: a version is malformed if it is met where none was read
+-- what is expected at this token in place of a mark: a version, if a malformed one is met and none was read; else the
+-- mark
 abbrev pub version_or : Option (List ℕ) → Punctuation → Lexeme → Expected
 version_or None p t = if is kind.Version t then want.Version else want.Punctuation p
 version_or (Some v) p t = want.Punctuation p
@@ -363,7 +364,7 @@ member end n = do
   t ← ty end n
   give (record { name = name; ty = t })
 
--- a comma or the `)` that ends the parameters; no comma stands before `)`
+-- a comma or the `)` that ends the parameters; the last parameter has no comma
 unfoldable pub after_member : ℕ → Phrase Bool
 after_member end = comma_or (is comma) (is close_parenthesis) (comma_wanted end end)
 

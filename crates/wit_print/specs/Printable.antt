@@ -70,7 +70,7 @@ pub record ArePrintable {X : Type 0} (P : X → Type 0) (xs : List X) : Type 0 w
   pub few : length xs ≤ limit
   pub each : AllByRecursion P xs
 
--- what is written after the name of a declared type has a text; only an alias has no list of entries
+-- what is written after the name of a declared type has a text: each list of entries has one at least
 abbrev pub IsPrintableDefinition : TypeBody → Type 0
 IsPrintableDefinition (Alias t) = IsPrintableType t
 IsPrintableDefinition (Record ms) = ArePrintable IsPrintableMember ms

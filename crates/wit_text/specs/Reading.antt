@@ -25,8 +25,8 @@ IsFile end ts f = (n : ℕ) × (file end (suc n)).spells ts f
 abbrev pub IsDepth : TextError → Type 0
 IsDepth e = (s : Span) × (e ≡ error.Depth s)
 
--- The text's tokens begin nothing that is spelled so, up to the one met, where this fault stands; it is the first of the
--- grammar.
+-- No file that is spelled so begins with the text's tokens up to the one met, where this fault is. It is the first
+-- fault of the grammar.
 pub record GrammarFault (text : List ℕ) (spells : List Lexeme → File → Type 0) (e : TextError) : Type 0 where
   pub tokens : List Token
   pub short : length text ≤ limit

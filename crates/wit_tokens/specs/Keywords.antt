@@ -50,7 +50,7 @@ spelling kw.Variant = codes "variant"
 spelling kw.With = codes "with"
 spelling kw.World = codes "world"
 
--- all keywords of WIT, of packages here or left out, in the order of their letters
+-- all keywords of WIT, those of features that are left out too, in alphabetical order
 unfoldable pub keywords : List Keyword
 keywords = kw.As ∷ kw.Async ∷ kw.Bool ∷ kw.Borrow ∷ kw.Char ∷ kw.Constructor ∷ kw.Enum ∷ kw.ErrorContext ∷ kw.Export ∷ kw.F32 ∷ kw.F64 ∷ kw.Flags ∷ kw.From ∷ kw.Func ∷ kw.Future ∷ kw.Import ∷ kw.Include ∷ kw.Interface ∷ kw.List ∷ kw.Map ∷ kw.Option ∷ kw.Own ∷ kw.Package ∷ kw.Record ∷ kw.Resource ∷ kw.Result ∷ kw.S16 ∷ kw.S32 ∷ kw.S64 ∷ kw.S8 ∷ kw.Static ∷ kw.Stream ∷ kw.String ∷ kw.Tuple ∷ kw.«Type» ∷ kw.U16 ∷ kw.U32 ∷ kw.U64 ∷ kw.U8 ∷ kw.Use ∷ kw.Variant ∷ kw.With ∷ kw.World ∷ []
 

@@ -73,7 +73,7 @@ digit_run cs = length (take_while is_digit cs)
 abbrev pub line_run : List ℕ → ℕ
 line_run cs = length (take_while (λ c. not (c == 10)) cs)
 
--- n more bytes, if there is a length at all
+-- this length and n more, if there is a length
 abbrev pub plus : ℕ → Option ℕ → Option ℕ
 plus n None = None
 plus n (Some m) = Some (n + m)
