@@ -328,7 +328,7 @@ in_package n i = record { «package» = package_id n; name = i.name; uses = i.us
 abbrev pub interfaces_behind : ℕ → ℕ → List Definition → List (List ℕ) → List Interface
 interfaces_behind packages interfaces rows names = map (in_package packages) (interfaces_from rows interfaces names)
 
--- the table of a file's package after its imports, which stay as in their table: one table of all
+-- the table of a file's package after its imports, which stay as in their table; closed if each import is reached
 pub record IsClosedPackageOf (imports : Resolve) (f : File) (r : Resolve) : Type 0 where
   pub earlier : KnowsPackagesOf (imports_of imports) f
   pub packages : r.packages ≡ imports.packages ++ package_named f ∷ []

@@ -119,7 +119,7 @@ abbrev pub defined_types : TypeDefKind → ℕ
 defined_types (kind.Alias (val.Id t)) = 0
 defined_types _ = 1
 
--- how many type indices a row takes: its alias or its type, and its export if it is a type with a name
+-- how many type indices a row takes: of its alias or its type, and of its export if it is a type with a name
 abbrev pub row_types : Definition → ℕ
 row_types (row.Type d) = defined_types d.kind + option_len d.name
 row_types (row.Function f) = 1
