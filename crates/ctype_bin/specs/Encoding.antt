@@ -3,8 +3,8 @@ use Rattle.std.specs.Prelude.{◌≡◌, ◌≤◌, ℕ, List, ◌++◌, length,
 use Rattle.ctype_format.specs.Raw.{BinaryFile}
 use Rattle.ctype_format.specs.File.{component_file, decoded, max_length}
 
--- The new bytes are the old ones, and then bytes that spell the component, and that decode to it if they are not too
--- many.
+-- the new bytes are the old ones, and then bytes that spell the component, and that decode to it if they are not too
+-- many
 pub record AppendsSpelling (old new : List ℕ) (f : BinaryFile) : Type 0 where
   pub bytes : List ℕ
   pub appended : new ≡ old ++ bytes

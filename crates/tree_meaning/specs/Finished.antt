@@ -46,7 +46,7 @@ with_definition k (row.Function f) i = record { «package» = i.«package»; nam
 abbrev pub header_name : PackageId → PackageParts
 header_name p = record { namespace = p.namespace; name = p.name; version = option_map string_bytes p.version }
 
--- the package of this name made of a table: after its imports, with own interfaces of these names
+-- the table is finished as the package of this name, after its imports, with own interfaces of these names
 pub record IsFinished (imports : Resolve) (p : PackageParts) (names : List (List ℕ)) (t : Table) (r : Resolve) : Type 0 where
   pub packages : r.packages ≡ imports.packages ++ p ∷ []
   pub worlds : r.worlds ≡ t.worlds

@@ -13,8 +13,8 @@ use Rattle.package_form.specs.Reached.{reached as reached_by}
 use Rattle.tree_meaning.specs.Declarations.{UsedItem, InterfaceTree, WorldTree, ForeignNamed, interfaces, file_worlds, package_named}
 use Rattle.tree_meaning.specs.Imports.{Import, import_at, interfaces_of}
 
--- Imports as the table of a package has them: their names make full names, and rows come interface by interface, each
--- row in its own.
+-- imports as the table of a package has them: their names make full names, and rows come interface by interface, each
+-- row in its own
 pub record AreImportsInForm (imports : Resolve) : Type 0 where
   pub names : IsTrue (have_full_names imports)
   pub labels : All IsLabelled imports.interfaces

@@ -75,8 +75,8 @@ type_uses i = map (uses_of_type (own_types i)) i.types
 abbrev pub names_in_order : List InterfaceTree → List ℕ → List (List ℕ)
 names_in_order is order = map (λ k. (interface_at is k).name) order
 
--- After its imports, the package has the interfaces in the order in which each is placed, and each one's uses, its
--- types in the order in which each is placed, and its functions.
+-- after its imports, the package has the interfaces in the order in which each is placed, and each one's uses, its
+-- types in the order in which each is placed, and its functions
 pub record ResolvesBehind (before : Package) (is : List InterfaceTree) (ws : List WorldTree) (p : Package) : Type 0 where
   pub order : List ℕ
   pub placed : IsPlacement (interface_uses is) order
@@ -367,7 +367,8 @@ pub record IsTooLargeBehind (before : Package) (f : File) : Type 0 where
   pub typed : IsTrue (name_types table.rows)
   pub passes : PassesLimit (with_names before.interfaces table)
 
--- a refusal: its cause holds, and no cause of an earlier class does; or out of memory
+-- a refusal: its cause holds, and no cause of an earlier class does, except that types nested too deep may come with
+-- any; or out of memory
 abbrev pub ResolveRefusesOf : Imports → File → ResolveError → Type 0
 ResolveRefusesOf m f error.EmptyPackage = f.entries ≡ []
 ResolveRefusesOf m f error.NotThisShape = ⊥
@@ -378,7 +379,7 @@ ResolveRefusesOf m f error.Cycle = HasNoFaultsOf m f × HasCycle f
 ResolveRefusesOf m f error.Limit = (HasEntries f × (file_fits f ≡ false)) ⊎ (HasNoFaultsOf m f × IsTooLargeBehind m.meaning f)
 ResolveRefusesOf m f error.NoMemory = Unit {0}
 
--- the refusal of a file that depends on no other package: its cause holds, and no earlier one
+-- why a file that depends on no other package is refused, as with no imports
 abbrev pub ResolveRefuses : File → ResolveError → Type 0
 ResolveRefuses f e = ResolveRefusesOf no_imports f e
 
