@@ -15,7 +15,7 @@ abbrev pub HaveOtherKinds : FunctionType → List Flat → Memory → Fault → 
 HaveOtherKinds f flats old fault new c =
     (KindsFit f flats → ⊥) × (fault ≡ Trap (record { kind = CoreSignature; step = LowerResult })) × (new ≡ old) × (c ≡ 0)
 
--- they are, or they are the signature's and the answer did not return
+-- the core values of the call are not the signature's, or they are and the answer did not return
 abbrev pub LeaveFails : Allocation → FunctionType → List Flat → List ℕ → List Flat → Memory → Fault → Memory → ℕ → Type 0
 LeaveFails allocates f flats m answer old fault new c =
     HaveOtherKinds f flats old fault new c ⊎ (KindsFit f flats × ReturnFails allocates f flats m answer old fault new c)

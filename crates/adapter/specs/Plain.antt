@@ -8,22 +8,22 @@ use Rattle.canonical_abi.specs.Memory.{PrimIs}
 use Rattle.canonical_abi.specs.Reading.{number_of, flat_bits}
 use Rattle.canonical_abi.specs.declared.flat.Flat.{Flat}
 
--- of a primitive type
+-- the core value is the one that carries the value of this primitive that it stands for
 abbrev pub IsOwn : Prim → Flat → Type 0
 IsOwn p f = (v : Value) × PrimIs p (number_of f % 2 ^ flat_bits p) v × HasPrimType v p × (f ≡ core_of (prim_kind p) v)
 
--- of a type that is a primitive
+-- the type is a primitive, and the core value is the one that carries the value that it stands for
 abbrev pub IsOwnOf : ClosedType → Flat → Type 0
 IsOwnOf (prim_type p) f = IsOwn p f
 IsOwnOf _ f = ⊥
 
--- one for each of these types, in turn
+-- each of these core values is the one that carries the value of its type, which is a primitive
 abbrev pub AreOwn : Fields → List Flat → Type 0
 AreOwn no_field [] = Unit {0}
 AreOwn no_field (f ∷ fs) = ⊥
 AreOwn (field t ts) [] = ⊥
 AreOwn (field t ts) (f ∷ fs) = IsOwnOf t f × AreOwn ts fs
 
--- those of a whole call, whose result goes flat
+-- the core values of a call cross as they are: its result goes flat, it has at most 16, and each is its value's own
 abbrev pub PassAsTheyAre : FunctionType → List Flat → Type 0
 PassAsTheyAre f flats = (fits_flat max_flat_results (result_fields f.result) ≡ true) × (length flats ≤ 16) × AreOwn f.params flats
