@@ -9,26 +9,28 @@ use Rattle.canonical_abi.specs.Headline.{IsStandardFunction, KeepsPromise, Lends
 use Rattle.canonical_abi.specs.declared.flat.Flat.{Flat}
 use Rattle.canonical_abi.specs.declared.trap.Fault.{Fault}
 
+-- an allocator that may grant every block that honesty allows, or refuse and leave the memory as it was
 abbrev pub AnyGrant : Allocation
 AnyGrant old align size (Some at) new = IsGrant old align size at new
 AnyGrant old align size None new = new ≡ old
 
+-- a `free` that may take back every block as honesty allows, or refuse and leave the memory as it was
 abbrev pub AnyRelease : Release
 AnyRelease old at size true new = IsRelease old at size new
 AnyRelease old at size false new = new ≡ old
 
--- two such guests, and a body
+-- the parties of a call whose two allocators may make all honest steps, with this body and post-return
 abbrev pub any_honest : Run → PostRun → Parties
 any_honest runs posts = record { caller_allocates = AnyGrant; callee_allocates = AnyGrant; runs = runs; posts = posts }
 
--- a typed call over them keeps the promise, with no premise on the guests
+-- a typed call between guests that make any honest step keeps the promise, with no premise on the guests
 abbrev pub AnyHonestIsPromised : Run → PostRun → Type 0
 AnyHonestIsPromised runs posts =
     (f : FunctionType) (arguments : List Value) (old : World) (result : Result (Option Value) Fault) (new : World)
     → IsStandardFunction f → TypedCall (any_honest runs posts) exact f arguments old result new
     → KeepsPromise (any_honest runs posts) exact f arguments old result new
 
--- so does a call of flat values, over a return area that is lent
+-- a call of flat values between such guests keeps the promise too, if the return area is lent
 abbrev pub AnyHonestLinkIsPromised : Run → PostRun → Type 0
 AnyHonestLinkIsPromised runs posts =
     (f : FunctionType) (flats : List Flat) (old : World) (result : Result (List Flat) Fault) (ways : Ways) (new : World)

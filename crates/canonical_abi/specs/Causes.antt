@@ -14,7 +14,7 @@ use Rattle.canonical_abi.specs.declared.trap.TrapKind.TheVariants as trap
 use Rattle.canonical_abi.specs.declared.trap.Step.{Step}
 use Rattle.canonical_abi.specs.declared.trap.Step.TheVariants as step
 
--- K1 to K5 and K8, which tell of values; neither an allocator's refusal nor a body that stopped
+-- the kinds of traps that values cause, K1 to K5 and K8; not a refusal of an allocator, nor a body that stopped
 abbrev pub IsOfValues : TrapKind → Type 0
 IsOfValues trap.Full = ⊥
 IsOfValues trap.Body = ⊥
@@ -32,17 +32,18 @@ MayMisalign allocates = (old new : Memory) × (align size at : ℕ) × allocates
 abbrev pub MayPass : Allocation → Type 0
 MayPass allocates = (old new : Memory) × (align size at : ℕ) × allocates old align size (Some at) new × (length new.bytes < at + size)
 
--- what an allocator has to allow for a trap of this kind to tell of a request; no other kind does
+-- what an allocator has to do for a trap of this kind: refuse (K6), misalign (K3), or pass the memory's end (K4)
 abbrev pub IsOfAllocator : Allocation → TrapKind → Type 0
 IsOfAllocator allocates trap.Full = MayRefuse allocates
 IsOfAllocator allocates trap.Align = MayMisalign allocates
 IsOfAllocator allocates trap.Bounds = MayPass allocates
 IsOfAllocator allocates _ = ⊥
 
--- the body, or its post-return, may stop by itself
+-- the body may stop by itself
 abbrev pub BodyMayStop : Run → Type 0
 BodyMayStop runs = (state : List ℕ) × (memory : Memory) × (flats : List Flat) × (state' : List ℕ) × (memory' : Memory) × runs state memory flats state' memory' None
 
+-- the post-return may stop by itself
 abbrev pub PostMayStop : PostRun → Type 0
 PostMayStop posts = (state : List ℕ) × (memory : Memory) × (flats : List Flat) × (state' : List ℕ) × (memory' : Memory) × posts state memory flats state' memory' None
 

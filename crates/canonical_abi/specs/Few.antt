@@ -8,7 +8,7 @@ use Rattle.canonical_abi.specs.Headline.{IsStandardFunction, area_size}
 use Rattle.canonical_abi.specs.declared.flat.Flat.{Flat}
 use Rattle.canonical_abi.specs.declared.trap.Fault.{Fault}
 
--- the bytes of all blocks that were granted
+-- how many bytes the granted blocks have together
 abbrev pub granted_size : List Event → ℕ
 granted_size [] = 0
 granted_size (node ∷ es) = granted_size es
@@ -25,7 +25,7 @@ pub record IsShallowFunction (f : FunctionType) : Type 0 where
   pub params : fields_depth f.params ≤ 64
   pub result : fields_depth (result_fields f.result) ≤ 64
 
--- each call of such a function visits few nodes, whatever it answers
+-- each call of a function nested at most 64 deep visits few nodes, whatever it answers
 abbrev pub VisitsFewNodes : Parties → Type 0
 VisitsFewNodes parties =
     (f : FunctionType) (flats : List Flat) (old : World) (result : Result (List Flat) Fault) (ways : Ways) (new : World)

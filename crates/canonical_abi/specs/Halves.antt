@@ -24,14 +24,15 @@ use Rattle.canonical_abi.specs.declared.trap.Step.TheVariants as step
 abbrev pub counted_nodes : List Event → ℕ
 counted_nodes es = min (nodes_of es) (2 ^ 64 - 1)
 
+-- a world of these two memories and what the body keeps
 abbrev pub as_world : Memory → Memory → List ℕ → World
 as_world caller callee body = record { caller = caller; callee = callee; body = body }
 
--- a memory that is only read
+-- a memory that is only read: its bytes, with nothing live
 abbrev pub source : List ℕ → Memory
 source bytes = record { bytes = bytes; live = λ a. false; state = [] }
 
--- who takes part in a half: the allocator of the memory that values are put into, and no other, and no body
+-- the parties of the first half: the callee's allocator, and no other and no body
 abbrev pub entering : Allocation → Parties
 entering allocates = record {
   caller_allocates = λ old align size at new. ⊥;
@@ -40,6 +41,7 @@ entering allocates = record {
   posts = λ s m f s' m' a. ⊥;
 }
 
+-- the parties of the second half: the caller's allocator, and no other and no body
 abbrev pub returning : Allocation → Parties
 returning allocates = record {
   caller_allocates = allocates;
@@ -50,12 +52,12 @@ returning allocates = record {
 
 -- ---- the first half, from a caller with the bytes m
 
--- the arguments are put into the callee, and c tells the nodes of their way
+-- the arguments are put into the callee; c is the number of nodes that they have
 abbrev pub HasEntered : Allocation → FunctionType → List Flat → List ℕ → Memory → List Flat → Memory → ℕ → Type 0
 HasEntered allocates f flats m old handed new c =
     (values : List Value) × (there : List Event) × Enters (entering allocates) f flats (as_world (source m) old []) values handed there (as_world (source m) new []) × (c ≡ counted_nodes there)
 
--- why they are not: a trap, and c tells the nodes of the part of their way that was done
+-- why the arguments are not put into the callee: a trap; c is the number of nodes that were visited before it
 abbrev pub EntryFails : Allocation → FunctionType → List Flat → List ℕ → Memory → Fault → Memory → ℕ → Type 0
 EntryFails allocates f flats m old (Trap t) new c =
     ((t.step ≡ step.LiftArgs) × (done : List Event)
@@ -66,12 +68,12 @@ EntryFails allocates f flats m old NoMemory new c = ⊥
 
 -- ---- the second half, from a callee with the bytes m
 
--- the result is put into the caller, and c tells the nodes of its way
+-- the result is put into the caller; c is the number of nodes that it has
 abbrev pub HasReturned : Allocation → FunctionType → List Flat → List ℕ → List Flat → Memory → List Flat → Memory → ℕ → Type 0
 HasReturned allocates f flats m answer old given new c =
     (values : List Value) × (back : List Event) × Returns (returning allocates) f flats (as_world old (source m) []) answer values given back (as_world new (source m) []) × (c ≡ counted_nodes back)
 
--- why it is not: a trap, and c tells the nodes of the part of its way that was done
+-- why the result is not put into the caller: a trap; c is the number of nodes that were visited before it
 abbrev pub ReturnFails : Allocation → FunctionType → List Flat → List ℕ → List Flat → Memory → Fault → Memory → ℕ → Type 0
 ReturnFails allocates f flats m answer old (Trap t) new c =
     ((t.step ≡ step.LiftResult) × (done : List Event)
@@ -95,6 +97,7 @@ IsEntryTrap f flats m step.LiftArgs k = IsArgumentFault f flats (source m) k
 IsEntryTrap f flats m step.LowerArgs k = k ≡ trap.Full
 IsEntryTrap f flats m _ k = ⊥
 
+-- the promise of the first half, for every function, memory and argument
 pub record EntryKeepsPromise (allocates : Allocation) : Type 0 where
   pub done : (f : FunctionType) (flats : List Flat) (m : List ℕ) (old : Memory) (handed : List Flat) (new : Memory) (c : ℕ) → IsStandardFunction f
       → HasEntered allocates f flats m old handed new c → FindsArguments allocates f flats m old handed new
@@ -115,6 +118,7 @@ IsReturnTrap f flats m answer old step.LiftResult k = DenotesFault max_flat_resu
 IsReturnTrap f flats m answer old step.LowerResult k = (k ≡ trap.Full) ⊎ ReturnAreaFaulty f flats old k
 IsReturnTrap f flats m answer old _ k = ⊥
 
+-- the promise of the second half, for every function, memory and answer, if the return area is lent
 pub record ReturnKeepsPromise (allocates : Allocation) : Type 0 where
   pub done : (f : FunctionType) (flats : List Flat) (m : List ℕ) (answer : List Flat) (old : Memory) (given : List Flat) (new : Memory) (c : ℕ) → IsStandardFunction f
       → KindsFit f flats → LendsArea f flats old → HasReturned allocates f flats m answer old given new c → GivesAnswer allocates f flats m answer old given new
@@ -124,26 +128,33 @@ pub record ReturnKeepsPromise (allocates : Allocation) : Type 0 where
 
 -- ---- the whole call
 
--- where the body, or its post-return, stopped by itself
+-- the fault of a call whose body stopped by itself
 abbrev pub body_stopped : Fault
 body_stopped = Trap (record { kind = trap.Body; step = step.Body })
 
+-- the fault of a call whose post-return stopped by itself
 abbrev pub post_stopped : Fault
 post_stopped = Trap (record { kind = trap.Body; step = step.Post })
 
 module _ (parties : Parties) (f : FunctionType) (flats : List Flat) (old : World) where
   -- the arguments entered, and the core function made one run on what was handed
   pub record RunsBetween (there : ℕ) (answer : Option (List Flat)) (ran : Memory) (body : List ℕ) : Type 0 where
+    -- the flat values that the core function is run on
     pub handed : List Flat
+    -- the callee's memory after the first half and before the run
     pub entered : Memory
+    -- the first half put the arguments into the callee, with `there` nodes
     pub enters : HasEntered parties.callee_allocates f flats old.caller.bytes old.callee handed entered there
+    -- a run that the body may make on them; `ran` is the callee's memory after it
     pub run : parties.runs old.body entered handed body ran answer
 
 -- from a world as it is before the first half, and a caller as it is before the second
 module _ (parties : Parties) (f : FunctionType) (flats : List Flat) (old : World) (between : Memory) where
-  -- the answer of its run returned, too
+  -- the arguments entered, the core function ran and answered, and its answer is put into the caller
   pub record RunsAndReturns (there back : ℕ) (answer given : List Flat) (caller ran : Memory) (body : List ℕ) : Type 0 where
+    -- the first half and the run, which gave this answer
     pub runs : RunsBetween parties f flats old there (Some answer) ran body
+    -- the second half put the answer into the caller, with `back` nodes
     pub returns : HasReturned parties.caller_allocates f flats ran.bytes answer between given caller back
 
   -- what a host sees of a call in halves, by where it ended: the answer, the nodes that the two halves told, and the world after it
@@ -164,7 +175,7 @@ module _ (parties : Parties) (f : FunctionType) (flats : List Flat) (old : World
         → (callee : Memory) (kept : List ℕ) → parties.posts body ran answer kept callee (Some tt) → CallsInHalves (Ok given) there back (as_world caller callee kept)
 
 module _ (parties : Parties) (f : FunctionType) (flats : List Flat) (old : World) where
-  -- the call gives this answer, by ways of so many nodes
+  -- the call gives this answer, and visits so many nodes in the callee and in the caller
   abbrev pub CallsWithNodes : Result (List Flat) Fault → ℕ → ℕ → World → Type 0
   CallsWithNodes result there back new =
       (ways : Ways) × Calls parties exact f flats old result ways new × ((there ≡ counted_nodes ways.there) × (back ≡ counted_nodes ways.back))
@@ -193,7 +204,7 @@ pub record HalvesKeep (parties : Parties) (f : FunctionType) (flats : List Flat)
   pub unchanged : KeepsOutside parties.caller_allocates (area_of f flats) (area_size f) between new.caller
   pub own : IfTrap result (IsHalvesTrap parties f flats old between new)
 
--- over honest guests, and a return area that is live as the second does
+-- each call in halves keeps its promise, over honest guests and a return area that is lent before the second half
 abbrev pub HalvesKeepPromise : Parties → Release → Release → Type 0
 HalvesKeepPromise parties caller_releases callee_releases =
     (f : FunctionType) (flats : List Flat) (old : World) (between : Memory) (result : Result (List Flat) Fault) (there back : ℕ) (new : World)

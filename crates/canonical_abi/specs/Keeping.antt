@@ -21,11 +21,11 @@ use Rattle.canonical_abi.specs.declared.trap.Step.{Step}
 use Rattle.canonical_abi.specs.declared.trap.Step.TheVariants as step
 use Rattle.canonical_abi.specs.declared.trap.TrapKind.{TrapKind}
 
--- an address of a value's footprint
+-- a set of addresses, as those that reading a value reads
 abbrev pub Footprint : Type 1
 Footprint = ℕ → Type 0
 
--- all of it is live
+-- all addresses of the set are live
 abbrev pub IsLive : Footprint → Memory → Type 0
 IsLive F memory = (x : ℕ) → F x → memory.live x ≡ true
 
@@ -39,7 +39,7 @@ pub record IsPlaced (allocates : Allocation) (t : ClosedType) (a : ℕ) (v : Val
   pub own : (x : ℕ) → Reads t new.bytes a x → IsGranted kept.events x
   pub was_free : (x : ℕ) → IsGranted kept.events x → old.live x ≡ false
 
--- so it is over an honest guest, and where there was no room, nothing was changed but what was free
+-- of an allocator: a value that it placed is held, and a placing that failed changed no byte outside blocks it granted
 pub record PlacedIsHeld (allocates : Allocation) : Type 0 where
   pub placed : (t : ClosedType) (v : Value) (old new : Memory) (held : Held) → IsStandard t → length new.bytes < 2 ^ 32
       → PlacesValue allocates t v old (Ok held) new → IsPlaced allocates t held.at v old new
@@ -83,10 +83,12 @@ module _ (parties : Parties) (caller_releases : Release) (order : Order) where
   -- the value is held in a block of the caller, and its footprint is live throughout the run
   pub record StaysLive (t : ClosedType) (a : ℕ) (v : Value) (before : List SessionAnswer) (old : World) (steps : List SessionStep) (answers : List SessionAnswer) (new : World)
       (run : RunsSession parties caller_releases order before old steps answers new) : Type 0 where
+    -- the caller holds v at a, in an aligned block, before the run
     pub holds : HoldsInBlock t old.caller.bytes a v
+    -- all addresses of its footprint are live before the run and after each step
     pub live : Throughout (λ w. IsLive (Reads t old.caller.bytes a) w.caller) before old steps answers new run
 
-  -- over every list of steps, traps among them; since `before` and `old` are any, also from any moment of a run to any later one
+  -- a value that stays live is held after every list of steps, traps among them, from any moment to any later one
   abbrev pub HeldStaysHeld : Release → Type 0
   HeldStaysHeld callee_releases =
       (t : ClosedType) (a : ℕ) (v : Value) (before : List SessionAnswer) (old : World) (steps : List SessionStep) (answers : List SessionAnswer) (new : World)
@@ -94,7 +96,7 @@ module _ (parties : Parties) (caller_releases : Release) (order : Order) where
       → AreHonest parties caller_releases callee_releases → AreLimited parties old → AreStandardSteps steps
       → StaysLive t a v before old steps answers new run → IsKept t a v old.caller new.caller
 
-  -- so what is then read of it is the value
+  -- what is read of a value that stayed live is the value, or the host has no memory
   abbrev pub HeldIsRead : Release → Type 0
   HeldIsRead callee_releases =
       (t : ClosedType) (a : ℕ) (v : Value) (before : List SessionAnswer) (old : World) (steps : List SessionStep) (answers : List SessionAnswer) (new : World)
@@ -111,36 +113,41 @@ module _ (parties : Parties) (caller_releases : Release) (order : Order) where
       → PlacesValue parties.caller_allocates t v old.caller (Ok held) placed.caller → RunsSession parties caller_releases order before placed steps answers new
       → ReleasesMiss (Reads t placed.caller.bytes held.at) steps answers → ReadsStep new.caller (Some held) answer → ReadAnswers v answer
 
--- ---- the same in the callee, which only its body changes otherwise
+-- ---- what the callee holds, which only its body changes otherwise
 
 -- what a run of the body, or of its post-return, had before it and left
 pub record BodyRun : Type 0 where
   pub before : Memory
   pub after : Memory
 
--- it changed no byte of the footprint and ended no life in it, and took no byte off the memory's end
+-- a run of the body changed no byte of the footprint, freed none of it, and did not shorten the memory
 pub record LeavesAlone (F : Footprint) (run : BodyRun) : Type 0 where
   pub no_shorter : length run.before.bytes ≤ length run.after.bytes
   pub same : (x : ℕ) → F x → slice_get run.after.bytes x ≡ slice_get run.before.bytes x
   pub live : (x : ℕ) → F x → run.before.live x ≡ true → run.after.live x ≡ true
 
 module _ (parties : Parties) (f : FunctionType) where
+  -- the run of the body in a call that the body answered
   abbrev pub answering_run : (flats : List Flat) (old : World) (answer : List Flat) (there : List Event) (new : World) → Answered parties f flats old answer there new → BodyRun
   answering_run flats old answer there new answered = record { before = answered.entered.callee; after = new.callee }
 
+  -- the runs of the body and then of its post-return, in a call whose result was put into the caller
   abbrev pub runs_of_returned : (flats : List Flat) (old : World) (answer given : List Flat) (ways : Ways) (returned : World) → Returned parties f flats old answer given ways returned → World → List BodyRun
   runs_of_returned flats old answer given ways returned r new =
       answering_run flats old answer ways.there r.answered r.answers ∷ record { before = returned.callee; after = new.callee } ∷ []
 
+  -- the runs of the body and then of its post-return, in a call that came to its end
   abbrev pub runs_of_completed : (flats : List Flat) (old : World) (given : List Flat) (ways : Ways) (new : World) → Completes parties f flats old given ways new → List BodyRun
   runs_of_completed flats old given ways new c = runs_of_returned flats old c.answer given ways c.returned c.returns new
 
+  -- the runs in a call that ended out of memory: none, or that of the body
   abbrev pub runs_of_given_up : (o : Order) (flats : List Flat) (old : World) (ways : Ways) (new : World) → GivesUp parties f flats o old ways new → List BodyRun
   runs_of_given_up either flats old ways new (inl same) = []
   runs_of_given_up either flats old ways new (inr (answer, answered, none)) = answering_run flats old answer ways.there new answered ∷ []
   runs_of_given_up exact flats old ways new g = []
 
 module _ (parties : Parties) (order : Order) (f : FunctionType) (arguments : List Value) (old : World) where
+  -- the runs in a typed call that ended in a trap of this step
   abbrev pub runs_of_traps : (s : Step) (k : TrapKind) (new : World) → TypedTraps parties order f arguments old s k new → List BodyRun
   runs_of_traps step.Place k new t = []
   runs_of_traps step.Take k new (back, area, b, fault) = runs_of_completed parties f b.flats b.placed back b.ways new b.completes
@@ -151,7 +158,7 @@ module _ (parties : Parties) (order : Order) (f : FunctionType) (arguments : Lis
   runs_of_traps step.LowerResult k new (flats, area, placed, p, ways, (answer, answered, a, fails)) = answering_run parties f flats placed answer ways.there answered a ∷ []
   runs_of_traps step.Post k new (flats, area, placed, p, ways, (answer, given, returned, is, r, finishes)) = runs_of_returned parties f flats placed answer given ways returned r new
 
-  -- the runs of one call, in turn
+  -- the runs of the body and its post-return in one typed call, in turn
   abbrev pub runs_of_call : (result : Result (Option Value) Fault) (new : World) → TypedCall parties order f arguments old result new → List BodyRun
   runs_of_call (Ok v) new (back, area, b, has) = runs_of_completed parties f b.flats b.placed back b.ways new b.completes
   runs_of_call (Err (Trap t)) new traps = runs_of_traps t.step t.kind new traps
@@ -159,13 +166,14 @@ module _ (parties : Parties) (order : Order) (f : FunctionType) (arguments : Lis
   runs_of_call (Err NoMemory) new (inr (back, area, b)) = runs_of_completed parties f b.flats b.placed back b.ways new b.completes
 
 module _ (parties : Parties) (caller_releases : Release) (order : Order) where
+  -- the runs in one step of a session: only a call has some
   abbrev pub runs_of_step : (s : SessionStep) (before : List SessionAnswer) (old : World) (answer : SessionAnswer) (new : World) → TakesStep parties caller_releases order before old s answer new → List BodyRun
   runs_of_step (call f arguments) before old answer new (result, is, calls) = runs_of_call parties order f arguments old result new calls
   runs_of_step (place t v) before old answer new taken = []
   runs_of_step (read k) before old answer new taken = []
   runs_of_step (release at size) before old answer new taken = []
 
-  -- the runs of all steps
+  -- the runs of the body and its post-return in all steps, in turn
   abbrev pub runs_of_session : (before : List SessionAnswer) (old : World) (steps : List SessionStep) (answers : List SessionAnswer) (new : World) → RunsSession parties caller_releases order before old steps answers new → List BodyRun
   runs_of_session before old [] answers new run = []
   runs_of_session before old (s ∷ steps) answers new run =

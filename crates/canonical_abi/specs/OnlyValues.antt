@@ -27,13 +27,13 @@ pub record AreToldByValues (target one two : Allocation) (runs : Run) (posts : P
       → Returns (record { caller_allocates = target; callee_allocates = two; runs = runs; posts = posts }) f others past reply values given fs last
       → area_of f flats ≡ area_of f others → old.caller ≡ past.caller → (handed ≡ given) × (new.caller ≡ last.caller)
 
--- so it is where the allocator answers in one way, whatever the bytes of its memory
+-- only values cross into a memory whose allocator answers in one way, whatever the bytes of its memory
 abbrev pub OnlyValuesCross : Allocation → Allocation → Allocation → Run → PostRun → Type 0
 OnlyValuesCross target one two runs posts = AllocatesInOneWay target → IgnoresBytes target → AreToldByValues target one two runs posts
 
 -- ---- ways that broke off
 
--- by one of these events this byte stands at the address: in a block as it was granted, or written there
+-- one of these events gives the address this byte: a block was granted with it, or it was written there
 abbrev pub TellsByte : List Event → ℕ → ℕ → Type 0
 TellsByte [] a b = ⊥
 TellsByte (node ∷ es) a b = TellsByte es a b
