@@ -24,17 +24,17 @@ abbrev pub Walks : ClosedType → List ℕ → ℕ → ℕ → Option TrapKind �
 Walks t m a at None es = (v : Value) × Holds t m a v × Stores t at v es
 Walks t m a at (Some k) es = StoresUntil t m a at k es
 
--- n elements, each a step after the one before
+-- n elements from a on in m are stored from `at` on, each a step after the one before
 abbrev pub EachWalks : ClosedType → List ℕ → ℕ → ℕ → ℕ → Option TrapKind → List Event → Type 0
 EachWalks t m a at n None es = (vs : List Value) × EachHolds (Holds t m) (size t) a n vs × EachStores (Stores t) (size t) at vs es
 EachWalks t m a at n (Some k) es = EachStops (Holds t m) (Stores t) (StoresUntil t m) (size t) a at n k es
 
--- the fields of a record, from the end of the field before them on
+-- the fields of the record at a in m are stored at `at`; the field before them ends at offset `from`
 abbrev pub FieldsWalk : Fields → List ℕ → ℕ → ℕ → ℕ → Option TrapKind → List Event → Type 0
 FieldsWalk fs m a at from None es = (vs : List Value) × FieldsHold fs m a from vs × FieldsStore fs at from vs es
 FieldsWalk fs m a at from (Some k) es = FieldsStoreUntil fs m a at from k es
 
--- a script once its own node is visited
+-- the rest of a script once the node of its value is visited
 abbrev pub Behind : (Option TrapKind → List Event → Type 0) → Option TrapKind → List Event → Type 0
 Behind S o es = S o (node ∷ es)
 
@@ -42,7 +42,7 @@ Behind S o es = S o (node ∷ es)
 abbrev pub Counts : ℕ → List Event → ℕ → Type 0
 Counts n es c = min c (2 ^ 64 - 1) ≡ min (n + nodes_of es) (2 ^ 64 - 1)
 
--- the whole script was done
+-- the whole script was done, and counted
 pub record IsCrossed (allocates : Allocation) (S : Option TrapKind → List Event → Type 0) (old : Memory) (n : ℕ) (new : Memory) (c : ℕ) : Type 0 where
   pub events : List Event
   pub scripted : S None events
@@ -69,10 +69,12 @@ pub record WasRefused (allocates : Allocation) (S : Option TrapKind → List Eve
   pub fails : RequestFails allocates asked next.align next.size k new
   pub counted : Counts n done c
 
+-- a way stopped early: at the source's first fault, or at a request to the target that failed
 abbrev pub HasStopped : Allocation → (Option TrapKind → List Event → Type 0) → Memory → ℕ → Stopped → Memory → ℕ → Type 0
 HasStopped allocates S old n (stopped.Source k) new c = MetFault allocates S old n k new c
 HasStopped allocates S old n (stopped.Target k) new c = WasRefused allocates S old n k new c
 
+-- how a way ended: its whole script was done, or it stopped early; n is the count before it, c after it
 abbrev pub Ends : Allocation → (Option TrapKind → List Event → Type 0) → Memory → ℕ → Result (Unit {0}) Stopped → Memory → ℕ → Type 0
 Ends allocates S old n (Ok _) new c = IsCrossed allocates S old n new c
 Ends allocates S old n (Err s) new c = HasStopped allocates S old n s new c
@@ -88,12 +90,12 @@ abbrev pub FlatWalks : ClosedType → List ℕ → List ℕ → List Flat → Fl
 FlatWalks t m ns front final None es = (v : Value) × (made : List Flat) × Lifts t m ns v × Lowers t v es made × (final ≡ front ++ made)
 FlatWalks t m ns front final (Some k) es = LowersUntil t m ns k es
 
--- the fields of a record, one behind the other
+-- what these flat values stand for, as a record's fields, is carried by core values after those of `front`
 abbrev pub FieldsFlatWalk : Fields → List ℕ → List ℕ → List Flat → FlatScript
 FieldsFlatWalk ts m ns front final None es = (vs : List Value) × (made : List Flat) × FieldsLift ts m ns vs × FieldsLower ts vs es made × (final ≡ front ++ made)
 FieldsFlatWalk ts m ns front final (Some k) es = FieldsLowerUntil ts m ns k es
 
--- such a script once its own node is visited
+-- the rest of a script of flat values once the node of its value is visited
 abbrev pub FlatBehind : FlatScript → FlatScript
 FlatBehind S final = Behind (S final)
 

@@ -18,7 +18,7 @@ abbrev pub ParamsWalk : ℕ → Fields → List ℕ → List Flat → FlatScript
 ParamsWalk limit ts m flats final None es = (vs : List Value) × Denotes limit ts m flats vs × PassesParams limit ts vs es final
 ParamsWalk limit ts m flats final (Some k) es = ParamsUntil limit ts m flats k es
 
--- the same of a result, over a target whose return area stands
+-- what these flat values denote over m is passed on as a result, to a target whose return area is good
 abbrev pub ResultWalk : ℕ → Fields → List ℕ → List Flat → ℕ → List ℕ → FlatScript
 ResultWalk limit ts m flats area target final None es =
     AreaStands limit ts area target × (vs : List Value) × Denotes limit ts m flats vs × PassesResult limit ts area vs es final
@@ -28,7 +28,7 @@ ResultWalk limit ts m flats area target final (Some k) es = AreaStands limit ts 
 abbrev pub AreaIsBad : ℕ → Fields → List ℕ → List Flat → ℕ → List ℕ → TrapKind → Type 0
 AreaIsBad limit ts m flats area target k = AddressStands limit ts m flats × AreaFaulty limit ts area target k
 
--- a way that was not begun
+-- a way that was not begun: the memory and the count are as they were
 pub record IsUnbegun (old : Memory) (n : ℕ) (new : Memory) (c : ℕ) : Type 0 where
   pub same : new ≡ old
   pub uncounted : c ≡ n
