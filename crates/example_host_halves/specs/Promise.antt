@@ -22,7 +22,7 @@ use Rattle.memory.specs.declared.block.Block.{Block}
 abbrev pub RunsOnBytes : Run → List ℕ → List Flat → List ℕ → Option (List Flat) → Type 0
 RunsOnBytes runs old arguments new answer = (memory : Memory) → runs [] (with_bytes memory old) arguments [] (with_bytes memory new) answer
 
--- and its post-return this one
+-- the post-return made this run over the bytes of a memory, whatever is live there, and keeps nothing but in it
 abbrev pub PostsOnBytes : PostRun → List ℕ → List Flat → List ℕ → Option (Unit {0}) → Type 0
 PostsOnBytes posts old answer new done = (memory : Memory) → posts [] (with_bytes memory old) answer [] (with_bytes memory new) done
 
