@@ -59,10 +59,11 @@ of_half (half.Fault fault) = error.Fault fault
 abbrev pub IsBadBlock : List ℕ → List ℕ → Block → List Block → Type 0
 IsBadBlock source target place blocks = (4294967296 ≤ length source) ⊎ (can_lend (length target) place blocks ≡ false)
 
--- they can be, and the memory that is read is short enough
+-- the blocks can be handed out beside this place, and the memory that is read is short enough
 abbrev pub AreGoodBlocks : List ℕ → List ℕ → Block → List Block → Type 0
 AreGoodBlocks source target place blocks = (length source < 4294967296) × (can_lend (length target) place blocks ≡ true)
 
+-- no place that is lent besides the blocks: a block of no bytes
 abbrev pub no_block : Block
 no_block = record { align = 1; size = 0; at = 0 }
 
@@ -82,7 +83,7 @@ HasRoom values = 17 ≤ length values
 abbrev pub ArgumentsFit : FunctionType → List Value → List Value → Type 0
 ArgumentsFit f flats handed = HasRoom handed × KindsFit f (map flat_of flats)
 
--- and those of the answer, too
+-- the array is long enough, and the core values of the call and of the answer are those of the function
 abbrev pub BothFit : FunctionType → List Value → List Value → List Value → Type 0
 BothFit f flats answer back = HasRoom back × KindsFit f (map flat_of flats) × AnswerFits f (map flat_of answer)
 
@@ -90,7 +91,7 @@ BothFit f flats answer back = HasRoom back × KindsFit f (map flat_of flats) × 
 abbrev pub ArgumentsCanEnter : FunctionType → List Value → List ℕ → List ℕ → List Block → List Value → Type 0
 ArgumentsCanEnter f flats caller old blocks handed = ArgumentsFit f flats handed × AreGoodBlocks caller old no_block blocks
 
--- and those of the second: then the return area is live, too
+-- all tests of the second half that come before a byte is written are passed, and the return area is live
 abbrev pub AnswerCanReturn : FunctionType → List Value → List ℕ → List Value → List ℕ → List Block → List Value → Type 0
 AnswerCanReturn f flats callee answer old blocks back =
     BothFit f flats answer back × AreGoodBlocks callee old (area_block f (map flat_of flats)) blocks × KeepsArea f (map flat_of flats) old blocks
@@ -130,7 +131,7 @@ EnterDone f flats caller old blocks handed done new handed' = MatchResult done
     × ((given : List Flat) × TellsFlats handed handed' count given × ((name : ℕ) × EntersLent name f (map flat_of flats) caller old blocks given new)))
     (λ e. EnterRefuses f flats caller old blocks handed e new × (handed' ≡ handed))
 
--- the second half, with the caller
+-- what the second half answers, and what the caller and the array of values have then
 abbrev pub LeaveDone : FunctionType → List Value → List ℕ → List Value → List ℕ → List Block → List Value → Result ℕ CallError → List ℕ → List Value → Type 0
 LeaveDone f flats callee answer old blocks back done new back' = MatchResult done
     (λ count. AnswerCanReturn f flats callee answer old blocks back
@@ -142,7 +143,7 @@ LeaveDone f flats callee answer old blocks back done new back' = MatchResult don
 abbrev pub ArgumentsCanBeRead : FunctionType → List Value → List ℕ → Type 0
 ArgumentsCanBeRead f flats caller = KindsFit f (map flat_of flats) × (length caller < 4294967296)
 
--- the same of an answer
+-- the answer's core values are those of the core function, and the memory that they are read from is short enough
 abbrev pub AnswerCanBeRead : FunctionType → List Value → List ℕ → Type 0
 AnswerCanBeRead f answer callee = AnswerFits f (map flat_of answer) × (length callee < 4294967296)
 
@@ -157,7 +158,7 @@ EnterAsksNot f flats caller limit error.AboveLimit =
     × ((vs : List Semantic.Value) → AreArguments f (map flat_of flats) (source caller) vs → limit < total (params_requests max_flat_params f.params vs))
 EnterAsksNot f flats caller limit _ = ⊥
 
--- nor those of the answer
+-- why the answer's requests are not given: its number and kinds come first, and then the length of the memory
 abbrev pub LeaveAsksNot : FunctionType → List Value → List ℕ → ℕ → CallError → Type 0
 LeaveAsksNot f answer callee limit (error.Fault fault) =
     (AreTooMany answer LiftResult (error.Fault fault) ⊎ IsOtherAnswer f (map flat_of answer) (error.Fault fault))
@@ -168,13 +169,16 @@ LeaveAsksNot f answer callee limit error.AboveLimit =
     × ((vs : List Semantic.Value) → Denotes max_flat_results (result_fields f.result) callee (map flat_of answer) vs → limit < total (fields_requests (result_fields f.result) vs))
 LeaveAsksNot f answer callee limit _ = ⊥
 
--- what is answered of the requests of each half, and what their array has then: where they are told, what stands behind them is as it was
+-- what a host gets of the arguments' requests: their number, and as many as fit at the front of its array, whose rest
+-- stays; or an error, after which the array may have changed
 abbrev pub EnterAsks : FunctionType → List Value → List ℕ → ℕ → List Request → Result ℕ CallError → List Request → Type 0
 EnterAsks f flats caller limit old done new = MatchResult done
     (λ count. ArgumentsCanBeRead f flats caller
     × IsToldAhead (AreArguments f (map flat_of flats) (source caller)) (params_requests max_flat_params f.params) limit old new count)
     (EnterAsksNot f flats caller limit)
 
+-- what a host gets of the answer's requests: their number, and as many as fit at the front of its array, whose rest
+-- stays; or an error, after which the array may have changed
 abbrev pub LeaveAsks : FunctionType → List Value → List ℕ → ℕ → List Request → Result ℕ CallError → List Request → Type 0
 LeaveAsks f answer callee limit old done new = MatchResult done
     (λ count. AnswerCanBeRead f answer callee

@@ -34,15 +34,17 @@ abbrev pub EntersLent : ℕ → FunctionType → List Flat → List ℕ → List
 EntersLent name f flats m old blocks handed new =
     (count : ℕ) × (rest : List Block) × HasEntered LentAllocates f flats m (lent name old blocks) handed (lent name new rest) count
 
+-- why the arguments are not put into a memory that is lent with these blocks, and the bytes that it has then
 abbrev pub EntryOfLentFails : ℕ → FunctionType → List Flat → List ℕ → List ℕ → List Block → HalfError → List ℕ → Type 0
 EntryOfLentFails name f flats m old blocks e new =
     (count : ℕ) × IsBrokenOff blocks (λ fault rest. EntryFails LentAllocates f flats m (lent name old blocks) fault (lent name new rest) count) e
 
--- the same of what the core function answered
+-- the core function's answer is put from the bytes m into a memory of this name that is lent with these blocks
 abbrev pub ReturnsLent : ℕ → FunctionType → List Flat → List ℕ → List Flat → List ℕ → List Block → List Flat → List ℕ → Type 0
 ReturnsLent name f flats m answer old blocks given new =
     (count : ℕ) × (rest : List Block) × HasReturned LentAllocates f flats m answer (lent name old blocks) given (lent name new rest) count
 
+-- why the answer is not put into a memory that is lent with these blocks, and the bytes that it has then
 abbrev pub ReturnOfLentFails : ℕ → FunctionType → List Flat → List ℕ → List Flat → List ℕ → List Block → HalfError → List ℕ → Type 0
 ReturnOfLentFails name f flats m answer old blocks e new =
     (count : ℕ) × IsBrokenOff blocks (λ fault rest. LeaveFails LentAllocates f flats m answer (lent name old blocks) fault (lent name new rest) count) e

@@ -37,6 +37,7 @@ numbered_kind number = if number == 0 then None else slice_get kinds_in_order (n
 abbrev pub steps_in_order : List Step
 steps_in_order = Place ∷ Take ∷ LiftArgs ∷ LowerArgs ∷ Body ∷ LiftResult ∷ LowerResult ∷ Post ∷ []
 
+-- the step of this number
 abbrev pub numbered_step : ℕ → Option Step
 numbered_step number = slice_get steps_in_order number
 
@@ -52,6 +53,7 @@ abbrev pub refusal_words : ℕ → Option CallError → List ℕ
 refusal_words number (Some e) = error_words e
 refusal_words number None = codes "error " ++ decimal number
 
+-- the line of a trap of this kind in this step, or nothing if the kind or the step is unknown
 abbrev pub trapped_words : Option TrapKind → Option Step → List ℕ
 trapped_words (Some k) (Some s) = trap_words (record { kind = k; step = s })
 trapped_words _ _ = []

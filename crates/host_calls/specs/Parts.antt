@@ -6,6 +6,7 @@ use Rattle.host_calls.specs.declared.error.CallError.{CallError}
 use Rattle.host_calls.specs.declared.error.CallError.TheVariants as error
 use Rattle.host_calls.specs.declared.parts.Part.{Part}
 
+-- the size and alignment of a parameter, without its offset
 abbrev pub extent_of_part : Part → Extent
 extent_of_part p = record { size = p.size; align = p.align }
 
@@ -15,7 +16,7 @@ pub record TellsParts (old new : List Part) (count : ℕ) (fs : Fields) : Type 0
   pub places : map (λ p. p.offset) (take count new) ≡ field_places fs
   pub rest : drop count new ≡ drop count old
 
--- they are told, or there is no room for them and the array is as it was
+-- the fields are at the front of the array, or it is too short (71 no room) and as it was
 abbrev pub PartsDone : Fields → List Part → Result ℕ CallError → List Part → Type 0
 PartsDone fs old done new = MatchResult done
     (λ count. TellsParts old new count fs)

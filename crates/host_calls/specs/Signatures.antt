@@ -5,6 +5,7 @@ use Rattle.canonical_abi.specs.declared.flat.CoreKind.TheVariants.{I32, I64}
 use Rattle.host_calls.specs.declared.error.CallError.{CallError}
 use Rattle.host_calls.specs.declared.error.CallError.TheVariants as error
 
+-- the number of a core value type in C: 0 for i32, 1 for i64
 abbrev pub number_of_kind : CoreKind → ℕ
 number_of_kind I32 = 0
 number_of_kind I64 = 1
@@ -15,7 +16,7 @@ pub record TellsKinds (old new : List ℕ) (count : ℕ) (kinds : List CoreKind)
   pub counted : count ≡ length kinds
   pub rest : drop (length kinds) new ≡ drop (length kinds) old
 
--- they are told, or there is no room for them and the array is as it was
+-- the kinds are at the front of the array, or it is too short (71 no room) and as it was
 abbrev pub KindsDone : List CoreKind → List ℕ → Result ℕ CallError → List ℕ → Type 0
 KindsDone kinds old done new = MatchResult done
     (λ count. TellsKinds old new count kinds)

@@ -35,6 +35,7 @@ step_number Post = 7
 abbrev pub told : ℕ → ℕ
 told count = min count 4294967295
 
+-- the status of a call that is refused with this error, with what the error counts
 abbrev pub refused : ℕ → ℕ → Status
 refused number count = record { code = 1; number = number; step = 0; count = count }
 
@@ -42,9 +43,11 @@ refused number count = record { code = 1; number = number; step = 0; count = cou
 abbrev pub out_of_memory : ℕ → Status
 out_of_memory number = record { code = 3; number = number; step = 0; count = 0 }
 
+-- the status of a call that is out of memory (66)
 abbrev pub no_memory : Status
 no_memory = out_of_memory 66
 
+-- the status of a call: done with a count, refused with an error's number, trapped, or out of memory
 abbrev pub status_of : Result ℕ CallError → Status
 status_of (Ok count) = record { code = 0; number = 0; step = 0; count = told count }
 status_of (Err error.NoFunction) = refused 63 0
