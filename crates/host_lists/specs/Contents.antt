@@ -20,19 +20,19 @@ member_types_in (kind.Variant cs) = map (λ c. c.ty) cs
 member_types_in (kind.Enum names) = map (λ n. None) names
 member_types_in (kind.Flags names) = map (λ n. None) names
 
--- a function has its parameters
+-- the types of a row's members in order: those of a type, or a function's parameters
 abbrev pub types_of_members : Definition → List (Option ValType)
 types_of_members (row.Type d) = member_types_in d.kind
 types_of_members (row.Function f) = map (λ p. Some p.ty) f.params
 
--- a list's element, and the type that a name stands for
+-- the type that a type of this kind has besides members: a list's element, or what a name is a name of
 abbrev pub target_in : TypeDefKind → Option ValType
 target_in (kind.Use t) = Some (val.Id t)
 target_in (kind.Alias v) = Some v
 target_in (kind.List v) = Some v
 target_in _ = None
 
--- .. and a function's result
+-- the type that a row has besides members: a list's element, what a name is a name of, or a function's result
 abbrev pub target_of : Definition → Option ValType
 target_of (row.Type d) = target_in d.kind
 target_of (row.Function f) = f.result

@@ -9,11 +9,12 @@ use Rattle.tables.specs.declared.tables.Definition.{Definition}
 use Rattle.tables.specs.declared.tables.Definition.TheVariants as row
 use Rattle.tables.specs.declared.tables.Resolve.{Resolve}
 
--- no bytes where there is no name
+-- the bytes of a type's name, or none if it has no name
 abbrev pub type_name_bytes : Option TypeName → List ℕ
 type_name_bytes None = []
 type_name_bytes (Some n) = n.name
 
+-- the name of a row: a type's or a function's; no bytes if it has none
 abbrev pub definition_name : Definition → List ℕ
 definition_name (row.Type d) = type_name_bytes d.name
 definition_name (row.Function f) = f.name
@@ -31,16 +32,20 @@ member_labels (kind.Variant cs) = map (λ c. c.name) cs
 member_labels (kind.Enum names) = names
 member_labels (kind.Flags names) = names
 
+-- a row's labels in order: those of a type's members, or a function's parameters
 abbrev pub definition_labels : Definition → List (List ℕ)
 definition_labels (row.Type d) = member_labels d.kind
 definition_labels (row.Function f) = map (λ p. p.name) f.params
 
+-- the name of the row of this number, if there is such a row; no bytes if it has no name
 abbrev pub row_name_at : Resolve → ℕ → Option (List ℕ)
 row_name_at r number = option_map definition_name (slice_get r.definitions number)
 
+-- the label of member i of this row, if there is a row and it has that member
 abbrev pub member_name_in : Option Definition → ℕ → Option (List ℕ)
 member_name_in None i = None
 member_name_in (Some d) i = slice_get (definition_labels d) i
 
+-- the label of member i of the row of this number, if there are both
 abbrev pub member_name_at : Resolve → ℕ → ℕ → Option (List ℕ)
 member_name_at r number i = member_name_in (slice_get r.definitions number) i

@@ -8,35 +8,39 @@ use Rattle.tables.specs.declared.tables.Owner.{Owner}
 use Rattle.tables.specs.declared.tables.Owner.TheVariants as owner
 use Rattle.tables.specs.declared.tables.Resolve.{Resolve}
 
--- a type that stands inside another definition has no name
+-- the interface or world of a row, or none of a type without a name
 abbrev pub stated_owner : Definition → Option Owner
 stated_owner (row.Type d) = option_map (λ n. owner.Interface n.interface) d.name
 stated_owner (row.Function f) = Some f.owner
 
+-- the number of what an owner is: 1 an interface, 2 a world, 0 if there is none
 abbrev pub owner_kind : Option Owner → ℕ
 owner_kind None = 0
 owner_kind (Some (owner.Interface i)) = 1
 owner_kind (Some (owner.World w)) = 2
 
+-- the index of an owner among the interfaces or the worlds, or 0 if there is none
 abbrev pub owner_number : Option Owner → ℕ
 owner_number None = 0
 owner_number (Some (owner.Interface i)) = i.0
 owner_number (Some (owner.World w)) = w.0
 
--- the owner of these two numbers
+-- the owner of these two numbers: 1 an interface, 2 a world; none of any other first number
 abbrev pub numbered_owner : ℕ → ℕ → Option Owner
 numbered_owner kind number =
     if kind == 1 then Some (owner.Interface (record { 0 = number }))
     else (if kind == 2 then Some (owner.World (record { 0 = number })) else None)
 
--- its full name
+-- the full name of an interface or a world, if it is in the table
 abbrev pub owner_name : Resolve → Owner → Option (List ℕ)
 owner_name r (owner.Interface i) = option_map (full_name r) (slice_get r.interfaces i.0)
 owner_name r (owner.World w) = option_map (world_name r) (slice_get r.worlds w.0)
 
+-- the full name of an owner, if there is one and it is in the table
 abbrev pub owner_name_if : Resolve → Option Owner → Option (List ℕ)
 owner_name_if r None = None
 owner_name_if r (Some o) = owner_name r o
 
+-- the full name of the owner of these two numbers, if there is one in the table
 abbrev pub owner_name_at : Resolve → ℕ → ℕ → Option (List ℕ)
 owner_name_at r kind number = owner_name_if r (numbered_owner kind number)

@@ -14,17 +14,17 @@ use Rattle.host_lists.specs.Owners.{stated_owner, owner_kind, owner_number}
 use Rattle.host_lists.specs.declared.rows.RowInfo.{RowInfo}
 use Rattle.host_lists.specs.declared.rows.TypeInfo.{TypeInfo}
 
--- the row of a type, 0 of one that has none
+-- the row number of a value type, or 0 of a primitive and string
 abbrev pub type_row : ValType → ℕ
 type_row (val.Primitive p) = 0
 type_row val.String = 0
 type_row (val.Id t) = t.0
 
--- a row as a type
+-- the value type of the row of this number
 abbrev pub row_type : ℕ → ValType
 row_type number = val.Id (record { 0 = number })
 
--- a type, if there is one
+-- what C gets of a value type: its kind, row, size and alignment in bytes; all 0 if there is none
 abbrev pub type_info : Resolve → Option ValType → TypeInfo
 type_info r None = record { kind = 0; row = 0; size = 0; align = 0 }
 type_info r (Some v) = record {
@@ -34,7 +34,7 @@ type_info r (Some v) = record {
   align = align (closed_type r v);
 }
 
--- this definition in this row
+-- what C gets of this definition in this row
 abbrev pub row_info : Resolve → ℕ → Definition → RowInfo
 row_info r number d = record {
   ty = type_info r (Some (row_type number));
@@ -44,5 +44,6 @@ row_info r number d = record {
   members = told (length (types_of_members d));
 }
 
+-- what C gets of the row of this number, if there is such a row
 abbrev pub row_info_at : Resolve → ℕ → Option RowInfo
 row_info_at r number = option_map (row_info r number) (slice_get r.definitions number)
