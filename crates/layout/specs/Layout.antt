@@ -18,20 +18,23 @@ use Rattle.layout.specs.declared.signature.CoreSignature.{CoreSignature as Signa
 use Rattle.layout.specs.declared.error.LayoutError.{LayoutError}
 use Rattle.layout.specs.declared.error.LayoutError.TheVariants.{TooDeep, TooLarge, NoMemory}
 
+-- the greatest depth of a type that has a layout
 abbrev pub max_depth : ℕ
 max_depth = 64
 
+-- the most bytes that a type may take in memory: 16 MiB
 abbrev pub max_size : ℕ
 max_size = 16777216
 
--- a depth, and 65 where it is above the limit
+-- a depth, or 65 if it is above the limit of 64
 abbrev pub capped : ℕ → ℕ
 capped n = min n 65
 
+-- the row of a closed type: its depth up to 65, its size and alignment in bytes, and its flat kinds
 abbrev pub row_of : ClosedType → Row
 row_of t = record { depth = capped (depth t); size = size t; align = align t; kinds = kinds_of (flat_kinds t) }
 
--- the kinds of a function's result, and none of a type
+-- the flat kinds of a function's result, and no kinds of a type
 abbrev pub result_of : List ClosedType → Definition → Kinds
 result_of ts (row.Type d) = kinds_of []
 result_of ts (row.Function f) = kinds_of (field_kinds (result_fields (option_map (closed_val ts) f.result)))
@@ -43,6 +46,7 @@ pub record LayoutTable : Type 0 where
   pub parts : List Parts
   pub work : ℕ
 
+-- the layout table of a package, from its closed types
 abbrev pub layouts_of : Resolve → LayoutTable
 layouts_of r = record {
   rows = map row_of (closed_types r);
@@ -51,7 +55,7 @@ layouts_of r = record {
   work = saturated (total_work r.definitions);
 }
 
--- a row that stands in a table
+-- the row is one that a layout table may have: within the limits, with a depth of at most 65
 pub record IsSound (r : Row) : Type 0 where
   pub depth : r.depth ≤ 65
   pub size : r.size ≤ max_size
@@ -64,7 +68,7 @@ abbrev pub IsDefinitionWithin : Definition → ClosedType → Type 0
 IsDefinitionWithin (row.Type d) t = (depth t ≤ max_depth) × (size t ≤ max_size)
 IsDefinitionWithin (row.Function f) t = size t ≤ max_size
 
--- the refusal stands for a definition of this closed type
+-- the refusal is true of a definition of this closed type; out of memory may come at any time
 abbrev pub LayoutRefuses : LayoutError → Definition → ClosedType → Type 0
 LayoutRefuses TooDeep (row.Type d) t = max_depth < depth t
 LayoutRefuses TooDeep (row.Function f) t = ⊥
@@ -72,7 +76,7 @@ LayoutRefuses TooLarge (row.Type d) t = (depth t ≤ max_depth) × (max_size < s
 LayoutRefuses TooLarge (row.Function f) t = max_size < size t
 LayoutRefuses NoMemory d t = Unit {0}
 
--- the refusal stands for definition k, and all before it are within the limits
+-- the refusal is true of definition k, and all definitions before it are within the limits
 pub record RefusesAt (e : LayoutError) (r : Resolve) (k : ℕ) : Type 0 where
   pub definition : Definition
   pub is : slice_index_or r.definitions k definition ≡ definition
@@ -80,18 +84,21 @@ pub record RefusesAt (e : LayoutError) (r : Resolve) (k : ℕ) : Type 0 where
   pub refused : LayoutRefuses e definition (slice_index_or (closed_types r) k string_type)
   pub before : (i : ℕ) (d : Definition) → i < k → slice_index_or r.definitions i d ≡ d → IsDefinitionWithin d (slice_index_or (closed_types r) i string_type)
 
+-- the refusal of the first definition that passes a limit; out of memory may come at any time
 abbrev pub RefusesFirst : LayoutError → Resolve → Type 0
 RefusesFirst TooDeep r = (k : ℕ) × RefusesAt TooDeep r k
 RefusesFirst TooLarge r = (k : ℕ) × RefusesAt TooLarge r k
 RefusesFirst NoMemory r = Unit {0}
 
+-- all definitions of the table are within the limits of depth and size
 pub record AreWithin (r : Resolve) : Type 0 where
   pub each : (i : ℕ) (d : Definition) → i < length r.definitions → slice_index_or r.definitions i d ≡ d → IsDefinitionWithin d (slice_index_or (closed_types r) i string_type)
 
--- a core signature, its result as a list
+-- the result of a core signature, as a list of one or none
 abbrev pub results_of : Option CoreKind → List CoreKind
 results_of None = []
 results_of (Some k) = k ∷ []
 
+-- the core signature that a program keeps, as lists of core value types
 abbrev pub core_signature_of : Signature → CoreSignature
 core_signature_of s = record { params = s.params.items; results = results_of s.result }

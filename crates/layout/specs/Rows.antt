@@ -21,7 +21,7 @@ use Rattle.layout.specs.declared.rows.Row.{Row}
 use Rattle.layout.specs.declared.error.LayoutError.{LayoutError}
 use Rattle.layout.specs.declared.error.LayoutError.TheVariants.{TooDeep, TooLarge, NoMemory}
 
--- the row that the type has, or stands for
+-- the row of a value type, over the rows of the table; a row that is not there counts as that of string
 abbrev pub row_in : List Row → ValType → Row
 row_in rows (val.Primitive p) = row_of (prim_type (prim_of p))
 row_in rows val.String = row_of string_type
@@ -35,19 +35,23 @@ rows_at rows ty xs = map (λ a. row_in rows (ty a)) xs
 abbrev pub choices_at : {A : Type 0} → List Row → (A → Option ValType) → List A → List (Option Row)
 choices_at rows payload xs = map (λ x. option_map (row_in rows) (payload x)) xs
 
+-- the size and alignment that a row gives
 abbrev pub extent_in : Row → Extent
 extent_in r = record { size = r.size; align = r.align }
 
--- the room that a type takes
+-- the size and alignment of a value type, over the rows of the table
 abbrev pub extent_at : List Row → ValType → Extent
 extent_at rows v = extent_in (row_in rows v)
 
+-- the sizes and alignments that rows give
 abbrev pub extents : List Row → List Extent
 extents rows = map extent_in rows
 
+-- the greatest depth of these rows, and 0 of none
 abbrev pub deepest : List Row → ℕ
 deepest rows = fold (λ n r. max n r.depth) 0 rows
 
+-- the row of a record with fields of these rows
 abbrev pub record_row : List Row → Row
 record_row rows = record {
   depth = capped (deepest rows + 1);
@@ -56,6 +60,7 @@ record_row rows = record {
   kinds = fold (λ ks r. append_kinds ks r.kinds) (kinds_of []) rows;
 }
 
+-- the row of a variant whose payloads have these rows
 abbrev pub variant_row : List (Option Row) → Row
 variant_row cs = record {
   depth = capped (deepest (payloads cs) + 1);
@@ -64,9 +69,11 @@ variant_row cs = record {
   kinds = append_kinds (kinds_of (I32 ∷ [])) (fold (λ ks r. join_kinds ks r.kinds) (kinds_of []) (payloads cs));
 }
 
+-- the row of a list of elements with this row
 abbrev pub list_row : Row → Row
 list_row r = record (row_of string_type) { depth = capped (r.depth + 1) }
 
+-- the row of a type of this kind, by the rows before it
 abbrev pub kind_row : List Row → TypeDefKind → Row
 kind_row rows (kind.Use t) = row_in rows (val.Id t)
 kind_row rows (kind.Alias v) = row_in rows v
@@ -79,50 +86,57 @@ kind_row rows (kind.Variant cs) = variant_row (choices_at rows (λ c. c.ty) cs)
 kind_row rows (kind.Enum names) = variant_row (choices_at rows (λ n. None) names)
 kind_row rows (kind.Flags names) = row_of (flags_type (length names))
 
+-- the row of a definition by the rows before it: of a function, that of the record of its parameters
 abbrev pub definition_row : List Row → Definition → Row
 definition_row rows (row.Type d) = kind_row rows d.kind
 definition_row rows (row.Function f) = record_row (rows_at rows (λ p. p.ty) f.params)
 
--- the result's type stands before place n
+-- the result's type, if there is one, is a primitive, string, or in a row before place n
 abbrev pub result_below : ℕ → Definition → Bool
 result_below n (row.Type d) = true
 result_below n (row.Function f) = option_below n f.result
 
+-- the flat kinds of a result, and no kinds without one
 abbrev pub result_in : List Row → Option ValType → Kinds
 result_in rows None = kinds_of []
 result_in rows (Some v) = (row_in rows v).kinds
 
+-- the flat kinds of a function's result, and no kinds of a type
 abbrev pub definition_result : List Row → Definition → Kinds
 definition_result rows (row.Type d) = kinds_of []
 definition_result rows (row.Function f) = result_in rows f.result
 
--- a number of so many bytes
+-- the row of a number of so many bytes, carried by one core value of this type
 abbrev pub number_row : ℕ → CoreKind → Row
 number_row bytes k = record { depth = 1; size = bytes; align = bytes; kinds = kinds_of (k ∷ []) }
 
--- what is true of a row before its limits were tested
+-- what is true of a row before its limits are tested
 pub record IsKeptRow (r : Row) : Type 0 where
   pub depth : r.depth ≤ 65
   pub least_align : 1 ≤ r.align
   pub most_align : r.align ≤ 8
   pub fits : length (passed r.kinds) ≤ 16
 
+-- the row is within the limits of depth and size
 abbrev pub IsLimitedRow : Row → Type 0
 IsLimitedRow r = (r.depth ≤ max_depth) × (r.size ≤ max_size)
 
+-- the definition's row is within the limits; a function's parameters have no limit of depth
 abbrev pub IsLimitedDefinition : Definition → Row → Type 0
 IsLimitedDefinition (row.Type d) r = IsLimitedRow r
 IsLimitedDefinition (row.Function f) r = r.size ≤ max_size
 
--- the refusal stands for a row whose depth is to be at most so much
+-- the refusal is true of a row whose depth may be at most `most`
 abbrev pub RefusesDeeper : ℕ → LayoutError → Row → Type 0
 RefusesDeeper most TooDeep r = most < r.depth
 RefusesDeeper most TooLarge r = (r.depth ≤ most) × (max_size < r.size)
 RefusesDeeper most NoMemory r = Unit {0}
 
+-- the refusal is true of a type's row
 abbrev pub RefusesRow : LayoutError → Row → Type 0
 RefusesRow e r = RefusesDeeper max_depth e r
 
+-- the refusal is true of the definition's row; a function is never too deep
 abbrev pub RefusesDefinition : LayoutError → Definition → Row → Type 0
 RefusesDefinition e (row.Type d) r = RefusesRow e r
 RefusesDefinition TooLarge (row.Function f) r = max_size < r.size
