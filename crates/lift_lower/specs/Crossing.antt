@@ -37,7 +37,7 @@ abbrev pub AreAnswered : Allocation → Fields → List Value → Memory → Lis
 AreAnswered allocates ts vs old flats new =
     (es : List Event) × PassesParams max_flat_results ts vs es flats × AreWithinLimit es × TraceLeads allocates old es new
 
--- there is no room for them
+-- the values are not put into the memory of the component that answers them: a request failed
 abbrev pub AnswerFails : Allocation → Fields → List Value → Memory → TrapKind → Memory → Type 0
 AnswerFails allocates ts vs old k new =
     (es : List Event) × (flats : List Flat) × PassesParams max_flat_results ts vs es flats × TypedTraceBreaks allocates old es k new

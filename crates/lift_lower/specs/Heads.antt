@@ -16,17 +16,19 @@ use Rattle.lift_lower.specs.declared.heads.Head.TheVariants as head
 
 -- ---- heads by their numbers
 
--- the number is that of a value of this type
+-- the number is one of a value of this primitive, and the head is that scalar
 abbrev pub ScalarHead : Prim → ℕ → Head → Type 0
 ScalarHead p n h = (s : Scalar) × (h ≡ head.Scalar s) × (prim_in s ≡ p) × PrimIs p n (value_in s)
 
--- n items of this alignment and size are a block of the memory
+-- the head is n items at an address, of this alignment and size, in an aligned block inside the memory m
 abbrev pub BlockHead : List ℕ → ℕ → ℕ → ℕ → ℕ → Head → Type 0
 BlockHead m alignment step at n h = (h ≡ head.Block at n) × BlockHolds m at alignment (n * step)
 
+-- the number is one of these cases, and it is the head
 abbrev pub CaseHead : Cases → ℕ → Head → Type 0
 CaseHead cs i h = (i < case_count cs) × (h ≡ head.Case i)
 
+-- the number is not one of these cases (K2)
 abbrev pub CaseHeadFaulty : Cases → ℕ → TrapKind → Type 0
 CaseHeadFaulty cs i k = (case_count cs ≤ i) × (k ≡ trap.Case)
 
@@ -52,6 +54,7 @@ HeadFaulty (flags_type n) m a k = ⊥
 
 -- ---- in flat values, as numbers
 
+-- the first flat values are a node of this type, and have this head
 abbrev pub HeadLifts : ClosedType → List ℕ → List ℕ → Head → Type 0
 HeadLifts (prim_type p) m fs h = ScalarHead p (low_bits fs 0 (flat_bits p)) h
 HeadLifts string_type m fs h = BlockHead m 1 1 (low_bits fs 0 32) (low_bits fs 1 32) h
@@ -60,6 +63,7 @@ HeadLifts (record_type ts) m fs h = h ≡ head.Nothing
 HeadLifts (variant_type cs) m fs h = CaseHead cs (low_bits fs 0 32) h
 HeadLifts (flags_type n) m fs h = h ≡ head.Flags (low_bits fs 0 n)
 
+-- the own fault of the node in these flat values; a text's bytes are no part of its head
 abbrev pub HeadLiftFaulty : ClosedType → List ℕ → List ℕ → TrapKind → Type 0
 HeadLiftFaulty (prim_type p) m fs k = PrimFaulty p (low_bits fs 0 (flat_bits p)) k
 HeadLiftFaulty string_type m fs k = BlockFaulty m (low_bits fs 0 32) 1 (low_bits fs 1 32 * 1) k
@@ -68,7 +72,7 @@ HeadLiftFaulty (record_type ts) m fs k = ⊥
 HeadLiftFaulty (variant_type cs) m fs k = CaseHeadFaulty cs (low_bits fs 0 32) k
 HeadLiftFaulty (flags_type n) m fs k = ⊥
 
--- how many flat values the head takes
+-- how many flat values the head of a node of this type takes
 abbrev pub head_flats : ClosedType → ℕ
 head_flats (prim_type p) = 1
 head_flats string_type = 2
@@ -79,7 +83,7 @@ head_flats (flags_type n) = 1
 
 -- ---- written
 
--- nodes of this type have heads such as this
+-- a node of this type may have this head
 abbrev pub IsHeadOf : ClosedType → Head → Type 0
 IsHeadOf t (head.Scalar s) = t ≡ prim_type (prim_in s)
 IsHeadOf t (head.Block at n) = (t ≡ string_type) ⊎ ((u : ClosedType) × (t ≡ list_type u))
@@ -87,7 +91,7 @@ IsHeadOf t (head.Case i) = (cs : Cases) × (t ≡ variant_type cs) × (i < case_
 IsHeadOf t (head.Flags labels) = (n : ℕ) × (t ≡ flags_type n) × (labels < 2 ^ n)
 IsHeadOf t head.Nothing = (fs : Fields) × (t ≡ record_type fs)
 
--- the width of a case's number or of flags
+-- the width of the number of a variant's case, or of flags; one byte for other types
 abbrev pub number_width : ClosedType → Width
 number_width (variant_type cs) = byte_width (discriminant_size (case_count cs))
 number_width (flags_type n) = byte_width (flags_size n)

@@ -21,13 +21,13 @@ abbrev pub area_at : Option ℕ → ℕ
 area_at None = 0
 area_at (Some at) = at
 
--- the return area was granted, where there is one
+-- the return area was granted, if the result needs one; otherwise nothing changes
 abbrev pub IsAreaAsked : Allocation → Fields → Memory → Option ℕ → Memory → Type 0
 IsAreaAsked allocates ts old None new = new ≡ old
 IsAreaAsked allocates ts old (Some at) new =
     (es : List Event) × GrantsBlock (align (record_type ts)) (size (record_type ts)) at es × AreWithinLimit es × TraceLeads allocates old es new
 
--- it was not, in step `place`
+-- the return area was not granted: a request that failed in step `place`
 abbrev pub AreaFails : Allocation → Fields → Memory → Fault → Memory → Type 0
 AreaFails allocates ts old (Trap t) new =
     (fits_flat max_flat_results ts ≡ false) × (t.step ≡ step.Place)

@@ -5,7 +5,7 @@ use Rattle.canonical_abi.specs.Storing.{IsBlock}
 use Rattle.canonical_abi.specs.Trace.{Grant, Event, grant, write, AreGrantsWithin, TraceLeads, TraceEnds}
 use Rattle.canonical_abi.specs.declared.trap.TrapKind.{TrapKind}
 
--- the whole script was done
+-- the whole script was done, all its blocks within the limit
 pub record IsDone (limit : ℕ) (allocates : Allocation) (S : List Event → Type 0) (old new : Memory) : Type 0 where
   pub events : List Event
   pub scripted : S events
