@@ -5,19 +5,19 @@ use Rattle.std.specs.Prelude.{◌≡◌, ℕ, ◌+◌, ◌*◌, ◌^◌, ◌<◌
 abbrev pub AreMaxima : List ℕ → ℕ → Type 0
 AreMaxima tree count = (i : ℕ) → 0 < i → i < count → slice_index tree i ≡ max (slice_index tree (2 * i)) (slice_index tree (2 * i + 1))
 
--- such a tree, over a row of so many doublings
+-- a tree of maxima over a row of 2^depth numbers
 pub record IsMaxTree (tree : List ℕ) (depth count : ℕ) : Type 0 where
   pub shallow : depth ≤ 31
   pub powers : count ≡ 2 ^ depth
   pub sized : length tree ≡ 2 * count
   pub maxima : AreMaxima tree count
 
--- the first number that is at least so large
+-- the index of the first number that is at least `size`, or none if there is no such number
 abbrev pub FirstFrom : List ℕ → ℕ → Option ℕ → Type 0
 FirstFrom row size (Some i) = (i < length row) × (size ≤ slice_index row i) × ((k : ℕ) → k < i → slice_index row k < size)
 FirstFrom row size None = (k : ℕ) → k < length row → slice_index row k < size
 
--- the last number before place i that is not 0
+-- the index of the last number before index i that is not 0, or none if there is no such number
 abbrev pub LastBefore : List ℕ → ℕ → Option ℕ → Type 0
 LastBefore row i (Some p) = (p < i) × (0 < slice_index row p) × ((k : ℕ) → p < k → k < i → slice_index row k ≡ 0)
 LastBefore row i None = (k : ℕ) → k < i → slice_index row k ≡ 0
