@@ -18,7 +18,7 @@ AnswersAlike make allocates =
     (m n : Memory) (align size : ℕ) (a b : Option ℕ) (m' n' : Memory) → IsAlignment align → AreAlike make m n
     → allocates m align size a m' → allocates n align size b n' → (a ≡ b) × AreAlike make m' n'
 
--- given back the same, they both take it or both do not, and are alike again
+-- given back the same block, memories that are alike both take it or both refuse it, and are alike again
 abbrev pub ReleasesAlike : Make → Release → Type 0
 ReleasesAlike make releases =
     (m n : Memory) (at size : ℕ) (a b : Bool) (m' n' : Memory) → AreAlike make m n

@@ -57,7 +57,7 @@ pub record CanBeFreed (m : Memory) (at size : ℕ) : Type 0 where
   pub inside : at + size ≤ usable m
   pub apart : (s e : ℕ) → IsHole m s e → (a : ℕ) → s ≤ a → a < e → IsWithin a at size → ⊥
 
--- such a block is taken back, and no other
+-- a block that can be freed is taken back, and no other
 abbrev pub FirstFitReleases : Memory → ℕ → ℕ → Bool → Memory → Type 0
 FirstFitReleases old at size true new = CanBeFreed old at (rounded_to_eight size) × Frees old at (rounded_to_eight size) new
 FirstFitReleases old at size false new = (CanBeFreed old at (rounded_to_eight size) → ⊥) × (new ≡ old)

@@ -55,7 +55,7 @@ FirstFitIsHonest = record {
   not_taken = λ old at size new step. step.1;
 }
 
--- and keeps the limit
+-- no step of a first-fit allocator makes a memory 2^32 bytes long or longer
 pub FirstFitKeepsLimit : KeepsLimit FirstFitAllocates
 FirstFitKeepsLimit old new align size (Some at) (inl (none, start, same)) limited = subst IsLimited (sym same) limited
 FirstFitKeepsLimit old new align size (Some at) (inr (some, max, pages, end, state_is, few, least, first, takes)) limited =

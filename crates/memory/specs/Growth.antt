@@ -6,11 +6,11 @@ use Rattle.canonical_abi.specs.Guest.{Memory, with_bytes}
 abbrev pub with_pages : List ℕ → ℕ → List ℕ
 with_pages bytes pages = bytes ++ replicate (pages * 65536) 0
 
--- the memory that is so much longer
+-- the memory with so many pages of zeros added
 abbrev pub grown : Memory → ℕ → Memory
 grown memory pages = with_bytes memory (with_pages memory.bytes pages)
 
--- whole pages, and no more of them at first than at most
+-- a length and a greatest length are whole pages, and the first is not above the second
 abbrev pub ArePages : ℕ → ℕ → Type 0
 ArePages len max = (len % 65536 ≡ 0) × (max % 65536 ≡ 0) × (len ≤ max)
 
@@ -24,7 +24,7 @@ pub record IsLeastGrowth (len max : ℕ) (IsEnough : ℕ → Type 0) (pages : �
 abbrev pub HasNoGrowth : ℕ → ℕ → (ℕ → Type 0) → Type 0
 HasNoGrowth len max IsEnough = (pages : ℕ) → len + pages * 65536 ≤ max → IsEnough pages → ⊥
 
--- with so many pages, `len` bytes come to `end`
+-- with so many pages more, `len` bytes become `end` or more
 abbrev pub ReachesEnd : ℕ → ℕ → ℕ → Type 0
 ReachesEnd len end pages = end ≤ len + pages * 65536
 

@@ -4,6 +4,7 @@ use Rattle.std.proofs.Common.{refl, ap, ◌∙◌, arith}
 use Rattle.std.proofs.lemmas.List.{length-append, length-replicate}
 use Rattle.memory.specs.Growth.{with_pages}
 
+-- growth by pages makes a memory longer by 65536 bytes each
 pub length-with_pages : (bytes : List ℕ) (pages : ℕ) → length (with_pages bytes pages) ≡ length bytes + pages * 65536
 length-with_pages bytes pages = length-append bytes (replicate (pages * 65536) 0) ∙ ap (λ n. length bytes + n) (length-replicate (pages * 65536) 0)
 
@@ -23,6 +24,6 @@ zero_behind (b ∷ bytes) n (suc a) past below = zero_behind bytes n a (omega ar
 pub same_bytes : (bytes : List ℕ) (pages a : ℕ) → a < length bytes → slice_get (with_pages bytes pages) a ≡ slice_get bytes a
 same_bytes bytes pages a below = byte_before bytes (replicate (pages * 65536) 0) a below
 
--- those that come to them are zeros
+-- the bytes that are added are zeros
 pub zero_bytes : (bytes : List ℕ) (pages a : ℕ) → length bytes ≤ a → a < length (with_pages bytes pages) → slice_get (with_pages bytes pages) a ≡ Some 0
 zero_bytes bytes pages a past below = zero_behind bytes (pages * 65536) a past (omega (arith, length-with_pages bytes pages))

@@ -71,7 +71,7 @@ LentIsHonest = record {
   not_taken = λ old at size new step. step;
 }
 
--- and keeps the limit
+-- no step of an allocator of lent blocks makes a memory 2^32 bytes long or longer
 pub LentKeepsLimit : KeepsLimit LentAllocates
 LentKeepsLimit old new align size (Some at) (name, b, bs, next, good, is_at, new_is) limited =
     let same : length new.bytes ≡ length old.bytes = ap (λ m. length m.bytes) new_is in

@@ -36,7 +36,7 @@ takes kind allocates releases honest old at size new (before, after, old_is, ste
       stays_live = λ a h o. now a ∙ r.stays_live a (sym (was a) ∙ h) o;
     }
 
--- honesty of a kind
+-- an honest allocator stays honest as one kind of several
 pub kind_is_honest : (kind : ℕ) (allocates : Allocation) (releases : Release) → IsHonest allocates releases → IsHonest (AllocatesAs kind allocates) (ReleasesAs kind releases)
 kind_is_honest kind allocates releases honest = record {
   granted = grants kind allocates releases honest;
@@ -66,6 +66,7 @@ kind_keeps_limit kind allocates keeps old new align size at (before, after, old_
     let now : length new.bytes ≡ length after.bytes = ap (λ m. length m.bytes) new_is in
     let kept : IsLimited after = keeps before after align size at step (omega arith) in omega arith
 
+-- no allocation of a `Space` makes a memory 2^32 bytes long or longer
 pub SpaceKeepsLimit : KeepsLimit SpaceAllocates
 SpaceKeepsLimit old new align size at (inl step) few = kind_keeps_limit bump_kind _ BumpKeepsLimit old new align size at step few
 SpaceKeepsLimit old new align size at (inr step) few = kind_keeps_limit first_fit_kind _ FirstFitKeepsLimit old new align size at step few
