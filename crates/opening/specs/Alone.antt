@@ -29,6 +29,7 @@ pub record IsOfBinary (bytes : List ℕ) (r : Resolve) : Type 0 where
   pub spelt : decoded bytes ≡ Ok (raw_component_view raw)
   pub alone : IsComponentAlone raw r
 
+-- the bytes are a binary or a text, by how they begin, and this is the package of it by itself
 abbrev pub IsOfBytes : List ℕ → Resolve → Type 0
 IsOfBytes bytes r = MatchBool (is_binary bytes) (IsOfBinary bytes r) (IsOfText bytes r)
 
@@ -39,17 +40,19 @@ pub record OpensAlone (bytes : List ℕ) (r : Resolve) : Type 0 where
 
 -- ---- refusals
 
--- why a text's file, and why the component of a binary, is refused by itself
+-- the bytes are a text that is read, and its file is refused by itself for this reason
 abbrev pub TextIsRefused : List ℕ → AddError → Type 0
 TextIsRefused bytes e = IsUtf8 bytes × (f : File) × IsRead bytes f × FileAloneRefuses f e
 
+-- the bytes spell a component, and it is refused by itself for this reason
 abbrev pub BinaryIsRefused : List ℕ → AddError → Type 0
 BinaryIsRefused bytes e = (raw : RawComponent) × (decoded bytes ≡ Ok (raw_component_view raw)) × ComponentAloneRefuses raw e
 
+-- the bytes are a binary or a text, by how they begin, and its package is refused by itself for this reason
 abbrev pub IsRefusedAlone : List ℕ → AddError → Type 0
 IsRefusedAlone bytes e = MatchBool (is_binary bytes) (BinaryIsRefused bytes e) (TextIsRefused bytes e)
 
--- Why one input isn't opened.
+-- why one input is not opened by itself
 abbrev pub AloneRefuses : List ℕ → OpenError → Type 0
 AloneRefuses bytes (error.Layout e) = (r : Resolve) × ∥ IsOfBytes bytes r ∥₁ × RefusesFirst e r
 AloneRefuses bytes (error.Resolve e) = IsRefusedAlone bytes (add.Resolve e)

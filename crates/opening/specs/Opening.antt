@@ -29,16 +29,16 @@ use Rattle.opening.specs.declared.package.OpenError.TheVariants as error
 
 -- ---- packages
 
--- the set of these packages, within the limits of layout
+-- r is the set of the packages of these inputs, in order, and all its types are within the limits of layout
 pub record IsOpened (inputs : List (List ℕ)) (r : Resolve) : Type 0 where
   pub set : IsSetOf inputs r
   pub within : AreWithin r
 
--- the closed table of the set's last package: what the package reaches of the set
+-- the closed table of the set's last package: this package, and the interfaces of others that it reaches
 abbrev pub IsLast : Resolve → Resolve → Type 0
 IsLast r closed = IsRestricted r (own_package r.packages) closed
 
--- the table that stands for it, if it is the whole set and if it is a part of it
+-- the closed table of the last package, as a program keeps it: the whole set, or a table of its own
 abbrev pub last_table : Last → Resolve
 last_table (last.Whole set) = set.now
 last_table (last.Part table) = table
@@ -64,12 +64,12 @@ pub record IsPrintedAs (bytes : List ℕ) (r : Resolve) : Type 0 where
 
 -- ---- refusals
 
--- why a package is not added to a set, as why it is not opened
+-- the error of opening for an error of adding a package to a set
 abbrev pub open_error : AddError → OpenError
 open_error (add.Resolve e) = error.Resolve e
 open_error (add.Attach e) = error.Attach e
 
--- for want of memory alone
+-- the refusal is out of memory and nothing else: 21, 35, 46, 52 or 66
 abbrev pub IsWantOfMemory : OpenError → Type 0
 IsWantOfMemory (error.Binary e) = e ≡ binary_error.NoMemory
 IsWantOfMemory (error.Resolve e) = e ≡ resolve_error.NoMemory
@@ -88,24 +88,26 @@ OpenRefuses inputs e = FirstRefused inputs e
 
 -- ---- what is written of the last package
 
--- the shortest bytes of its component
+-- the bytes are the shortest binary of the component of the set's last package
 abbrev pub AreBytesOf : Resolve → List ℕ → Type 0
 AreBytesOf r bytes = (closed : Resolve) × IsLast r closed × (bytes ≡ file_bytes (component_of closed))
 
--- they are more than a binary may have
+-- the binary of the set's last package is longer than a binary may be
 abbrev pub HasLongBinary : Resolve → Type 0
 HasLongBinary r = (bytes : List ℕ) × AreBytesOf r bytes × (max_length < length bytes)
 
+-- the refusal of a binary that is too long to be written (17), at the first byte past the limit
 abbrev pub IsTooLong : Resolve → BinError → Type 0
 IsTooLong r e = (e ≡ At Limit max_length) × HasLongBinary r
 
--- its canonical text
+-- the canonical text of the set's last package
 abbrev pub IsCanonicalText : Resolve → List ℕ → Type 0
 IsCanonicalText r text = (closed : Resolve) × IsLast r closed × (text ≡ text_of closed)
 
--- it is more than a text may have
+-- the canonical text of the set's last package is longer than a text may be
 abbrev pub HasLongText : Resolve → Type 0
 HasLongText r = (text : List ℕ) × IsCanonicalText r text × (limit < length text)
 
+-- the refusal of a canonical text that is too long to be written (36)
 abbrev pub IsLongText : Resolve → TextError → Type 0
 IsLongText r e = (e ≡ text_error.Limit) × HasLongText r

@@ -29,12 +29,13 @@ use Rattle.opening.specs.declared.package.OpenError.TheVariants as error
 
 -- ---- lists of inputs
 
+-- the bytes of the inputs, which are lent, in order
 abbrev pub all_bytes : List (Bor (List ℕ)) → List (List ℕ)
 all_bytes inputs = map (λ b. b.now) inputs
 
 -- ---- one package behind a set
 
--- they begin as a binary does
+-- the bytes begin as a binary does, with `\0asm`
 abbrev pub is_binary : List ℕ → Bool
 is_binary bytes = starts_with (λ a b. a == b) bytes (0x00 ∷ 0x61 ∷ 0x73 ∷ 0x6d ∷ [])
 
@@ -52,6 +53,7 @@ pub record IsBinaryOf (bytes : List ℕ) (closed : Resolve) : Type 0 where
   pub spelt : decoded bytes ≡ Ok (raw_component_view raw)
   pub component : IsOfComponent raw closed
 
+-- the bytes are a binary or a text, by how they begin, and this is the closed table of its package
 abbrev pub IsMember : Resolve → List ℕ → Resolve → Type 0
 IsMember set bytes closed = MatchBool (is_binary bytes) (IsBinaryOf bytes closed) (IsOfTextBehind set bytes closed)
 
@@ -62,7 +64,7 @@ pub record PutsBehind (set closed r : Resolve) : Type 0 where
   pub id : ℕ
   pub attached : IsAttached set closed r id
 
--- the set with the bytes' package behind it, whose closed table this is
+-- the set with the package of the bytes more, whose closed table this is
 pub record AddsMember (set : Resolve) (bytes : List ℕ) (closed r : Resolve) : Type 0 where
   pub member : IsMember set bytes closed
   pub puts : PutsBehind set closed r
@@ -80,21 +82,24 @@ IsNoText bytes (error.Text e) = IsUtf8Behind36 bytes e × text.FaultyText bytes 
 IsNoText bytes (error.NotUtf8 place) = (length bytes ≤ limit) × ¬ (IsUtf8 bytes) × IsValidUpTo bytes place
 IsNoText bytes _ = ⊥
 
--- the bytes are not decoded
+-- the bytes are no binary that is decoded, for this reason
 abbrev pub IsNoBinary : List ℕ → OpenError → Type 0
 IsNoBinary bytes (error.Binary e) = binary.Decodes raw_component_view (Err e) bytes
 IsNoBinary bytes _ = ⊥
 
+-- the bytes are not decoded, or are no text that is read, for this reason
 abbrev pub IsNothing : List ℕ → OpenError → Type 0
 IsNothing bytes e = MatchBool (is_binary bytes) (IsNoBinary bytes e) (IsNoText bytes e)
 
--- why a text's package is not added, and why a binary's is not
+-- the bytes are a text that is read, and its package is not added to the set for this reason
 abbrev pub TextNotAdded : Resolve → List ℕ → AddError → Type 0
 TextNotAdded set bytes e = IsUtf8 bytes × (f : File) × IsRead bytes f × TreeNotAdded f set e
 
+-- the bytes spell a component, and its package is not added to the set for this reason
 abbrev pub BinaryNotAdded : Resolve → List ℕ → AddError → Type 0
 BinaryNotAdded set bytes e = (raw : RawComponent) × (decoded bytes ≡ Ok (raw_component_view raw)) × ComponentNotAdded raw set e
 
+-- the package of the bytes, a binary or a text, is not added to the set for this reason
 abbrev pub NotAdded : Resolve → List ℕ → AddError → Type 0
 NotAdded set bytes e = MatchBool (is_binary bytes) (BinaryNotAdded set bytes e) (TextNotAdded set bytes e)
 
@@ -112,13 +117,13 @@ abbrev pub AddsMembers : Resolve → List (List ℕ) → Resolve → Type 0
 AddsMembers set [] r = set ≡ r
 AddsMembers set (bytes ∷ rest) r = (closed next : Resolve) × AddsMember set bytes closed next × AddsMembers next rest r
 
--- the set of these packages
+-- the set of the packages of these inputs, each of which uses only those before it
 pub record IsSetOf (inputs : List (List ℕ)) (r : Resolve) : Type 0 where
   pub none : Resolve
   pub empty : IsEmpty none
   pub adds : AddsMembers none inputs r
 
--- the first of these packages that isn't added
+-- the first of these inputs whose package is not added, and why
 pub record FirstRefused (inputs : List (List ℕ)) (e : OpenError) : Type 0 where
   pub earlier : List (List ℕ)
   pub bytes : List ℕ

@@ -20,25 +20,27 @@ pub record AddsText (set : Resolve) (bytes : List ℕ) (r : Resolve) : Type 0 wh
   pub fits : file_fits file ≡ true
   pub adds : AddsFile file set r
 
--- .. a binary
+-- the bytes are a binary, and this is the set with its package more
 pub record AddsBinary (set : Resolve) (bytes : List ℕ) (r : Resolve) : Type 0 where
   pub raw : RawComponent
   pub spelt : decoded bytes ≡ Ok (raw_component_view raw)
   pub adds : AddsRaw raw set r
 
+-- the bytes are a binary or a text, by how they begin, and this is the set with its package more
 abbrev pub AddsInput : Resolve → List ℕ → Resolve → Type 0
 AddsInput set bytes r = MatchBool (is_binary bytes) (AddsBinary set bytes r) (AddsText set bytes r)
 
+-- the set with the packages of these inputs more, one after the other
 abbrev pub AddsInputs : Resolve → List (List ℕ) → Resolve → Type 0
 AddsInputs set [] r = set ≡ r
 AddsInputs set (bytes ∷ rest) r = (next : Resolve) × AddsInput set bytes next × AddsInputs next rest r
 
--- the set of these packages
+-- the set of the packages of these inputs, by names
 pub record IsToldSetOf (inputs : List (List ℕ)) (r : Resolve) : Type 0 where
   pub none : Resolve
   pub empty : IsEmpty none
   pub adds : AddsInputs none inputs r
 
--- what is opened is that
+-- the set that opening gives is the one that its names describe
 abbrev pub SetIsTold : List (List ℕ) → Resolve → Type 0
 SetIsTold inputs r = IsSetOf inputs r → ∥ IsToldSetOf inputs r ∥₁
