@@ -19,6 +19,7 @@ use Rattle.tables.specs.declared.tables.Resolve.{Resolve}
 use Rattle.package_form.specs.Closed.{own_package}
 use Rattle.package_form.specs.Reached.{is_interface_of}
 
+-- the word of a core value type
 abbrev pub kind_word : CoreKind → List ℕ
 kind_word I32 = codes "i32"
 kind_word I64 = codes "i64"
@@ -27,42 +28,45 @@ kind_word I64 = codes "i64"
 abbrev pub kinds_text : List CoreKind → List ℕ
 kinds_text ks = codes "(" ++ (join_by kind_word (codes " ") ks ++ codes ")")
 
+-- a core signature: its parameters and its results in parentheses
 abbrev pub signature_text : CoreSignature → List ℕ
 signature_text s = kinds_text s.params ++ (codes " -> " ++ kinds_text s.results)
 
--- the label of a type; one that stands inside another has none
+-- the label of a type, or nothing of a type without a name
 abbrev pub label_in : Option TypeName → List ℕ
 label_in None = []
 label_in (Some n) = n.name
 
+-- the label of a type, or nothing if there is no type or it has no name
 abbrev pub type_label : Option TypeDef → List ℕ
 type_label None = []
 type_label (Some d) = label_in d.name
 
+-- the label of a function, or nothing if there is no function
 abbrev pub function_label : Option Function → List ℕ
 function_label None = []
 function_label (Some f) = f.name
 
--- a type of the interface of this full name
+-- the line of a type: its interface's full name, its label, its size and its alignment in bytes
 abbrev pub type_line : Resolve → List ℕ → TypeId → List ℕ
 type_line r interface id =
     codes "type " ++ (interface ++ (codes " " ++ (type_label (type_of (slice_get r.definitions id.0))
     ++ (codes " size " ++ (decimal (size (closed_type r (val.Id id))) ++ (codes " align " ++ (decimal (align (closed_type r (val.Id id))) ++ codes "\n")))))))
 
--- a function of it, as the callee's core function and as the caller's import
+-- the line of a function: its name, and its core signatures as the callee's function and as the caller's import
 abbrev pub function_line : Resolve → List ℕ → FunctionId → List ℕ
 function_line r interface id =
     codes "func " ++ (interface ++ (codes " " ++ (function_label (function_at r id)
     ++ (codes " lift " ++ (signature_text (lifted_signature (function_type r id)) ++ (codes " lower " ++ (signature_text (lowered_signature (function_type r id)) ++ codes "\n")))))))
 
--- an interface's used names, its types, and its functions
+-- the lines of an interface's used names, of its types, and of its functions
 abbrev pub lines_of : Resolve → List ℕ → Interface → List ℕ
 lines_of r name i = flat_map (type_line r name) i.uses ++ (flat_map (type_line r name) i.types ++ flat_map (function_line r name) i.functions)
 
--- .. if it is of this package
+-- the lines of an interface's used names, types and functions if it is of this package, or nothing
 abbrev pub lines_in : Resolve → ℕ → Interface → List ℕ
 lines_in r own i = if is_interface_of own i then lines_of r (full_name r i) i else []
 
--- those of the last package
+-- the lines of the used names, types and functions of all interfaces of the last package
 abbrev pub laid_out : Resolve → List ℕ
 laid_out r = flat_map (lines_in r (own_package r.packages)) r.interfaces
