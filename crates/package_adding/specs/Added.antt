@@ -27,11 +27,11 @@ use Rattle.package_adding.specs.declared.error.AddError.TheVariants as error
 
 -- ---- the tables of its packages
 
--- the table of what the package at this place reaches is this one
+-- the closed table of the package at this index of the set is this one
 abbrev pub HasTable : Resolve → ℕ → Resolve → Type 0
 HasTable set id table = (r : Resolve) → IsRestricted set id r → IsSamePackage r table
 
--- the table of each package that the set had is what it was
+-- each package that the set had keeps its closed table
 abbrev pub KeepsTables : Resolve → Resolve → Type 0
 KeepsTables set new = (id : ℕ) → id < length set.packages → (table : Resolve) → IsRestricted set id table → HasTable new id table
 
@@ -42,13 +42,13 @@ pub record IsOfComponent (raw : RawComponent) (closed : Resolve) : Type 0 where
   pub stands : ∥ ComponentStands raw closed ∥₁
   pub distinct : All AreDistinct (package_scopes closed)
 
--- the set with the component's package behind it, which is this closed table, whose imports are just those of the set
+-- the set with the component's package more, whose closed table this is, and whose imports are just those of the set
 pub record AddsComponent (raw : RawComponent) (set closed r : Resolve) (id : ℕ) : Type 0 where
   pub component : IsOfComponent raw closed
   pub behind : IsBehindImports set closed
   pub attached : IsAttached set closed r id
 
--- .. it was added as this place: the table of this place is that closed table, which can be written, and there is no other that can be added
+-- a component was added as package `id`, whose table is its closed table: it can be written, no other can be added
 pub record ComponentIsAdded (raw : RawComponent) (set r : Resolve) (id : ℕ) : Type 0 where
   pub closed : Resolve
   pub adds : AddsComponent raw set closed r id
@@ -76,19 +76,19 @@ pub record AreImportsFrom (f : File) (set imports : Resolve) : Type 0 where
   pub named : AreNamed f set packages interfaces
   pub are : IsImportsOf set packages interfaces imports
 
--- the closed table of the file behind its imports
+-- the closed table of the file, after its imports from the set
 pub record IsOfTree (f : File) (set closed : Resolve) : Type 0 where
   pub imports : Resolve
   pub from : AreImportsFrom f set imports
   pub faults : HasNoFaultsOf (imports_of imports) f
   pub resolved : IsClosedPackageOf imports f closed
 
--- the set with the file's package behind it, which is this closed table
+-- the set with the file's package more, whose closed table this is
 pub record AddsTree (f : File) (set closed r : Resolve) (id : ℕ) : Type 0 where
   pub tree : IsOfTree f set closed
   pub attached : IsAttached set closed r id
 
--- .. it was added as this place: the table of this place is that closed table, which can be written, begins with just those imports of the set that its
+-- a file was added as package `id`: that package's table is its closed table, which begins with those imports that its
 -- own part names, and is the only one that can be added and written; no type of the file is nested deeper than in a text
 pub record TreeIsAdded (f : File) (set r : Resolve) (id : ℕ) : Type 0 where
   pub closed : Resolve
@@ -99,18 +99,21 @@ pub record TreeIsAdded (f : File) (set r : Resolve) (id : ℕ) : Type 0 where
   pub fits : file_fits f ≡ true
   pub only : (other new : Resolve) (j : ℕ) → AddsTree f set other new j → ∥ IsWritable other ∥₁ → IsSamePackage closed other
 
+-- the set has no package of the file's name
 abbrev pub IsNewName : File → Resolve → Type 0
 IsNewName f set = has_package set (package_named f) ≡ false
 
+-- the set has a package of the file's name
 abbrev pub HasName : File → Resolve → Type 0
 HasName f set = has_package set (package_named f) ≡ true
 
--- the file is refused behind its imports
+-- the file is refused for this reason, after its imports from the set
 pub record IsRefusedTree (f : File) (set : Resolve) (e : ResolveError) : Type 0 where
   pub imports : Resolve
   pub from : AreImportsFrom f set imports
   pub refused : ResolveRefusesOf (imports_of imports) f e
 
+-- the file after its imports from the set is refused for this reason; out of memory may come at any time
 abbrev pub CauseStands : File → Resolve → ResolveError → Type 0
 CauseStands f set cause.NoMemory = Unit {0}
 CauseStands f set e = IsRefusedTree f set e
@@ -128,6 +131,7 @@ TreeNotAdded f set (error.Resolve e) = HasRoom set × HasEntries f × IsNewName 
 
 -- ---- want of memory
 
+-- the host is out of memory (46), for the package alone or for the set
 abbrev pub IsWantOfMemoryToAdd : AddError → Type 0
 IsWantOfMemoryToAdd (error.Resolve cause.NoMemory) = Unit {0}
 IsWantOfMemoryToAdd (error.Resolve e) = ⊥

@@ -4,11 +4,11 @@ use Rattle.package_names.specs.Asked.{is_asked}
 use Rattle.tables.specs.PackageNames.{PackageParts}
 use Rattle.tables.specs.declared.tables.Resolve.{Resolve}
 
--- no interface of any package
+-- the test that names no interface of any package
 abbrev pub nothing : PackageParts → List ℕ → Bool
 nothing q i = false
 
--- those that the one test names, and those that the other does
+-- the interfaces that either of two tests names
 abbrev pub also : (PackageParts → List ℕ → Bool) → (PackageParts → List ℕ → Bool) → PackageParts → List ℕ → Bool
 also names others q i = names q i || others q i
 
