@@ -9,33 +9,35 @@ use Rattle.tables.specs.declared.tables.Definition.{Definition}
 use Rattle.tables.specs.declared.tables.Resolve.{Resolve}
 use Rattle.package_form.specs.Reached.{reached, is_interface_of, are_reached}
 
--- the own package is the last
+-- the index of a closed table's own package: the last
 abbrev pub own_package : List PackageParts → ℕ
 own_package ps = length ps - 1
 
+-- the world is of package k
 abbrev pub is_world_of : ℕ → World → Bool
 is_world_of k w = w.«package».0 == k
 
--- the own package has an interface or a world
+-- the own package has an interface, or there is a world, which is of it
 abbrev pub has_own : ℕ → List Interface → List World → Bool
 has_own own is ws = not (length ws == 0) || list_any (is_interface_of own) is
 
+-- both have no version, or both have the same
 abbrev pub is_same_version : Option (List ℕ) → Option (List ℕ) → Bool
 is_same_version None None = true
 is_same_version None (Some v) = false
 is_same_version (Some v) None = false
 is_same_version (Some v) (Some w) = bytes_eq v w
 
--- the names of two packages are one
+-- two packages have the same full name, the version included
 abbrev pub is_same_package : PackageParts → PackageParts → Bool
 is_same_package p q = bytes_eq p.namespace q.namespace && (bytes_eq p.name q.name && is_same_version p.version q.version)
 
--- no two packages have one name
+-- no two of these packages have the same full name
 abbrev pub are_apart : List PackageParts → Bool
 are_apart [] = true
 are_apart (p ∷ ps) = not (list_any (is_same_package p) ps) && are_apart ps
 
--- packages that a set may have: at most 64, whose names differ
+-- these are at most 64 packages, no two with the same full name
 abbrev pub are_of_a_set : List PackageParts → Bool
 are_of_a_set ps = nat_le (length ps) 64 && are_apart ps
 
@@ -55,6 +57,7 @@ is_closed_table ps is ws rows =
     && (list_all (is_world_of (own_package ps)) ws
     && are_reached (own_package ps) (reached rows ws) 0 is)))
 
+-- the table is a closed one: its own package, its last, with the interfaces of others that it reaches
 abbrev pub is_closed : Resolve → Bool
 is_closed r = is_closed_table r.packages r.interfaces r.worlds r.definitions
 

@@ -19,9 +19,11 @@ pub record Table : Type 0 where
   pub worlds : List World
   pub rows : List Definition
 
+-- the names of interfaces as they are in their packages, in order
 abbrev pub labels_of : List Interface → List (List ℕ)
 labels_of is = map (λ i. i.name) is
 
+-- the interfaces by their labels, the worlds and the rows of a package's table
 abbrev pub table_of : Resolve → Table
 table_of r = record { interfaces = labels_of r.interfaces; worlds = r.worlds; rows = r.definitions }
 
@@ -32,18 +34,21 @@ entries_under (Some n) (kind.Use t) = 3
 entries_under (Some n) (kind.Alias (val.Id t)) = 1
 entries_under (Some n) k = 2
 
+-- the type indices that a row takes: a function takes that of its type
 abbrev pub entries_of : Definition → ℕ
 entries_of (row.Type d) = entries_under d.name d.kind
 entries_of (row.Function f) = 1
 
--- an interface among a world's items has an outer alias; a function's entries are those of its rows
+-- the type indices that a world's item takes: an interface an outer alias, a function none besides those of its rows
 abbrev pub item_entries : WorldItemKind → ℕ
 item_entries (item.Interface i) = 1
 item_entries (item.Function f) = 0
 
+-- the type indices that an item of a world takes by itself
 abbrev pub entries_at : WorldItem → ℕ
 entries_at i = item_entries i.kind
 
+-- the type indices that a world takes: its component type, and an outer alias for each interface among its items
 abbrev pub world_entries : World → ℕ
 world_entries w = 1 + sum (map entries_at w.items)
 

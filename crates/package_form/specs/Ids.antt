@@ -18,45 +18,55 @@ abbrev pub places_where : (Definition → Bool) → ℕ → List Definition → 
 places_where is n [] = []
 places_where is n (d ∷ ds) = if is d then n ∷ places_where is (n + 1) ds else places_where is (n + 1) ds
 
+-- the name is of interface i; none is of no interface
 abbrev pub is_in : ℕ → Option TypeName → Bool
 is_in i None = false
 is_in i (Some n) = n.interface.0 == i
 
+-- a type that is a used name
 abbrev pub is_use : TypeDefKind → Bool
 is_use (kind.Use t) = true
 is_use _ = false
 
+-- the row is a used name of interface i
 abbrev pub is_use_in : ℕ → Definition → Bool
 is_use_in i (row.Type d) = is_in i d.name && is_use d.kind
 is_use_in i (row.Function f) = false
 
+-- the row is a named type of interface i, and no used name
 abbrev pub is_type_in : ℕ → Definition → Bool
 is_type_in i (row.Type d) = is_in i d.name && not (is_use d.kind)
 is_type_in i (row.Function f) = false
 
+-- the function's owner is interface i
 abbrev pub is_owned_by : ℕ → Owner → Bool
 is_owned_by i (owner.Interface k) = k.0 == i
 is_owned_by i (owner.World w) = false
 
+-- the row is a function of interface i
 abbrev pub is_function_in : ℕ → Definition → Bool
 is_function_in i (row.Type d) = false
 is_function_in i (row.Function f) = is_owned_by i f.owner
 
--- a function of some world
+-- the owner is a world
 abbrev pub is_of_worlds : Owner → Bool
 is_of_worlds (owner.Interface i) = false
 is_of_worlds (owner.World w) = true
 
+-- the row is a function that a world imports or exports
 abbrev pub is_world_function : Definition → Bool
 is_world_function (row.Type d) = false
 is_world_function (row.Function f) = is_of_worlds f.owner
 
+-- the index n into the packages
 abbrev pub package_id : ℕ → PackageId
 package_id n = record { 0 = n }
 
+-- the index n into the rows, of a type
 abbrev pub type_id : ℕ → TypeId
 type_id n = record { 0 = n }
 
+-- the index n into the rows, of a function
 abbrev pub function_id : ℕ → FunctionId
 function_id n = record { 0 = n }
 
@@ -70,9 +80,11 @@ interface_in rows i name = record {
   functions = map function_id (places_where (is_function_in i) 0 rows);
 }
 
+-- the interfaces of these names over the rows, the first of which is interface i
 abbrev pub interfaces_from : List Definition → ℕ → List (List ℕ) → List Interface
 interfaces_from rows i [] = []
 interfaces_from rows i (n ∷ ns) = interface_in rows i n ∷ interfaces_from rows (i + 1) ns
 
+-- the interfaces of these labels with the ids of their rows, all in the first package
 abbrev pub interfaces_in : Table → List Interface
 interfaces_in t = interfaces_from t.rows 0 t.interfaces

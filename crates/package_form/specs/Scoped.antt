@@ -7,6 +7,6 @@ pub record NameEntry : Type 0 where
   pub name : List ℕ
   pub id : TypeId
 
--- .. as a map keeps them
+-- the name and type of an entry of a map, whose keys have these bytes
 abbrev pub mapped_entry : {V : Type 0} → (V → List ℕ) → V × TypeId → NameEntry
 mapped_entry items e = record { name = items e.0; id = e.1 }

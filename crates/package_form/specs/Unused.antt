@@ -9,7 +9,7 @@ use Rattle.tables.specs.declared.tables.Definition.TheVariants as row
 use Rattle.package_form.specs.Postfix.{is_unnamed, is_unnamed_row, one_if, is_inner}
 use Rattle.package_form.specs.References.{row_references}
 
--- the row of a reference, if it has no name
+-- the row that is referred to, as a list of one if it has no name, or none
 abbrev pub unnamed_at : List Definition → TypeId → List ℕ
 unnamed_at rows t = one_if (is_unnamed_row (slice_get rows t.0)) t.0
 
@@ -17,11 +17,12 @@ unnamed_at rows t = one_if (is_unnamed_row (slice_get rows t.0)) t.0
 abbrev pub inner_rows : List Definition → Definition → List ℕ
 inner_rows rows d = flat_map (unnamed_at rows) (row_references d)
 
+-- a type that is a new name of another (`type a = b`)
 abbrev pub is_alias : TypeDefKind → Bool
 is_alias (kind.Alias v) = true
 is_alias _ = false
 
--- a new name stands for a primitive or for a type with a name
+-- a row may be made of these types without names, `inner`: an alias of none, any other row of any
 abbrev pub can_use : Definition → List ℕ → Bool
 can_use (row.Type d) inner = if is_alias d.kind then length inner == 0 else true
 can_use (row.Function f) inner = true
@@ -35,7 +36,7 @@ closes (row.Function f) left = left == 0
 abbrev pub is_next : List ℕ → List ℕ → Definition → Bool
 is_next unused inner d = can_use d inner && (ends_with nat_eq unused inner && closes d (length unused - length inner))
 
--- the rows that are unused after the row at place n
+-- the rows without names that are still unused after the row at place n
 abbrev pub unused_after : ℕ → List ℕ → List ℕ → Definition → List ℕ
 unused_after n unused inner d = take (length unused - length inner) unused ++ one_if (is_unnamed d) n
 
