@@ -9,14 +9,15 @@ use Rattle.tables.specs.declared.tables.Resolve.{Resolve}
 use Rattle.package_form.specs.Closed.{is_same_package}
 use Rattle.package_names.specs.Indexed.{is_interface_named, placed_at}
 
+-- the bytes of a name that is lent
 abbrev pub lent_label : Bor (List ℕ) → List ℕ
 lent_label b = b.now
 
--- names that are lent
+-- the bytes of names that are lent, in order
 abbrev pub lent_labels : List (Bor (List ℕ)) → List (List ℕ)
 lent_labels ns = map lent_label ns
 
--- there is a name
+-- there is at least one name
 abbrev pub has_names : List (List ℕ) → Bool
 has_names ns = nat_lt 0 (length ns)
 
@@ -24,7 +25,7 @@ has_names ns = nat_lt 0 (length ns)
 abbrev pub is_asked : List (List (List ℕ)) → ℕ → List ℕ → Bool
 is_asked asked k n = list_any (bytes_eq n) (slice_index_or asked k [])
 
--- this interface is asked of its package
+-- the interface is asked of its own package
 abbrev pub is_asked_of : List (List (List ℕ)) → Interface → Bool
 is_asked_of asked i = is_asked asked i.«package».0 i.name
 
@@ -32,7 +33,7 @@ is_asked_of asked i = is_asked asked i.«package».0 i.name
 abbrev pub is_asked_interface : List PackageParts → List (List (List ℕ)) → PackageParts → List ℕ → Interface → Bool
 is_asked_interface ps asked q n i = is_interface_named ps q n i && is_asked_of asked i
 
--- these places are those of the interfaces that are asked for
+-- `names` has, for each package, the names and places of its interfaces that are asked for
 pub record IsIndexOfAsked (ps : List PackageParts) (is : List Interface) (asked : List (List (List ℕ))) (names : List (List (List ℕ × ℕ))) : Type 0 where
   pub count : length names ≡ length ps
   pub each : (q : PackageParts) (n : List ℕ) → placed_at names (position (is_same_package q) ps) n ≡ position (is_asked_interface ps asked q n) is

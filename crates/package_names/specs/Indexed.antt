@@ -13,11 +13,11 @@ use Rattle.tables.specs.declared.tables.Resolve.{Resolve}
 use Rattle.package_form.specs.Closed.{is_same_package}
 use Rattle.package_names.specs.declared.indexed.PackageKey.{PackageKey}
 
--- a package's name that is lent
+-- the full name of a package, from its parts that are lent
 abbrev pub key_parts : PackageKey → PackageParts
 key_parts k = record { namespace = k.namespace.now; name = k.name.now; version = option_map string_bytes k.version.now }
 
--- there is a package, and it has this name
+-- there is a package, and it has this full name
 abbrev pub is_package_named : PackageParts → Option PackageParts → Bool
 is_package_named q None = false
 is_package_named q (Some p) = is_same_package q p
@@ -36,16 +36,17 @@ interface_place r q n = position (is_interface_named r.packages q n) r.interface
 abbrev pub place_entry : String Global × ℕ → List ℕ × ℕ
 place_entry e = (string_bytes e.0, e.1)
 
--- the place under a name in one package
+-- the place under this name in the names of one package, or none
 abbrev pub placed : Option (List (List ℕ × ℕ)) → List ℕ → Option ℕ
 placed None n = None
 placed (Some places) n = lookup (bytes_eq n) places
 
+-- the place under a name in the package at this index, or none without such a package
 abbrev pub placed_at : List (List (List ℕ × ℕ)) → Option ℕ → List ℕ → Option ℕ
 placed_at names None n = None
 placed_at names (Some k) n = placed (slice_get names k) n
 
--- these places are those of the interfaces
+-- `names` has, for each package, the names and places of its interfaces
 pub record IsIndex (ps : List PackageParts) (is : List Interface) (names : List (List (List ℕ × ℕ))) : Type 0 where
   pub count : length names ≡ length ps
   pub each : (q : PackageParts) (n : List ℕ) → placed_at names (position (is_same_package q) ps) n ≡ position (is_interface_named ps q n) is

@@ -7,11 +7,11 @@ use Rattle.tables.specs.Package.{ItemMeaning}
 use Rattle.tables.specs.declared.tables.Direction.TheVariants as direction
 use Rattle.tables.specs.declared.error.ResolveError.{ResolveError}
 
--- the names of these items of a world were met, each for the first time on its side
+-- these are the names of a world's imports, and of its exports, in lower case, each once on its side
 pub record AreMetOnSides (items : List ItemMeaning) (sides : Sides) : Type 0 where
   pub imports : AreMet (flat_map (name_in direction.Import) items) sides.imports
   pub exports : AreMet (flat_map (name_in direction.Export) items) sides.exports
 
--- a name of a side of these items stands there before
+-- the refusal of a name that is twice among a world's imports, or twice among its exports (40), or out of memory (46)
 abbrev pub RefusesSides : List ItemMeaning → ResolveError → Type 0
 RefusesSides items e = RefusesNames (flat_map (name_in direction.Import) items) e ⊎ RefusesNames (flat_map (name_in direction.Export) items) e
