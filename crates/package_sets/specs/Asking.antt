@@ -10,6 +10,7 @@ use Rattle.tables.specs.declared.tables.Resolve.{Resolve}
 abbrev pub AsksForOne : Resolve → Resolve → List (List (List ℕ)) → Interface → Type 0
 AsksForOne set closed asked i = (p q : PackageParts) (k : ℕ) → slice_get closed.packages i.«package».0 ≡ Some p → slice_get set.packages k ≡ Some q → is_same_package p q ≡ true → is_asked asked k i.name ≡ true
 
+-- `asked`, a list of names for each package of the set, has the names of these interfaces of a closed table
 pub record AsksFor (set closed : Resolve) (is : List Interface) (asked : List (List (List ℕ))) : Type 0 where
   pub count : length asked ≡ length set.packages
   pub each : All (AsksForOne set closed asked) is

@@ -17,44 +17,49 @@ pub record IsOwnBehind (set closed : Resolve) (places : List ℕ) (r : Resolve) 
 
 -- ---- what is refused: 49 first, then 48, 47 and 44
 
+-- the set has at most 63 packages, so that one more can be added
 abbrev pub HasRoom : Resolve → Type 0
 HasRoom set = length set.packages ≤ 63
 
+-- the set has a package of this full name
 abbrev pub has_package : Resolve → PackageParts → Bool
 has_package set p = list_any (is_same_package p) set.packages
 
+-- the own package of a closed table, its last, has this full name
 abbrev pub IsOwn : Resolve → PackageParts → Type 0
 IsOwn closed p = slice_get closed.packages (own_package closed.packages) ≡ Some p
 
+-- the set has no package of the own package's name
 abbrev pub IsNew : Resolve → Resolve → Type 0
 IsNew set closed = (p : PackageParts) → IsOwn closed p → has_package set p ≡ false
 
--- 48: the set has a package of the own one's name
+-- the set has a package of the own package's name (48 same package)
 pub record HasSame (set closed : Resolve) (p : PackageParts) : Type 0 where
   pub own : IsOwn closed p
   pub stands : has_package set p ≡ true
 
--- the packages that are imported from
+-- the packages of a closed table that it imports from: all but its own, the last
 abbrev pub others : Resolve → List PackageParts
 others closed = take (own_package closed.packages) closed.packages
 
+-- the set has packages of all these names
 abbrev pub HasAll : Resolve → List PackageParts → Type 0
 HasAll set ps = (k : ℕ) (q : PackageParts) → slice_get ps k ≡ Some q → has_package set q ≡ true
 
--- 47: the first of these packages that the set doesn't have
+-- this is the first of these packages that the set does not have (47 no package)
 pub record LacksFirst (set : Resolve) (ps : List PackageParts) (p : PackageParts) : Type 0 where
   pub place : ℕ
   pub stands : slice_get ps place ≡ Some p
   pub lacks : has_package set p ≡ false
   pub have : (k : ℕ) (q : PackageParts) → k < place → slice_get ps k ≡ Some q → has_package set q ≡ true
 
--- the closed table is a package's, and its imports are the set's
+-- the closed table has an own package, and its imports are interfaces of the set
 pub record Fits (set closed : Resolve) : Type 0 where
   pub own : PackageParts
   pub own_is : IsOwn closed own
   pub imports : HasImports set closed
 
--- when each refusal comes; 46 can come at any time, but not before 49
+-- a closed table is not added to the set for this reason; 46 out of memory may come at any time, but not before 49
 abbrev pub IsRefused : Resolve → Resolve → AttachError → Type 0
 IsRefused set closed error.SetLimit = ¬ HasRoom set
 IsRefused set closed (error.SamePackage p) = HasRoom set × HasSame set closed p

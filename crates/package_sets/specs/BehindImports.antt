@@ -7,13 +7,13 @@ use Rattle.package_sets.specs.Joining.{imports}
 use Rattle.package_sets.specs.NamedIn.{AreNamedIn}
 use Rattle.tables.specs.declared.tables.Resolve.{Resolve}
 
--- Before its own part stands just this table.
+-- a closed table has just this table before its own part: its other packages, their interfaces and rows
 pub record HasImportTable (closed table : Resolve) : Type 0 where
   pub packages : others closed ≡ table.packages
   pub interfaces : imports closed ≡ table.interfaces
   pub rows : take (length table.definitions) closed.definitions ≡ table.definitions
 
--- .. the set's table of what the own part names, with what that reaches
+-- a closed table has before its own part just the set's table of what that part names, with what this reaches
 pub record IsBehindImports (set closed : Resolve) : Type 0 where
   pub packages : List Bool
   pub interfaces : List Bool

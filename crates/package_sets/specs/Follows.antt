@@ -29,7 +29,7 @@ use Rattle.std.specs.List.{items_where_true}
 
 -- ---- the table of imports
 
--- no name, or one of so many interfaces
+-- a row without an owner, or of one of the first `count` interfaces
 abbrev pub IsOfInterfaces : ℕ → Option Owner → Type 0
 IsOfInterfaces count None = Unit {0}
 IsOfInterfaces count (Some (owner.World w)) = ⊥
@@ -46,13 +46,14 @@ pub record BeginsWith (r closed : Resolve) : Type 0 where
   pub rows_are : closed.definitions ≡ r.definitions ++ rows
   pub of_last : (i : Interface) → Contains interfaces i → i.«package».0 ≡ length r.packages
 
--- what such a table imports is the set's
+-- the packages and interfaces that a closed table imports are in the set
 pub record IsFoundIn (set closed : Resolve) : Type 0 where
   pub have : HasAll set (others closed)
   pub fits : Fits set closed
 
+-- what follows for the table of imports of a set: the packages and interfaces with these marks
 pub record OfImports (set : Resolve) (packages interfaces : List Bool) (r : Resolve) (n : IsImportsOf set packages interfaces r) : Type 0 where
-  -- it is as the set's names tell it
+  -- it is what the set's names say of the marked interfaces
   pub interfaces_are : interface_names r ≡ items_where_true n.kept.marks.interfaces (interface_names set)
   pub definitions_are : definitions r ≡ reached_definitions set n.kept.marks
   pub worlds_are : r.worlds ≡ []
@@ -79,8 +80,9 @@ pub record OfImports (set : Resolve) (packages interfaces : List Bool) (r : Reso
 
 -- ---- the table of one package
 
+-- what follows for the table of package `own` of a set
 pub record OfRestricted (set : Resolve) (own : ℕ) (r : Resolve) (n : IsRestricted set own r) : Type 0 where
-  -- it is as the set's names tell it
+  -- it is what the set's names say of the marked interfaces
   pub interfaces_are : interface_names r ≡ items_where_true n.needed.marks.interfaces (interface_names set)
   pub definitions_are : definitions r ≡ reached_definitions set n.needed.marks
   pub worlds_are : worlds r ≡ items_where_true (map (is_world_of own) set.worlds) (worlds set)
@@ -95,18 +97,20 @@ pub record OfRestricted (set : Resolve) (own : ℕ) (r : Resolve) (n : IsRestric
 
 -- ---- a set with a package more
 
+-- the owner, an interface or a world, is of the own package of a closed table
 abbrev pub is_own_owner : Resolve → Option Owner → Bool
 is_own_owner closed None = false
 is_own_owner closed (Some o) = package_of_owner closed (Some o) == own_package closed.packages
 
--- what the closed table has of its own, as its names tell it
+-- the full names of the interfaces of the closed table's own package
 abbrev pub own_interface_names : Resolve → List (List ℕ)
 own_interface_names closed = map (full_name closed) (own_interfaces closed)
 
+-- the types and functions of the own package of a closed table, by names
 abbrev pub own_definitions : Resolve → List NamedDefinition
 own_definitions closed = definitions_where (is_own_owner closed) (interface_names closed) [] closed.definitions
 
--- what is put behind the set's rows
+-- the set's interfaces, worlds and rows, and then others
 pub record IsBehind (set r : Resolve) : Type 0 where
   pub interfaces : List Interface
   pub worlds : List World
@@ -121,9 +125,10 @@ pub record AreInForm (set closed : Resolve) : Type 0 where
   pub rows : HasRowsInForm closed
   pub closed_is : is_closed closed ≡ true
 
+-- what follows for a set with the package of a closed table more
 pub record OfAttached (set closed r : Resolve) : Type 0 where
   pub behind : IsBehind set r
-  -- it is as the names of both tell it
+  -- it is what the names of the set and of the closed table say
   pub interfaces_are : interface_names r ≡ interface_names set ++ own_interface_names closed
   pub definitions_are : AreInForm set closed → definitions r ≡ definitions set ++ own_definitions closed
   pub worlds_are : AreInForm set closed → worlds r ≡ worlds set ++ worlds closed

@@ -14,7 +14,7 @@ pub record AreNeededBy (set : Resolve) (packages : List Bool) (m : Marks) (neede
   pub others : (k : ℕ) → IsReachedIn set m k → slice_index_or needed k true ≡ true
   pub only : (k : ℕ) → slice_index_or needed k false ≡ true → (slice_index_or packages k false ≡ true) ⊎ IsReachedIn set m k
 
--- what is kept of the set: what the interfaces that are given reach
+-- what an import table keeps of the set: what the given interfaces reach
 pub record IsImported (set : Resolve) (packages interfaces : List Bool) (to : Moved) : Type 0 where
   pub marks : Marks
   pub are_reached : AreReached set (OfInterfaces interfaces) marks

@@ -7,6 +7,7 @@ use Rattle.package_sets.specs.declared.joining.Joined.{Joined}
 use Rattle.tables.specs.PackageNames.{PackageParts}
 use Rattle.tables.specs.declared.tables.Resolve.{Resolve}
 
+-- where a closed table is in a set: its own package, interfaces, worlds and rows; the first `imported` rows are imports
 pub record JoinedPlaces : Type 0 where
   pub «package» : ℕ
   pub interfaces : List ℕ
@@ -14,9 +15,11 @@ pub record JoinedPlaces : Type 0 where
   pub rows : List ℕ
   pub imported : ℕ
 
+-- the places of a closed table in a set, from the vectors that a program keeps
 abbrev pub joined_places : Joined → JoinedPlaces
 joined_places j = record { «package» = j.«package»; interfaces = j.interfaces.items; worlds = j.worlds.items; rows = j.rows.items; imported = j.imported }
 
+-- the places of a closed table in a set, as its new indices there; every row is kept
 abbrev pub renaming_of : JoinedPlaces → Renaming
 renaming_of j = record {
   packages = λ k. j.«package»;
@@ -36,13 +39,13 @@ pub record AreJoined (set closed : Resolve) (j : JoinedPlaces) : Type 0 where
   pub imported_is : j.imported ≡ length (import_rows set closed places)
   pub rows_are : j.rows ≡ all_places (import_rows set closed places) (length set.definitions) (length closed.definitions)
 
--- .. and its imports are as the set has them
+-- the closed table is in the set at these places, and the set has its imports row for row
 pub record IsJoined (set closed : Resolve) (j : JoinedPlaces) : Type 0 where
   pub are_joined : AreJoined set closed j
   pub rows : AreRowsThere set (renaming_of j) (take j.imported closed.definitions)
   pub ids : AreIdsThere set (renaming_of j) (imports closed)
 
--- .. and its package can stand behind the set's
+-- the closed table's imports are in the set at these places, and its package can be added
 pub record FitsBehind (set closed : Resolve) (j : JoinedPlaces) : Type 0 where
   pub room : HasRoom set
   pub new : IsNew set closed

@@ -13,22 +13,26 @@ use Rattle.std.specs.List.{range_with_len}
 
 -- ---- imports
 
--- how many interfaces stand before the first of this package
+-- how many interfaces are before the first of package `own`
 abbrev pub before_own : ℕ → List Interface → ℕ
 before_own own [] = 0
 before_own own (i ∷ is) = if is_interface_of own i then 0 else 1 + before_own own is
 
+-- how many interfaces a closed table has before those of its own package
 abbrev pub import_count : Resolve → ℕ
 import_count closed = before_own (own_package closed.packages) closed.interfaces
 
+-- the interfaces of other packages in a closed table, which come first
 abbrev pub imports : Resolve → List Interface
 imports closed = take (import_count closed) closed.interfaces
 
+-- the interfaces of its own package in a closed table
 abbrev pub own_interfaces : Resolve → List Interface
 own_interfaces closed = drop (import_count closed) closed.interfaces
 
 -- ---- an import in a set
 
+-- there are both packages, and they have the same full name
 abbrev pub are_same_packages : Option PackageParts → Option PackageParts → Bool
 are_same_packages (Some p) (Some q) = is_same_package p q
 are_same_packages _ _ = false
@@ -37,18 +41,19 @@ are_same_packages _ _ = false
 abbrev pub has_name_of : Resolve → Resolve → Interface → Interface → Bool
 has_name_of set closed i x = are_same_packages (slice_get closed.packages i.«package».0) (slice_get set.packages x.«package».0) && bytes_eq i.name x.name
 
--- the first with the property stands at place k
+-- the first element with the property is at place k
 pub record IsFirst {A : Type 0} (has : A → Bool) (xs : List A) (k : ℕ) : Type 0 where
   pub one : A
   pub stands : slice_get xs k ≡ Some one
   pub holds : has one ≡ true
   pub before : (j : ℕ) (x : A) → j < k → slice_get xs j ≡ Some x → has x ≡ false
 
--- each of these interfaces stands in the set at its place
+-- each of these interfaces of the closed table is in the set, at the place in the list; the first of its name counts
 pub record AreFound (set closed : Resolve) (is : List Interface) (places : List ℕ) : Type 0 where
   pub count : length places ≡ length is
   pub each : (k : ℕ) (i : Interface) → slice_get is k ≡ Some i → IsFirst (has_name_of set closed i) set.interfaces (slice_index_or places k 0)
 
+-- the place after an interface's last row, or 0 without interface and of one without rows
 abbrev pub end_in : Option Interface → ℕ
 end_in None = 0
 end_in (Some x) = end_of 0 x
@@ -60,6 +65,7 @@ row_places set start (i ∷ is) [] = []
 row_places set start (i ∷ is) (j ∷ js) =
     range_with_len (end_in (slice_get set.interfaces j) - (end_of start i - start)) (end_of start i - start) ++ row_places set (end_of start i) is js
 
+-- the places in the set of all rows of the closed table's imports
 abbrev pub import_rows : Resolve → Resolve → List ℕ → List ℕ
 import_rows set closed js = row_places set 0 (imports closed) js
 
@@ -67,10 +73,11 @@ import_rows set closed js = row_places set 0 (imports closed) js
 abbrev pub all_places : List ℕ → ℕ → ℕ → List ℕ
 all_places front behind count = front ++ range_with_len behind (count - length front)
 
+-- the new place of what is at place k, or 0 if it has none
 abbrev pub place_in : List ℕ → ℕ → ℕ
 place_in places k = slice_index_or places k 0
 
--- where what the closed table has stands then, if its imports stand at these places
+-- the new places of all that the closed table has, if its imports are at these places of the set
 abbrev pub joined : Resolve → Resolve → List ℕ → Renaming
 joined set closed js = record {
   packages = λ k. length set.packages;
@@ -80,19 +87,21 @@ joined set closed js = record {
   keeps = λ k. true;
 }
 
--- these rows stand in the set, at their places there
+-- these rows of the closed table are in the set, at their new places and with new indices
 abbrev pub AreRowsThere : Resolve → Renaming → List Definition → Type 0
 AreRowsThere set to ds = (k : ℕ) (d : Definition) → slice_get ds k ≡ Some d → slice_get set.definitions (to.rows k) ≡ Some (put_row to d)
 
+-- x has the uses, types and functions of i, by their places in the set
 pub record HasIds (to : Renaming) (i x : Interface) : Type 0 where
   pub uses : x.uses ≡ put_types to i.uses
   pub types : x.types ≡ put_types to i.types
   pub functions : x.functions ≡ put_functions to i.functions
 
--- the interface at this place of the set has the ids of this one
+-- the interface at this place of the set has the used names, types and functions of this one, at their new places
 abbrev pub HasIdsAt : Resolve → Renaming → Interface → ℕ → Type 0
 HasIdsAt set to i place = (x : Interface) × (slice_get set.interfaces place ≡ Some x) × HasIds to i x
 
+-- each of these interfaces is in the set with its uses, types and functions, at its place
 abbrev pub AreIdsThere : Resolve → Renaming → List Interface → Type 0
 AreIdsThere set to is = (k : ℕ) (i : Interface) → slice_get is k ≡ Some i → HasIdsAt set to i (to.interfaces k)
 

@@ -22,11 +22,11 @@ pub record AreMarksOf (names : PackageParts → List ℕ → Type 0) (set : Reso
 
 -- ---- what a closed table names
 
--- the rows behind those of the imports
+-- the rows of a closed table's own part, which come after those of its imports
 abbrev pub own_rows : Resolve → List Definition
 own_rows closed = drop (interfaces_end 0 (imports closed)) closed.definitions
 
--- the places of the interfaces that these and the worlds reach
+-- the interfaces that the own rows and the worlds of a closed table name
 abbrev pub own_reached : Resolve → List ℕ
 own_reached closed = flat_map (reached_by_row closed.definitions) (own_rows closed) ++ flat_map reached_by_world closed.worlds
 
@@ -42,6 +42,6 @@ pub record IsImportAt (closed : Resolve) (q : PackageParts) (i : List ℕ) (k : 
 abbrev pub NamesIn : Resolve → PackageParts → List ℕ → Type 0
 NamesIn closed q i = (k : ℕ) × Contains (own_reached closed) k × IsImportAt closed q i k
 
--- marks of what it names
+-- these marks are those of the packages and interfaces of the set that the closed table names
 abbrev pub AreNamedIn : Resolve → Resolve → List Bool → List Bool → Type 0
 AreNamedIn closed set packages interfaces = AreMarksOf (NamesIn closed) set packages interfaces

@@ -9,7 +9,7 @@ use Rattle.package_sets.specs.Tower.{IsInTower}
 use Rattle.tables.specs.Same.{IsSamePackage}
 use Rattle.tables.specs.declared.tables.Resolve.{Resolve}
 
--- with a closed table behind it a set is one table, in which the package has one place
+-- a set with a closed table's package more is one table only, and the package has one index in it
 abbrev pub AttachesOne : Resolve → Resolve → Type 0
 AttachesOne set closed = (r s : Resolve) (i j : ℕ) → IsAttached set closed r i → IsAttached set closed s j → IsSamePackage r s × (i ≡ j)
 
@@ -22,5 +22,6 @@ pub record StandsAlone (set closed : Resolve) : Type 0 where
   pub attached : IsAttached set closed closed 0
   pub behind : IsBehindImports set closed
 
+-- in a set of no packages, a closed table without imports is the set of its package
 abbrev pub AttachesAlone : Resolve → Resolve → Type 0
 AttachesAlone set closed = ∥ IsInTower set ∥₁ → length set.packages ≡ 0 → ∥ IsInPackageForm closed ∥₁ → IsAlone closed → StandsAlone set closed

@@ -14,6 +14,7 @@ use Rattle.tables.specs.declared.tables.World.{World}
 use Rattle.tables.specs.declared.tables.Resolve.{Resolve}
 use Rattle.std.specs.List.{items_where_true}
 
+-- world k as an owner of rows
 abbrev pub of_world : ℕ → Option Owner
 of_world k = Some (owner.World (record { 0 = k }))
 
@@ -33,7 +34,7 @@ pub record IsPart (set : Resolve) (to : Moved) : Type 0 where
   pub interfaces_needed : (k : ℕ) (i : Interface) → slice_index_or to.interfaces k false ≡ true → slice_get set.interfaces k ≡ Some i → slice_index_or to.packages i.«package».0 false ≡ true
   pub worlds_needed : (k : ℕ) (w : World) → slice_index_or to.worlds k false ≡ true → slice_get set.worlds k ≡ Some w → slice_index_or to.packages w.«package».0 false ≡ true
 
--- the table of it
+-- the table of the part of the set that is kept, with new indices
 pub record IsTableOf (set : Resolve) (to : Moved) (r : Resolve) : Type 0 where
   pub packages : r.packages ≡ items_where_true to.packages set.packages
   pub interfaces : r.interfaces ≡ map (put_interface (renaming to)) (items_where_true to.interfaces set.interfaces)

@@ -20,13 +20,15 @@ definitions_where has interfaces trees [] = []
 definitions_where has interfaces trees (d ∷ ds) =
     (if has (owner_of d) then definition_of interfaces trees d else []) ++ definitions_where has interfaces (trees ++ reference interfaces trees d ∷ []) ds
 
+-- the types and functions of the marked interfaces, in table order, by names
 abbrev pub reached_definitions : Resolve → Marks → List NamedDefinition
 reached_definitions set m = definitions_where (is_marked m) (interface_names set) [] set.definitions
 
+-- an interface of package k is marked
 abbrev pub IsReachedIn : Resolve → Marks → ℕ → Type 0
 IsReachedIn set m k = (i : ℕ) × (x : Interface) × (slice_get set.interfaces i ≡ Some x) × (slice_index_or m.interfaces i true ≡ true) × (x.«package».0 ≡ k)
 
--- the packages of the interfaces that are reached are marked besides
+-- the new marks are the old ones, and those of the packages of reached interfaces
 pub record AddsNeeded (set : Resolve) (m : Marks) (old new : List Bool) : Type 0 where
   pub count : length new ≡ length old
   pub keeps : (k : ℕ) → slice_index_or old k false ≡ true → slice_index_or new k false ≡ true
@@ -42,6 +44,7 @@ pub record AreNeeded (set : Resolve) (own : ℕ) (m : Marks) (needed : List Bool
 
 -- ---- packages in order
 
+-- this number, or 0 if there is none
 abbrev pub number_or : Option ℕ → ℕ
 number_or None = 0
 number_or (Some n) = n
@@ -58,7 +61,7 @@ pub record NamesEarlierPackages (set : Resolve) : Type 0 where
       → package_of_owner set o ≤ package_of_owner set (slice_index_or (owners set.definitions) k None)
   pub items : (w : World) (o : Option Owner) → Contains set.worlds w → Contains (flat_map owners_in w.items) o → package_of_owner set o ≤ w.«package».0
 
--- what is kept of the set: what the package reaches
+-- what the table of package `own` keeps of the set: what the package reaches
 pub record IsNeeded (set : Resolve) (own : ℕ) (to : Moved) : Type 0 where
   pub marks : Marks
   pub are_reached : AreReached set (OfPackage own) marks

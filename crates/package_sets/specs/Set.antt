@@ -19,7 +19,7 @@ pub record AreRowsOf (rows : List Definition) (start k : ℕ) (i : Interface) : 
   pub ids : has_ids rows start i ≡ true
   pub local : list_all (is_local rows k) (rows_of rows start i) ≡ true
 
--- .. a world's
+-- the rows from start on are a world's, the world at place k
 pub record AreRowsOfWorld (rows : List Definition) (start k : ℕ) (w : World) : Type 0 where
   pub begins : start ≤ world_end start w
   pub ends : world_end start w ≤ length rows
@@ -35,6 +35,7 @@ pub data ArePackageByPackage (rows : List Definition) : ℕ → ℕ → List Int
   a_world : (start k : ℕ) (is : List Interface) (j : ℕ) (w : World) (ws : List World) → AreRowsOfWorld rows start j w → list_all (λ i. nat_lt w.«package».0 i.«package».0) is ≡ true
       → ArePackageByPackage rows (world_end start w) k is (j + 1) ws → ArePackageByPackage rows start k is j (w ∷ ws)
 
+-- all rows are those of the interfaces and worlds, package by package
 abbrev pub IsPackageByPackage : Resolve → Type 0
 IsPackageByPackage r = ArePackageByPackage r.definitions 0 0 r.interfaces 0 r.worlds
 
@@ -43,7 +44,7 @@ abbrev pub AreWorldsApart : Resolve → Type 0
 AreWorldsApart r = (k : ℕ) (d : Definition) (w : WorldId) → slice_get r.definitions k ≡ Some d → Contains (named_owners (owners r.definitions) d) (Some (owner.World w))
     → slice_index_or (owners r.definitions) k None ≡ Some (owner.World w)
 
--- the rows of a set
+-- the rows of the table are package by package, and the rows of a world are named by rows of that world alone
 pub record IsSet (r : Resolve) : Type 0 where
   pub stands : IsPackageByPackage r
   pub apart : AreWorldsApart r

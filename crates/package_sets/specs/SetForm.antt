@@ -24,7 +24,7 @@ pub record IsInSetForm (r : Resolve) : Type 0 where
   pub earlier : NamesEarlierPackages r
   pub scopes : HasDistinctScopes r
 
--- a table that has nothing
+-- a table without packages, interfaces, worlds and rows
 pub record IsEmpty (r : Resolve) : Type 0 where
   pub packages : r.packages ≡ []
   pub interfaces : r.interfaces ≡ []

@@ -21,14 +21,15 @@ abbrev pub kept_entries : Resolve → List Bool → List Bool → List Bool → 
 kept_entries set interfaces worlds rows =
     1 + length (items_where_true interfaces set.interfaces) + (sum (map world_entries (items_where_true worlds set.worlds)) + sum (map entries_of (items_where_true rows set.definitions)))
 
--- .. of what the package at this place reaches, by its marks
+-- the type entries of what package `id` has and reaches, which has these marks
 abbrev pub package_entries : Resolve → ℕ → Marks → ℕ
 package_entries set id m = kept_entries set m.interfaces (map (is_world_of id) set.worlds) (map (is_marked m) (owners set.definitions))
 
--- the package has an interface or a world
+-- package `id` of the set has an interface or a world
 abbrev pub has_entry : Resolve → ℕ → Bool
 has_entry set id = list_any (is_interface_of id) set.interfaces || list_any (is_world_of id) set.worlds
 
+-- package `id` with what it reaches has at most 65535 type entries
 abbrev pub IsFew : Resolve → ℕ → Type 0
 IsFew set id = (m : Marks) → AreReached set (OfPackage id) m → package_entries set id m ≤ 65535
 
@@ -50,9 +51,10 @@ pub record StaysInTower (set closed r : Resolve) : Type 0 where
   pub again : IsBehindImports set closed → (table : Resolve) → IsRestricted r (length set.packages) table → IsSamePackage table closed
   pub earlier : (id : ℕ) → id < length set.packages → (table then : Resolve) → IsRestricted r id table → IsRestricted set id then → IsSamePackage table then
 
+-- a set in the tower stays in it with the package of this closed table, if that is in form and its names differ
 abbrev pub KeepsTower : Resolve → Resolve → Type 0
 KeepsTower set closed = IsInTower set → IsInPackageForm closed → All AreDistinct (package_scopes closed) → (r : Resolve) (id : ℕ) → IsAttached set closed r id → StaysInTower set closed r
 
--- a set of none is in the tower
+-- the set of no packages is in the tower
 abbrev pub IsSetOfNone : Resolve → Type 0
 IsSetOfNone r = IsEmpty r → IsInTower r
