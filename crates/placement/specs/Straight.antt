@@ -7,7 +7,7 @@ abbrev pub looks_back : ℕ → List (List ℕ) → Bool
 looks_back n [] = true
 looks_back n (used ∷ uses) = list_all (λ u. nat_lt u n) used && looks_back (n + 1) uses
 
--- the numbers below n
+-- the numbers below n, in order
 abbrev pub upto : ℕ → List ℕ
 upto zero = []
 upto (suc n) = upto n ++ n ∷ []

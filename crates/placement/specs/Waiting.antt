@@ -2,6 +2,7 @@
 use Rattle.std.specs.Prelude.{ℕ, ◌<◌, ◌≡◌, ◌⊎◌, Bool, true, false, List, [], length, slice_index_or, set, replicate, All, Contains}
 use Rattle.placement.specs.Order.{is_ready, IsNext}
 
+-- the state of placing: which nodes are placed, which are ready, and which wait for another
 pub record Waits : Type 0 where
   -- what each node uses
   pub uses : List (List ℕ)
@@ -12,23 +13,27 @@ pub record Waits : Type 0 where
   pub waiting : List (List ℕ)
   pub ready : List ℕ
 
+-- node i is placed; one that is not there is not
 abbrev pub is_settled : Waits → ℕ → Bool
 is_settled w i = slice_index_or w.placed i false
 
+-- the nodes that node i uses, or none if it is not there
 abbrev pub uses_of : Waits → ℕ → List ℕ
 uses_of w i = slice_index_or w.uses i []
 
+-- the nodes that wait for node u, or none if it is not there
 abbrev pub waiting_for : Waits → ℕ → List ℕ
 waiting_for w u = slice_index_or w.waiting u []
 
+-- i is a node that is not placed
 abbrev pub IsFree : Waits → ℕ → Type 0
 IsFree w i = (i < length w.uses) × (is_settled w i ≡ false)
 
--- i waits for one that it uses and that isn't placed
+-- node i waits for a node that it uses and that is not placed
 abbrev pub IsWaiting : Waits → ℕ → Type 0
 IsWaiting w i = (u : ℕ) × Contains (uses_of w i) u × (is_settled w u ≡ false) × Contains (waiting_for w u) i
 
--- all nodes stand where they belong, but for these
+-- each node that is not placed is ready, is one of `pending`, or waits for one that it uses
 pub record IsSettled (w : Waits) (pending : List ℕ) : Type 0 where
   pub placed_count : length w.placed ≡ length w.uses
   pub met_count : length w.met ≡ length w.uses
@@ -58,6 +63,6 @@ pub record IsStarted (uses : List (List ℕ)) (w : Waits) : Type 0 where
   pub none_placed : w.placed ≡ replicate (length uses) false
   pub settled : IsSettled w []
 
--- no node is ready
+-- no node is ready to be placed
 abbrev pub IsStuck : Waits → Type 0
 IsStuck w = (i : ℕ) → i < length w.uses → is_ready w.uses (is_settled w) i ≡ false
