@@ -22,13 +22,13 @@ prim_cap (unsigned w) = 255
 prim_cap (signed w) = 255
 prim_cap scalar_value = 255
 
--- a number: each of its bytes crosses as it is, and any bits stand for one
+-- an integer: each of its bytes crosses as it is, and any bits are a value of it
 abbrev pub IsNumber : Prim → Type 0
 IsNumber (unsigned w) = Unit {0}
 IsNumber (signed w) = Unit {0}
 IsNumber _ = ⊥
 
--- the first n bytes under this cap
+-- the cap of byte i if the first n bytes have this cap, and all others 0
 abbrev pub caps : ℕ → ℕ → ℕ → ℕ
 caps n cap i = cond (nat_lt i n) cap 0
 
@@ -44,14 +44,14 @@ abbrev mutual
       (cond (nat_lt i (payload_place cs)) 0 (case_cap cs m (a + payload_place cs) (case_number cs m a) (i - payload_place cs)))
   cap_at (flags_type n) m a i = caps (flags_size n) 255 i
 
-  -- the same of the fields of a record at a, from the end of the field before them on
+  -- the cap of byte i of the record at a, by the fields from offset `from` on; 0 if it is padding
   pub fields_cap : Fields → List ℕ → ℕ → ℕ → ℕ → ℕ
   fields_cap no_field m a from i = 0
   fields_cap (field t fs) m a from i =
       let place = next_multiple_of from (align t) in
       cond (nat_lt i place) 0 (cond (nat_lt i (place + size t)) (cap_at t m (a + place) (i - place)) (fields_cap fs m a (place + size t) i))
 
-  -- the same of the payload at b of case n of these
+  -- the cap of byte i of the payload at b of case n of these; 0 if that case has no such byte
   pub case_cap : Cases → List ℕ → ℕ → ℕ → ℕ → ℕ
   case_cap no_case m b n i = 0
   case_cap (plain_case cs) m b zero i = 0
@@ -69,15 +69,18 @@ abbrev mutual
   IsBytewise (variant_type cs) = AreBytewiseCases cs
   IsBytewise (flags_type n) = Unit {0}
 
+  -- values of all these fields cross byte by byte
   pub AreBytewise : Fields → Type 0
   AreBytewise no_field = Unit {0}
   AreBytewise (field t fs) = IsBytewise t × AreBytewise fs
 
+  -- values of all these payloads cross byte by byte
   pub AreBytewiseCases : Cases → Type 0
   AreBytewiseCases no_case = Unit {0}
   AreBytewiseCases (plain_case cs) = AreBytewiseCases cs
   AreBytewiseCases (case_with t cs) = IsBytewise t × AreBytewiseCases cs
 
+-- the number passes the test of the primitive: of a char, that it is the code of a character; others have no test
 abbrev pub PrimTested : Prim → ℕ → Type 0
 PrimTested scalar_value n = is_scalar n ≡ true
 PrimTested _ n = Unit {0}
@@ -91,12 +94,13 @@ abbrev mutual
   IsTested (flags_type n) m a = (n ≡ 8 * flags_size n) ⊎ (number_at m a (byte_width (flags_size n)) < 2 ^ n)
   IsTested _ m a = Unit {0}
 
+  -- the fields of the record at a pass, from the end of the field before them on
   pub AreTested : Fields → List ℕ → ℕ → ℕ → Type 0
   AreTested no_field m a from = Unit {0}
   AreTested (field t fs) m a from =
       let place = next_multiple_of from (align t) in IsTested t m (a + place) × AreTested fs m a (place + size t)
 
-  -- there is a case n, and its payload at b passes
+  -- there is a case n of these, and its payload at b passes the tests
   pub IsTestedCase : Cases → List ℕ → ℕ → ℕ → Type 0
   IsTestedCase no_case m b n = ⊥
   IsTestedCase (plain_case cs) m b zero = Unit {0}
@@ -111,10 +115,12 @@ abbrev mutual
   nodes_at (variant_type cs) m a = suc (nodes_of_case cs m (a + payload_place cs) (case_number cs m a))
   nodes_at _ m a = 1
 
+  -- how many nodes the fields of the record at a have, from the end of the field before them on
   pub nodes_in : Fields → List ℕ → ℕ → ℕ → ℕ
   nodes_in no_field m a from = 0
   nodes_in (field t fs) m a from = let place = next_multiple_of from (align t) in nodes_at t m (a + place) + nodes_in fs m a (place + size t)
 
+  -- how many nodes the payload at b of case n of these has, and 0 without payload
   pub nodes_of_case : Cases → List ℕ → ℕ → ℕ → ℕ
   nodes_of_case no_case m b n = 0
   nodes_of_case (plain_case cs) m b zero = 0

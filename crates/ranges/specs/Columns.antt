@@ -16,7 +16,7 @@ case_in c m a = get_or m (a + c.at) 0
 abbrev pub laid : Column → ℕ → ℕ → ℕ → ℕ
 laid c n i cap = cond (nat_lt i c.at) cap (cond (nat_lt i (c.at + c.rows.size)) (get_or c.rows.caps (n * 16 + (i - c.at)) 0) cap)
 
--- the same after the rows of all columns, by the cases of the element at a in m
+-- the cap of byte i after the rows of all columns are laid over it, by the cases of the element at a in m
 abbrev pub overlaid : List Column → List ℕ → ℕ → ℕ → ℕ → ℕ
 overlaid [] m a i cap = cap
 overlaid (c ∷ cs) m a i cap = overlaid cs m a i (laid c (case_in c m a) i cap)
@@ -45,6 +45,7 @@ AreBefore end (c ∷ cs) = (c.at + c.rows.size ≤ end) × (0 < c.rows.size) × 
 abbrev pub planned_cap : Plan → List ℕ → ℕ → ℕ → ℕ
 planned_cap p m a i = overlaid p.columns.items m a i (get_or p.plain.bytes i 0)
 
+-- how many nodes the element at a in m has, its variants' among them
 abbrev pub planned_nodes : Plan → List ℕ → ℕ → ℕ
 planned_nodes p m a = p.plain.nodes + column_nodes p.columns.items m a
 

@@ -4,7 +4,7 @@ use Rattle.canonical_abi.specs.Types.{ClosedType, Cases, case_count, nth_case}
 use Rattle.canonical_abi.specs.Layout.{discriminant_size, payload_place}
 use Rattle.ranges.specs.Bytewise.{IsBytewise, IsTested, IsTestedCase, cap_at, case_cap, nodes_at, nodes_of_case}
 
--- nothing stands there from a place on
+-- all caps are 0 from this place on
 abbrev pub IsBlank : List ℕ → ℕ → Type 0
 IsBlank bytes at = (i : ℕ) → at ≤ i → get_or bytes i 0 ≡ 0
 
