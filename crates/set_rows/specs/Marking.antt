@@ -6,22 +6,24 @@ use Rattle.tables.specs.declared.tables.Owner.{Owner}
 use Rattle.tables.specs.declared.tables.Definition.{Definition}
 use Rattle.tables.specs.declared.tables.Resolve.{Resolve}
 
+-- how many of these are without a mark
 abbrev pub unmarked_in : List Bool → ℕ
 unmarked_in [] = 0
 unmarked_in (true ∷ bs) = unmarked_in bs
 unmarked_in (false ∷ bs) = 1 + unmarked_in bs
 
+-- how many interfaces and worlds are without a mark
 abbrev pub unmarked : Marks → ℕ
 unmarked m = unmarked_in m.interfaces + unmarked_in m.worlds
 
--- these owners are marked besides
+-- the new marks are the old ones, and those of these owners
 pub record AddsMarks (added : List (Option Owner)) (old new : Marks) : Type 0 where
   pub count : length new.interfaces ≡ length old.interfaces
   pub keeps : (o : Option Owner) → is_marked old o ≡ true → is_marked new o ≡ true
   pub only : (o : Option Owner) → is_marked new o ≡ true → (is_marked old o ≡ true) ⊎ Contains added o
   pub all : (o : Option Owner) → Contains added o → is_marked new o ≡ true
 
--- whether there is a new mark
+-- `grew` says whether the new marks are more than the old
 pub record TellsGrowth (old new : Marks) (grew : Bool) : Type 0 where
   pub fewer : grew ≡ true → unmarked new < unmarked old
   pub same : grew ≡ false → new ≡ old
@@ -34,6 +36,7 @@ pub record AddsRow (os : List (Option Owner)) (own : Option Owner) (d : Definiti
   pub all : is_marked old own ≡ true → (o : Option Owner) → Contains (named_owners os d) o → is_marked new o ≡ true
   pub tells : TellsGrowth old new grew
 
+-- only what is reached from the start is marked
 abbrev pub AreSound : Resolve → Start → Marks → Type 0
 AreSound set from m = (o : Option Owner) → is_marked m o ≡ true → Reaches set from o
 

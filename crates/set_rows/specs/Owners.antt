@@ -9,16 +9,17 @@ use Rattle.tables.specs.declared.tables.Owner.TheVariants as owner
 use Rattle.tables.specs.declared.tables.Definition.{Definition}
 use Rattle.tables.specs.declared.tables.Definition.TheVariants as row
 
--- a row with a name says whose it is
+-- the interface or world that a row with a name is of, or none of a row without
 abbrev pub owner_of : Definition → Option Owner
 owner_of (row.Type d) = option_map (λ n. owner.Interface n.interface) d.name
 owner_of (row.Function f) = Some f.owner
 
+-- the owner of the first of these rows, or none if there is no row
 abbrev pub first_owner : List (Option Owner) → Option Owner
 first_owner [] = None
 first_owner (o ∷ os) = o
 
--- a row without a name is part of the next row with one
+-- whose each row is, in order; a row without a name is of the owner of the next row with one
 abbrev pub owners : List Definition → List (Option Owner)
 owners [] = []
 owners (d ∷ ds) = option_or (owner_of d) (first_owner (owners ds)) ∷ owners ds
@@ -28,5 +29,6 @@ abbrev pub names_or : Option TypeId → List TypeId → List TypeId
 names_or None ts = ts
 names_or (Some t) ts = t ∷ []
 
+-- the rows that a row refers to: of a used name the type that it names, of others what they are made of
 abbrev pub names : Definition → List TypeId
 names d = names_or (used_in d) (row_references d)

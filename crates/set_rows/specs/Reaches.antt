@@ -25,35 +25,38 @@ is_marked m None = true
 is_marked m (Some (owner.Interface i)) = slice_index_or m.interfaces i.0 true
 is_marked m (Some (owner.World w)) = slice_index_or m.worlds w.0 true
 
--- the interfaces and the worlds of a package
+-- the marks of just the interfaces and worlds of package `own`
 abbrev pub own_marks : Resolve → ℕ → Marks
 own_marks set own = record { interfaces = map (is_interface_of own) set.interfaces; worlds = map (is_world_of own) set.worlds }
 
--- the interfaces that the items of its worlds name
+-- the interface that an item of a world imports or exports by name, or none of a function
 abbrev pub item_owners : WorldItemKind → List (Option Owner)
 item_owners (item.Interface i) = Some (owner.Interface i) ∷ []
 item_owners (item.Function f) = []
 
+-- the interface that a world's item imports or exports by name, as a list of one or none
 abbrev pub owners_in : WorldItem → List (Option Owner)
 owners_in i = item_owners i.kind
 
+-- the interfaces that the world's items name, if it is a world of package `own`, or else none
 abbrev pub world_owners : ℕ → World → List (Option Owner)
 world_owners own w = if is_world_of own w then flat_map owners_in w.items else []
 
--- whose the row at this place is
+-- the owner of the row at this place, or none
 abbrev pub owner_at : List (Option Owner) → TypeId → Option Owner
 owner_at os t = slice_index_or os t.0 None
 
--- whose the rows are that a row names
+-- the owners of the rows that a row refers to
 abbrev pub named_owners : List (Option Owner) → Definition → List (Option Owner)
 named_owners os d = map (owner_at os) (names d)
 
--- the interfaces with these marks, and no world; one that has no mark isn't given
+-- so many marks: those given, as far as they go, and false for the others
 abbrev pub padded : ℕ → List Bool → List Bool
 padded zero bs = []
 padded (suc n) [] = false ∷ padded n []
 padded (suc n) (b ∷ bs) = b ∷ padded n bs
 
+-- the marks of the given interfaces and of no world
 abbrev pub given_marks : Resolve → List Bool → Marks
 given_marks set given = record { interfaces = padded (length set.interfaces) given; worlds = padded (length set.worlds) [] }
 
@@ -73,7 +76,7 @@ pub data Reaches (set : Resolve) (from : Start) : Option Owner → Type 0 where
   of_row : (k : ℕ) (d : Definition) (o : Option Owner) → slice_get set.definitions k ≡ Some d
       → Reaches set from (slice_index_or (owners set.definitions) k None) → Contains (named_owners (owners set.definitions) d) o → Reaches set from o
 
--- the marks of just what is reached
+-- these are the marks of just the interfaces and worlds that are reached
 pub record AreReached (set : Resolve) (from : Start) (m : Marks) : Type 0 where
   pub count : length m.interfaces ≡ length set.interfaces
   pub sound : (o : Option Owner) → is_marked m o ≡ true → Reaches set from o

@@ -4,6 +4,7 @@ use Rattle.set_rows.specs.Places.{place}
 use Rattle.set_rows.specs.Moved.{Renaming}
 use Rattle.set_rows.specs.declared.moved.Moved.{Moved}
 
+-- the new index of what is kept: how many of its kind are kept before it
 abbrev pub renaming : Moved → Renaming
 renaming m = record {
   packages = place m.packages;
