@@ -1,6 +1,7 @@
 -- Lines of a text: a line end is the byte 10, and a line is what stands between two of them, or a text's begin or end.
 use Rattle.std.specs.Prelude.{◌≡◌, ◌≢◌, ◌<◌, ◌⊎◌, ◌++◌, ◌∷◌, [], ℕ, List, length, slice_index}
 
+-- no byte of this part of a text is a line end
 abbrev pub HasNoLineEnd : List ℕ → Type 0
 HasNoLineEnd line = (i : ℕ) → i < length line → slice_index line i ≢ 10
 
@@ -20,6 +21,6 @@ EndsInLine text line = HasNoLineEnd line × ((above : List ℕ) × (text ≡ abo
 abbrev pub BeginsInLine : List ℕ → List ℕ → Type 0
 BeginsInLine text line = HasNoLineEnd line × ((below : List ℕ) × (text ≡ line ++ below) × AreLinesBelow below)
 
--- a text ends in one part of a line
+-- a text ends in one line only
 abbrev pub EndInOneLine : Type 0
 EndInOneLine = (text line part : List ℕ) → EndsInLine text line → EndsInLine text part → line ≡ part
