@@ -17,6 +17,7 @@ use Rattle.tables.specs.declared.tables.Definition.{Definition}
 use Rattle.tables.specs.declared.tables.Definition.TheVariants as row
 use Rattle.tables.specs.declared.tables.Resolve.{Resolve}
 
+-- the despecialized primitive of a WIT primitive
 abbrev pub prim_of : Primitive → Prim
 prim_of primitive.Bool = boolean
 prim_of primitive.S8 = signed int8
@@ -29,12 +30,13 @@ prim_of primitive.S64 = signed int64
 prim_of primitive.U64 = unsigned int64
 prim_of primitive.Char = scalar_value
 
--- the closed type, over the closed types of the table's rows
+-- the closed type of a value type, over the closed types of the rows; a row that is not there counts as string
 abbrev pub closed_val : List ClosedType → ValType → ClosedType
 closed_val rows (val.Primitive p) = prim_type (prim_of p)
 closed_val rows val.String = string_type
 closed_val rows (val.Id t) = slice_index_or rows t.0 string_type
 
+-- the closed type of a type of this kind, over the closed types of the rows before it
 abbrev pub closed_kind : List ClosedType → TypeDefKind → ClosedType
 closed_kind rows (kind.Use t) = closed_val rows (val.Id t)
 closed_kind rows (kind.Alias v) = closed_val rows v
@@ -48,15 +50,16 @@ closed_kind rows (kind.Variant cs) = variant_type (cases_of (map (λ c. option_m
 closed_kind rows (kind.Enum names) = variant_type (cases_of (map (λ n. None) names))
 closed_kind rows (kind.Flags names) = flags_type (length names)
 
+-- the closed types of a function's parameters, in order
 abbrev pub closed_params : List ClosedType → List Parameter → List ClosedType
 closed_params rows ps = map (λ p. closed_val rows p.ty) ps
 
--- a function's row is the record of its parameters
+-- the closed type of a row, over those of the rows before it; of a function the record of its parameters
 abbrev pub closed_definition : List ClosedType → Definition → ClosedType
 closed_definition rows (row.Type d) = closed_kind rows d.kind
 closed_definition rows (row.Function f) = record_type (fields_of (closed_params rows f.params))
 
--- the rows' closed types, and then those of these definitions
+-- these closed types, and then those of these rows, each over all before it
 abbrev pub closed_rows : List ClosedType → List Definition → List ClosedType
 closed_rows rows [] = rows
 closed_rows rows (d ∷ ds) = closed_rows (rows ++ closed_definition rows d ∷ []) ds
@@ -69,14 +72,15 @@ closed_types r = closed_rows [] r.definitions
 abbrev pub closed_type : Resolve → ValType → ClosedType
 closed_type r v = closed_val (closed_types r) v
 
--- the function at this place of the table
+-- the function at this place of the table, or none if a type or nothing is there
 abbrev pub function_at : Resolve → FunctionId → Option Function
 function_at r f = function_of (slice_get r.definitions f.0)
 
+-- the id is the place of a function in the table
 abbrev pub IsFunction : Resolve → FunctionId → Type 0
 IsFunction r f = IsTrue (is_function_id r.definitions f)
 
--- the closed types of a function's parameters and of its result
+-- the closed types of a function's parameters and result; none and no result without a function
 abbrev pub type_of_function : List ClosedType → Option Function → FunctionType
 type_of_function rows None = record { params = no_field; result = None }
 type_of_function rows (Some f) = record {
@@ -84,22 +88,26 @@ type_of_function rows (Some f) = record {
   result = option_map (closed_val rows) f.result;
 }
 
+-- the closed types of the parameters and result of the function at this place
 abbrev pub function_type : Resolve → FunctionId → FunctionType
 function_type r f = type_of_function (closed_types r) (function_at r f)
 
--- scalar functions: at most 16 parameters, and each type a primitive
+-- the type is a primitive, which string is not
 abbrev pub is_scalar_type : ValType → Bool
 is_scalar_type (val.Primitive p) = true
 is_scalar_type val.String = false
 is_scalar_type (val.Id t) = false
 
+-- there is no result, or its type is a primitive
 abbrev pub is_scalar_result : Option ValType → Bool
 is_scalar_result None = true
 is_scalar_result (Some v) = is_scalar_type v
 
+-- there is a function, with at most 16 parameters, and each of its types is a primitive
 abbrev pub is_scalar_function : Option Function → Bool
 is_scalar_function None = false
 is_scalar_function (Some f) = nat_le (length f.params) 16 && (list_all (λ p. is_scalar_type p.ty) f.params && is_scalar_result f.result)
 
+-- the function at this place has at most 16 parameters, and each of its types is a primitive
 abbrev pub IsScalarFunction : Resolve → FunctionId → Type 0
 IsScalarFunction r f = IsTrue (is_scalar_function (function_at r f))

@@ -13,12 +13,15 @@ abbrev pub full_name_in : Option PackageParts → List ℕ → List ℕ
 full_name_in None name = name
 full_name_in (Some p) name = own_name p name
 
+-- the full name of an interface of the table, as `namespace:package/name@version`
 abbrev pub full_name : Resolve → Interface → List ℕ
 full_name r i = full_name_in (slice_get r.packages i.«package».0) i.name
 
+-- the full name of a world of the table, as `namespace:package/name@version`
 abbrev pub world_name : Resolve → World → List ℕ
 world_name r w = full_name_in (slice_get r.packages w.«package».0) w.name
 
+-- the name of the function at this place, without its interface or world; none if there is no function
 abbrev pub function_name : Resolve → FunctionId → Option (List ℕ)
 function_name r f = option_map (λ g. g.name) (function_at r f)
 
@@ -26,6 +29,6 @@ function_name r f = option_map (λ g. g.name) (function_at r f)
 abbrev pub IsNamedIn : Resolve → List FunctionId → List ℕ → FunctionId → Type 0
 IsNamedIn r ids name f = Contains ids f × (function_name r f ≡ Some name)
 
--- f stands under this name in an interface of this full name
+-- f is a function of this name in an interface of this full name
 abbrev pub IsNamed : Resolve → List ℕ → List ℕ → FunctionId → Type 0
 IsNamed r iface name f = (i : Interface) × Contains r.interfaces i × (iface ≡ full_name r i) × IsNamedIn r i.functions name f

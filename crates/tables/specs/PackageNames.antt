@@ -2,6 +2,7 @@
 use Rattle.std.specs.Prelude.{ℕ, List, Option}
 use Rattle.atoms.specs.FullName.{NameParts, full_name_text}
 
+-- the full name of a package, as `namespace:name@version`; the version may be absent
 pub record PackageParts : Type 0 where
   pub namespace : List ℕ
   pub name : List ℕ
