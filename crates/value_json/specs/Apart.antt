@@ -13,10 +13,12 @@ abbrev pub HaveLabelsApart : List Field → Type 0
 HaveLabelsApart [] = Unit {0}
 HaveLabelsApart (f ∷ fs) = AllByRecursion (λ g. g.name ≡ f.name → ⊥) fs × HaveLabelsApart fs
 
+-- a type of this kind is no record, or its fields' labels differ
 abbrev pub KindApart : TypeDefKind → Type 0
 KindApart (kind.Record fs) = HaveLabelsApart fs
 KindApart _ = Unit {0}
 
+-- the row is no record, or its fields' labels differ
 abbrev pub RowApart : Definition → Type 0
 RowApart (row.Type d) = KindApart d.kind
 RowApart (row.Function f) = Unit {0}

@@ -17,10 +17,11 @@ PrimJson (unsigned w) v j = (n : ℕ) × (n < 2 ^ bits w) × (v ≡ unsigned_val
 PrimJson (signed w) v j = (z : ℤ) × FitsSigned (width_of w) z × (v ≡ signed_value w z) × (j ≡ json.number (of_integer z))
 PrimJson scalar_value v j = (c : ℕ) × IsScalar c × (v ≡ char_value c) × (j ≡ json.string (encode_utf8 c))
 
+-- the JSON value is no JSON of a value of the primitive type
 abbrev pub HasNoneOfPrim : Prim → Data → Type 0
 HasNoneOfPrim p j = (v : Value) → PrimJson p v j → ⊥
 
--- an object of this one member
+-- the JSON object with this one member
 abbrev pub one_member : Label → Data → Data
 one_member l d = json.object (json.member l d no_members)
 
@@ -56,24 +57,24 @@ abbrev mutual
   Json (labelled_flags ls) v j =
       (n : ℕ) × (js : List Data) × FlagsJson ls n js × (v ≡ flags_value n) × (j ≡ json.array (items_of js))
 
-  -- the members of a tuple, one by one
+  -- the JSON values stand for the members of a tuple, one by one
   pub MembersJson : LabelledTypes → List Value → List Data → Type 0
   MembersJson no_member vs js = (vs ≡ []) × (js ≡ [])
   MembersJson (member t ts) vs js =
       (v : Value) × (rest : List Value) × (d : Data) × (others : List Data)
       × (vs ≡ v ∷ rest) × (js ≡ d ∷ others) × Json t v d × MembersJson ts rest others
 
-  -- a case: its label alone, or an object of its one member
+  -- the JSON value stands for case i: its label alone, or an object of one member, the label with the payload
   pub PayloadJson : Payload → Label → ℕ → Value → Data → Type 0
   PayloadJson no_payload l i v j = (v ≡ plain_value i) × (j ≡ json.string l)
   PayloadJson (payload t) l i v j = (w : Value) × (d : Data) × Json t w d × (v ≡ payload_value i w) × (j ≡ one_member l d)
 
-  -- one of these cases, the first of which is case i
+  -- the JSON value stands for one of these cases, the first of which is case i
   pub CasesJson : LabelledCases → ℕ → Value → Data → Type 0
   CasesJson no_labelled_case i v j = ⊥
   CasesJson (labelled_case l p cs) i v j = PayloadJson p l i v j ⊎ CasesJson cs (suc i) v j
 
-  -- the members of an object: each label once, in the order of their bytes
+  -- the members of an object stand for a record's fields: each label once, in the order of their bytes
   pub FieldsJson : LabelledFields → List Value → Members → Type 0
   FieldsJson no_labelled_field vs ms = (vs ≡ []) × (ms ≡ no_members)
   FieldsJson (labelled_field l t fs) vs ms =
@@ -107,6 +108,7 @@ abbrev pub IsNotAmong : Label → List Label → Type 0
 IsNotAmong l [] = Unit {0}
 IsNotAmong l (m ∷ ms) = (l ≡ m → ⊥) × IsNotAmong l ms
 
+-- no two of these labels are equal
 abbrev pub AreDistinctLabels : List Label → Type 0
 AreDistinctLabels [] = Unit {0}
 AreDistinctLabels (l ∷ ls) = IsNotAmong l ls × AreDistinctLabels ls
@@ -130,18 +132,22 @@ abbrev mutual
   HasDistinctLabels (labelled_enum ls) = AreDistinctLabels ls
   HasDistinctLabels (labelled_flags ls) = AreDistinctLabels ls
 
+  -- the types of a tuple's members have no label twice
   pub MembersHaveDistinctLabels : LabelledTypes → Type 0
   MembersHaveDistinctLabels no_member = Unit {0}
   MembersHaveDistinctLabels (member t ts) = HasDistinctLabels t × MembersHaveDistinctLabels ts
 
+  -- there is no payload, or its type has no label twice
   pub PayloadHasDistinctLabels : Payload → Type 0
   PayloadHasDistinctLabels no_payload = Unit {0}
   PayloadHasDistinctLabels (payload t) = HasDistinctLabels t
 
+  -- the types of a record's fields have no label twice; the fields' own labels are not tested here
   pub FieldsHaveDistinctLabels : LabelledFields → Type 0
   FieldsHaveDistinctLabels no_labelled_field = Unit {0}
   FieldsHaveDistinctLabels (labelled_field l t fs) = HasDistinctLabels t × FieldsHaveDistinctLabels fs
 
+  -- no two cases have one label, and the types of their payloads have no label twice
   pub CasesHaveDistinctLabels : LabelledCases → Type 0
   CasesHaveDistinctLabels no_labelled_case = Unit {0}
   CasesHaveDistinctLabels (labelled_case l p cs) = IsOfNoCase l cs × PayloadHasDistinctLabels p × CasesHaveDistinctLabels cs

@@ -7,7 +7,7 @@ use Rattle.serde_json.specs.Data as json
 use Rattle.serde_json.specs.Data.{Data}
 use Rattle.serde_json.specs.Find.{of_integer}
 
--- the value is of this case
+-- the value is of this case, with a payload or without
 abbrev pub HasCase : Value → ℕ → Type 0
 HasCase v i = (v ≡ plain_value i) ⊎ ((w : Value) × (v ≡ payload_value i w))
 
