@@ -25,6 +25,7 @@ value_step (Val-F.Variant i None) = plain_value i
 value_step (Val-F.Variant i (Some b)) = payload_value i b.value
 value_step (Val-F.Flags n) = flags_value n
 
+-- the value that a program's `Val` is, down to all its children
 abbrev pub value_of : Val → Value
 value_of = fold-Val Value value_step
 
