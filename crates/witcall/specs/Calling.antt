@@ -33,6 +33,7 @@ IsOutputOf r (Some t) (Some v) output = IsLineOf r t v output
 IsOutputOf r None None output = output ≡ []
 IsOutputOf r _ _ output = ⊥
 
+-- what a call of the program begins with: two memories of 64 KiB that may grow to 1 MiB, and the body's state
 abbrev pub program_world : List ℕ → World
 program_world state = record { caller = fresh 65536 1048576; callee = fresh 65536 1048576; body = state }
 
@@ -79,7 +80,7 @@ RunCallRefuses r iface func args runs posts state after refused.Write = (output 
 RunCallRefuses r iface func args runs posts state after e =
     (f : FunctionId) × (vs : List Value) × NamesCall r iface func args f vs × CallRefuses r f vs runs posts state after e
 
--- such a refusal comes before the call: the body was not run
+-- this refusal comes before the call: the body was not run
 abbrev pub IsBeforeCall : Refused → Type 0
 IsBeforeCall refused.NoFunction = Unit {0}
 IsBeforeCall (refused.Json e) = Unit {0}

@@ -31,7 +31,7 @@ module _ (parties : Parties) (caller_releases callee_releases : Release) (r : Re
       → AreHonest parties caller_releases callee_releases → AreLimited parties old → All (IsStep r) steps
       → StaysLive parties caller_releases exact t a v before old (map (step_of r) steps) answers new ran → IsKept t a v old.caller new.caller
 
-  -- so what is then read of it is the value, or the host has no memory
+  -- what is read, after these steps, of a value that stayed live is the value, or the host has no memory
   abbrev pub StepsReadHeld : Type 0
   StepsReadHeld =
       (t : ClosedType) (a : ℕ) (v : Value) (before : List SessionAnswer) (old : World) (steps : List Step) (answers : List SessionAnswer) (new : World)
@@ -48,7 +48,7 @@ module _ (parties : Parties) (caller_releases callee_releases : Release) (r : Re
       → PlacesValue parties.caller_allocates (closed_type r ty) v old.caller (Ok held) placed.caller
       → IsPlaced parties.caller_allocates (closed_type r ty) held.at v old.caller placed.caller
 
-  -- so what was placed is read, or the host has no memory, until a release takes back what it stands in
+  -- a value that was placed is read, or the host has no memory, until a release takes back a block of it
   abbrev pub StepsReadPlaced : Type 0
   StepsReadPlaced =
       (ty : ValType) (v : Value) (held : Held) (before : List SessionAnswer) (old placed : World) (steps : List Step) (answers : List SessionAnswer) (new : World)
@@ -58,7 +58,7 @@ module _ (parties : Parties) (caller_releases callee_releases : Release) (r : Re
       → ReleasesMiss (Reads (closed_type r ty) placed.caller.bytes held.at) (map (step_of r) steps) answers → ReadsStep new.caller (Some held) answer → ReadAnswers v answer
 
 module _ (parties : Parties) (other : Allocation) (caller_releases other_releases callee_releases : Release) (r : Resolve) where
-  -- the same callee and body, called from another caller
+  -- these parties with another caller's allocator
   abbrev pub other_parties : Parties
   other_parties = otherwise parties other caller_releases other_releases callee_releases
 

@@ -25,7 +25,7 @@ use Rattle.witcall.specs.declared.reply.Reply.{Reply}
 abbrev pub RepliesWith : FunctionType → List Value → Memory → List Flat → Memory → Type 0
 RepliesWith f vs old flats new = AreAnswered SpaceAllocates (result_fields f.result) vs old flats new
 
--- its memory refused a block for them
+-- the body's memory refused a block for the values that it answers
 abbrev pub HasNoRoom : FunctionType → List Value → Memory → Memory → Type 0
 HasNoRoom f vs old new = (k : TrapKind) × AnswerFails SpaceAllocates (result_fields f.result) vs old k new
 
@@ -42,11 +42,11 @@ Replies f vs old given None new =
 abbrev pub DenotesNoArguments : Resolve → FunctionId → List ℕ → List Flat → Type 0
 DenotesNoArguments r f m given = ((k : TrapKind) × DenotesFault max_flat_params (function_type r f).params m given k) ⊎ (IsScalarFunction r f → ⊥)
 
--- it stops before it did anything, since the host has no memory for the arguments; a scalar function's take none
+-- the body stops before it did anything: the host has no memory for the arguments; a scalar function's need none
 abbrev pub WantsMemory : Resolve → FunctionId → Memory → Option (List Flat) → Memory → Type 0
 WantsMemory r f old answer new = (IsScalarFunction r f → ⊥) × (answer ≡ None) × (new ≡ old)
 
--- it is a body of the function of these names, and its value is what the text says
+-- the reply is a body of the function of these names, and its value is what the text says
 pub record IsReplyOf (r : Resolve) (iface func text : List ℕ) (reply : Reply) : Type 0 where
   pub own : IsSamePackage reply.«package».resolve r
   pub named : IsNamed r iface func reply.func

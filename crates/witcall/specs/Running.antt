@@ -28,7 +28,7 @@ pub record ReadsInput (earlier : List (List ℕ)) (known : Option (List ℕ)) (r
   pub read : ReadsUpTo 1048576 known bytes
   pub opened : IsOpened (earlier ++ bytes ∷ []) r
 
--- .. and the job makes this
+-- the bytes of a reader are opened after these packages, and the job makes this output of the set
 abbrev pub MakesOutput : List (List ℕ) → Option (List ℕ) → Job → List ℕ → Type 0
 MakesOutput earlier known job output = (r : Resolve) × ReadsInput earlier known r × IsOutputOfJob job r output
 
@@ -43,7 +43,7 @@ MakingRefuses job r (refused.Text e) = (job ≡ Text) × ((e ≡ text.NoMemory) 
 MakingRefuses job r refused.NoMemory = (job ≡ Show) ⊎ (job ≡ Layout)
 MakingRefuses job r _ = ⊥
 
--- .. that is opened behind these
+-- the bytes of a reader are opened after these packages, and the job makes nothing of the set, for this reason
 abbrev pub MakesNothing : List (List ℕ) → Option (List ℕ) → Job → Refused → Type 0
 MakesNothing earlier known job e = (r : Resolve) × ReadsInput earlier known r × MakingRefuses job r e
 
@@ -58,5 +58,6 @@ RunRefuses earlier known job _ = ⊥
 
 -- ---- earlier packages
 
+-- the bytes of all inputs, in order
 abbrev pub all_items : List (Vec ℕ) → List (List ℕ)
 all_items inputs = map (λ v. v.items) inputs

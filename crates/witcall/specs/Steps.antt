@@ -23,20 +23,24 @@ use Rattle.witcall.specs.declared.steps.Step.TheVariants as step
 abbrev pub held_of : Resolve → Held → HeldValue
 held_of r held = record { ty = closed_type r held.ty; at = held.at }
 
+-- what placing a value answers, with the closed type of the value
 abbrev pub placed_answer : Resolve → Result Held Fault → Result HeldValue Fault
 placed_answer r (Ok held) = Ok (held_of r held)
 placed_answer r (Err fault) = Err fault
 
+-- what reading a value answers, with the value that a `Val` is
 abbrev pub read_answer : Result Val Fault → Result Value Fault
 read_answer (Ok v) = Ok (value_of v)
 read_answer (Err fault) = Err fault
 
+-- a step with closed types and values in place of ids and `Val`s
 abbrev pub step_of : Resolve → Step → SessionStep
 step_of r (step.Call f arguments) = call (function_type r f) (map value_of arguments.items)
 step_of r (step.Place ty v) = place (closed_type r ty) (value_of v)
 step_of r (step.Read k) = read k
 step_of r (step.Release at size) = release at size
 
+-- an answer with closed types and values in place of ids and `Val`s
 abbrev pub answer_of : Resolve → Answer → SessionAnswer
 answer_of r (answer.Called result) = called (typed_answer result)
 answer_of r (answer.Placed result) = placed (placed_answer r result)
