@@ -9,11 +9,11 @@ use Rattle.host_calls.specs.Values.{flat_of}
 use Rattle.host_calls.specs.declared.value.Value.{Value}
 use Rattle.witcall_c.specs.declared.call.Call.{Call}
 
--- the core values that it keeps
+-- the core values that a call keeps between its halves
 abbrev pub flats_of : Call → List Value
 flats_of call = take call.count call.flats
 
--- it keeps these core values, of the function of this number
+-- the call keeps these core values, of the function of this number
 abbrev pub KeepsValues : ℕ → List Value → Call → Type 0
 KeepsValues func flats call = (call.func ≡ func) × (flats_of call ≡ flats)
 

@@ -20,6 +20,7 @@ use Rattle.witcall_c.specs.Refusals.{open_number, is_out_of_memory}
 use Rattle.witcall_c.specs.declared.handle.Handle.{Handle}
 use Rattle.witcall_c.specs.declared.held.Held.{Held}
 
+-- what opening inputs gives: a package, or why they are refused
 abbrev pub Opening : Type 0
 Opening = Result Package OpenError
 
@@ -27,37 +28,39 @@ Opening = Result Package OpenError
 abbrev pub IsOpening : List (List ℕ) → Opening → Type 0
 IsOpening inputs opened = MatchResult opened (λ p. IsOpened inputs p.resolve) (OpenRefuses inputs)
 
+-- the status of an opening: done, out of memory, or refused; the last two have the error's number
 abbrev pub opening_status : Opening → Status
 opening_status (Ok p) = status_of (Ok 0)
 opening_status (Err e) = if is_out_of_memory (open_number e) then out_of_memory (open_number e) else refused (open_number e) 0
 
--- the function of a number
+-- the function of this number, its row in the table
 abbrev pub numbered : ℕ → FunctionId
 numbered n = record { 0 = n }
 
--- what a handle stands for
+-- what a handle holds: an opening, or nothing
 abbrev pub stands_for : Handle → Option Held
 stands_for h = h.kept.held
 
+-- the package that was opened, or none if the inputs were refused
 abbrev pub opened_package : Opening → Option Package
 opened_package (Ok p) = Some p
 opened_package (Err e) = None
 
--- the package of a handle, if one is open
+-- the package that a handle holds, or none if it holds a refusal or nothing
 abbrev pub held_package : Option Held → Option Package
 held_package None = None
 held_package (Some held) = opened_package held.opened
 
--- its table
+-- the table of the package of a handle, if one is open
 abbrev pub held_table : Option Held → Option Resolve
 held_table held = option_map (λ p. p.resolve) (held_package held)
 
--- the package has a function of this number
+-- there is a package with this table, and it has the function of this number
 abbrev pub HasFunction : Option Package → ℕ → Resolve → FunctionId → Type 0
 HasFunction None number r f = ⊥
 HasFunction (Some p) number r f = (r ≡ p.resolve) × (f ≡ numbered number) × IsFunction r f × ∥ AreWithin r ∥₁
 
--- it has none, or there is no package
+-- why a call has no function: the package has none of this number (63), or no package is open (70)
 abbrev pub HasNoFunction : Option Package → ℕ → CallError → Type 0
 HasNoFunction None number e = e ≡ error.NotOpen
 HasNoFunction (Some p) number e = (e ≡ error.NoFunction) × (¬ IsFunction p.resolve (numbered number))
@@ -76,15 +79,16 @@ FindsFunction (Some p) interface name done = MatchResult done
     (λ number. IsFunction p.resolve (numbered number) × IsNamed p.resolve interface name (numbered number))
     (λ e. (e ≡ error.NoFunction) × (IsUtf8 interface → IsUtf8 name → (f : FunctionId) → ¬ IsNamed p.resolve interface name f))
 
--- a line in an array of this length, or how long it is
+-- a line that fits an array of this length, or how long it is (71 no room)
 abbrev pub LineDone : ℕ → Result ℕ CallError → Type 0
 LineDone room done = MatchResult done (λ count. count ≤ room) (λ e. (count : ℕ) × (e ≡ error.NoRoom count) × (room < count))
 
--- the line of a refusal, and none of a package; 70 where there is neither
+-- of a refusal, a line that fits the array, or how long it is; of a package none, and the array is as it was
 abbrev pub LineIn : Opening → List ℕ → List ℕ → Result ℕ CallError → Type 0
 LineIn (Ok p) old new done = (done ≡ Ok 0) × (new ≡ old)
 LineIn (Err refusal) old new done = LineDone (length old) done
 
+-- the line of a handle that holds a refusal, or none of a package; 70 not open if it holds neither
 abbrev pub LineOf : Option Held → List ℕ → List ℕ → Result ℕ CallError → Type 0
 LineOf None old new done = (done ≡ Err error.NotOpen) × (new ≡ old)
 LineOf (Some held) old new done = LineIn held.opened old new done
@@ -93,7 +97,7 @@ LineOf (Some held) old new done = LineIn held.opened old new done
 abbrev pub TellsOf : Option Held → Option Held → Status → (Option Held → Result ℕ CallError → Type 0) → Type 0
 TellsOf old new status Comes = (held : Option Held) × (old ≡ held) × (new ≡ held) × ((done : Result ℕ CallError) × (status ≡ status_of done) × Comes held done)
 
--- the same of a call of the function of this number
+-- the handle keeps what it holds, and the status is that of a call of the function of this number
 abbrev pub CallsOf : Option Held → Option Held → ℕ → Status → (FunctionType → Result ℕ CallError → Type 0) → Type 0 → Type 0
 CallsOf old new number status Tells unchanged = TellsOf old new status (λ held done. CallsFunction (held_package held) number Tells unchanged done)
 
@@ -102,7 +106,7 @@ abbrev pub Opens : List (List ℕ) → Option Held → Status → Type 0
 Opens inputs None status = status ≡ no_memory
 Opens inputs (Some held) status = IsOpening inputs held.opened × (status ≡ opening_status held.opened)
 
--- the same of the inputs that have these lengths; 74 if there are none
+-- the handle holds what the pieces of the bytes with these lengths are opened as; 74 bad lengths if there are none
 abbrev pub OpensPieces : List ℕ → List ℕ → Option Held → Status → Type 0
 OpensPieces bytes lengths new status =
     ((inputs : List (List ℕ)) × ArePieces bytes lengths inputs × Opens inputs new status)

@@ -8,10 +8,11 @@ use Rattle.std_alloc.specs.Box.Ownership.{box_owns}
 use Rattle.witcall_c.specs.declared.held.Held.{Held}
 use Rattle.witcall_c.specs.contracts.held.Held.{the_row}
 
--- the box of this value, from some handle of the heap
+-- the pointer owns the box of this value on the heap
 abbrev pub boxes : Ptr → Held → Fml
 boxes p h = fex Global (λ from. box_owns (ghosts.dealloc_token from) the_row p h)
 
+-- the pointer owns the box of what the handle holds; it owns nothing if the handle holds nothing
 abbrev pub holds : Ptr → Option Held → Fml
 holds p None = ftrue
 holds p (Some h) = boxes p h

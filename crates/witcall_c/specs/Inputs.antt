@@ -10,7 +10,7 @@ pub record ArePieces (bytes : List ℕ) (lengths : List ℕ) (inputs : List (Lis
   pub lengths_are : map length inputs ≡ lengths
   pub bytes_are : concat inputs ≡ bytes
 
--- there are no such inputs, or no memory for their places
+-- the lengths are none or do not add up to the bytes (74 bad lengths), or there is no memory
 abbrev pub AreNoPieces : List ℕ → List ℕ → CallError → Type 0
 AreNoPieces bytes lengths e =
     (e ≡ error.NoMemory) ⊎ ((e ≡ error.BadLengths) × ((inputs : List (List ℕ)) → ArePieces bytes lengths inputs → ⊥))

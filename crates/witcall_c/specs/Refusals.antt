@@ -15,6 +15,7 @@ use Rattle.wit_tokens.specs.declared.error.TextError.TheVariants as text_error
 use Rattle.opening.specs.declared.package.OpenError.{OpenError}
 use Rattle.opening.specs.declared.package.OpenError.TheVariants as error
 
+-- the number of an error of a text's tokens and grammar: 30 to 36
 abbrev pub text_number : TextError → ℕ
 text_number (text_error.BadChar s) = 30
 text_number (text_error.OpenComment s) = 31
@@ -24,6 +25,7 @@ text_number (text_error.Depth s) = 34
 text_number text_error.NoMemory = 35
 text_number text_error.Limit = 36
 
+-- the number of a fault in a binary's bytes: 10 to 19, 22, 23
 abbrev pub fault_number : Fault → ℕ
 fault_number fault.NotComponent = 10
 fault_number fault.Truncated = 11
@@ -38,11 +40,13 @@ fault_number fault.Trailing = 19
 fault_number fault.BadName = 22
 fault_number fault.Overlong = 23
 
+-- the number of an error of a binary: a fault's, 20 if it could not be read, 21 out of memory
 abbrev pub binary_number : BinError → ℕ
 binary_number (binary_error.At f place) = fault_number f
 binary_number (binary_error.Read place) = 20
 binary_number binary_error.NoMemory = 21
 
+-- the number of an error of names and shapes: 40 to 47
 abbrev pub resolve_number : ResolveError → ℕ
 resolve_number (resolve_error.Duplicate n) = 40
 resolve_number (resolve_error.Unknown n) = 41
@@ -53,11 +57,13 @@ resolve_number resolve_error.Limit = 45
 resolve_number resolve_error.NoMemory = 46
 resolve_number (resolve_error.NoPackage n) = 47
 
+-- the number of an error of layouts: 50 to 52
 abbrev pub layout_number : LayoutError → ℕ
 layout_number layout_error.TooLarge = 50
 layout_number layout_error.TooDeep = 51
 layout_number layout_error.NoMemory = 52
 
+-- the number of an error of a set of packages: 44, 46 to 49
 abbrev pub attach_number : AttachError → ℕ
 attach_number attach_error.NotThisShape = 44
 attach_number attach_error.NoMemory = 46
@@ -65,6 +71,7 @@ attach_number (attach_error.NoPackage n) = 47
 attach_number (attach_error.SamePackage n) = 48
 attach_number attach_error.SetLimit = 49
 
+-- the number of an error of opening: 20, 60 or 66, or that of the error inside
 abbrev pub open_number : OpenError → ℕ
 open_number (error.Read place) = 20
 open_number (error.Text e) = text_number e
