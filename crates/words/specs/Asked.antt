@@ -14,6 +14,7 @@ use Rattle.words.specs.declared.asked.Command.TheVariants.{Convert, Call}
 abbrev pub IsWord : List Row → List ℕ → List ℕ → Type 0
 IsWord rows id text = first_of id rows ≡ Some text
 
+-- the name of a command that reads one package and prints it
 abbrev pub job_name : Job → List ℕ
 job_name Show = codes "show"
 job_name Bin = codes "bin"
@@ -32,7 +33,7 @@ IsAsked name rows (Call earlier file interface function arguments reply) =
 abbrev pub HasWord : List Row → List ℕ → Type 0
 HasWord rows id = is_some (first_of id rows) ≡ true
 
--- it is the name of a command, all of whose words were found
+-- this is the name of a command, all of whose words were found
 abbrev pub IsCommand : List ℕ → List Row → Type 0
 IsCommand name rows =
     ((job : Job) × (name ≡ job_name job) × HasWord rows (codes "file"))

@@ -5,9 +5,11 @@ use Rattle.std.specs.Str.{bytes_eq}
 use Rattle.std.specs.Global.{Global}
 use Rattle.std.specs.Borrow.{Bor}
 
+-- the bytes of these texts, in order
 abbrev pub texts_of : List (String Global) → List (List ℕ)
 texts_of = map string_bytes
 
+-- the bytes of these texts, which are lent, in order
 abbrev pub lent_texts : List (Bor (List ℕ)) → List (List ℕ)
 lent_texts = map (λ text. text.now)
 
@@ -23,7 +25,7 @@ with_files (word ∷ next ∷ rest) =
     if bytes_eq word (codes "--with") then next ∷ with_files rest
     else option_map_or (λ file. file ∷ with_files (next ∷ rest)) (joined_file word) []
 
--- the words after these
+-- the words after the files that the words begin with
 abbrev pub behind_files : List (List ℕ) → List (List ℕ)
 behind_files [] = []
 behind_files (word ∷ []) = option_map_or (λ file. []) (joined_file word) (word ∷ [])
@@ -35,7 +37,7 @@ behind_files (word ∷ next ∷ rest) =
 abbrev pub NamesNoFile : List (List ℕ) → Type 0
 NamesNoFile words = (with_files words ≡ []) × (behind_files words ≡ words)
 
--- they begin with this file, and these words come after it
+-- the words begin with this file, and these words come after it
 abbrev pub NamesFile : List (List ℕ) → List ℕ → List (List ℕ) → Type 0
 NamesFile words file after = (with_files words ≡ file ∷ with_files after) × (behind_files words ≡ behind_files after)
 
