@@ -9,5 +9,6 @@ pub mod Agreement
 pub mod Laid
 pub mod Standing
 pub mod Told
+pub mod Followed
 pub mod Steps
 pub mod Examples

@@ -123,10 +123,10 @@ parts-front e ps (d ∷ ds) k h =
     ∙ get_or_append_left ps (definition_parts e ps d ∷ []) none_such k h
 
 module _ (r : Resolve) where
-  abbrev front : ℕ → List Parts
+  abbrev pub front : ℕ → List Parts
   front i = parts_from (λ v. extent_of (closed_type r v)) [] (take i r.definitions)
 
-  length-front : (i : ℕ) → i ≤ length r.definitions → length (front i) ≡ i
+  pub length-front : (i : ℕ) → i ≤ length r.definitions → length (front i) ≡ i
   length-front i h = length-parts (λ v. extent_of (closed_type r v)) [] (take i r.definitions) ∙ omega (arith, length-take i r.definitions)
 
   -- names end at types that are closed alike, among the first i
@@ -152,7 +152,7 @@ module _ (r : Resolve) where
   followed-alike t (parts.Variant p os) n h = refl
   followed-alike t (parts.Flags k) n h = refl
 
-  front-more : (i : ℕ) (d : Definition) → i < length r.definitions
+  pub front-more : (i : ℕ) (d : Definition) → i < length r.definitions
       → front (suc i) ≡ front i ++ definition_parts (λ v. extent_of (closed_type r v)) (front i) (get_or r.definitions i d) ∷ []
   front-more i d h = ap front (sym (add-one i)) ∙ parts-more (λ v. extent_of (closed_type r v)) r.definitions i d h
 
@@ -178,7 +178,7 @@ module _ (r : Resolve) where
           ap (λ (q : Parts). closed_type r (behind_alias t q)) same
           ∙ subst (λ (j : ℕ). closed_type r (behind_alias (record { 0 = j }) p) ≡ get_or (closed_types r) j string_type) here alike
 
-  abbrev whole : List Parts
+  abbrev pub whole : List Parts
   whole = parts_from (λ v. extent_of (closed_type r v)) [] r.definitions
 
   pub ends-whole : (d : Definition) (v : ValType) → IsTrue (is_below (length r.definitions) v) → closed_type r (final_type whole v) ≡ closed_type r v
@@ -186,7 +186,7 @@ module _ (r : Resolve) where
       let all : front (length r.definitions) ≡ whole = ap (λ (ds : List Definition). parts_from (λ v. extent_of (closed_type r v)) [] ds) (take_all (length r.definitions) r.definitions (omega arith)) in
       ap (λ (ps : List Parts). closed_type r (final_type ps v)) (sym all) ∙ ends-alike (length r.definitions) d (omega arith) v b
 
-  parts-at : (k : ℕ) (d : Definition) → k < length r.definitions → get_or whole k none_such ≡ definition_parts (λ v. extent_of (closed_type r v)) (front k) (get_or r.definitions k d)
+  pub parts-at : (k : ℕ) (d : Definition) → k < length r.definitions → get_or whole k none_such ≡ definition_parts (λ v. extent_of (closed_type r v)) (front k) (get_or r.definitions k d)
   parts-at k d h =
       let e = λ (v : ValType). extent_of (closed_type r v) in
       let p = definition_parts e (front k) (get_or r.definitions k d) in

@@ -156,7 +156,7 @@ module _ (r : Resolve) (n : ℕ) (count : length r.definitions ≡ n) (d : Defin
 
 -- ---- answers of a made table
 
-some_definition : Definition
+pub some_definition : Definition
 some_definition = row.Function (record { owner = owner.Interface (record { 0 = 0 }); name = []; params = []; result = None })
 
 -- the end of a type, by the fields of a table
@@ -178,7 +178,7 @@ pub record IsEndOf (t : LayoutTable) (v e : ValType) : Type 0 where
   pub end : IsTrue (is_end t.parts e)
 
 module _ (r : Resolve) where
-  count-rows : length r.definitions ≡ length (layouts_of r).rows
+  pub count-rows : length r.definitions ≡ length (layouts_of r).rows
   count-rows = sym (length-map (closed_types r) row_of ∙ length-closed_rows [] r.definitions ∙ omega arith)
 
   closed-end : (v e : ValType) → IsEndOf (layouts_of r) v e → closed_type r e ≡ closed_type r v

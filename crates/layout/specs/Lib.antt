@@ -5,3 +5,4 @@ pub mod Work
 pub mod Signature
 pub mod Parts
 pub mod Queries
+pub mod Named

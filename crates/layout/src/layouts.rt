@@ -1,5 +1,5 @@
 //! The layout table of a package.
-ghost use Rattle.std.specs.Prelude.{◌≡◌, ◌+◌, ◌↔◌, ◌<◌, [], length, map, slice_get, All, IsTrue, IfOk, IfErr};
+ghost use Rattle.std.specs.Prelude.{◌≡◌, ◌+◌, ◌↔◌, ◌<◌, [], length, map, option_map, slice_get, All, IsTrue, IfOk, IfErr, Some};
 ghost use Rattle.tables.specs.declared.tables.Resolve.{Resolve};
 ghost use Rattle.tables.specs.Closed.{closed_types, closed_type, function_type, IsFunction};
 ghost use Rattle.tables.specs.Tables.{is_below};
@@ -9,6 +9,7 @@ ghost use Rattle.canonical_abi.specs.Reading.{kind_of};
 ghost use Rattle.layout.specs.Kinds.{kinds_of, count_of};
 ghost use Rattle.layout.specs.Layout.{row_of, result_of, layouts_of, results_of, core_signature_of, RefusesFirst, AreWithin, IsSound};
 ghost use Rattle.layout.specs.Parts.{parts_from, AreEnded, final_type, is_end};
+ghost use Rattle.layout.specs.Named.{OfNamed, own_shape, own_member, own_case};
 ghost use Rattle.layout.specs.Queries.{shape_of, field_info_of, case_info_of, IsShaped, TellsField, TellsCase};
 ghost use Rattle.layout.specs.Rows.{definition_result, result_below};
 ghost use Rattle.layout.specs.Work.{laid_work, results_work, results_in, total_work, saturated};
@@ -288,7 +289,10 @@ impl Layouts {
     /// The shape of a type of the package.
     pub fn shape(&self, ty: ValType) -> Shape
         requires { IsTrue (is_below (length self.now.rows) ty) }
-        ensures { (r : Resolve) → self.now ≡ layouts_of r → IsShaped (closed_type r) (length self.now.rows) (closed_type r ty) result }
+        ensures shape { (r : Resolve) → self.now ≡ layouts_of r
+            → IsShaped (closed_type r) (length self.now.rows) (closed_type r ty) result }
+        ensures own { (r : Resolve) → self.now ≡ layouts_of r
+            → OfNamed r ty (λ e. own_shape r.definitions e ≡ Some result) }
     {
         self.shape_of(self.final_type(ty))
     }
@@ -296,7 +300,10 @@ impl Layouts {
     /// A field of a record or a tuple, with its place; None where the type has no such field.
     pub fn field(&self, ty: ValType, index: usize) -> Option<FieldInfo>
         requires { IsTrue (is_below (length self.now.rows) ty) }
-        ensures { (r : Resolve) → self.now ≡ layouts_of r → TellsField (closed_type r) (length self.now.rows) (closed_type r ty) index result }
+        ensures told { (r : Resolve) → self.now ≡ layouts_of r
+            → TellsField (closed_type r) (length self.now.rows) (closed_type r ty) index result }
+        ensures own { (r : Resolve) → self.now ≡ layouts_of r
+            → OfNamed r ty (λ e. own_member r.definitions e index ≡ option_map (λ f. f.ty) result) }
     {
         self.field_of(self.final_type(ty), index)
     }
@@ -315,7 +322,10 @@ impl Layouts {
     /// A case of a variant, an enum, an option or a result; None where the type has no such case.
     pub fn case_info(&self, ty: ValType, index: usize) -> Option<CaseInfo>
         requires { IsTrue (is_below (length self.now.rows) ty) }
-        ensures { (r : Resolve) → self.now ≡ layouts_of r → TellsCase (closed_type r) (length self.now.rows) (closed_type r ty) index result }
+        ensures told { (r : Resolve) → self.now ≡ layouts_of r
+            → TellsCase (closed_type r) (length self.now.rows) (closed_type r ty) index result }
+        ensures own { (r : Resolve) → self.now ≡ layouts_of r
+            → OfNamed r ty (λ e. own_case r.definitions e index ≡ option_map (λ c. c.payload) result) }
     {
         self.case_of(self.final_type(ty), index)
     }

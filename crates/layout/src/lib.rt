@@ -9,6 +9,7 @@
 mod error;
 mod kind_list;
 mod kinds;
+pub mod laws;
 mod layouts;
 mod parts;
 mod queries;

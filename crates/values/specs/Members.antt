@@ -1,11 +1,12 @@
 -- The members of a record: the fields of a type, or types side by side.
-use Rattle.std.specs.Prelude.{◌≡◌, true, List, map, length}
+use Rattle.std.specs.Prelude.{◌≡◌, ℕ, true, List, map, length, Option, slice_get}
 use Rattle.std.specs.List.{list_all}
 use Rattle.canonical_abi.specs.Types.{Fields, fields_of, record_fields}
 use Rattle.tables.specs.Closed.{closed_type}
 use Rattle.tables.specs.Tables.{is_below, is_type}
 use Rattle.tables.specs.declared.tables.Resolve.{Resolve}
 use Rattle.tables.specs.declared.tables.ValType.{ValType}
+use Rattle.layout.specs.Named.{OfNamed, own_member}
 use Rattle.values.specs.Types.{IsInside}
 use Rattle.values.specs.declared.members.Members.{Members}
 use Rattle.values.specs.declared.members.Members.TheVariants.{Of, Listed}
@@ -31,3 +32,8 @@ AreInside r (Listed types) = AreAllInside r types.now
 -- types of the package
 abbrev pub AreTypesOf : Resolve → List ValType → Type 0
 AreTypesOf r types = list_all (is_type r.definitions) types ≡ true
+
+-- the member at this place, under the very name that its definition gives it
+abbrev pub IsOwnMember : Resolve → Members → ℕ → Option ValType → Type 0
+IsOwnMember r (Of ty) i o = OfNamed r ty (λ e. own_member r.definitions e i ≡ o)
+IsOwnMember r (Listed types) i o = o ≡ slice_get types.now i

@@ -1,11 +1,12 @@
 //! The types of a package as the ABI sees them, with their layouts: names are followed, a tuple is a record,
 //! and an enum, an option or a result is a variant.
-ghost use Rattle.std.specs.Prelude.{◌≡◌, ◌<◌, ◌≤◌, ◌^◌, ◌↔◌, IsTrue, length, true, false, IfSome, IfNone, OnSome, option_map};
+ghost use Rattle.std.specs.Prelude.{◌≡◌, ◌<◌, ◌≤◌, ◌^◌, ◌↔◌, IsTrue, length, true, false, IfSome, IfNone, OnSome, option_map, Some};
 ghost use Rattle.canonical_abi.specs.Layout.{size, align, flat_kinds, field_kinds, fits_flat};
 ghost use Rattle.canonical_abi.specs.Types.{record_type, record_fields, variant_cases, nth_field, nth_case};
 ghost use Rattle.layout.specs.Layout.{layouts_of};
+ghost use Rattle.layout.specs.Named.{OfNamed, own_shape, own_member, own_case};
 ghost use Rattle.tables.specs.Closed.{closed_type};
-ghost use Rattle.values.specs.Members.{fields_of_types, AreAllInside, AreInside, members_fields};
+ghost use Rattle.values.specs.Members.{fields_of_types, AreAllInside, AreInside, IsOwnMember, members_fields};
 ghost use Rattle.values.specs.Types.{HasShape, HasFewFlags, IsInside};
 
 use crate::members::{Members, type_at};
@@ -60,6 +61,7 @@ impl<'a> Types<'a> {
         requires { IsInside self.now ty }
         ensures shape { HasShape self.now (closed_type self.now ty) result }
         ensures few { HasFewFlags result }
+        ensures own { OfNamed self.now ty (λ e. own_shape self.now.definitions e ≡ Some result) }
     {
         self.layouts().shape(ty)
     }
@@ -70,6 +72,7 @@ impl<'a> Types<'a> {
         ensures found { option_map (closed_type self.now) result
             ≡ nth_field (record_fields (closed_type self.now ty)) index }
         ensures inside { IfSome result (IsInside self.now) }
+        ensures own { OfNamed self.now ty (λ e. own_member self.now.definitions e index ≡ result) }
     {
         Some(self.layouts().field(ty, index)?.ty)
     }
@@ -80,6 +83,7 @@ impl<'a> Types<'a> {
         ensures found { option_map (closed_type self.now) result
             ≡ nth_field (members_fields self.now members.now) index }
         ensures inside { IfSome result (IsInside self.now) }
+        ensures own { IsOwnMember self.now members.now index result }
     {
         match members {
             Members::Of(ty) => self.field_type(*ty, index),
@@ -93,6 +97,7 @@ impl<'a> Types<'a> {
         ensures found { option_map (option_map (closed_type self.now)) result
             ≡ nth_case (variant_cases (closed_type self.now ty)) index }
         ensures inside { IfSome result (λ o. IfSome o (IsInside self.now)) }
+        ensures own { OfNamed self.now ty (λ e. own_case self.now.definitions e index ≡ result) }
     {
         Some(self.layouts().case_info(ty, index)?.payload)
     }

@@ -4,4 +4,4 @@ use Rattle.layout.proofs.Told.{offset-told}
 use Rattle.layout.proofs.layouts.Layouts.field_offset.Goals as goal
 
 pub returns-in-None : goal.returns-in-None
-returns-in-None c = λ r e. offset-told (closed_type r) (length c.args.self.now.rows) (closed_type r c.args.ty) c.args.index None (c.in-None.ensures r e)
+returns-in-None c = λ r e. offset-told (closed_type r) (length c.args.self.now.rows) (closed_type r c.args.ty) c.args.index None (c.in-None.ensures.told r e)

@@ -9,4 +9,4 @@ pub returns : goal.returns
 returns c =
     let t = c.self.inside in
     subst (λ (x : Resolve × ValType). IsShape x c.shape.result) c.self.view_is
-    (length t.layouts.now.rows, c.shape.ensures t.resolve.now t.laid_out)
+    (length t.layouts.now.rows, c.shape.ensures.shape t.resolve.now t.laid_out)

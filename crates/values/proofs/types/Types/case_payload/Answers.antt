@@ -8,4 +8,4 @@ case_info-requires c = has-row c.args.self.now c.layouts.result.now c.args.ty c.
 pub returns-clause-inside : goal.returns-clause-inside
 returns-clause-inside c =
     let r = c.args.self.now in
-    inside-told r c.layouts.result.now c.in_ok-case_info.field-0.payload c.layouts.ensures (c.in_ok-case_info.ensures r c.layouts.ensures).2
+    inside-told r c.layouts.result.now c.in_ok-case_info.field-0.payload c.layouts.ensures (c.in_ok-case_info.ensures.told r c.layouts.ensures).2

@@ -9,4 +9,4 @@ field-requires c = has-row c.args.self.now c.layouts.result.now c.args.ty c.layo
 pub returns-clause-inside : goal.returns-clause-inside
 returns-clause-inside c =
     let r = c.args.self.now in
-    inside-told r c.layouts.result.now (Some c.in_ok-field.field-0.ty) c.layouts.ensures (c.in_ok-field.ensures r c.layouts.ensures).2
+    inside-told r c.layouts.result.now (Some c.in_ok-field.field-0.ty) c.layouts.ensures (c.in_ok-field.ensures.told r c.layouts.ensures).2

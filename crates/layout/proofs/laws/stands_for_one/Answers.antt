@@ -1,0 +1,5 @@
+use Rattle.layout.proofs.Followed.{stands-for-one}
+use Rattle.layout.proofs.laws.stands_for_one.Goals as goal
+
+pub returns : goal.returns
+returns c = stands-for-one c.args._resolve.now
