@@ -7,8 +7,8 @@ use Rattle.canonical_abi.specs.Script.{AddressFaulty}
 use Rattle.canonical_abi.specs.Memory.{PrimFaulty, TextFaulty, BlockFaulty, EachFaulty, Holds, Faulty, FieldsFaulty, CaseFaulty}
 use Rattle.canonical_abi.specs.Flat.{DenotesFault, LiftFaulty, FieldsLiftFaulty, CaseLiftFaulty}
 use Rattle.canonical_abi.specs.Guest.{Memory, Allocation}
-use Rattle.canonical_abi.specs.Trace.{Event, RequestFails, TraceBreaks}
-use Rattle.canonical_abi.specs.Call.{Parties, World, Order, Ways, argument_flats, area_of, Traps}
+use Rattle.canonical_abi.specs.Trace.{Event, RequestFails}
+use Rattle.canonical_abi.specs.Call.{Parties, World, Order, either, Breaks, Ways, argument_flats, area_of, Traps}
 use Rattle.canonical_abi.specs.Session.{TypedTraceBreaks, HasResultFault, TypedTraps}
 use Rattle.canonical_abi.specs.Causes.{IsOfValues, IsOfAllocator, HasCause, TrapsHaveCauses}
 use Rattle.canonical_abi.specs.declared.flat.Flat.{Flat}
@@ -109,7 +109,7 @@ of-request allocates old new align size trap.Utf8 e = elim e [ ]
 of-request allocates old new align size trap.Body e = elim e [ ]
 of-request allocates old new align size trap.CoreSignature e = elim e [ ]
 
-of-breaking : (allocates : Allocation) (old new : Memory) (es : List Event) (k : TrapKind) → TraceBreaks allocates old es k new → IsOfAllocator allocates k
+of-breaking : (allocates : Allocation) (old new : Memory) (es : List Event) (k : TrapKind) → Breaks either allocates old es k new → IsOfAllocator allocates k
 of-breaking allocates old new es k b = of-request allocates b.4 new b.3.align b.3.size k b.8
 
 of-ending : (allocates : Allocation) (old new : Memory) (es : List Event) (k : TrapKind) → TypedTraceBreaks allocates old es k new → (k ≡ trap.Bounds) ⊎ IsOfAllocator allocates k

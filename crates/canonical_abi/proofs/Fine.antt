@@ -3,8 +3,9 @@ use Rattle.std.proofs.Common.{◌≡◌, ◌⊎◌, inl, inr, ℕ, ◌^◌, ◌<
 use Rattle.std.specs.Prelude.{slice_get}
 use Rattle.std.proofs.lemmas.Option.{slice_get-get_or}
 use Rattle.canonical_abi.specs.Guest.{Memory, Allocation, Release, IsHonest, IsLimited, KeepsLimit, IsWithin, IsOutside, IsAlignment}
-use Rattle.canonical_abi.specs.Trace.{Event, node, write, grant, grants_of, TraceLeads, TraceBreaks, RequestFails}
+use Rattle.canonical_abi.specs.Trace.{Event, node, write, grant, grants_of, TraceLeads, RequestFails}
 use Rattle.canonical_abi.specs.Stands.{AreAligned, IsGranted, IsWritten, Keeps}
+use Rattle.canonical_abi.specs.Call.{either, Breaks}
 use Rattle.canonical_abi.specs.Session.{TypedRequestFails, TypedTraceBreaks}
 use Rattle.canonical_abi.specs.Headline.{IsOutsideAll, AreLive, KeepsOutside}
 use Rattle.canonical_abi.specs.declared.trap.TrapKind.{TrapKind}
@@ -127,7 +128,7 @@ typed-own allocates releases honest old alignment n k new al (inr r) =
     (inl (request-own allocates releases honest old alignment n k new al r.1), request-failed allocates releases honest old alignment n k new al r.1)
 
 -- what was made of a trace that breaks is fine, if the whole trace is aligned and confined, and it broke as a request was refused
-pub broken : (allocates : Allocation) (releases : Release) (honest : IsHonest allocates releases) (P : ℕ → Type 0) (old : Memory) (es : List Event) (k : TrapKind) (new : Memory) → AreAligned es → Confined P es → TraceBreaks allocates old es k new
+pub broken : (allocates : Allocation) (releases : Release) (honest : IsHonest allocates releases) (P : ℕ → Type 0) (old : Memory) (es : List Event) (k : TrapKind) (new : Memory) → AreAligned es → Confined P es → Breaks either allocates old es k new
     → (made : List Event) × Fine allocates P old made new × (k ≡ trap.Full)
 broken allocates releases honest P old es k new al c (done, made, rest, next, asked, is, left, leads, fails) =
     let whole = subst AreAligned is al in

@@ -6,7 +6,7 @@ use Rattle.canonical_abi.specs.Values.{Value, unsigned_value}
 use Rattle.canonical_abi.specs.Reading.{number_at}
 use Rattle.canonical_abi.specs.Guest.{Memory, Allocation, Release}
 use Rattle.canonical_abi.specs.Trace.{node, write}
-use Rattle.canonical_abi.specs.Footprint.{HoldsLive}
+use Rattle.canonical_abi.specs.Footprint.{Reads}
 use Rattle.canonical_abi.specs.Call.{Parties, World, either}
 use Rattle.canonical_abi.specs.Session.{Held, SessionStep, place, read, release, SessionAnswer, placed, was_read, released, missing, RunsSession}
 use Rattle.canonical_abi.specs.Keeping.{IsLive, LeavesAlone, ReleasesMiss, StaysLive, Throughout}
@@ -116,15 +116,15 @@ stays-live : StaysLive parties takes_first either u8 0 seven (placed (Ok held) �
 unfolding number_at read-once
 stays-live = record { holds = ((refl, omega arith), refl); live = ((λ x r. still-live x r.1), (λ x r. still-live x r.1)) }
 
-lives : HoldsLive u8 there.caller 0 seven
+lives : IsLive (Reads u8 there.caller.bytes 0) there.caller
 unfolding number_at
-lives = record { holds = refl; live = λ x r. still-live x r.1 }
+lives = λ x r. still-live x r.1
 
 -- ---- what is not so
 
 -- once its block was given back the bytes are there, but not live
-lives-no-more : HoldsLive u8 (bytes 7 false) 0 seven → ⊥
-lives-no-more h = let e : false ≡ true = h.live 0 (omega arith, omega arith) in cc
+lives-no-more : IsLive (Reads u8 (bytes 7 false).bytes 0) (bytes 7 false) → ⊥
+lives-no-more h = let e : false ≡ true = h 0 (omega arith, omega arith) in cc
 
 -- a footprint isn't live throughout a run whose first world has no live address
 not-throughout : Throughout parties takes_first either (λ w. IsLive (λ x. x ≡ 0) w.caller) [] (world (bytes 0 false)) steps answers (world (bytes 7 false)) placed-and-read → ⊥
