@@ -14,3 +14,4 @@ pub mod Depths
 pub mod Floats
 pub mod Distinct
 pub mod OneLabel
+pub mod LabelledByNames

@@ -1,4 +1,5 @@
 //! Laws of values in JSON.
+ghost use Rattle.value_json.specs.ByNames.{LabelsAlike};
 ghost use Rattle.value_json.specs.Json.{HasOneJson, HasOneValue, GivesTyped, NestsAsItsType};
 ghost use Rattle.value_json.specs.Laws.{LabelsAreApart};
 
@@ -28,4 +29,10 @@ pub fn nests_as_its_type()
 /// differ.
 pub fn labels_are_apart(_resolve: &Resolve)
     ensures { LabelsAreApart _resolve.now }
+{}
+
+/// The labelled types of a table are what the package's names alone tell, where no interface has two types of one
+/// name.
+pub fn labels_alike(_resolve: &Resolve)
+    ensures { LabelsAlike _resolve.now }
 {}

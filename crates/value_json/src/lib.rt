@@ -11,6 +11,8 @@ mod scalars;
 mod writing;
 
 pub use error::JsonError;
-pub use laws::{gives_typed, has_one_json, has_one_value, labels_are_apart, nests_as_its_type};
+pub use laws::{
+    gives_typed, has_one_json, has_one_value, labels_alike, labels_are_apart, nests_as_its_type,
+};
 pub use reading::{value_of_json, values_of_json};
 pub use writing::json_of_value;
