@@ -1,3 +1,4 @@
+pub mod Leaving
 pub mod Texts
 pub mod Lists
 pub mod Results

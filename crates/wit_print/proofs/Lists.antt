@@ -8,7 +8,8 @@ use Rattle.wit_tokens.specs.declared.token.Punctuation.TheVariants as mark
 use Rattle.wit_print.specs.Words.{Word, mark_word}
 use Rattle.wit_print.specs.Canonical.{blank, listed_words, ty_words, tys_words}
 use Rattle.wit_print.specs.Pieces.{comma_at, space_at}
-use Rattle.wit_print.specs.Adding.{AddsWords, LeavesWords}
+use Rattle.wit_print.specs.Adding.{AddsWords}
+use Rattle.wit_print.proofs.Leaving.{LeavesWords}
 use Rattle.wit_print.proofs.Texts.{leaves_then}
 
 -- ---- the entries from a place on, as words

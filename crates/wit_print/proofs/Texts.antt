@@ -6,7 +6,8 @@ use Rattle.std.specs.declared.string.String.{String}
 use Rattle.std.specs.String.{string_bytes}
 use Rattle.wit_print.specs.Words.{Word, words_text}
 use Rattle.wit_print.specs.Canonical.{line}
-use Rattle.wit_print.specs.Adding.{AddsWords, LeavesWords}
+use Rattle.wit_print.specs.Adding.{AddsWords}
+use Rattle.wit_print.proofs.Leaving.{LeavesWords}
 
 -- the words of two lists have the texts of both
 pub text-append : (ws vs : List Word) (rest : List ℕ) → words_text (ws ++ vs) rest ≡ words_text ws (words_text vs rest)

@@ -8,7 +8,3 @@ use Rattle.wit_print.specs.Words.{Word, words_text}
 -- the text grew by just these words
 pub record AddsWords (ws : List Word) (old new : String Global) : Type 0 where
   pub bytes : string_bytes new ≡ string_bytes old ++ words_text ws []
-
--- once the text grows by the rest it has grown by the whole
-pub record LeavesWords (whole rest : List Word) (old new : String Global) : Type 0 where
-  pub bytes : string_bytes old ++ words_text whole [] ≡ string_bytes new ++ words_text rest []
