@@ -9,8 +9,8 @@ What is checked of the pages:
   capital letter before a small one, an underscore, or `::`. So is what stands before the `(` of a call. Each of its
   parts has to stand in a file of crates/ or in a header of include/, out of comments, or be the name of a crate, of a
   file, of an edit or of a script. The names in blocks of Rust and C have to as well.
-- A function that is named with its type, its module or its crate, as `Package::takes`, has to be one of it. The forms
-  in the column `expected` of a table need not be there.
+- A function that is named with its type, its module or its crate, as `Package::takes`, has to be one of it. The names
+  in the column `expected` of a table need not be there (tools/check_surface.py).
 - A path in backquotes or in a block of `sh` that begins with a folder of FOLDERS has to be there, and `specs/NAME`,
   `proofs/NAME` and `src/NAME` in some crate or example. What is built, and paths with a word in capitals for a name,
   are left out.
@@ -218,14 +218,16 @@ def spans(text):
 def missing_names(text, words, all_contracts):
     """The names in backquotes that aren't there, and the functions that aren't of what they are named with."""
     of_repository = {*(it.name for it in (ROOT / "crates").iterdir()), *(owner for it in all_contracts.values() for owners, *_ in it for owner in owners)}
-    expected = {number for number, head, _ in columns(text) if head == "expected"}
+    expected = {(number, it) for number, head, cell in columns(text) if head == "expected" for it in SPAN.findall(cell)}
     for number, span in spans(text):
+        if (number, span) in expected:
+            continue
         call = CALL.fullmatch(span)
         name = call[1] if call else span
         *owners, last = name.split("::")
         if is_told(name) and not PLACEHOLDER.match(name) and any(part not in words for part in (*owners, last)):
             yield number, name
-        elif is_told(name) and owners and last in all_contracts and of_repository.issuperset(owners) and number not in expected:
+        elif is_told(name) and owners and last in all_contracts and of_repository.issuperset(owners):
             if not any(around.issuperset(owners) for around, *_ in all_contracts[last]) and not is_exported(owners, last):
                 yield number, f"{last} is no function of {'::'.join(owners)}"
 
