@@ -1,0 +1,89 @@
+#!/usr/bin/env python3
+"""Makes docs/guarantees/edits.md: every must-fail edit, and what it leaves open in a proof.
+
+usage: tools/edits_page.py [--check]
+
+The first line of an edit says what it leaves open, after `# open: `. The crates come in the order of crates.txt. With
+--check nothing is written, and the exit status is 1 if the page is not current. It is 1 as well if an edit has no such
+line.
+"""
+import pathlib
+import sys
+
+import crates_page
+
+ROOT = pathlib.Path(__file__).resolve().parent.parent
+PAGE = ROOT / "docs" / "guarantees" / "edits.md"
+MARK = "# open: "
+HEAD = """\
+# Edits that are refused
+
+This page names every must-fail edit, and what it leaves open in a proof. It is for people who check that a contract
+refuses a wrong body. `tools/edits_page.py` makes the page of the first lines of the edits: change these, and run it.
+
+An edit turns the meaning of a crate's code. In `productions`, which has no code, edits are of definitions. The prover
+has to refuse each. The gate tries those of `crates/NAME/must-fail`, one of each kind of wrong body. The others are in
+`edits/NAME` ([GATE.md](../GATE.md#must-fail-edits)).
+
+An edit is named for what it would let through. Examples are `spills_at_sixteen` in `layout`, `no_post_return` in
+`adapter` and `reply_always_stops` in `witcall`. `tools/try_edits.py` tries them all, or those of the crates named, and
+says of each which goal it leaves open.
+
+On 2026-11-23 to 27 the edits of this table were tried, some before the last change of their crate. Those of
+`set_rows`, `table_building`, `package_names` and `values` were tried when their code was in another crate, except
+`returned_value_is_lost` and `every_name_has_the_first_place`. So were `path_version_is_lost`, `version_is_not_judged`
+and `upper_case_package` of `wit_grammar`. The gate tries its own over each state. What stays open is one of these:
+
+- `read_up_to`: memory is clause `memory` of `read_up_to`.
+- `is_label` alone is the one clause of `is_label`.
+- loop of `push_groups` is what that loop keeps.
+- A condition is what a called function requires.
+
+"By hand": the goal was proved by hand, and the edit is refused in that answer.
+
+| crate | what stays open | edits |
+|---|---|---|
+"""
+
+
+def edits(crate):
+    """The edits of a crate by what they leave open: their names, in their order."""
+    found = {}
+    paths = [*(ROOT / "crates" / crate / "must-fail").glob("*.edit"), *(ROOT / "edits" / crate).glob("*.edit")]
+    for path in sorted(paths, key=lambda it: it.stem):
+        first = path.read_text().partition("\n")[0]
+        if not first.startswith(MARK):
+            sys.exit(f"tools/edits_page.py: the first line of {path.relative_to(ROOT)} doesn't begin with `{MARK}`")
+        found.setdefault(first.removeprefix(MARK), []).append(path.stem)
+    return found
+
+
+def rows(crate):
+    """The rows of a crate, in the order of the functions whose goals stay open."""
+    found = edits(crate)
+    for place, what in enumerate(sorted(found, key=lambda it: it.partition("`")[2] or it)):
+        names = ", ".join(f"`{it}`" for it in found[what])
+        yield f"| {'' if place else f'`{crate}`'} | {what} | {names} |".replace("|  |", "| |")
+
+
+def page():
+    """The page's text. Stops if edits/ has a folder of no crate."""
+    crates = list(crates_page.crates())
+    lost = {it.name for it in (ROOT / "edits").iterdir()} - set(crates)
+    if lost:
+        sys.exit(f"tools/edits_page.py: no crate of crates.txt: {', '.join(sorted(lost))}")
+    return HEAD + "".join(f"{row}\n" for crate in crates for row in rows(crate))
+
+
+def main():
+    if sys.argv[1:] == ["--check"]:
+        if not PAGE.exists() or PAGE.read_text() != page():
+            sys.exit(f"tools/edits_page.py: {PAGE.relative_to(ROOT)} is not current: run tools/edits_page.py")
+    elif sys.argv[1:]:
+        sys.exit(__doc__)
+    else:
+        PAGE.write_text(page())
+
+
+if __name__ == "__main__":
+    main()
