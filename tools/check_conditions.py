@@ -3,11 +3,15 @@
 
 usage: tools/check_conditions.py [--list]
 
-A function with conditions is one with a `requires` that a crate exports: by a `pub use` or a `pub mod` of its lib.rt, as a `pub` method of a type
-or a method of a trait that is exported so, or to C. Modules in folders or in blocks are not read, and the check fails if there are such. The column `call` of the page's tables has to name each of them, as `name` or as `Type::name`,
-and nothing else, and none more often than it has conditions. A cell has parts with a `;` between them. In a part that says of what its names are,
-as `field` of `Layouts` or of `Types`: `size_of`, each name without `::` is of that type, crate or module. A name has to be of one function alone.
-The page says as well how many such functions and conditions there are, so that a new condition of a function that it names is found too.
+A function with conditions is one with a `requires` that a crate exports: by a `pub use` or a `pub mod` of its lib.rt,
+as a `pub` method of a type or a method of a trait that is exported so, or to C. Modules in folders or in blocks are not
+read, and the check fails if there are such.
+
+The column `call` of the page's tables has to name each of them, as `name` or as `Type::name`, and nothing else, and
+none more often than it has conditions. A cell has parts with a `;` between them. In a part that says of what its names
+are, as `field` of `Layouts` or of `Types`: `size_of`, each name without `::` is of that type, crate or module. A name
+has to be of one function alone. The page says as well how many such functions and conditions there are, so that a new
+condition of a function that it names is found too.
 
 --list prints the functions with the names of their conditions. The exit status is 1 where something is missing.
 """
@@ -30,13 +34,15 @@ COMMENT = re.compile(r'"(?:[^"\\\n]|\\.)*"|//.*')
 # the line of a function, and of the block that it is in
 HEAD = re.compile(r"( *)(?:pub\(\w+\) |(pub ))?(?:const )?(?:unsafe )?(extern \"C\" |extern )?fn (\w+)")
 BLOCK = re.compile(r"(?:pub(?:\(\w+\))? )?(?:unsafe )?(impl|trait)\b")
-REQUIRES = re.compile(r"(?:^|[\s)>\]])requires\b ?(\w*)")
+REQUIRES = re.compile(r"(?:^|[\s)>\]])requires\b ?(\w*) *\{")
 INNER = re.compile(r"^ *(?:pub(?:\(\w+\))? )?mod \w+ *\{", re.M)
 OF = re.compile(r"\bof `([\w:]+)`")
 NAME = re.compile(r"`([\w:]+)`")
 
-# where it may be said to be (its crate and modules, or its type), its type if it has one, its name, and its conditions' names
-Function = collections.namedtuple("Function", "places type name clauses")
+# its crate, where it may be said to be (crate and modules, or type), its type if it has one, its name, its conditions
+Function = collections.namedtuple("Function", "crate places type name clauses")
+# the line of a condition, its name or nothing, and what it says
+Clause = collections.namedtuple("Clause", "line name text")
 
 
 def code(path):
@@ -75,7 +81,8 @@ def used(text):
 
 
 def exported(src):
-    """The modules of a crate with the names that it exports of each, or None for all; and by which modules and names it exports each."""
+    """The modules of a crate with the names that it exports of each, or None for all; and which modules export each, as
+    which names."""
     there = {"lib": None, **{module: None for module in MODULE.findall(code(src / "lib.rt"))}}
     by, left = collections.defaultdict(set), list(there)
     while left:
@@ -100,10 +107,24 @@ def type_of(line):
     return None if " for " in line else re.search(r"\b(?:impl|trait)\s+(?:\w+::)*(\w+)", line)[1]
 
 
+def requires(text):
+    """The conditions in a text, each of which ends at the brace that closes it."""
+    for found in REQUIRES.finditer(text):
+        depth, end = 1, found.end()
+        while depth:
+            depth += {"{": 1, "}": -1}.get(text[end], 0)
+            end += 1
+        line = text.count("\n", 0, found.end()) + 1
+        yield Clause(line, found[1], " ".join(text[found.end():end - 1].split()))
+
+
 def conditions(path):
-    """The functions of a file that have conditions: the type, the name, whether it is public, whether it is one for C, and the conditions."""
+    """The functions of a file that have conditions: the type, the name, whether it is public, whether it is one for C,
+    and the conditions."""
     found, block, kind = [], None, None
-    lines = code(path).splitlines()
+    lines, clauses = code(path).splitlines(), collections.defaultdict(list)
+    for it in requires(code(path)):
+        clauses[it.line].append(it)
     for number, line in enumerate(lines):
         if head := BLOCK.match(line):
             block, kind = type_of(" ".join(lines[number:]).partition("{")[0]), head[1]
@@ -111,7 +132,7 @@ def conditions(path):
             public = bool(head[2]) or bool(head[1]) and kind == "trait"
             found.append((block if head[1] else "", head[4], public, bool(head[3]), []))
         if found:
-            found[-1][4].extend(REQUIRES.findall(line))
+            found[-1][4].extend(clauses[number + 1])
     return [it for it in found if it[0] is not None and it[4]]
 
 
@@ -136,11 +157,11 @@ def functions():
             names = there.get(module, ())
             for type_, name, public, for_c, clauses in conditions(path):
                 if type_ and public and type_ in types:
-                    yield Function({type_}, type_, name, clauses)
+                    yield Function(crate, {type_}, type_, name, clauses)
                 elif not type_ and public and (for_c or names is None or name in names):
                     given = by.get((module, name), {(module, name)})
                     places = {f"{crate}::{it}" for it, _ in given}
-                    yield Function({crate, *places}, "", min(it for _, it in given), clauses)
+                    yield Function(crate, {crate, *places}, "", min(it for _, it in given), clauses)
 
 
 def unread():
@@ -164,7 +185,8 @@ def faults(known):
     text, rows = PAGE.read_text(), collections.Counter()
     for number, head, cell in check_names.columns(text):
         for place, name in called(cell) if head == "call" else ():
-            found = [i for i, it in enumerate(known) if it.name == name and (place in it.places if place else not it.type)]
+            found = [i for i, it in enumerate(known)
+                     if it.name == name and (place in it.places if place else not it.type)]
             rows.update(found)
             if len(found) != 1:
                 yield f":{number}: {name} is the name of {len(found)} functions with conditions"
@@ -180,7 +202,7 @@ def main():
     known = list(functions())
     if sys.argv[1:] == ["--list"]:
         for it in known:
-            print(min(it.places), it.name, *(clause or "-" for clause in it.clauses))
+            print(min(it.places), it.name, *(clause.name or "-" for clause in it.clauses))
         return
     found = [*unread(), *(f"{PAGE.relative_to(ROOT)}{fault}" for fault in faults(known))]
     for fault in found:
