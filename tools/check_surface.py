@@ -7,8 +7,9 @@ usage: tools/check_surface.py [--rows | --facade]
   with these parameters: in its crate under its own name, or where the line says. Each word of a form has to be in the
   column `expected` of the table "Public forms that differ" of docs/DECISIONS.md, in a row of that crate. A row of the
   table has such a word, and the rows are in the order of the crates.
-- A type that a public signature, field or variant of what `witcall` gives names has to be given by `witcall` too.
-  Types of std and of the kit are left out, and implementations of traits are not read.
+- A type that a public signature, field or variant of what `witcall` gives names has to be given by `witcall` too, or a
+  line of tools/surface.txt says which crate gives it. Types of std and of the kit are left out, and implementations of
+  traits are not read.
 
 Prints one line with counts. --rows and --facade do one of the two. The exit status is 1 if something is missing.
 """
@@ -23,11 +24,12 @@ PAGE = ROOT / "docs" / "DECISIONS.md"
 SECTION = "## Public forms that differ\n"
 FACADE = "witcall"
 # a name, the parameters of a call or the variants and fields of a type; where it is; the words of its forms
-LINE = re.compile(r"(call|type|trait|variants|fields) ([\w:]+?)(?:\((.*?)\)|: ([\w, ]+?))?"
+LINE = re.compile(r"(call|type|trait|variants|fields|outside) ([\w:]+?)(?:\((.*?)\)|: ([\w, ]+?))?"
                   r"(?: = (\w+): ([\w:]+))?(?: \| (.+))?")
 FORM = re.compile(r"form \| (.+)")
 TYPES = ("struct", "enum", "type", "trait")
-KINDS = {"call": ("fn",), "type": TYPES[:3], "trait": TYPES[3:], "variants": ("variant",), "fields": ("field",)}
+KINDS = {"call": ("fn",), "type": TYPES[:3], "trait": TYPES[3:], "variants": ("variant",), "fields": ("field",),
+         "outside": TYPES}
 SPAN = re.compile(r"`([^`]+)`")
 
 # what is looked for: its line, crate, kind and name, the parameters of a call, where it is, and the words of its forms
@@ -127,21 +129,29 @@ def types_in(item):
             yield found
 
 
-def faults_of_facade():
-    """The types that something of the facade names and that it does not give."""
-    homes = {(it.path, it.name) for it in given(FACADE).values()}
-    without = f"which {FACADE} does not give"
+def in_facade():
+    """What the facade gives, with what belongs to it: the name, the item, and the types that it names."""
     for name, item in given(FACADE).items():
         for it in (item, *(members(item) if item.kind in TYPES else ())):
-            whole = name if it is item else f"{name}::{it.name}"
-            lost = {(found.name, found.crate) for found in types_in(it) if (found.path, found.name) not in homes}
-            for type_, crate in sorted(lost):
-                yield f"{it.path.relative_to(ROOT)}:{it.line}: {whole} names {type_} of {crate}, {without}"
+            yield name if it is item else f"{name}::{it.name}", it, set(types_in(it))
+
+
+def faults_of_facade(surface):
+    """The types that something of the facade names and that it does not give, and those outside that nothing names."""
+    homes = set(given(FACADE).values())
+    outside = {named(it.place, it.path): it for it in surface if it.kind == "outside"}
+    for whole, it, found in in_facade():
+        for type_, crate in sorted((other.name, other.crate) for other in found - homes - set(outside)):
+            place = f"{it.path.relative_to(ROOT)}:{it.line}"
+            yield f"{place}: {whole} names {type_} of {crate}, which {FACADE} does not give"
+    unused = set(outside).difference(*(found for _, _, found in in_facade()))
+    for it in (outside[item] for item in unused):
+        yield f"{DATA.relative_to(ROOT)}:{it.number}: nothing of {FACADE} names {it.name}"
 
 
 def counts(surface):
     """How many things are looked for, and how they are there."""
-    things = [it for it in surface if it.kind != "form"]
+    things = [it for it in surface if it.kind not in ("form", "outside")]
     kinds = collections.Counter(it.kind for it in things)
     own = sum((it.place, it.path) == (it.crate, it.name) for it in things)
     types = kinds["type"] + kinds["trait"]
@@ -157,7 +167,7 @@ def main():
         found += [f"{DATA.relative_to(ROOT)}:{it.number}: {fault}" for it in surface if (fault := fault_of(it))]
         found += dict.fromkeys(faults_of_table(surface))
     if sys.argv[1:] != ["--rows"]:
-        found += faults_of_facade()
+        found += faults_of_facade(surface)
     for fault in found:
         print(fault)
     if not found:
