@@ -17,7 +17,7 @@ from check_conditions import code, leaves, parts
 ROOT = pathlib.Path(__file__).resolve().parent.parent
 USE = re.compile(r"^(pub )?use ([^;]+);", re.M)
 MODULE = re.compile(r"^(pub )?mod (\w+);", re.M)
-ITEM = re.compile(r"(pub )?(?:unsafe )?(struct|enum|trait|type|const) (\w+)")
+ITEM = re.compile(r"(pub )?(?:unsafe )?(struct|enum|trait|type|const) (?!fn\b)(\w+)")
 FN = re.compile(r"(pub )?(?:const )?(?:unsafe )?(?:extern \"\" )?fn (\w+)")
 IMPL = re.compile(r"(?:unsafe )?impl\b")
 VARIANT = re.compile(r"    ([A-Z]\w*)(.*)")
