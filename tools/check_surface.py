@@ -160,6 +160,7 @@ def counts(surface):
 
 
 def main():
+    """Prints what is missing, or the counts."""
     if sys.argv[1:] not in ([], ["--rows"], ["--facade"]):
         sys.exit(__doc__)
     surface, found = list(expected()), []

@@ -142,6 +142,7 @@ def page():
 
 
 def main():
+    """Writes the page, or checks that it is current."""
     if sys.argv[1:] == ["--check"]:
         if not PAGE.exists() or PAGE.read_text() != page():
             sys.exit(f"tools/conditions_page.py: {PAGE.relative_to(ROOT)} is not current: run tools/conditions_page.py")

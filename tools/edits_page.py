@@ -76,6 +76,7 @@ def page():
 
 
 def main():
+    """Writes the page, or checks that it is current."""
     if sys.argv[1:] == ["--check"]:
         if not PAGE.exists() or PAGE.read_text() != page():
             sys.exit(f"tools/edits_page.py: {PAGE.relative_to(ROOT)} is not current: run tools/edits_page.py")

@@ -207,6 +207,7 @@ def parts_of(text):
 
 
 def main():
+    """Prints what a crate gives."""
     if len(sys.argv) != 2 or not files(sys.argv[1]):
         sys.exit(__doc__)
     for name, item in sorted(given(sys.argv[1]).items()):
