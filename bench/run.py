@@ -1,30 +1,40 @@
 #!/usr/bin/env python3
-"""Times storing and loading, and calls, against plain Rust, and prints the tables of docs/BENCHMARKS.md.
+"""Measures witcall beside what does the same without it, and prints the tables of docs/BENCHMARKS.md.
 
-usage: bench/run.py [FOLDER] [--only values|calls]
-
-Copies `adapter` and the crates below it, with what their checks have kept, to a folder outside the repository (FOLDER, which
-stays for the next run, or a temporary one), proves and builds two libraries there, and runs bench/main.rs and bench/calls.rs against
-them. It needs `rt` and `rustc` 1.88 or later on the path. Where no check has kept anything, it proves all these crates first.
+FOLDER, outside the repository, stays for the next run; else a temporary one is taken. What is proved and built is a copy in it of the crates
+that it needs, with what their checks have kept, and one of the benchmark's own. It needs `rt` on the path, and proves these crates first where
+no check has kept anything.
 """
+import argparse
+import contextlib
 import datetime
+import inspect
 import os
 import pathlib
 import platform
+import re
 import shutil
 import subprocess
 import sys
 import tempfile
 
-TOP = pathlib.Path(__file__).resolve().parent.parent
-LIBRARIES = ["atoms", "canonical_abi", "tables", "table_building", "layout", "memory", "values", "lift_lower"]
-CALLS = ["atoms", "canonical_abi", "tables", "table_building", "layout", "memory", "lift_lower", "adapter"]
+import writer
 
-# of each table: its library's crate and that crate's source, what it stands on, and the program over it
+TOP = pathlib.Path(__file__).resolve().parent.parent
+sys.path.insert(0, str(TOP))
+
+from tools.measure import times  # noqa: E402
+from tools.measure.harness import INSTRUCTIONS, PROGRAM, TIME, Cost, Folder, Growth, Starter, milliseconds  # noqa: E402
+
+LIBRARIES = ["atoms", "canonical_abi", "tables", "table_building", "layout", "memory"]
+# of each table over a library: the library's crate and that crate's source, what it stands on, and the program over it
 TABLES = {
-    "values": ("bench", "library.rt.in", LIBRARIES, "main.rs"),
-    "calls": ("calls_bench", "calls.rt.in", CALLS, "calls.rs"),
+    "values": ("bench", "library.rt.in", [*LIBRARIES, "values", "lift_lower"], "main.rs"),
+    "calls": ("calls_bench", "calls.rt.in", [*LIBRARIES, "lift_lower", "adapter"], "calls.rs"),
 }
+
+
+# ---- copies of the crates
 
 
 def lines_of_crates():
@@ -35,8 +45,7 @@ def lines_of_crates():
 
 def crates_below(lines, names):
     """These crates and all that they stand on, as far as the repository has them."""
-    found = []
-    rest = list(names)
+    found, rest = [], list(names)
     while rest:
         name = rest.pop()
         if name in lines and name not in found:
@@ -53,7 +62,7 @@ def copy_tree(source, target):
         shutil.copytree(source, target)
 
 
-def fill(folder, libraries=LIBRARIES, crate="bench", source="library.rt.in", kind=" staticlib"):
+def fill(folder, libraries, crate, source, kind=""):
     """Writes the copy: the crates, and one of the benchmark's own, of this kind, over these libraries."""
     lines = lines_of_crates()
     names = crates_below(lines, libraries)
@@ -63,36 +72,36 @@ def fill(folder, libraries=LIBRARIES, crate="bench", source="library.rt.in", kin
             copy_tree(TOP / "crates" / name / part, target / part)
         if not (target / "out").exists():
             copy_tree(TOP / "crates" / name / "out", target / "out")
-    own = folder / "crates" / crate / "src"
-    own.mkdir(parents=True, exist_ok=True)
-    shutil.copy(TOP / "bench" / source, own / ("lib.rt" if kind else "main.rt"))
+    own = folder / "crates" / crate
+    (own / "src").mkdir(parents=True, exist_ok=True)
+    shutil.copy(TOP / "bench" / source, own / "src" / ("lib.rt" if kind else "main.rt"))
     shutil.copy(TOP / "HANDLES", folder)
     listed = [lines[name] for name in names] + [f"{crate}{kind}: {' '.join(libraries)}"]
     (folder / "crates.txt").write_text("\n".join(listed) + "\n")
+    return own
 
 
-def answer_of(*words):
-    """What a command prints, in one line."""
-    run = subprocess.run(words, capture_output=True, text=True, check=True)
-    return run.stdout.strip()
+def kit():
+    """The folder of the toolchain."""
+    return pathlib.Path(answer_of("rt", "doc")).parent
 
 
-def processor():
-    """The processor's name, where the system tells it."""
-    info = pathlib.Path("/proc/cpuinfo")
-    names = info.read_text().splitlines() if info.exists() else []
-    names = [line.split(":")[1].strip() for line in names if line.startswith("model name")]
-    return names[0] if names else "an unnamed processor"
+def program_of(folder, libraries, source, needs_words=False):
+    """The program of a crate of the benchmark's own, proved and built. If it needs words, it fails where it is run without."""
+    crate = f"{source.partition('.')[0]}_bench"
+    own = fill(folder, libraries, crate, source)
+    subprocess.run(["rt", "run"], cwd=own, check=not needs_words, stdout=subprocess.DEVNULL, stderr=sys.stderr)
+    return own / "out" / crate
 
 
-def build(folder, crate, program):
-    """Proves and builds the library, and the program over it."""
-    out = folder / "crates" / crate / "out"
+def program_over(folder, table):
+    """The program in Rust of a table over its library, both built."""
+    crate, source, libraries, program = TABLES[table]
+    out = fill(folder, libraries, crate, source, " staticlib") / "out"
     subprocess.run(["rt", "lib"], cwd=out.parent, check=True, stdout=sys.stderr)
-    kit = pathlib.Path(answer_of("rt", "doc")).parent
     binary = folder / crate
     words = ["rustc", "--edition", "2024", "-O", "-o", binary, TOP / "bench" / program]
-    words += ["-L", f"native={out}", "-L", f"native={kit / 'c'}"]
+    words += ["-L", f"native={out}", "-L", f"native={kit() / 'c'}"]
     if platform.machine() == "x86_64":
         # what `rt lib` builds for
         words += ["-C", "target-cpu=x86-64-v2"]
@@ -100,40 +109,250 @@ def build(folder, crate, program):
     return binary
 
 
-def run_in(folder, tables):
-    """Builds in this folder, and prints each table and what it was measured on."""
-    for name in tables:
-        crate, source, libraries, program = TABLES[name]
-        fill(folder, libraries, crate, source)
-        binary = build(folder, crate, program)
-        before = os.getloadavg()[0]
+# ---- what is told
+
+
+def answer_of(*words):
+    """What a command prints, without the end of its last line."""
+    ran = subprocess.run(words, capture_output=True, text=True, check=True)
+    return ran.stdout.strip()
+
+
+def processor():
+    """The processor's name, where the system tells it."""
+    info = pathlib.Path("/proc/cpuinfo")
+    lines = info.read_text().splitlines() if info.exists() else []
+    names = [line.split(":")[1].strip() for line in lines if line.startswith("model name")]
+    return names[0] if names else "an unnamed processor"
+
+
+@contextlib.contextmanager
+def machine(*versions):
+    """Prints what the measures inside were made on: the processor, its load, and the versions of these programs."""
+    before = os.getloadavg()[0]
+    yield
+    load = f"load {before:.1f} before and {os.getloadavg()[0]:.1f} after"
+    print(f"\n{datetime.date.today()}, {processor()}, {os.cpu_count()} cores, {load};")
+    print("; ".join(answer_of(*words).splitlines()[0] for words in [("rt", "version"), *versions]) + ".")
+
+
+def over_library(given):
+    """Prints a table that a program over a library makes."""
+    binary = program_over(given.folder, given.what)
+    with machine(("rustc", "--version")):
         table = answer_of(binary)
-        after = os.getloadavg()[0]
-        print(f"{datetime.date.today()}, {processor()}, {os.cpu_count()} cores, load {before:.1f} before and {after:.1f} after;")
-        print(f"{answer_of('rt', 'version')}; {answer_of('rustc', '--version')}.")
-        print()
-        print(table)
-        print()
+    print(f"\n{table}")
+
+
+def values(given):
+    """Storing and loading, beside plain Rust. Needs `rustc` 1.88 or later."""
+    over_library(given)
+
+
+def calls(given):
+    """Calls by `Link::call`, beside plain Rust. Needs `rustc` 1.88 or later."""
+    over_library(given)
+
+
+def holes(given):
+    """Requests to a `FirstFit` with few and many holes."""
+    program = program_of(given.folder, ["memory", "anyhow"], "holes.rt.in")
+    with machine():
+        rows = answer_of(program)
+    print(f"\n| holes | | first | any | last | none |\n|---|---|---|---|---|---|\n{rows}")
+
+
+# ---- calls through the C library
+
+
+TURNS = 5
+
+
+def host_program(folder):
+    """bench/host.c over the library, both built in the repository."""
+    crate = TOP / "crates/witcall_c"
+    subprocess.run(["rt", "lib"], cwd=crate, check=True, stdout=sys.stderr)
+    words = ["clang", "-std=gnu11", "-O2", "-I", TOP / "include", "-o", folder / "host", TOP / "bench/host.c"]
+    subprocess.run(words + [crate / "out/libwitcall_c.a", kit() / "c/liblibc_c.a"], check=True)
+    return folder / "host"
+
+
+def times_of(host_binary, calls_binary):
+    """The nanoseconds that both programs tell, by name."""
+    found = dict(line.split() for line in answer_of(host_binary).splitlines())
+    found["link"] = re.search(r"\| a `u32` \| (\d+) \|", answer_of(calls_binary, "short"))[1]
+    return {name: float(time) for name, time in found.items()}
+
+
+def host(given):
+    """Calls through the C library, beside `Link::call` and a plain copy: of five turns the least. Needs `rustc` and clang."""
+    programs = host_program(given.folder), program_over(given.folder, "calls")
+    with machine(("rustc", "--version"), ("clang", "--version")):
+        turns = [times_of(*programs) for _ in range(TURNS)]
+    number, link, taken, copied = (min(turn[name] for turn in turns) for name in ("number", "link", "list", "copy"))
+    print("\n| | the C library | beside it | | wanted |\n|---|---|---|---|---|")
+    print(f"| a call of a `u32`, both halves, ns | {number:.0f} | `Link::call` {link:.0f} | {number - link:+.0f} | at most +40 |")
+    print(f"| a `list<u8>` of 1 MiB, first half, ns | {taken:.0f} | a plain copy {copied:.0f} | {taken / copied:.2f} | at most 1.1 |")
+
+
+# ---- JSON
+
+
+# how many elements the longest list has: its JSON has less than 1 MiB, which is all that the program reads, and so have the blocks of two such
+# lists, which the callee's memory holds
+MOST_ELEMENTS = {"texts": 25000, "lists": 25000}
+
+
+def json(given):
+    """Calls with JSON of up to 100,000 elements, whose body answers the list: twice as many may take 2.3 times as long."""
+    program = program_of(given.folder, ["atoms", "words", "witcall"], "json.rt.in", needs_words=True)
+
+    def words(path, element, count):
+        elements = times.of_elements(element, count)
+        document = path.with_name(f"{count}.json")
+        document.write_text(f"[{elements}]")
+        answer = subprocess.run([program, path, document], capture_output=True, text=True, check=False)
+        if answer.stdout != f"{elements}\n":
+            sys.exit(f"{count} times {element}: {answer.stderr.strip() or 'another answer'}")
+        return [program, path, document]
+
+    def lengths(kind):
+        return [MOST_ELEMENTS.get(kind, 100000) >> step for step in (4, 3, 2, 1, 0)]
+
+    return times.grown_lists(words, lengths, Growth(INSTRUCTIONS if given.instructions else TIME, "elements"))
+
+
+# ---- opening, beside wit-parser
+
+
+LENGTHS = {"10 KB": 10000, "100 KB": 100000, "1 MB": 1000000}
+MEMBERS = 10
+ABSENT = ["a:b/none", "none", "[]", "[]"]
+# of these many runs the least counts; what has taken so many milliseconds isn't run again
+OPENING, ENOUGH = Cost(milliseconds, "ms", 300), 3000
+# a module without anything, and a linker that writes it
+MODULE = b"\0asm\x01\0\0\0"
+LINKER = """#!/bin/sh
+while [ "$1" != -o ]; do shift; done
+cp "$(dirname "$0")/empty.module" "$2"
+"""
+
+
+def component_ld():
+    """The linker of components that the Rust toolchain has."""
+    found = sorted(pathlib.Path(answer_of("rustc", "--print", "sysroot")).glob("lib/rustlib/*/bin/wasm-component-ld"))
+    if not found:
+        sys.exit("bench/run.py: the Rust toolchain has no wasm-component-ld")
+    return found[0]
+
+
+def write_texts(folder):
+    """Writes all texts, those with a world for wit-parser, and the linker's stub."""
+    kept = {"empty": "package a:b;\n"} | {told: writer.text_of(length) for told, length in LENGTHS.items()}
+    for told, text in kept.items():
+        (folder / f"{told}.wit").write_text(text)
+        (folder / f"{told} in a world.wit").write_text(text + "world w {\n}\n")
+    for member in range(MEMBERS):
+        (folder / f"member {member}.wit").write_text(writer.text_of(LENGTHS["100 KB"], f"a:p{member}"))
+    (folder / "empty.module").write_bytes(MODULE)
+    (folder / "linker").write_text(LINKER)
+    (folder / "linker").chmod(0o755)
+
+
+def by_wit_parser(folder, told):
+    """The command that has wit-parser read a text."""
+    words = [component_ld(), "--wasm-ld-path", folder / "linker", "--wasi-adapter", "none", "-o", folder / "out.wasm"]
+    return [*words, "--component-type", folder / f"{told} in a world.wit", folder / "empty.module"]
+
+
+def of_program(program, folder):
+    """What is measured of a program, by what it is."""
+    members = [folder / f"member {member}.wit" for member in range(MEMBERS)]
+    commands = {told: [program, "call", folder / f"{told}.wit", *ABSENT] for told in ["empty", *LENGTHS]}
+    commands["bin"] = [program, "bin", folder / "1 MB.wit"]
+    commands["binary"] = [program, "call", folder / "1 MB.wasm", *ABSENT]
+    commands["set"] = [program, "call", *times.behind(members), *ABSENT]
+    return commands
+
+
+def least_of(commands):
+    """The least time of each command. A call of a function that isn't there is refused; all else is done."""
+    for words in commands.values():
+        ran = subprocess.run(words, stdout=subprocess.DEVNULL, stderr=subprocess.DEVNULL, check=False)
+        if ran.returncode != int(words[-len(ABSENT):] == ABSENT):
+            sys.exit(f"bench/run.py: status {ran.returncode} of {' '.join(map(str, words))}")
+    return dict(zip(commands, OPENING.least(list(commands.values()), ENOUGH)))
+
+
+def row(told, time, beside, wanted):
+    """A row of the table."""
+    return f"| {told} | {time:.2f} | {beside:.2f} | {time / beside:.2f} | {wanted} |"
+
+
+def opening_table(program, folder):
+    """The table of a program."""
+    with open(folder / "1 MB.wasm", "wb") as file:
+        subprocess.run([program, "bin", folder / "1 MB.wit"], stdout=file, check=True)
+    ours = of_program(program, folder)
+    best = least_of({**ours, **{f"wit-parser {told}": by_wit_parser(folder, told) for told in ["empty", *LENGTHS]}})
+    mine = {told: best[told] - best["empty"] for told in ours}
+    parser = {told: best[f"wit-parser {told}"] - best["wit-parser empty"] for told in LENGTHS}
+    lines = ["", "| | witcall | beside it | ratio | target |", "|---|---|---|---|---|"]
+    lines += [row(f"a text of {told}, beside wit-parser", mine[told], parser[told], "0.5") for told in LENGTHS]
+    lines.append(row("`bin` of 1 MB, beside wit-parser's reading", mine["bin"], parser["1 MB"], "0.7"))
+    lines.append(row("the binary of 1 MB, beside its text", mine["binary"], mine["1 MB"], "0.6"))
+    lines.append(row("ten packages of 100 KB, beside one text of 1 MB", mine["set"], mine["1 MB"], "1.2"))
+    starter, size = Starter(Folder(folder)), (folder / "1 MB.wit").stat().st_size
+    for told in ("1 MB", "binary"):
+        _, _, most = starter.run(ours[told])
+        told = f"the most memory for {told}, in KiB, beside the text"
+        lines.append(f"| {told} | {most:,} | {size // 1024} | {most * 1024 / size:.1f} | 6 |")
+    return lines
+
+
+def opening(given):
+    """Opening of texts and binaries in milliseconds, beside wit-parser, without what each takes for an empty text.
+
+    wit-parser is the one in `wasm-component-ld` of the Rust toolchain, which reads the text as a component's type (--component-type) and
+    writes a component without code; a stub stands for the linker that it calls. All programs run in turn. The program is
+    crates/program/out/program, as `rt run` in crates/program leaves it; with --earlier another build is measured too.
+    """
+    write_texts(given.folder)
+    programs = [pathlib.Path(it).resolve() for it in ([given.earlier] if given.earlier else []) + [PROGRAM]]
+    with machine((component_ld(), "--version")):
+        lines = [line for program in programs for line in opening_table(program, given.folder)]
+    print("\n".join(lines))
+
+
+BENCHMARKS = (values, calls, holes, host, json, opening)
+
+
+def outside(folder):
+    """A folder, which has to be outside the repository."""
+    folder = pathlib.Path(folder).resolve()
+    if folder == TOP or TOP in folder.parents:
+        sys.exit("bench/run.py: the folder has to be outside the repository")
+    folder.mkdir(parents=True, exist_ok=True)
+    return folder
 
 
 def main():
-    words = sys.argv[1:]
-    tables = list(TABLES)
-    if "--only" in words:
-        at = words.index("--only")
-        tables = words[at + 1 : at + 2]
-        del words[at : at + 2]
-    if len(words) > 1 or words in (["-h"], ["--help"]) or not set(tables) <= set(TABLES) or not tables:
-        sys.exit(__doc__)
-    if words:
-        folder = pathlib.Path(words[0]).resolve()
-        if folder == TOP or TOP in folder.parents:
-            sys.exit("bench/run.py: the folder has to be outside the repository")
-        folder.mkdir(parents=True, exist_ok=True)
-        run_in(folder, tables)
-        return
-    with tempfile.TemporaryDirectory() as folder:
-        run_in(pathlib.Path(folder), tables)
+    """Measures what the command line asks for. The exit status is 1 where JSON grows too much."""
+    parser = argparse.ArgumentParser(prog="bench/run.py", description=__doc__, formatter_class=argparse.RawDescriptionHelpFormatter)
+    benchmarks = parser.add_subparsers(metavar="WHAT", dest="what", required=True)
+    for benchmark in BENCHMARKS:
+        told = inspect.getdoc(benchmark)
+        one = benchmarks.add_parser(benchmark.__name__, help=told.splitlines()[0], description=told)
+        one.add_argument("folder", nargs="?", metavar="FOLDER")
+        one.set_defaults(benchmark=benchmark)
+        if benchmark is json:
+            one.add_argument("--instructions", action="store_true", help="count instructions by callgrind in place of the time")
+        if benchmark is opening:
+            one.add_argument("--earlier", metavar="PROGRAM")
+    given = parser.parse_args()
+    with tempfile.TemporaryDirectory() as scratch:
+        given.folder = outside(given.folder or scratch)
+        sys.exit(given.benchmark(given) is False)
 
 
 if __name__ == "__main__":

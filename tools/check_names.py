@@ -20,7 +20,8 @@ What is checked of the pages:
 
 - The numbers of COUNTS are those of the stored rows, of the laws and of tools/believed.py. So are the lines of each
   subject of DEFINITIONS.md.
-- Each script of tools/ and bench/ is named on a page, in the gate or in another script.
+- Each script of tools/ and bench/ is named on a page, in the gate or in another script. What `python3 -m tools.measure`
+  measures is named in docs/GROWTH.md, and what bench/run.py does in docs/BENCHMARKS.md, and nothing else as such.
 
 In the tables of docs/guarantees/ the cells of the column `clause` hold functions and clauses alone, as `open_set`:
 ok, only; `Package::takes`, each of which has to be there; a function without a clause has one that has no name. Those
@@ -30,39 +31,35 @@ there.
 """
 import collections
 import json
-import pathlib
 import re
 import sys
 
 import believed
-from check_pages import prose, without_blocks
+from check_pages import prose
+from repository import (
+    ROOT, SPAN, WORD, blocks, code, columns, counted, edits, finish, functions, line_at, pages, place, sources, text_rows, vectors,
+    without_blocks
+)
 from try_edits import edited
 
-ROOT = pathlib.Path(__file__).resolve().parent.parent
+sys.path[:0] = [str(ROOT), str(ROOT / "bench")]
+
+import run as benchmarks  # noqa: E402
+from tools.measure.__main__ import MEASURES  # noqa: E402
+
 NAME = re.compile(r"[A-Za-z_][A-Za-z0-9_]*(::[A-Za-z_][A-Za-z0-9_]*)*")
-WORD = re.compile(r"[A-Za-z_][A-Za-z0-9_]*")
 # functions, and clauses of their contracts
 CLAUSES = re.compile(r"((?:`[\w:]+`(?:, and | and |, )?)+)(?: \(`\w+`\))?: ([a-z_0-9]+(?:, [a-z_0-9]+)*)(?=[;|.)]| \||, part| \()")
-# a word in backquotes, a call, and a path
-SPAN = re.compile(r"`([^`]+)`")
+# a call, and a path
 CALL = re.compile(r"([A-Za-z_:]\w[\w:]*)\(.*\)")
 PATH = re.compile(r"(?:\./)?[\w.*-]+(?:/[\w.*-]+)*/?")
 FOLDERS = (".ci", "bench", "crates", "docs", "edits", "examples", "include", "packaging", "release", "tests", "tools")
 INNER = ("specs", "proofs", "src")
-# blocks of code, and what in them is no code
-BLOCKS = re.compile(r"^```(rust|c|sh)\n(.*?)^```$", re.M | re.S)
+# a name for any, and what in a block is no code
 PLACEHOLDER = re.compile(r"[A-Z]_")
 NO_CODE = re.compile(r'"(?:[^"\\\n]|\\.)*"|//.*|/\*.*?\*/', re.S)
-COMMENTS = {".antt": re.compile(r"--.*"), ".rt": re.compile(r"//.*"), ".h": re.compile(r"/\*.*?\*/", re.S)}
 # names of rows behind their crate
 ROWS = re.compile(r"`(rows_[a-z]+|vectors)` ((?:`[^`]+`(?:, )?)+)")
-# a clause that has a name (tools/pictures.py)
-LABEL = re.compile(r"\bensures ([a-z_0-9]+) \{")
-# the line of a function, of the block that it is in, and its clauses, of which some have no name
-HEAD = re.compile(r"( *)(?:pub(?:\(\w+\))? )?(?:const )?(?:unsafe )?(?:extern \"C\" )?fn (\w+)")
-BLOCK = re.compile(r"(?:pub(?:\(\w+\))? )?(?:unsafe )?(?:impl|trait)\b")
-REQUIRES = re.compile(r"\brequires (\w+)")
-ENSURES = re.compile(r"\bensures (\w*) ?\{")
 # a cell of docs/guarantees/: functions, and the clauses that all of them have
 GROUP = re.compile(r"((?:`[\w:]+`(?:, )?)+)(?:: ([a-z_0-9]+(?:, [a-z_0-9]+)*))?(?:, parts? (?:`\w+`(?:, )?)+)?")
 NOTE = re.compile(r"\(\d+\)")
@@ -81,56 +78,29 @@ COUNTS = {
 TWO = ["opening/set.rt:open_set:ok", "witcall/session.rt:call:promise"]
 
 
-def sources():
-    """The files of crates/ that hold code, definitions and lemmas, and the headers."""
-    for path in sorted((ROOT / "crates").rglob("*")):
-        if path.suffix in (".rt", ".antt") and "out" not in path.parts:
-            yield path
-    yield from sorted((ROOT / "include").glob("*.h"))
-
-
-def code(path):
-    """The text of a file of `sources` without its comments."""
-    return COMMENTS[path.suffix].sub("", path.read_text())
-
-
 def known():
     """Every word of the sources, out of comments, and of file names."""
-    words = set()
-    for path in sources():
-        words.update(WORD.findall(code(path)))
-    for path in (ROOT / "crates").glob("rows_*/**/*"):
-        if path.suffix == ".rows" or path.name == "stdin":
-            words.update(WORD.findall(path.read_text()))
-    for folder in FOLDERS:
-        for path in (ROOT / folder).rglob("*"):
-            if "out" not in path.parts:
-                words.update(WORD.findall(path.name))
-            # what the programs of hosts name
-            if folder == "examples" and path.suffix in (".c", ".h", ".mjs", ".rs", ".txt"):
-                words.update(WORD.findall(path.read_text()))
-    return words
+    files = [code(path) for path in (*sources(".rt", ".antt"), *(ROOT / "include").glob("*.h"))]
+    files += [path.read_text() for path in (ROOT / "crates").glob("rows_*/**/*") if path.suffix == ".rows" or path.name == "stdin"]
+    for path in (it for folder in FOLDERS for it in (ROOT / folder).rglob("*")):
+        if "out" not in path.parts:
+            files.append(path.name)
+        # what the programs of hosts name
+        if ROOT / "examples" in path.parents and path.suffix in (".c", ".h", ".mjs", ".rs", ".txt"):
+            files.append(path.read_text())
+    return {word for text in files for word in WORD.findall(text)}
 
 
 def contracts():
     """The functions of crates/ by their names: of each the names that it may be qualified by, its clauses, of which some have no name, and the
     names of its conditions."""
     found, traits = {}, {}
-    for path in sources():
-        if path.suffix != ".rt":
-            continue
-        block, clauses, conditions = "", [], []
-        for line in code(path).splitlines():
-            if BLOCK.match(line):
-                block = line
-            if head := HEAD.match(line):
-                around = block if head[1] else ""
-                owners, clauses, conditions = {path.relative_to(ROOT).parts[1], path.stem, *WORD.findall(around)}, [], []
-                found.setdefault(head[2], []).append((owners, clauses, conditions))
-                if "trait" in around.split():
-                    traits[head[2]] = traits.get(head[2], []) + [(owners, clauses)]
-            clauses.extend(ENSURES.findall(line))
-            conditions.extend(REQUIRES.findall(line))
+    for path in sources(".rt"):
+        for function in functions(path):
+            owners = {path.relative_to(ROOT).parts[1], path.stem, *WORD.findall(function.block)}
+            found.setdefault(function.name, []).append((owners, function.clauses, function.conditions))
+            if function.is_of_trait:
+                traits.setdefault(function.name, []).append((owners, function.clauses))
     # where a trait is implemented, its contract holds
     for name, given in traits.items():
         for owners, clauses, _ in found[name]:
@@ -139,31 +109,11 @@ def contracts():
     return found
 
 
-def edits():
-    """All must-fail edits, each with its crate."""
-    return {(path.parent.name, path.stem) for path in ROOT.glob("edits/*/*.edit")} | {
-        (path.parent.parent.name, path.stem) for path in ROOT.glob("crates/*/must-fail/*.edit")}
-
-
 def stale_edits():
     """The edits whose text isn't in the file that they change, or is there twice."""
-    for path in sorted([*ROOT.glob("crates/*/must-fail/*.edit"), *ROOT.glob("edits/*/*.edit")]):
-        name = path.parent.name if path.parent.parent.name == "edits" else path.parent.parent.name
-        if edited(path, ROOT / "crates" / name) is None:
-            yield f"{path.relative_to(ROOT)}: the text of an `old:` line isn't there once, or nothing changes"
-
-
-def columns(text):
-    """The cells of a page's tables: the number of a line, the head of the column, and the cell."""
-    heads = []
-    for number, line in enumerate(text.splitlines(), 1):
-        cells = [it.strip() for it in line.strip("|").split(" | ")] if line.startswith("|") else []
-        if not cells:
-            heads = []
-        elif not heads:
-            heads = cells
-        else:
-            yield from ((number, head, cell.strip("| ")) for head, cell in zip(heads, cells))
+    for path, crate in edits():
+        if edited(path, ROOT / "crates" / crate) is None:
+            yield f"{place(path)}: the text of an `old:` line isn't there once, or nothing changes"
 
 
 def wrong_clauses(cell, known_contracts):
@@ -173,7 +123,7 @@ def wrong_clauses(cell, known_contracts):
         if not found:
             yield f"no functions with clauses: {group}"
             continue
-        for name in re.findall(r"`([^`]+)`", found[1]):
+        for name in SPAN.findall(found[1]):
             *owners, last = name.split("::")
             there = [clauses for around, clauses, _ in known_contracts.get(last, []) if around.issuperset(owners)]
             if found[2] is None and [""] not in there:
@@ -212,7 +162,7 @@ def is_told(name):
 
 def spans(text):
     """The words in backquotes of a page, each on one line, with the number of its line."""
-    return [(text.count("\n", 0, found.start()) + 1, " ".join(found[1].split())) for found in SPAN.finditer(text)]
+    return [(line_at(text, found.start()), " ".join(found[1].split())) for found in SPAN.finditer(text)]
 
 
 def missing_names(text, words, all_contracts):
@@ -240,28 +190,24 @@ def is_exported(owners, name):
 
 def missing_in_blocks(page_text, words):
     """The names in blocks of Rust and C that aren't there; of C those that begin as the library's do."""
-    for found in BLOCKS.finditer(page_text):
-        number = page_text.count("\n", 0, found.start()) + 1
-        for name in NAME.finditer(NO_CODE.sub('""', found[2])) if found[1] != "sh" else ():
-            is_meant = is_told(name[0]) if found[1] == "rust" else name[0].lower().startswith(("wit_", "witcall_"))
+    for number, language, text in blocks(page_text, "rust", "c"):
+        for name in NAME.finditer(NO_CODE.sub('""', text)):
+            is_meant = is_told(name[0]) if language == "rust" else name[0].lower().startswith(("wit_", "witcall_"))
             if is_meant and any(part not in words for part in name[0].split("::")):
                 yield number, f"{name[0]}, in a block"
 
 
 def missing_paths(page_text):
     """The paths in backquotes and in blocks of `sh` that aren't there."""
-    named = [(number, span) for number, span in spans(without_blocks(page_text))]
-    for found in BLOCKS.finditer(page_text):
-        if found[1] == "sh":
-            named += [(page_text.count("\n", 0, found.start()) + 1, word) for word in found[2].split()]
+    named = spans(without_blocks(page_text)) + [(number, word) for number, _, text in blocks(page_text, "sh") for word in text.split()]
     for number, path in named:
+        pattern = path.removeprefix("./").rstrip("/")
         first, _, rest = path.removeprefix("./").partition("/")
         is_built = "out" in path.split("/") or re.search(r"\b[A-Z]{2,}\b", path)
         if not PATH.fullmatch(path) or not rest or is_built or first not in (*FOLDERS, *INNER):
             continue
-        pattern = path.removeprefix("./").rstrip("/")
         places = (pattern,) if first in FOLDERS else (f"crates/*/{pattern}", f"examples/*/{pattern}")
-        if not any(any(ROOT.glob(place)) for place in places):
+        if not any(any(ROOT.glob(it)) for it in places):
             yield number, f"nothing is at {path}"
 
 
@@ -274,41 +220,33 @@ def untrue_clauses(text, all_contracts):
         # a law has premises, which a page may say there are none of
         for clause in found[2].split(", "):
             if clause not in there and clause != "none":
-                yield text.count("\n", 0, found.start()) + 1, f"{found[1]} has no clause {clause}"
+                yield line_at(text, found.start()), f"{found[1]} has no clause {clause}"
 
 
 def missing_rows(line):
     """The names of rows in a line that their crate doesn't have."""
     for crate, names in ROWS.findall(line):
-        folder = ROOT / "crates" / crate
-        if crate == "vectors":
-            there = [json.loads(row)["name"] for row in (folder / "stdin").read_text().splitlines()]
-        else:
-            there = (folder / "stdout").read_text().splitlines()
-        for name in re.findall(r"`([^`]+)`", names):
-            if name not in there:
-                yield f"{crate} has no row {name}"
+        there = vectors() if crate == "vectors" else (ROOT / "crates" / crate / "stdout").read_text().splitlines()
+        yield from (f"{crate} has no row {name}" for name in SPAN.findall(names) if name not in there)
 
 
-def counted():
+def all_counts():
     """The numbers of COUNTS."""
-    rows = [json.loads(line) for line in (ROOT / "crates" / "vectors" / "stdin").read_text().splitlines()]
-    calls = sum(not row.keys() & {"steps", "lift", "lower"} for row in rows)
-    steps = sum(row["name"].startswith("steps: random ") for row in rows)
-    requests = (ROOT / "crates" / "rows_texts" / "data" / "reading.rows").read_text()
-    laws = code(ROOT / "crates" / "canonical_abi" / "src" / "laws.rt")
+    rows = {name: json.loads(row.asked) for name, row in vectors().items()}
+    steps = sum(name.startswith("steps: random ") for name in rows)
+    laws = code(ROOT / "crates/canonical_abi/src/laws.rt")
     definitions = believed.files()
-    to_believe = believed.believed(definitions, believed.CALLS)
-    of_two = believed.believed(definitions, TWO)
+    to_believe, of_two = (believed.believed(definitions, calls) for calls in (believed.CALLS, TWO))
+    lines_of = lambda places: sum(len(definitions[module].definitions[name]) for module, name in places)  # noqa: E731
     return {
-        "calls": calls,
+        "calls": sum(not row.keys() & {"steps", "lift", "lower"} for row in rows.values()),
         "calls and values": len(rows) - steps,
         "random steps": steps,
-        "random requests": len(re.findall(r"^random-\d+: ", requests, re.M)),
+        "random requests": sum(bool(re.fullmatch(r"random-\d+", name)) for name in text_rows()),
         "laws": len(re.findall(r"^ *pub (?:const )?fn ", laws, re.M)),
-        "lines to believe": sum(len(definitions[module].definitions[name]) for module, name in to_believe),
+        "lines to believe": lines_of(to_believe),
         "definitions to believe": len(to_believe),
-        "lines of two clauses": sum(len(definitions[module].definitions[name]) for module, name in of_two),
+        "lines of two clauses": lines_of(of_two),
     }
 
 
@@ -320,30 +258,40 @@ def wrong_subjects(page):
     rows = re.findall(r"^\| [^|]+ \| ((?:`\w+`(?:, )?)+) \| ([\d,]+) \|$", page.read_text(), re.M)
     for cell, number in rows:
         there = sum(lines.pop(crate, 0) for crate in SPAN.findall(cell))
-        if int(number.replace(",", "")) != there:
-            yield f"{page.relative_to(ROOT)}: {number} lines of {cell}, and there are {there}"
-    yield from (f"{page.relative_to(ROOT)}: no subject has {crate}" for crate in lines)
+        if counted(number) != there:
+            yield f"{place(page)}: {number} lines of {cell}, and there are {there}"
+    yield from (f"{place(page)}: no subject has {crate}" for crate in lines)
 
 
-def wrong_counts(pages):
+def wrong_counts():
     """The numbers of pages that differ from what is counted, and those that no page has."""
-    there = counted()
+    there = all_counts()
     for what, pattern in COUNTS.items():
-        found = [(page, number) for page in pages for number in pattern.findall(page.read_text())]
-        yield from (f"{page.relative_to(ROOT)}: {number} {what}, and there are {there[what]}" for page, number in found
-                    if int(number.replace(",", "")) != there[what])
+        found = [(page, number) for page in pages() for number in pattern.findall(page.read_text())]
+        yield from (f"{place(page)}: {number} {what}, and there are {there[what]}" for page, number in found if counted(number) != there[what])
         if not found:
             yield f"no page counts {what}"
 
 
-def unnamed_scripts(pages):
+def unnamed_scripts():
     """The scripts that nothing names."""
     scripts = [path for folder in ("tools", "bench") for path in sorted((ROOT / folder).glob("*.*")) if path.suffix in (".py", ".sh")]
-    texts = {path: path.read_text() for path in (*pages, *scripts, ROOT / ".ci" / "run", ROOT / "witcall")}
+    texts = {path: path.read_text() for path in (*pages(), *scripts, ROOT / ".ci" / "run", ROOT / "witcall")}
     for script in scripts:
-        name = re.compile(rf"\b{script.relative_to(ROOT)}\b|^ *(?:import|from) (?:tools\.)?{script.stem}\b", re.M)
+        name = re.compile(rf"\b{place(script)}\b|^ *(?:import|from) (?:tools\.)?{script.stem}\b", re.M)
         if not any(name.search(text) for path, text in texts.items() if path != script):
-            yield f"{script.relative_to(ROOT)}: nothing names it"
+            yield f"{place(script)}: nothing names it"
+
+
+def wrong_measures():
+    """What pages and the gate say of `tools.measure` and bench/run.py that these don't do, and what isn't named."""
+    parts = {"tools.measure": ("GROWTH.md", [*MEASURES]), "bench/run.py": ("BENCHMARKS.md", [it.__name__ for it in benchmarks.BENCHMARKS])}
+    for program, (own, names) in parts.items():
+        for page in [*pages(), ROOT / ".ci" / "run"]:
+            said = re.findall(rf"{re.escape(program)} ([a-z][a-z-]*)", page.read_text())
+            yield from (f"{place(page)}: {program} has no {name}" for name in said if name not in names)
+        told = {word for span in SPAN.findall((ROOT / "docs" / own).read_text()) for word in span.removeprefix(program).split()[:1]}
+        yield from (f"docs/{own} doesn't name {name} of {program}" for name in names if name not in told)
 
 
 def wrong_rows(text):
@@ -367,15 +315,12 @@ def faults_of(page, words, all_contracts, all_edits):
 
 
 def main():
-    words, all_contracts, all_edits = known(), contracts(), edits()
-    pages = [ROOT / "README.md", *sorted((ROOT / "docs").rglob("*.md"))]
-    faults = [*stale_edits(), *wrong_counts(pages), *wrong_subjects(ROOT / "docs" / "DEFINITIONS.md")]
-    faults += unnamed_scripts(pages)
-    for page in pages:
-        faults += [f"{page.relative_to(ROOT)}:{number}: {fault}" for number, fault in faults_of(page, words, all_contracts, all_edits)]
-    for fault in faults:
-        print(fault)
-    sys.exit(bool(faults))
+    """Prints what isn't there, and what is wrong with the pages."""
+    words, all_contracts, all_edits = known(), contracts(), {(crate, path.stem) for path, crate in edits()}
+    faults = [*stale_edits(), *wrong_counts(), *wrong_subjects(ROOT / "docs" / "DEFINITIONS.md"), *unnamed_scripts(), *wrong_measures()]
+    for page in pages():
+        faults += [f"{place(page)}:{number}: {fault}" for number, fault in faults_of(page, words, all_contracts, all_edits)]
+    finish(faults)
 
 
 if __name__ == "__main__":

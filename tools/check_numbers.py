@@ -20,16 +20,12 @@ usage: tools/check_numbers.py
 It prints each place that is wrong; the exit status is 1 then, and if nothing of a page is compared.
 """
 import collections
-import itertools
-import json
-import pathlib
 import re
 import sys
 
-from check_names import SPAN, columns, edits
 from models import opening, tokens
+from repository import ROOT, SPAN, all_crates, blocks, columns, counted, edits, pages, place, text_rows, vectors
 
-ROOT = pathlib.Path(__file__).resolve().parent.parent
 CODE = ("tests_in_code", "tests_of_formats", "tests_of_hosts")
 ROWS = ("rows_texts", "vectors", *CODE)
 NUMBER = re.compile(r"-?\b\d[\d,]*\b")
@@ -78,7 +74,6 @@ OTHERWISE = (
     "examples/wasi", "FirstFit", "Bump", "Scripted", "growing", "Bump::growing(65536, 131072)",
     "FirstFit::growing(65536, 196608)", "show --with a.wit --with b.wit c.wit", "show --with=a.wit c.wit", "clap",
 )
-BLOCK = re.compile(r"^```\n(.*?)^```$", re.M | re.S)
 BYTES = re.compile(r"^ *((?:[0-9a-f]{2} )*[0-9a-f]{2})(?:  .*)?$", re.M)
 THEOREM = re.compile(r"^(?:pub )?([a-zA-Z0-9][^ ]*) :", re.M)
 # what else pages name of the examples: an abbreviation, or a field of a proof
@@ -91,41 +86,12 @@ LAW = re.compile(r"\bfn (\w+)")
 # ---- rows
 
 
-def rows_of_texts():
-    """The input and the stored answer of each row of texts, by its name; the input has what stands under its names."""
-    for path in sorted((ROOT / "crates" / "rows_texts" / "data").glob("*.rows")):
-        kept, lines = {}, path.read_text().splitlines()
-        for number, line in enumerate(lines):
-            if line.startswith("let "):
-                name, _, given = line.removeprefix("let ").partition(" = ")
-                kept[name] = whole_input(given, kept)
-            elif line and not line.startswith(("#", "|")):
-                behind = itertools.takewhile(lambda it: it.startswith("|"), lines[number + 1 :])
-                asked, _, answer = line.partition(" =>")
-                name, _, asked = asked.partition(": ")
-                yield name, (whole_input(asked, kept), answer[1:] + "".join(f"{it[2:]}\n" for it in behind))
-
-
-def whole_input(given, kept):
-    """An input, and what it has by its names."""
-    names = re.sub(r'"[^"]*"', "", given).replace(",", " ").split()
-    return " ".join([given, *(kept[name] for name in names if name in kept)])
-
-
-def stored_rows():
-    """The input and the stored answer of each row, by its crate and its name."""
-    found = {("rows_texts", name): row for name, row in rows_of_texts()}
-    folder = ROOT / "crates" / "vectors"
-    asked, answers = ((folder / name).read_text().splitlines() for name in ("stdin", "stdout"))
-    return found | {("vectors", json.loads(row)["name"]): (row, answer) for row, answer in zip(asked, answers)}
-
-
 def spread(cell):
     """A cell in which a range of rows names each of them."""
     return RANGE.sub(lambda it: ", ".join(f"`{it[1]}{n}`" for n in range(int(it[2]), int(it[3]) + 1)), cell)
 
 
-def named_rows(cell, rows):
+def named_rows(cell):
     """The inputs and stored answers of the rows that a cell names; of a test, its file."""
     crate, found = "", []
     for name in SPAN.findall(spread(cell)):
@@ -134,8 +100,8 @@ def named_rows(cell, rows):
         elif crate in CODE:
             text = (ROOT / "crates" / crate / "src" / f"{name.partition('::')[0]}.rt").read_text()
             found.append((text, text))
-        elif (crate, name) in rows:
-            found.append(rows[crate, name])
+        elif row := {"rows_texts": text_rows, "vectors": vectors}.get(crate, dict)().get(name):
+            found.append((row.asked, row.answer))
     return found
 
 
@@ -173,9 +139,9 @@ def wrong_answers(said, answers, counts):
 
 def wrong_examples(text, counts):
     """What docs/EXAMPLES.md says of inputs and answers that no row has that is named there."""
-    rows, used = stored_rows(), set()
+    used = set()
     for number, line in example_lines(text):
-        named, said = named_rows(line["test"], rows), NOTE.sub("", line["answer"])
+        named, said = named_rows(line["test"]), NOTE.sub("", line["answer"])
         inputs, answers = [row[0] for row in named], [row[1] for row in named]
         for phrase in PHRASES:
             used.update([phrase] if phrase in said else [])
@@ -191,13 +157,13 @@ def wrong_examples(text, counts):
 
 def wrong_bytes(text, counts):
     """The blocks of bytes that no stored row answers."""
-    whole = squeezed(" ".join(answer for _, answer in stored_rows().values()))
-    for block in BLOCK.finditer(text):
-        found = "".join(BYTES.findall(block[1])).replace(" ", "")
-        if found and len(BYTES.findall(block[1])) == len(block[1].splitlines()):
+    whole = squeezed(" ".join(row.answer for row in (*text_rows().values(), *vectors().values())))
+    for number, _, block in blocks(text, ""):
+        found = "".join(BYTES.findall(block)).replace(" ", "")
+        if found and len(BYTES.findall(block)) == len(block.splitlines()):
             counts["blocks of bytes"] += 1
             if found not in whole:
-                yield text.count("\n", 0, block.start()) + 1, "no stored row answers the bytes of this block"
+                yield number, "no stored row answers the bytes of this block"
 
 
 # ---- theorems
@@ -247,7 +213,7 @@ def wrong_tests(text, counts):
     for number, head, cell in columns(text):
         for name in SPAN.findall(cell) if head in ("tested by", "refused by") else ():
             counts["tests of definitions"] += 1
-            if "::" not in name and name not in there | laws | {edit for _, edit in edits()}:
+            if "::" not in name and name not in there | laws | {path.stem for path, _ in edits()}:
                 yield number, f"{name} is no theorem, law or edit"
 
 
@@ -261,7 +227,7 @@ def table_of_seconds(text):
         if head == "crate":
             crate = cell.strip("`")
         elif head in ("proof", "tests", "edits", "builds") and set(cell) != {"-"}:
-            crates.setdefault(crate, collections.Counter())[head] = int(cell.replace(",", "") or 0)
+            crates.setdefault(crate, collections.Counter())[head] = counted(cell or "0")
     return crates, crates.pop("all")
 
 
@@ -287,25 +253,24 @@ def wrong_times(text, counts):
 
 def wrong_passes(counts):
     """The pages on which `rt ci` passes another number than there are crates and must-fail edits of the gate."""
-    crates = len(re.findall(r"^\w+(?: staticlib)?:", (ROOT / "crates.txt").read_text(), re.M))
-    there = crates + len(list(ROOT.glob("crates/*/must-fail/*.edit")))
-    for page in [ROOT / "README.md", *sorted((ROOT / "docs").rglob("*.md"))]:
+    there = len(all_crates()) + len(list(ROOT.glob("crates/*/must-fail/*.edit")))
+    for page in pages():
         for number in PASSED.findall(page.read_text()):
             counts["numbers of what passes"] += 1
             if int(number) != there:
-                yield f"{page.relative_to(ROOT)}: {number} passed, and there are {there} crates and must-fail edits"
+                yield f"{place(page)}: {number} passed, and there are {there} crates and must-fail edits"
 
 
 def wrong_limits(counts):
     """The limits on pages that are none of the models, and the keywords."""
-    for page in [ROOT / "README.md", *sorted((ROOT / "docs").rglob("*.md"))]:
+    for page in pages():
         text = " ".join(page.read_text().split())
         for pattern, limits in LIMITS.items():
             for found in re.findall(pattern, text, re.I):
                 number = "".join(found).rstrip(",")
                 counts["limits"] += 1
-                if int(number.replace(",", "")) not in limits:
-                    yield f"{page.relative_to(ROOT)}: {number}, and the limit is {limits}: {pattern}"
+                if counted(number) not in limits:
+                    yield f"{place(page)}: {number}, and the limit is {limits}: {pattern}"
     keywords = WORDS.search((ROOT / "docs" / "FORMATS.md").read_text())
     if not keywords or keywords[1].split() != tokens.KEYWORDS:
         yield "docs/FORMATS.md: the keywords are not those of tools/models/tokens.py"
@@ -331,7 +296,7 @@ def main():
         ("GATE", lambda text: ((1, fault) for fault in wrong_times(text, counts))),
     ):
         page = ROOT / "docs" / f"{name}.md"
-        faults += [f"{page.relative_to(ROOT)}:{number}: {fault}" for number, fault in check(page.read_text())]
+        faults += [f"{place(page)}:{number}: {fault}" for number, fault in check(page.read_text())]
     faults += [*wrong_passes(counts), *different(counts), *wrong_limits(counts)]
     print("\n".join([*faults, ", ".join(f"{number} {what}" for what, number in counts.items()) + " compared"]))
     sys.exit(bool(faults) or len(counts) < 10 or not all(counts.values()))

@@ -33,11 +33,13 @@ import subprocess
 import sys
 import tempfile
 
-import refused_allocations
-from check_names import columns
-from models.text_rows import Inputs
-
 ROOT = pathlib.Path(__file__).resolve().parent.parent
+sys.path.insert(0, str(ROOT))
+
+from check_names import columns  # noqa: E402
+from tools.measure import refused  # noqa: E402
+from tools.models.text_rows import Inputs  # noqa: E402
+
 COMMANDS = ("witcall", "./witcall", "~/.local/bin/witcall", "cd", "cat", "echo", "printf", "wc")
 HOSTS = ("README.md", "docs/LIBRARY.md", "docs/C.md")
 BLOCK = re.compile(r"^```(\w*)\n(.*?)^```$", re.M | re.S)
@@ -209,8 +211,8 @@ def check_errors_rows(pages):
 
 
 def without_memory():
-    """The lines that the sample of tools/refused_allocations.py asks for."""
-    asked = [words for _, words in (*refused_allocations.WORDS["rows_texts"], *refused_allocations.COMMANDS)]
+    """The lines that the sample of tools/measure/refused.py asks for."""
+    asked = [words for _, words in (*refused.WORDS["rows_texts"], *refused.COMMANDS)]
     return {word for words in asked for word in words if isinstance(word, int)}
 
 
@@ -234,7 +236,7 @@ def check_lines(pages, name, text):
             pages.expect("lines", place, "a stored answer", line if is_stored else None, line)
         if line == NO_MEMORY:
             numbers = {int(it) for it in re.findall(r"\d+", cell)}
-            pages.expect("lines", place, "the numbers of tools/refused_allocations.py", without_memory(), numbers)
+            pages.expect("lines", place, "the numbers of tools/measure/refused.py", without_memory(), numbers)
 
 
 def check_errors(pages, name, text):

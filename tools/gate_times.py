@@ -10,20 +10,25 @@ and the minute in which each crate was proved. --cores computes from it how long
 with the longest chain behind it starts first. What a process takes after the last look is not counted: half a second of each at most. The exit
 status is that of COMMAND.
 """
-import argparse
+import collections
 import json
 import os
 import subprocess
 import sys
 import time
 
+import repository
+
 PROVER = "rattle"
 TICKS = os.sysconf("SC_CLK_TCK")
 KINDS = ("proof", "tests", "edits", "builds")
 
 
+# ---- the prover's processes
+
+
 def read(path):
-    """Returns a file's bytes, none where the process has ended."""
+    """A file's bytes, none where the process has ended."""
     try:
         with open(path, "rb") as file:
             return file.read()
@@ -32,7 +37,7 @@ def read(path):
 
 
 def described(process):
-    """Returns the crate and the kind of what a process checks, if it is one of the prover's."""
+    """The crate and the kind of what a process checks, if it is one of the prover's."""
     words = read(f"/proc/{process}/cmdline").decode(errors="replace").split("\0")
     if os.path.basename(words[0]) != PROVER or "--crate-name" not in words:
         return None
@@ -50,7 +55,7 @@ def described(process):
 
 
 def seconds_of(process):
-    """Returns the processor time of a process and of those that it has waited for, in seconds, and when it began, in ticks."""
+    """The processor time of a process and of those that it has waited for, in seconds, and when it began, in ticks."""
     fields = read(f"/proc/{process}/stat").rpartition(b")")[2].split()
     return (sum(map(int, fields[11:15])) / TICKS, int(fields[19])) if len(fields) > 19 else None
 
@@ -73,37 +78,37 @@ def measured(command, seen):
     return running.returncode, time.time() - began
 
 
-def table(rows):
-    """Returns the table's lines: a crate each in the order in which the proofs began, and the sums."""
-    sums = {}
+# ---- what is told of them
+
+
+def summed(rows, key_of):
+    """The seconds of rows, by a key, in the order of the rows."""
+    sums = collections.defaultdict(float)
     for row in rows:
-        sums.setdefault(row["crate"], dict.fromkeys(KINDS, 0))[row["kind"]] += row["cpu"]
-    # of the seconds as they are shown
-    sums["all"] = {kind: sum(round(it[kind]) for it in sums.values()) for kind in KINDS}
+        sums[key_of(row)] += row["cpu"]
+    return sums
+
+
+def table(rows):
+    """The table's lines: a crate each in the order in which the proofs began, and the sums of the seconds as they are shown."""
+    seconds = summed(rows, lambda row: (row["crate"], row["kind"]))
+    names = list(dict.fromkeys(crate for crate, _ in seconds))
+    shown = {key: round(used) for key, used in seconds.items()}
+    sums = {kind: sum(shown.get((name, kind), 0) for name in names) for kind in KINDS}
+    shown |= {("all", kind): number for kind, number in sums.items() if number}
     lines = ["| crate | proof | tests | edits | builds |", "|---|---|---|---|---|"]
-    for crate, used in sums.items():
-        cells = [f"{round(used[kind]):,}" if used[kind] else "" for kind in KINDS]
-        lines.append(f"| `{crate}` | {' | '.join(cells)} |" if crate != "all" else f"| all | {' | '.join(cells)} |")
-    whole = sum(sums["all"].values())
-    lines += ["", f"{round(whole):,} seconds of processor time, {100 * sums['all']['edits'] / max(whole, 1):.0f} of 100 parts for the edits"]
-    return lines
-
-
-def below():
-    """Returns the repository's crates that each crate names in crates.txt."""
-    with open(os.path.join(os.path.dirname(__file__), "..", "crates.txt"), encoding="utf-8") as file:
-        named = [line.partition("#")[0].partition(":") for line in file]
-    crates = {name.split()[0]: deps.split() for name, _, deps in named if name.strip()}
-    return {name: [it for it in deps if it in crates] for name, deps in crates.items()}
+    for name in [*names, "all"]:
+        cells = [f"{shown[name, kind]:,}" if (name, kind) in shown else "" for kind in KINDS]
+        lines.append(f"| {name if name == 'all' else f'`{name}`'} | {' | '.join(cells)} |")
+    whole, edits = sum(sums.values()), sums["edits"]
+    parts = f"{100 * edits / max(whole, 1):.0f} of 100 parts for the edits"
+    return [*lines, "", f"{whole:,} seconds of processor time, {parts}"]
 
 
 def tasks_of(rows):
-    """Returns the tasks of a run: for each the seconds that it took and the tasks that it waits for."""
-    sums = {}
-    for row in rows:
-        key = row["crate"], {"builds": "proof"}.get(row["kind"], row["kind"])
-        sums[key] = sums.get(key, 0) + row["cpu"]
-    crates = below()
+    """The tasks of a run: for each the seconds that it took and the tasks that it waits for."""
+    sums = summed(rows, lambda row: (row["crate"], "proof" if row["kind"] == "builds" else row["kind"]))
+    crates = repository.crates()
     waits = {key: [(it, "proof") for it in crates.get(key[0], []) if (it, "proof") in sums] for key in sums}
     for key in sums:
         if key[1] == "edits":
@@ -112,7 +117,7 @@ def tasks_of(rows):
 
 
 def minutes_on(cores, rows):
-    """Returns how many minutes the tasks take on so many cores, each on one, that with the longest chain behind it first."""
+    """How many minutes the tasks take on so many cores, each on one, that with the longest chain behind it first."""
     seconds, waits = tasks_of(rows)
     chains = {}
 
@@ -132,7 +137,7 @@ def minutes_on(cores, rows):
 
 
 def proved_at(rows):
-    """Returns lines with the minute in which each crate was proved."""
+    """Lines with the minute in which each crate was proved."""
     ends = {}
     for row in rows:
         if row["kind"] == "proof":
@@ -140,19 +145,25 @@ def proved_at(rows):
     return [f"{minute:6.1f}  {crate}" for crate, minute in sorted(ends.items(), key=lambda it: it[1])]
 
 
+def kept(path, cores):
+    """Prints the table of a log, and how long its run would take on so many cores."""
+    with open(path, encoding="utf-8") as file:
+        rows = [json.loads(line) for line in file]
+    print("\n".join(table(rows) + [""] + proved_at(rows)))
+    if cores:
+        print(f"\n{minutes_on(cores, rows):.0f} minutes on {cores} cores, computed")
+
+
 def main():
-    words = argparse.ArgumentParser(usage=__doc__.split("\n\n")[1].removeprefix("usage: "))
+    """Measures a run, or prints what was measured."""
+    words = repository.parser(__doc__)
     words.add_argument("--log")
     words.add_argument("--table")
     words.add_argument("--cores", type=int)
-    words.add_argument("command", nargs=argparse.REMAINDER)
+    words.add_argument("command", nargs="...")
     given = words.parse_args()
     if given.table:
-        with open(given.table, encoding="utf-8") as file:
-            rows = [json.loads(line) for line in file]
-        print("\n".join(table(rows) + [""] + proved_at(rows)))
-        if given.cores:
-            print(f"\n{minutes_on(given.cores, rows):.0f} minutes on {given.cores} cores, computed")
+        kept(given.table, given.cores)
         return 0
     seen = {}
     status, took = measured(given.command or ["rt", "ci"], seen)

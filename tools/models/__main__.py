@@ -9,7 +9,6 @@ usage: python3 -m tools.models check [FILE ..]        whether the stored answers
                                                       runs N random calls through the program `vectors`, and compares
        python3 -m tools.models damaged PROGRAM N [SEED]
                                                       gives N cut or changed inputs of rows to the program, and compares
-       python3 -m tools.models memory PROGRAM         runs 500 random calls and 5,000 through it, and compares their memory
 
 FILE is a file that holds answers, or the folder of a crate that has such. The exit status is 1 if something differs, and 2 if the words are
 none of these.
@@ -65,7 +64,7 @@ def done(command, words):
         return programs.compare(words[0], calls.lines(int(words[1]), *words[2:]))
     if command == "damaged" and len(words) in (2, 3):
         return damaged.compare(words[0], stored.TEXT_ROWS, int(words[1]), *words[2:])
-    return programs.memory(*words) if command == "memory" and len(words) == 1 else None
+    return None
 
 
 def main():

@@ -1,0 +1,11 @@
+"""Measures programs: what inputs cost them, how that grows, and what they do with little memory or with damaged inputs.
+
+| module | has |
+|---|---|
+| `harness` | runs, what they cost, how costs grow, and the memory that is counted, limited or refused |
+| `texts`, `binaries` | the inputs, by their shape and size |
+| `times` | how times grow: tables, sets of packages, JSON, reading, names that collide |
+| `memory` | the most memory of opening and of calls, little memory, the largest request |
+| `refused` | allocations that are refused in turn |
+| `changed` | inputs that are cut and changed |
+"""
