@@ -3,6 +3,9 @@
 //!
 //! Each run checks that both write the same bytes over a target that was filled with others.
 
+mod clock;
+
+use clock::time_of;
 use std::hint::black_box;
 
 /// The length of each memory.
@@ -18,19 +21,7 @@ const FILLING: u8 = 0xee;
 /// The characters or elements that are tested before they are written.
 const CHUNK: usize = 1024;
 
-/// `struct timespec` of a 64-bit Linux.
-#[derive(Default)]
-#[repr(C)]
-struct Timespec {
-    seconds: i64,
-    nanoseconds: i64,
-}
-
-/// `CLOCK_THREAD_CPUTIME_ID`.
-const THREAD_CPUTIME: i32 = 3;
-
 unsafe extern "C" {
-    fn clock_gettime(clock: i32, time: &mut Timespec) -> i32;
     fn bench_call(
         kind: u32,
         count: u32,
@@ -42,22 +33,6 @@ unsafe extern "C" {
     ) -> bool;
     fn bench_memories(kind: u32, count: u32, size: u32, rounds: u32, len: u32, grown: bool)
     -> bool;
-}
-
-/// The nanoseconds of processor time that this thread has had.
-fn now() -> f64 {
-    let mut time = Timespec::default();
-    // SAFETY: the place is that of one `timespec` of a 64-bit Linux, borrowed for the call.
-    let status = unsafe { clock_gettime(THREAD_CPUTIME, &mut time) };
-    assert!(status == 0, "no clock of the thread's processor time");
-    time.seconds as f64 * 1e9 + time.nanoseconds as f64
-}
-
-/// The nanoseconds of processor time that something takes.
-fn time_of(run: impl FnOnce()) -> f64 {
-    let start = now();
-    run();
-    now() - start
 }
 
 fn number(index: usize) -> u32 {
@@ -550,140 +525,86 @@ struct Shape {
     loops: &'static [Loop],
 }
 
+impl Shape {
+    const fn new(
+        name: &'static str,
+        kind: u32,
+        size: usize,
+        fill: fn(&mut [u8], usize),
+        loops: &'static [Loop],
+    ) -> Shape {
+        Shape {
+            name,
+            kind,
+            size,
+            fill,
+            loops,
+        }
+    }
+}
+
 const SHAPES: [Shape; 19] = [
-    Shape {
-        name: "`list<u8>`",
-        kind: 1,
-        size: 1,
-        fill: fill_bytes,
-        loops: &[copy_bytes],
-    },
-    Shape {
-        name: "`list<u32>`",
-        kind: 2,
-        size: 4,
-        fill: fill_numbers,
-        loops: &[copy_numbers],
-    },
-    Shape {
-        name: "`list<u64>`",
-        kind: 3,
-        size: 8,
-        fill: fill_longs,
-        loops: &[copy_longs],
-    },
-    Shape {
-        name: "`string`, ASCII",
-        kind: 0,
-        size: 1,
-        fill: fill_ascii,
-        loops: &[copy_text],
-    },
-    Shape {
-        name: "`string`, mixed",
-        kind: 0,
-        size: 10,
-        fill: |source, count| fill_mixed(source, 10 * count),
-        loops: &[|source, count, target| copy_text(source, 10 * count, target)],
-    },
-    Shape {
-        name: "`list<char>`",
-        kind: 4,
-        size: 4,
-        fill: fill_chars,
-        loops: &[copy_chars, copy_chars_one_by_one],
-    },
-    Shape {
-        name: "`list<bool>`",
-        kind: 5,
-        size: 1,
-        fill: fill_bools,
-        loops: &[copy_bools],
-    },
-    Shape {
-        name: "`list<row>`",
-        kind: 6,
-        size: 12,
-        fill: fill_rows,
-        loops: &[copy_rows],
-    },
-    Shape {
-        name: "`list<option<u32>>`",
-        kind: 7,
-        size: 8,
-        fill: fill_options,
-        loops: &[copy_options, copy_options_by_masks, copy_options_by_choice],
-    },
-    Shape {
-        name: "`list<choice>`",
-        kind: 8,
-        size: 8,
-        fill: fill_choices,
-        loops: &[copy_choices, copy_choices_by_masks],
-    },
-    Shape {
-        name: "`list<tuple<u32, u32>>`",
-        kind: 9,
-        size: 8,
-        fill: fill_longs,
-        loops: &[copy_pairs],
-    },
-    Shape {
-        name: "`list<string>`",
-        kind: 10,
-        size: 19,
-        fill: fill_texts,
-        loops: &[copy_texts, copy_ascii_first],
-    },
-    Shape {
-        name: "`list<list<u8>>`",
-        kind: 11,
-        size: 24,
-        fill: fill_lists,
-        loops: &[copy_lists],
-    },
-    Shape {
-        name: "`list<maybes>`",
-        kind: 12,
-        size: 12,
-        fill: fill_maybes,
-        loops: &[copy_maybes, copy_maybes_by_choice],
-    },
-    Shape {
-        name: "`list<named>`",
-        kind: 13,
-        size: 23,
-        fill: fill_named,
-        loops: &[copy_named],
-    },
-    Shape {
-        name: "`list<figure>`",
-        kind: 14,
-        size: 12,
-        fill: fill_figures,
-        loops: &[copy_figures, copy_figures_by_choice],
-    },
-    Shape {
-        name: "`list<marks>`",
-        kind: 15,
-        size: 2,
-        fill: fill_flags,
-        loops: &[copy_flags],
-    },
-    Shape {
-        name: "`list<both>`",
-        kind: 16,
-        size: 48,
-        fill: fill_both,
-        loops: &[copy_both],
-    },
-    Shape {
-        name: "`list<deep>`",
-        kind: 17,
-        size: 4,
-        fill: fill_numbers,
-        loops: &[copy_numbers],
-    },
+    Shape::new("`list<u8>`", 1, 1, fill_bytes, &[copy_bytes]),
+    Shape::new("`list<u32>`", 2, 4, fill_numbers, &[copy_numbers]),
+    Shape::new("`list<u64>`", 3, 8, fill_longs, &[copy_longs]),
+    Shape::new("`string`, ASCII", 0, 1, fill_ascii, &[copy_text]),
+    Shape::new(
+        "`string`, mixed",
+        0,
+        10,
+        |source, count| fill_mixed(source, 10 * count),
+        &[|source, count, target| copy_text(source, 10 * count, target)],
+    ),
+    Shape::new(
+        "`list<char>`",
+        4,
+        4,
+        fill_chars,
+        &[copy_chars, copy_chars_one_by_one],
+    ),
+    Shape::new("`list<bool>`", 5, 1, fill_bools, &[copy_bools]),
+    Shape::new("`list<row>`", 6, 12, fill_rows, &[copy_rows]),
+    Shape::new(
+        "`list<option<u32>>`",
+        7,
+        8,
+        fill_options,
+        &[copy_options, copy_options_by_masks, copy_options_by_choice],
+    ),
+    Shape::new(
+        "`list<choice>`",
+        8,
+        8,
+        fill_choices,
+        &[copy_choices, copy_choices_by_masks],
+    ),
+    Shape::new("`list<tuple<u32, u32>>`", 9, 8, fill_longs, &[copy_pairs]),
+    Shape::new(
+        "`list<string>`",
+        10,
+        19,
+        fill_texts,
+        &[copy_texts, copy_ascii_first],
+    ),
+    Shape::new("`list<list<u8>>`", 11, 24, fill_lists, &[copy_lists]),
+    Shape::new(
+        "`list<maybes>`",
+        12,
+        12,
+        fill_maybes,
+        &[copy_maybes, copy_maybes_by_choice],
+    ),
+    Shape::new("`list<named>`", 13, 23, fill_named, &[copy_named]),
+    Shape::new(
+        "`list<figure>`",
+        14,
+        12,
+        fill_figures,
+        &[copy_figures, copy_figures_by_choice],
+    ),
+    Shape::new("`list<marks>`", 15, 2, fill_flags, &[copy_flags]),
+    Shape::new("`list<both>`", 16, 48, fill_both, &[copy_both]),
+    Shape::new("`list<deep>`", 17, 4, fill_numbers, &[copy_numbers]),
 ];
 
 /// What a short call is of, its function's number, and what it reads.
@@ -778,13 +699,7 @@ fn row(shape: &Shape, bytes: usize) -> String {
 
 /// The nanoseconds of a short call, of a number, of numbers or of a string of five bytes.
 fn time_of_short_call(name: &'static str, kind: u32, fill: fn(&mut [u8], usize)) -> f64 {
-    let shape = Shape {
-        name,
-        kind,
-        size: 1,
-        fill,
-        loops: &[],
-    };
+    let shape = Shape::new(name, kind, 1, fill, &[]);
     let count = 5;
     let mut source = vec![0; 128];
     (shape.fill)(&mut source, count);

@@ -2,6 +2,9 @@
 //!
 //! Each run checks that all three write the same bytes, and that what is loaded is what was stored.
 
+mod clock;
+
+use clock::time_of;
 use std::hint::black_box;
 
 /// The length of each memory.
@@ -12,21 +15,6 @@ const RUNS: usize = 15;
 unsafe extern "C" {
     fn bench_store(kind: u32, count: u32, rounds: u32, bytes: *mut u8, len: usize) -> bool;
     fn bench_load(kind: u32, count: u32, rounds: u32, bytes: *mut u8, len: usize) -> bool;
-}
-
-/// `struct timespec` of a 64-bit Linux.
-#[derive(Default)]
-#[repr(C)]
-struct Timespec {
-    seconds: i64,
-    nanoseconds: i64,
-}
-
-/// `CLOCK_THREAD_CPUTIME_ID`.
-const THREAD_CPUTIME: i32 = 3;
-
-unsafe extern "C" {
-    fn clock_gettime(clock: i32, time: &mut Timespec) -> i32;
 }
 
 /// A function that the library exports.
@@ -427,22 +415,6 @@ impl Kind {
             Kind::Text => Native::Text("0123456789abcdef".repeat(indices.len())),
         }
     }
-}
-
-/// The nanoseconds of processor time that this thread has had.
-fn now() -> f64 {
-    let mut time = Timespec::default();
-    // SAFETY: the place is that of one `timespec` of a 64-bit Linux, borrowed for the call.
-    let status = unsafe { clock_gettime(THREAD_CPUTIME, &mut time) };
-    assert!(status == 0, "no clock of the thread's processor time");
-    time.seconds as f64 * 1e9 + time.nanoseconds as f64
-}
-
-/// The nanoseconds of processor time that something takes.
-fn time_of(run: impl FnOnce()) -> f64 {
-    let start = now();
-    run();
-    now() - start
 }
 
 /// The least of several.

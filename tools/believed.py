@@ -13,13 +13,12 @@ A name means what the file that cites it defines or imports; of src/ an import l
 declares the name, or to what the crate exports of another. It reads text alone: a local name that is also a
 definition's counts as one.
 """
-import argparse
 import collections
-import pathlib
 import re
 import sys
 
-TOP = pathlib.Path(__file__).resolve().parent.parent
+from repository import ROOT, parser
+
 CALLS = ["opening/set.rt:open_set", "witcall/session.rt:call"]
 WORD = re.compile(r"[^\s(){}\[\],;:→λ×⊎∥₁\"|¬?«»&<>=*#!+/]+")
 IMPORT = re.compile(r"^(?:ghost )?(?:pub )?use (Rattle\.[\w.+]+?)(?:\.\{(.*)\})?(?: as (\S+?))?;?$")
@@ -107,14 +106,11 @@ class File:
 def files():
     """Returns each file by its module's name; a file of src/ by that of the modules that its types declare."""
     found = {}
-    for path in sorted((TOP / "crates").glob("*/specs/**/*.antt")):
-        crate, inside = path.relative_to(TOP / "crates").parts[0], path.relative_to(TOP / "crates").parts[2:]
-        module = ".".join(["Rattle", crate, "specs", *inside])[: -len(".antt")]
-        found[module] = File(module, path)
-    for path in sorted((TOP / "crates").glob("*/src/**/*.rt")):
-        crate, inside = path.relative_to(TOP / "crates").parts[0], path.relative_to(TOP / "crates").parts[2:]
-        module = ".".join(["Rattle", crate, "specs", "declared", *inside])[: -len(".rt")]
-        found[module] = File(module, path)
+    for pattern, part in (("specs/**/*.antt", "specs"), ("src/**/*.rt", "specs.declared")):
+        for path in sorted((ROOT / "crates").glob(f"*/{pattern}")):
+            crate, _, *inside = path.relative_to(ROOT / "crates").with_suffix("").parts
+            module = ".".join(["Rattle", crate, part, *inside])
+            found[module] = File(module, path)
     return found
 
 
@@ -166,7 +162,7 @@ def clauses(call):
     """Returns the file of a function, and the lines of its contract, or of one clause of it."""
     path, name, *only = call.split(":")
     crate, _, inside = path.partition("/")
-    text = (TOP / "crates" / crate / "src" / inside).read_text()
+    text = (ROOT / "crates" / crate / "src" / inside).read_text()
     begin = re.search(rf"\bfn {name}\b", text).start()
     end = re.search(r"^\s*\{$", text[begin:], re.M).start()
     module = ".".join(["Rattle", crate, "specs", "declared", inside[: -len(".rt")].replace("/", ".")])
@@ -195,7 +191,7 @@ def believed(all_files, calls):
 
 
 def main():
-    words = argparse.ArgumentParser(usage=__doc__.split("\n\n")[1].removeprefix("usage: "))
+    words = parser(__doc__)
     words.add_argument("--names", action="store_true")
     words.add_argument("function", nargs="*")
     given = words.parse_args()
@@ -204,7 +200,7 @@ def main():
     for module, name in believed(all_files, given.function or CALLS):
         by_file[all_files[module].path][name] = len(all_files[module].definitions[name])
     for path, names in sorted(by_file.items()):
-        print(f"{sum(names.values()):5} {path.relative_to(TOP / 'crates')}")
+        print(f"{sum(names.values()):5} {path.relative_to(ROOT / 'crates')}")
         for name, count in sorted(names.items()) if given.names else ():
             print(f"      {count:5} {name}")
     print(f"{sum(sum(names.values()) for names in by_file.values())} lines, {sum(map(len, by_file.values()))} definitions")

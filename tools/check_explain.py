@@ -9,23 +9,20 @@ standard error, and nothing may go to standard output; otherwise it is the other
 gate built by both compilers, both of which have to be there. Each block of `console` of README.md and docs/ has to be a stored run, and
 docs/pictures/shapes.svg what the run of PICTURE prints. The exit status is 1 if one of them differs.
 """
-import argparse
 import collections
 import difflib
 import pathlib
-import re
 import shutil
 import subprocess
 import sys
 import tempfile
 
-ROOT = pathlib.Path(__file__).resolve().parent.parent
+from repository import ROOT, blocks, pages, parser, place
+
 FOLDER = ROOT / "tests" / "explain"
 BUILT = [ROOT / "crates" / "explain" / "out" / name for name in ("explain", "explain.by-rattle")]
 PROMPT = "$ wit-explain"
-PAGES = [ROOT / "README.md", *sorted((ROOT / "docs").rglob("*.md"))]
 PICTURE = "layout --svg - shapes.wit"
-BLOCK = re.compile(r"^```console\n([^\n]*)\n(.*?)^```$", re.M | re.S)
 
 
 def stored_runs():
@@ -66,17 +63,17 @@ def differing(program):
 
 def untrue_pages(stored):
     """How many blocks of pages are no stored runs, and pictures not what one prints. Each is told. There has to be a block."""
-    blocks = [(page, *found) for page in PAGES for found in BLOCK.findall(page.read_text())]
-    found = [(page, line) for page, line, text in blocks if stored.get(line.replace("'", "").removeprefix(f"{PROMPT} ")) != text]
+    shown = [(page, *text.split("\n", 1)) for page in pages() for _, _, text in blocks(page.read_text(), "console")]
+    found = [(page, line) for page, line, text in shown if stored.get(line.replace("'", "").removeprefix(f"{PROMPT} ")) != text]
     for page, line in found:
-        print(f"{page.relative_to(ROOT)}: {line}: this isn't what tests/explain/runs has")
+        print(f"{place(page)}: {line}: this isn't what tests/explain/runs has")
     picture = ROOT / "docs" / "pictures" / "shapes.svg"
     is_current = picture.read_text() == stored.get(PICTURE)
     if not is_current:
-        print(f"{picture.relative_to(ROOT)} isn't what `wit-explain {PICTURE}` prints by tests/explain/runs")
-    if not blocks:
+        print(f"{place(picture)} isn't what `wit-explain {PICTURE}` prints by tests/explain/runs")
+    if not shown:
         print("no page has a block of `console`")
-    return len(found) + (not is_current) + (not blocks)
+    return len(found) + (not is_current) + (not shown)
 
 
 def stored_twice(runs):
@@ -88,7 +85,7 @@ def stored_twice(runs):
 
 
 def main():
-    options = argparse.ArgumentParser(usage=__doc__.split("\n\n")[1].removeprefix("usage: "))
+    options = parser(__doc__)
     options.add_argument("--program", action="append", type=pathlib.Path)
     programs = options.parse_args().program or BUILT
     missing = [it for it in programs if not it.is_file()]

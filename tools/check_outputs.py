@@ -33,16 +33,15 @@ import subprocess
 import sys
 import tempfile
 
-ROOT = pathlib.Path(__file__).resolve().parent.parent
+from repository import BUILT, ROOT, blocks, columns, pages as all_pages, place
+
 sys.path.insert(0, str(ROOT))
 
-from check_names import columns  # noqa: E402
 from tools.measure import refused  # noqa: E402
 from tools.models.text_rows import Inputs  # noqa: E402
 
 COMMANDS = ("witcall", "./witcall", "~/.local/bin/witcall", "cd", "cat", "echo", "printf", "wc")
 HOSTS = ("README.md", "docs/LIBRARY.md", "docs/C.md")
-BLOCK = re.compile(r"^```(\w*)\n(.*?)^```$", re.M | re.S)
 # an example of docs/ERRORS.md: a text or the parts of a call, and the line that answers it
 EXAMPLE = re.compile(r"`(package [^`]*)`( twice)?: `(error [^`]*)`")
 CALL = re.compile(r"`(f: [^`]*)`, ARGS `([^`]*)`: `([^`]*)`")
@@ -80,12 +79,12 @@ class Pages:
         (folder / "examples").symlink_to(ROOT / "examples")
         self.environment = {"PATH": f"{home}:/usr/bin:/bin", "HOME": str(folder), "LC_ALL": "C.UTF-8"}
 
-    def expect(self, kind, place, what, found, said):
+    def expect(self, kind, where, what, found, said):
         """Counts one comparison of a kind, and prints it if the two differ."""
         self.checked[kind] += 1
         if found != said:
             self.faults += 1
-            print(f"{place}: {what}\n  the page says: {said!r}\n  it prints:     {found!r}")
+            print(f"{where}: {what}\n  the page says: {said!r}\n  it prints:     {found!r}")
 
     def witcall(self, *words):
         """What the program does on these words: its status, and what it prints on each stream."""
@@ -136,17 +135,16 @@ def can_run(command):
 
 def check_shell(pages, name, text):
     """The blocks of `sh` of a page."""
-    for found in BLOCK.finditer(text):
-        commands = commands_of(found[2]) if found[1] == "sh" else []
-        place = f"{name}:{text.count(chr(10), 0, found.start()) + 1}"
+    for number, _, block in blocks(text, "sh"):
+        where, commands = f"{name}:{number}", commands_of(block)
         for command, _ in commands:
             if pages.verbose and not can_run(command):
-                print(f"{place}: not run: {command.splitlines()[0]}")
+                print(f"{where}: not run: {command.splitlines()[0]}")
         commands = [it for it in commands if can_run(it[0])]
         if not any(output for _, output in commands):
             continue
         for (command, said), printed in zip(commands, pages.shell([it[0] for it in commands])):
-            pages.expect("sh", place, command, printed, done(*said))
+            pages.expect("sh", where, command, printed, done(*said))
 
 
 def examples(text):
@@ -168,22 +166,22 @@ def check_examples(pages, name, text, answers):
     """The examples of docs/ERRORS.md, by the program, and by the answers of errors.rows."""
     file = pages.folder / "example.wit"
     for number, line, example in examples(text):
-        place = f"{name}:{number}"
+        where = f"{name}:{number}"
         if found := SHELL.search(example):
-            pages.expect("errors", place, found[1], pages.shell([found[1]])[0], done(line))
+            pages.expect("errors", where, found[1], pages.shell([found[1]])[0], done(line))
             continue
         if found := EXAMPLE.search(example):
             file.write_text(found[1])
             first = ["--with", file.name] if found[2] else []
-            pages.expect("errors", place, found[1], pages.witcall("show", *first, file.name), done(found[3]))
+            pages.expect("errors", where, found[1], pages.witcall("show", *first, file.name), done(found[3]))
         elif found := CALL.search(example):
             file.write_text(f"package a:b; interface c {{ {found[1]}; }}")
             reply = "[0]" if "->" in found[1] else "[]"
             words = ["call", file.name, "a:b/c", "f", found[2], reply]
-            pages.expect("errors", place, found[1], pages.witcall(*words), done(found[3]))
+            pages.expect("errors", where, found[1], pages.witcall(*words), done(found[3]))
         said = re.findall(r"`(error [^`]*)`", example)[-1:] or ["no answer"]
         there = [it for it in said if it in answers and is_line(line, it)]
-        pages.expect("errors", place, "an answer to its line, and a row of errors.rows", there, said)
+        pages.expect("errors", where, "an answer to its line, and a row of errors.rows", there, said)
 
 
 def words_of(pages, command, given):
@@ -222,21 +220,21 @@ def check_lines(pages, name, text):
     stored = {line for path in ANSWERS for line in TOLD.findall((ROOT / path).read_text())}
     steps = {line.rpartition(" in ")[2] for line in stored if line.startswith("trap ")}
     for number, head, cell in columns(text):
-        place, line = f"{name}:{number}", cell.partition("`, ")[0].strip("`").replace("\\|", "|")
+        where, line = f"{name}:{number}", cell.partition("`, ")[0].strip("`").replace("\\|", "|")
         if head not in ("line", "step") or set(cell) <= set("-|") or line in with_example:
             continue
         if head == "step":
-            pages.expect("steps", place, "a step of a stored answer", line if line in steps else None, line)
+            pages.expect("steps", where, "a step of a stored answer", line if line in steps else None, line)
         elif line in RUNS:
             status, output, errors = pages.shell([RUNS[line]])[0]
             told = line if is_line(line, errors.removesuffix("\n")) else errors
-            pages.expect("lines", place, RUNS[line], (status, output, f"{told}\n"), done(line))
+            pages.expect("lines", where, RUNS[line], (status, output, f"{told}\n"), done(line))
         else:
             is_stored = any(is_line(line, it) for it in stored)
-            pages.expect("lines", place, "a stored answer", line if is_stored else None, line)
+            pages.expect("lines", where, "a stored answer", line if is_stored else None, line)
         if line == NO_MEMORY:
             numbers = {int(it) for it in re.findall(r"\d+", cell)}
-            pages.expect("lines", place, "the numbers of tools/measure/refused.py", without_memory(), numbers)
+            pages.expect("lines", where, "the numbers of tools/measure/refused.py", without_memory(), numbers)
 
 
 def check_errors(pages, name, text):
@@ -266,9 +264,7 @@ def check_json(pages, text):
 
 def plain_blocks(name, text):
     """The lines of each block without a language, with its place."""
-    for found in BLOCK.finditer(text):
-        if not found[1]:
-            yield f"{name}:{text.count(chr(10), 0, found.start()) + 1}", found[2].splitlines()
+    return [(f"{name}:{number}", block.splitlines()) for number, _, block in blocks(text, "")]
 
 
 def check_rows(pages, name, text):
@@ -276,32 +272,32 @@ def check_rows(pages, name, text):
     crates = ROOT / "crates"
     files = [*crates.glob("rows_*/data/*.rows"), crates / "vectors" / "stdin", crates / "vectors" / "stdout"]
     stored = {line for it in files for line in it.read_text().splitlines()}
-    for place, lines in plain_blocks(name, text):
+    for where, lines in plain_blocks(name, text):
         if ROW.match("\n".join(lines)):
             whole = re.sub(r"\n +", "", "\n".join(lines)).splitlines()
-            pages.expect("rows", place, "stored rows", [line for line in whole if not line or line in stored], whole)
+            pages.expect("rows", where, "stored rows", [line for line in whole if not line or line in stored], whole)
 
 
 def check_hosts(pages, name, text):
     """Blocks without a language, which show what an example prints."""
     stored = [*ROOT.glob("crates/example_*/stdout"), *ROOT.glob("examples/**/*.expected")]
     runs = [it.read_text().splitlines() for it in stored]
-    for place, lines in plain_blocks(name, text):
+    for where, lines in plain_blocks(name, text):
         there = any(run[at:at + len(lines)] == lines for run in runs for at in range(len(run)))
-        pages.expect("hosts", place, "a stored run of an example", lines if there else None, lines)
+        pages.expect("hosts", where, "a stored run of an example", lines if there else None, lines)
 
 
 def main():
     parser = argparse.ArgumentParser(description=__doc__.splitlines()[0])
-    parser.add_argument("--program", type=pathlib.Path, default=ROOT / "crates" / "program" / "out" / "program")
+    parser.add_argument("--program", type=pathlib.Path, default=BUILT)
     parser.add_argument("--verbose", action="store_true")
     given = parser.parse_args()
     if not given.program.is_file():
         sys.exit(f"tools/check_outputs.py: there is no {given.program}: build it, or name another by --program")
     with tempfile.TemporaryDirectory() as folder:
         pages = Pages(given.program.resolve(), pathlib.Path(folder), given.verbose)
-        for page in [ROOT / "README.md", *sorted((ROOT / "docs").rglob("*.md"))]:
-            name, text = str(page.relative_to(ROOT)), page.read_text()
+        for page in all_pages():
+            name, text = place(page), page.read_text()
             check_shell(pages, name, text)
             if name in HOSTS:
                 check_hosts(pages, name, text)

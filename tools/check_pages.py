@@ -12,15 +12,13 @@ usage: tools/check_pages.py
 
 Blocks of code are left out. It prints each place that is wrong; the exit status is 1 then.
 """
-import pathlib
 import re
-import sys
 
-ROOT = pathlib.Path(__file__).resolve().parent.parent
+from repository import ROOT, finish, line_at, pages, place, without_blocks
+
 LONG = ("docs/CRATES.md", "docs/EXAMPLES.md")
 TABLES = ("README.md", "docs/GUARANTEES.md", "docs/PROMISE.md", "docs/ERRORS.md", "docs/LIBRARY.md", "docs/INSTALL.md", "docs/PROGRAM.md")
 LANGUAGES = {"", "c", "console", "js", "json", "rust", "sh", "text", "wit"}
-BLOCK = re.compile(r"^```.*?^```$", re.M | re.S)
 FENCE = re.compile(r"^ *(?:```|~~~)(.*)$", re.M)
 # a link, a reference, and what an element of HTML names
 LINK = re.compile(r"\]\(([^)\s]+)[^)]*\)|^ *\[[^\]]+\]: (\S+)|(?:href|src)=\"([^\"]+)\"")
@@ -28,11 +26,6 @@ ITEM = re.compile(r"([-*]|\d+\.) ")
 CELL = re.compile(r"(?<!\\)\|")
 # the end of a sentence: what follows begins anew
 END = re.compile(r"(?<=[.?!])\)?\*{0,2} (?=[A-Z`\[(*0-9])")
-
-
-def without_blocks(text):
-    """Returns a text without its blocks of code, whose lines are empty."""
-    return BLOCK.sub(lambda block: "\n" * block.group().count("\n"), text)
 
 
 def prose(path):
@@ -76,9 +69,9 @@ def reached(path, found):
 def wrong_blocks(path):
     """The blocks of other languages, and one that has no end. Every second fence is an end."""
     text = path.read_text(encoding="utf-8")
-    for place, fence in enumerate(FENCE.finditer(text)):
-        if place % 2 == 0 and fence[1] not in LANGUAGES or place % 2 == 1 and fence[1]:
-            yield text.count("\n", 0, fence.start()) + 1, f"no block is of {fence[1]}"
+    for number, fence in enumerate(FENCE.finditer(text)):
+        if number % 2 == 0 and fence[1] not in LANGUAGES or number % 2 == 1 and fence[1]:
+            yield line_at(text, fence.start()), f"no block is of {fence[1]}"
     if len(FENCE.findall(text)) % 2:
         yield text.count("\n"), "a block has no end"
 
@@ -107,6 +100,7 @@ def paragraphs(path):
 
 
 def long_sentences(path):
+    """The sentences of more than 30 words."""
     for number, text in paragraphs(path):
         for sentence in END.split(text):
             if len(words(sentence)) > 30:
@@ -114,6 +108,7 @@ def long_sentences(path):
 
 
 def long_cells(path):
+    """The cells of more than 25 words."""
     for number, line in enumerate(prose(path).split("\n"), 1):
         for cell in cells(line):
             if len(words(cell)) > 25:
@@ -121,23 +116,24 @@ def long_cells(path):
 
 
 def long_lines(path):
+    """The lines of more than 120 columns."""
     for number, line in enumerate(prose(path).split("\n"), 1):
         if len(line) > 120 and not line.startswith(("|", "#")):
             yield number, f"a line of {len(line)} columns"
 
 
 def main():
-    pages = [ROOT / "README.md", ROOT / "CHANGELOG.md", *sorted((ROOT / "docs").rglob("*.md"))]
-    short = [path for path in pages if str(path.relative_to(ROOT)) not in LONG]
-    tables = [*(ROOT / name for name in TABLES), *sorted((ROOT / "docs/guarantees").glob("*.md"))]
-    checks = [(path, check) for check in (wrong_links, wrong_blocks, long_lines) for path in pages]
+    """Prints what is wrong with each page."""
+    all_pages = pages("CHANGELOG.md")
+    short = [path for path in all_pages if place(path) not in LONG]
+    tables = [path for path in all_pages if place(path) in TABLES or path.parent.name == "guarantees"]
+    checks = [(path, check) for check in (wrong_links, wrong_blocks, long_lines) for path in all_pages]
     checks += [(path, long_sentences) for path in short] + [(path, long_cells) for path in tables]
     wrong = [(path, *fault) for path, check in checks for fault in check(path)]
-    wrong += [(path, 1, "no link leads here from README.md") for path in pages if path not in reached(ROOT / "README.md", {ROOT / "CHANGELOG.md"})]
-    for path, number, fault in wrong:
-        print(f"{path.relative_to(ROOT)}:{number}: {fault}")
-    return 1 if wrong else 0
+    there = reached(ROOT / "README.md", {ROOT / "CHANGELOG.md"})
+    wrong += [(path, 1, "no link leads here from README.md") for path in all_pages if path not in there]
+    finish(f"{place(path)}:{number}: {fault}" for path, number, fault in wrong)
 
 
 if __name__ == "__main__":
-    sys.exit(main())
+    main()

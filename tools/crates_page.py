@@ -8,12 +8,12 @@ groups and what is proved are the lines of docs/crate-facts.txt. With --check no
 current. It is 1 as well if a crate has no head or no line, if a line is of no crate, and if crates.txt and crates/ don't have the same crates.
 """
 import fnmatch
-import pathlib
 import re
 import sys
 import textwrap
 
-ROOT = pathlib.Path(__file__).resolve().parent.parent
+from repository import ROOT, all_crates
+
 PAGE = ROOT / "docs" / "CRATES.md"
 WIDTH = 120
 HEAD = """\
@@ -33,16 +33,6 @@ How to read what is proved:
   of an error.
 - No must-fail edit is made in the crates of tests.
 """
-
-
-def crates():
-    """Each crate of crates.txt, in its order, with the crates that it depends on."""
-    found = {}
-    for line in (ROOT / "crates.txt").read_text().splitlines():
-        if line.strip() and not line.startswith("#"):
-            name, _, below = line.partition(":")
-            found[name.split()[0]] = below.split()
-    return found
 
 
 def fits(line_name, name, own):
@@ -128,7 +118,7 @@ def section(name, below, found):
 
 
 def page():
-    below = crates()
+    below = all_crates()
     stop_on_unknown(below)
     groups, missing = facts(below)
     if missing:

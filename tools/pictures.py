@@ -14,6 +14,7 @@ With --check nothing is written, and the exit status is 1 if a picture is not cu
 tools/check_explain.py). The program is the one that was built, crates/program/out/program, if no other is named.
 """
 import argparse
+import functools
 import json
 import pathlib
 import re
@@ -21,11 +22,11 @@ import subprocess
 import sys
 from html import escape
 
-ROOT = pathlib.Path(__file__).resolve().parent.parent
-sys.path[:0] = [str(ROOT), str(ROOT / "tools")]
+import crates_page
+from repository import BUILT, ROOT, all_crates, functions, sources, vectors
 
-import check_names  # noqa: E402
-import crates_page  # noqa: E402
+sys.path.insert(0, str(ROOT))
+
 from tools.models.opening import opened  # noqa: E402
 
 WIDTH = 800
@@ -92,12 +93,15 @@ def colours(dark):
 
 # The way from a text to a call
 
+@functools.cache
+def all_functions():
+    """The functions of crates/, with their contracts."""
+    return [it for path in sources(".rt") for it in functions(path)]
+
+
 def clauses(function, *names):
     """`FUNCTION: CLAUSE, CLAUSE`, of clauses that a function of this name has, or parts that the definition of the promise has."""
-    there = set()
-    for path in ROOT.glob("crates/*/src/**/*.rt"):
-        for head in re.findall(rf"\bfn {function.split('::')[-1]}\b(.*?)\n *\{{", path.read_text(), re.S):
-            there.update(check_names.LABEL.findall(head))
+    there = {clause for it in all_functions() if it.name == function.split("::")[-1] for clause in it.clauses}
     if "promise" in there:
         there.update(re.findall(r"^  pub (\w+) : ", (ROOT / "crates" / "canonical_abi" / "specs" / "Headline.antt").read_text(), re.M))
     for name in names:
@@ -178,11 +182,8 @@ def way(program):
 
 def vector(name):
     """A row of crates/vectors, the call and what it did."""
-    folder = ROOT / "crates" / "vectors"
-    for asked, answered in zip((folder / "stdin").read_text().splitlines(), (folder / "stdout").read_text().splitlines()):
-        if json.loads(asked)["name"] == name:
-            return json.loads(asked), json.loads(answered)
-    sys.exit(f"tools/pictures.py: crates/vectors has no row {name}")
+    row = vectors().get(name) or sys.exit(f"tools/pictures.py: crates/vectors has no row {name}")
+    return json.loads(row.asked), json.loads(row.answer)
 
 
 def owners(record, start, count):
@@ -378,7 +379,7 @@ def order(rows, edges):
 
 def graph():
     """Which crates depend on which."""
-    everything = crates_page.crates()
+    everything = all_crates()
     groups, missing = crates_page.facts(everything)
     if missing:
         sys.exit("tools/pictures.py: docs/crate-facts.txt has no line of " + ", ".join(sorted(missing)))
@@ -415,7 +416,7 @@ def graph():
 def main():
     parser = argparse.ArgumentParser(description=__doc__.splitlines()[0])
     parser.add_argument("--check", action="store_true")
-    parser.add_argument("--program", type=pathlib.Path, default=ROOT / "crates" / "program" / "out" / "program")
+    parser.add_argument("--program", type=pathlib.Path, default=BUILT)
     given = parser.parse_args()
     folder, stale, pictures = ROOT / "docs" / "pictures", [], {"bytes.svg": in_bytes(), "halves.svg": in_halves(), "crates.svg": graph()}
     if given.program.is_file():

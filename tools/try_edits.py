@@ -16,7 +16,8 @@ import subprocess
 import sys
 import tempfile
 
-ROOT = pathlib.Path(__file__).resolve().parent.parent
+from repository import ROOT, crates, edits
+
 GOAL = re.compile(r"note: (\S+?):\d+:\d+: (.*)")
 # a goal that a proof by hand doesn't meet, by the function that the proof is of
 BY_HAND = re.compile(r"(?:\./)?proofs/(\S+?)/\w+\.antt:\d+:\d+: error: `([^`]*)`: (.*)")
@@ -26,12 +27,7 @@ NAMES = re.compile(r"(\./)?proofs/.*(has no field|is not in scope|has no `|was n
 
 def crates_below():
     """The repository's crates, each with those that it stands on, directly or not."""
-    named = {}
-    for line in (ROOT / "crates.txt").read_text().splitlines():
-        name, _, below = line.partition("#")[0].partition(":")
-        if name.strip():
-            named[name.split()[0]] = below.split()
-    own = {name: [it for it in below if it in named] for name, below in named.items()}
+    own = crates()
 
     def all_below(name):
         return {name}.union(*(all_below(it) for it in own[name]))
@@ -41,8 +37,7 @@ def crates_below():
 
 def edits_of(name, only):
     """The crate's edits, those of the gate first."""
-    all_edits = [*sorted((ROOT / "crates" / name / "must-fail").glob("*.edit")), *sorted((ROOT / "edits" / name).glob("*.edit"))]
-    return [it for it in all_edits if only is None or it.stem in only.split(",")]
+    return [path for path, crate in edits() if crate == name and (only is None or path.stem in only.split(","))]
 
 
 def copied(room, crate, names):
@@ -105,14 +100,14 @@ def check(folder):
 
 def tried(name, names, only):
     """Tries the crate's edits, and answers whether each shows something."""
-    edits = edits_of(name, only)
-    if not edits:
+    asked = edits_of(name, only)
+    if not asked:
         return True
     well = True
     with tempfile.TemporaryDirectory(prefix="edits-") as room:
         copied(pathlib.Path(room), name, names)
         folder = pathlib.Path(room) / "crates" / name
-        for edit in edits:
+        for edit in asked:
             texts = edited(edit, folder)
             before = {path: path.read_text() for path in texts or {}}
             for path, text in (texts or {}).items():
