@@ -20,7 +20,7 @@ import pathlib
 import re
 import sys
 
-import check_names
+import repository
 
 ROOT = pathlib.Path(__file__).resolve().parent.parent
 PAGE = ROOT / "docs" / "guarantees" / "conditions.md"
@@ -183,7 +183,7 @@ def called(cell):
 def faults(known):
     """What is wrong with the page, with the number of the line or without."""
     text, rows = PAGE.read_text(), collections.Counter()
-    for number, head, cell in check_names.columns(text):
+    for number, head, cell in repository.columns(text):
         for place, name in called(cell) if head == "call" else ():
             found = [i for i, it in enumerate(known)
                      if it.name == name and (place in it.places if place else not it.type)]

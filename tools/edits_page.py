@@ -10,7 +10,7 @@ line.
 import pathlib
 import sys
 
-import crates_page
+import repository
 
 ROOT = pathlib.Path(__file__).resolve().parent.parent
 PAGE = ROOT / "docs" / "guarantees" / "edits.md"
@@ -68,7 +68,7 @@ def rows(crate):
 
 def page():
     """The page's text. Stops if edits/ has a folder of no crate."""
-    crates = list(crates_page.crates())
+    crates = list(repository.crates())
     lost = {it.name for it in (ROOT / "edits").iterdir()} - set(crates)
     if lost:
         sys.exit(f"tools/edits_page.py: no crate of crates.txt: {', '.join(sorted(lost))}")
