@@ -8,6 +8,10 @@ from .faults import Trap
 
 SIGNED = {"s8", "s16", "s32", "s64"}
 
+# the steps in which a typed value is put, and the most bytes of a block that it asks for
+TYPED = {"place", "body"}
+MOST_BLOCK = 16777216
+
 
 def bits_of(t):
     """How many bits count in a number of this type."""
@@ -58,15 +62,21 @@ class Place:
         self.memory.test(t.align, count * t.size, at, self.step)
         return self.stored(t, at, count)
 
+    def block(self, align, size):
+        """The address of a block for what is put here. For a typed value none of more bytes than the limit is asked for."""
+        if self.step in TYPED and size > MOST_BLOCK:
+            raise Trap("K4 bounds", self.step)
+        return self.memory.grant(align, size, self.step)
+
     def put_string(self, data):
         """Puts a string into a block of its own."""
-        at = self.memory.grant(1, len(data), self.step)
+        at = self.block(1, len(data))
         self.memory.write(at, data)
         self.put_header(at, len(data))
 
     def new_items(self, t, count):
         """The places of the elements of a list that is put into a block of its own."""
-        at = self.memory.grant(t.align, count * t.size, self.step)
+        at = self.block(t.align, count * t.size)
         self.put_header(at, count)
         return self.stored(t, at, count)
 

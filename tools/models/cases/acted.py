@@ -142,6 +142,18 @@ def request_rows():
     yield session("spilled parameters and an area", SEVENTEEN_TEXT, [call(*range(17))], [128, 128], [spilled])
     yield session("seventeen go through memory", SEVENTEEN_VOID, [call(*range(17))], [128, 68], [answering()])
     yield session("no room for seventeen", SEVENTEEN_VOID, [call(*range(17))], [128, 67], [answering()])
+    texts = [call("abcdefghij", "ABCDEFGHIJ"), call(7, name="g")]
+    yield session("the second text of ten bytes refused", TEXTS + NEXT, texts, [32, 16], [answering(8)], callee="ee" * 16)
+
+
+def limit_rows():
+    """Lists of two options, each of so many bytes that the list has the most bytes of a block, or 16 more. An option of none is the number of its case."""
+    doubled = "type t0 = u64; " + " ".join(f"type t{place} = tuple<t{place - 1}, t{place - 1}>;" for place in range(1, 21))
+    record = "record r { %s }" % ", ".join(f"a{place}: t{place}" for place in range(20))
+    none = ["none", "none"]
+    above = [call(none), ["place", "f", none], call([])]
+    yield session("a list above the most bytes of a block", f"{doubled} f: func(x: list<option<t20>>);", above, [64, 64], [answering()])
+    yield session("a list of the most bytes of a block", f"{doubled} {record} f: func(x: list<option<r>>);", [call(none)], [16777216, 64], [answering()])
 
 
 def text_rows():
@@ -304,5 +316,5 @@ def flat_rows():
 
 def rows():
     """All of them."""
-    for part in (trap_rows, scalar_traps, crossing_rows, link_rows, request_rows, text_rows, followed_rows, compound_rows, scalar_rows, step_rows, value_rows, flat_rows):
+    for part in (trap_rows, scalar_traps, crossing_rows, link_rows, request_rows, limit_rows, text_rows, followed_rows, compound_rows, scalar_rows, step_rows, value_rows, flat_rows):
         yield from part()

@@ -326,6 +326,7 @@ def scalar_rows():
         yield row(f"scalars: char {char:x}", "f: func(x: char);", [char])
         yield row(f"scalars: char {char:x} answered", "f: func() -> char;", [], answer=[("i32", char)])
     yield row("scalars: neither parameters nor result", "f: func();", [])
+    yield row("scalars: flags with unused bits", "flags g { a, b, c } f: func(x: g) -> g;", [255], answer=[("i32", (1 << 32) - 1)])
 
 
 def string_rows():
@@ -344,6 +345,7 @@ def string_rows():
         yield row(f"strings: of {name}", text, [0, len(data) // 2], data, zeros(8))
     yield row("strings: equal ones get a block each", "f: func(a: string, b: string);", [0, 2, 0, 2], "6869", zeros(16))
     yield row("strings: the second refused", "f: func(a: string, b: string);", [0, 2, 0, 2], "6869", zeros(3))
+    yield row("strings: the second of ten bytes refused", "f: func(a: string, b: string);", [0, 10, 10, 10], b"abcdefghijABCDEFGHIJ".hex(), "ee" * 16)
     yield row("strings: a refusal before a fault", "f: func(a: string, b: string);", [0, 10, 10, 2], b"ten bytes.".hex() + "c080", zeros(8))
     yield row("strings: a fault behind a block", "f: func(a: string, b: string);", [0, 2, 2, 2], "6869c080", zeros(64))
     yield row("strings: answered", "f: func() -> string;", [0], zeros(12), hex_of(8, 2, "6f6b"), tops=[8, 10], answer=[("i32", 0)])
@@ -386,6 +388,8 @@ def spilled_rows():
     yield row("spilled: the body's address past the end", wide, [0], zeros(8), zeros(16), answer=[("i32", 12)])
     yield row("spilled: the return area misaligned", wide, [5], zeros(16), zeros(8), answer=[("i32", 0)])
     yield row("spilled: the return area past the end", wide, [12], zeros(16), zeros(8), answer=[("i32", 0)])
+    flags = "flags g { a, b, c } record r { x: g, y: u8 } f: func() -> r;"
+    yield row("spilled: flags with unused bits in a record", flags, [0], "eeee", "ffff", answer=[("i32", 0)])
     yield row("spilled: both addresses bad", wide, [5], zeros(16), zeros(8), answer=[("i32", 2)])
 
 
