@@ -82,6 +82,31 @@ def lent_row(arguments):
     return in_turn(lambda words: request(lent, words), requests)
 
 
+class Scripted:
+    """A memory of zeros whose allocator gives its answers in turn, whatever it is asked, and then refuses."""
+
+    def __init__(self, length, answers):
+        if length > MOST:
+            raise Refused("53 memory limit")
+        self.length, self.answers = length, answers
+
+    def alloc(self, _align, _size):
+        """The next answer, an address or None."""
+        return self.answers.pop(0) if self.answers else None
+
+    def free(self, _at, _size):
+        """Takes nothing back."""
+        return False
+
+
+def scripted_row(arguments):
+    """What a memory with a script answers."""
+    memory, requests = arguments.split("; ")
+    length, answers = memory.split(", ")
+    scripted = Scripted(int(length), [None if word == "full" else int(word) for word in answers.split()])
+    return in_turn(lambda words: request(scripted, words), requests)
+
+
 def tree_request(row, words):
     """What a row of numbers answers."""
     word, *given = words.split()
@@ -112,6 +137,7 @@ ANSWERS = {
     "bump": lambda arguments: memory_row(Bump, arguments),
     "can-lend": lend_row,
     "lent": lent_row,
+    "scripted": scripted_row,
     "maxima": tree_row,
 }
 

@@ -15,14 +15,11 @@ fn told(alloc: Global, component: &RawComponent) -> anyhow::Result<String> {
     Ok(format!(in alloc; "types {types} exports {exports}")?)
 }
 
-/// What decoding answers, at once or byte by byte.
-fn decoded(alloc: Global, bytes: &[u8], is_dripped: bool) -> anyhow::Result<String> {
-    let component = if is_dripped {
-        dripped(alloc, bytes, usize::MAX)?
-    } else {
-        decode(alloc, bytes)?
-    };
-    told(alloc, &component)
+/// The shortest bytes of a component.
+fn written(alloc: Global, component: &RawComponent) -> anyhow::Result<Vec<u8>> {
+    let mut out = Vec::new(alloc);
+    encode(alloc, component, &mut out)?;
+    Ok(out)
 }
 
 /// The bytes of the component that these bytes are, behind those of a front.
@@ -33,20 +30,38 @@ fn encoded(alloc: Global, bytes: &[u8], front: &[u8]) -> anyhow::Result<Vec<u8>>
     Ok(out)
 }
 
-/// Whether two answers of decoding are alike.
-fn are_alike(fast: &Result<RawComponent, BinError>, slow: &Result<RawComponent, BinError>) -> bool {
-    match (fast, slow) {
-        (Ok(_), Ok(_)) => true,
+/// Whether two readings are alike: the same component, or the same error.
+fn are_alike(
+    alloc: Global,
+    fast: &Result<RawComponent, BinError>,
+    slow: &Result<RawComponent, BinError>,
+) -> anyhow::Result<bool> {
+    Ok(match (fast, slow) {
+        (Ok(fast), Ok(slow)) => written(alloc, fast)? == written(alloc, slow)?,
         (Err(fault), Err(other)) => fault == other,
         _ => false,
+    })
+}
+
+/// What is told of a component.
+fn decoded(alloc: Global, bytes: &[u8]) -> anyhow::Result<String> {
+    told(alloc, &decode(alloc, bytes)?)
+}
+
+/// What is told of a component that is read byte by byte, which has to be the one that is read at once.
+fn drip(alloc: Global, bytes: &[u8]) -> anyhow::Result<String> {
+    let slow = dripped(alloc, bytes, usize::MAX);
+    if !are_alike(alloc, &decode(alloc, bytes), &slow)? {
+        return Err(anyhow::anyhow!("byte by byte something else"));
     }
+    told(alloc, &slow?)
 }
 
 /// Whether the bytes are a component that is written as what decodes to the same. Fails where they are refused with a fault that is not
 /// within them, unless it is at the end of a section that is too long for them, or where a reader's answer is another.
 fn is_component(alloc: Global, bytes: &[u8]) -> anyhow::Result<bool> {
     let fast = decode(alloc, bytes);
-    if !are_alike(&fast, &dripped(alloc, bytes, usize::MAX)) {
+    if !are_alike(alloc, &fast, &dripped(alloc, bytes, usize::MAX))? {
         return Err(anyhow::anyhow!("byte by byte something else"));
     }
     match fast {
@@ -97,7 +112,7 @@ fn cuts(alloc: Global, bytes: &[u8]) -> anyhow::Result<String> {
         let fast = decode(alloc, front);
         let is_cut =
             matches!(&fast, Err(BinError::At(Fault::Truncated, place)) if *place == length);
-        if !is_cut || !are_alike(&fast, &dripped(alloc, front, usize::MAX)) {
+        if !is_cut || !are_alike(alloc, &fast, &dripped(alloc, front, usize::MAX))? {
             return Err(anyhow::anyhow!("another answer at {length}"));
         }
     }
@@ -123,8 +138,8 @@ pub fn done(alloc: Global, word: &str, rest: &str) -> anyhow::Result<String> {
     let bytes = hex::decode(alloc, rest)?;
     let bytes = bytes.as_slice();
     match word {
-        "decode" => decoded(alloc, bytes, false),
-        "drip" => decoded(alloc, bytes, true),
+        "decode" => decoded(alloc, bytes),
+        "drip" => drip(alloc, bytes),
         "encode" => Ok(hex::encode(alloc, encoded(alloc, bytes, b"ab")?.as_slice())?),
         "component-changes" => changes(alloc, bytes),
         "component-cuts" => cuts(alloc, bytes),

@@ -1,6 +1,6 @@
 //! Memories, and what is asked of them in turn.
 
-use memory::{Block, Bump, FirstFit, Guest, Lent, MemoryError, Space, can_lend};
+use memory::{Block, Bump, FirstFit, Full, Guest, Lent, MemoryError, Scripted, Space, can_lend};
 use row_inputs::parted;
 use std::alloc::{AllocError, Global};
 use std::fmt;
@@ -220,4 +220,22 @@ pub fn lent(alloc: Global, line: &str) -> anyhow::Result<String> {
     let mut bytes = vec![in alloc; 0; length.parse::<usize>()?]?;
     let blocks = blocks(alloc, rest)?;
     lent_answers(alloc, bytes.as_mut_slice(), blocks.as_slice(), requests)
+}
+
+/// The answers of an allocator: addresses, and `full` for a refusal.
+fn script(alloc: Global, words: &str) -> anyhow::Result<Vec<Result<u32, Full>>> {
+    let mut script = Vec::new(alloc);
+    for word in words.split(' ') {
+        script.push(number(word).ok_or(Full))?;
+    }
+    Ok(script)
+}
+
+/// What a memory of zeros, whose allocator gives these answers in turn, answers to requests.
+pub fn scripted(alloc: Global, line: &str) -> anyhow::Result<String> {
+    let (memory, requests) = parted(line, "; ")?;
+    let (length, words) = parted(memory, ", ")?;
+    let script = script(alloc, words)?;
+    let mut memory = Scripted::new(alloc, length.parse::<u32>()?, script)?;
+    answers(alloc, &mut memory, requests)
 }

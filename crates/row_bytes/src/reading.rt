@@ -97,6 +97,7 @@ fn done_of_memory(alloc: Global, word: &str, rest: &str) -> anyhow::Result<Strin
         "first-fit" => memories::asked(alloc, Kind::FirstFit, rest),
         "can-lend" => memories::lendable(alloc, rest),
         "lent" => memories::lent(alloc, rest),
+        "scripted" => memories::scripted(alloc, rest),
         "maxima" => trees::asked(alloc, rest),
         _ => binaries::done(alloc, word, rest),
     }
