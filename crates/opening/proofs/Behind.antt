@@ -94,6 +94,16 @@ more-packages (x ∷ xs) s r (c, next, h, rest) =
 pub count-packages : (xs : List (List ℕ)) (r : Resolve) → IsSetOf xs r → length r.packages ≡ length xs
 count-packages xs r h = omega (arith, more-packages xs h.none r h.adds, ap (λ (ps : List PackageParts). length ps) h.empty.packages)
 
+-- .. and at most 64
+few-more : (xs : List (List ℕ)) (s r : Resolve) → length s.packages ≤ 64 → AddsMembers s xs r → length r.packages ≤ 64
+few-more [] s r few h = subst (λ (x : Resolve). length x.packages ≤ 64) h few
+few-more (x ∷ xs) s r few (closed, next, adds, rest) =
+    few-more xs next r
+    (omega (arith, ap length adds.puts.attached.packages_are, length-append s.packages (adds.puts.attached.fits.own ∷ []), adds.puts.attached.room)) rest
+
+pub few-packages : (xs : List (List ℕ)) (r : Resolve) → IsSetOf xs r → length r.packages ≤ 64
+few-packages xs r h = few-more xs h.none r (omega (arith, ap (λ (ps : List PackageParts). length ps) h.empty.packages)) h.adds
+
 -- ---- what is written of the last package
 
 module _ (set c r : Resolve) (last bytes : List ℕ) (h : AddsMember set last c r) (tower : IsInTower set) (writable : IsWritable c) where

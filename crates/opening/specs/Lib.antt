@@ -1,4 +1,5 @@
 pub mod Alone
+pub mod Followed
 pub mod Opening
 pub mod Sets
 pub mod Stays

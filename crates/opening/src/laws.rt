@@ -1,10 +1,13 @@
 //! Laws of opened packages.
-ghost use Rattle.std.specs.Prelude.{◌∷◌, ◌++◌, [], ℕ, List};
+ghost use Rattle.std.specs.Prelude.{◌≡◌, ◌∷◌, ◌++◌, [], ℕ, List};
 ghost use Rattle.opening.specs.Alone.{OpensAlone, AloneRefuses};
+ghost use Rattle.opening.specs.Followed.{IsFollowed};
 ghost use Rattle.opening.specs.Opening.{IsOpened, IsPrintedAs, IsWrittenAs, OpenRefuses};
+ghost use Rattle.opening.specs.Sets.{IsBinaryOf};
 ghost use Rattle.opening.specs.Stays.{RowsStay};
 ghost use Rattle.opening.specs.ToldSet.{SetIsTold};
 ghost use Rattle.opening.specs.declared.package.OpenError.{OpenError};
+ghost use Rattle.tables.specs.Same.{IsSamePackage};
 ghost use Rattle.tables.specs.declared.tables.Resolve.{Resolve};
 
 use package_text::laws::{text_is_of_closed_package, types_nest_as_in_a_text};
@@ -43,4 +46,19 @@ pub fn sets_are_told()
 /// Rows behind a table leave all as it was that is asked of the rows that were there: closed types, labels and functions.
 pub fn rows_stay()
     ensures { (old new : Resolve) → RowsStay old new }
+{}
+
+/// Packages that are the same are one package: what is opened as the one is opened as the other, and what is written of the one
+/// is written of the other. So are the copy of `Package::copy` and what it is a copy of.
+pub fn same_packages_are_one()
+    ensures one { (a b : Resolve) → IsSamePackage a b → a ≡ b }
+    ensures opened { (inputs : List (List ℕ)) (a b : Resolve) → IsSamePackage a b → IsOpened inputs a → IsOpened inputs b }
+    ensures binary { (bytes : List ℕ) (a b : Resolve) → IsSamePackage a b → IsWrittenAs bytes a → IsWrittenAs bytes b }
+    ensures text { (bytes : List ℕ) (a b : Resolve) → IsSamePackage a b → IsPrintedAs bytes a → IsPrintedAs bytes b }
+{}
+
+/// The binary of a package's closed table is read as this table, where each index of its component is followed to the declaration
+/// that took it, and each declaration to the name under which it is exported.
+pub fn binaries_are_followed()
+    ensures { (bytes : List ℕ) (closed : Resolve) → IsBinaryOf bytes closed → ∥ IsFollowed bytes closed ∥₁ }
 {}

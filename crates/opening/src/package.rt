@@ -1,6 +1,6 @@
 //! Packages, and how they are opened.
 
-ghost use Rattle.std.specs.Prelude.{◌≡◌, ◌<◌, ◌∷◌, [], length, All, IfOk, IfErr, MatchResult};
+ghost use Rattle.std.specs.Prelude.{◌≡◌, ◌<◌, ◌≤◌, ◌∷◌, [], length, All, IfOk, IfErr, MatchResult};
 ghost use Rattle.layout.specs.Layout.{layouts_of, AreWithin, RefusesFirst};
 ghost use Rattle.tables.specs.Same.{IsSamePackage};
 ghost use Rattle.package_form.specs.Closed.{IsAlone};
@@ -158,6 +158,7 @@ pub struct Package {
     layouts: Layouts,
     pub ghost tower: { ∥ IsInTower resolve ∥₁ },
     ghost some: { 0 < length resolve.packages },
+    ghost few: { length resolve.packages ≤ 64 },
     ghost laid_out: { layouts ≡ layouts_of resolve },
     ghost within: { ∥ AreWithin resolve ∥₁ },
 }
@@ -167,6 +168,7 @@ impl Package {
     pub(crate) fn of_set(alloc: Global, resolve: Resolve) -> Result<Package, LayoutError>
         requires tower { ∥ IsInTower resolve ∥₁ }
         requires some { 0 < length resolve.packages }
+        requires few { length resolve.packages ≤ 64 }
         ensures ok { IfOk result (λ p. p.resolve ≡ resolve) }
         ensures within { IfOk result (λ _. AreWithin resolve) }
         ensures err { IfErr result (λ e. RefusesFirst e resolve) }
@@ -185,9 +187,8 @@ impl Package {
         if packages.len() == 1 {
             return Ok(Last::Whole(&self.resolve));
         }
-        let Ok(own) = u32::try_from(own_package(packages)) else {
-            return Err(AllocError);
-        };
+        // A set has at most 64 packages.
+        let own = own_package(packages) as u32;
         let table = restricted(alloc, &self.resolve, PackageId(own))?;
         Ok(Last::Part(table))
     }

@@ -8,7 +8,7 @@ use Rattle.tables.specs.Same.{IsSamePackage}
 use Rattle.tables.specs.declared.tables.Resolve.{Resolve}
 use Rattle.opening.specs.Opening.{IsOpened}
 use Rattle.opening.specs.Sets.{all_bytes, IsSetOf}
-use Rattle.opening.proofs.Behind.{first-refused, same-laid-out, is-in-tower, count-packages}
+use Rattle.opening.proofs.Behind.{first-refused, same-laid-out, is-in-tower, count-packages, few-packages}
 use Rattle.opening.proofs.set.open_set.Goals as goal
 
 pub returns-in_err-set-clause-err : goal.returns-in_err-set-clause-err
@@ -28,6 +28,11 @@ pub of_set-requires-clause-some : goal.of_set-requires-clause-some
 of_set-requires-clause-some c =
     let count = count-packages (all_bytes c.args.inputs.now) c.in_ok-set.set.resolve c.in_ok-set.ensures.ok in
     omega (arith, count, length-map c.args.inputs.now (λ b. b.now), c.requires.some, ap (λ (x : Resolve). length x.packages) c.into_resolve.ensures)
+
+pub of_set-requires-clause-few : goal.of_set-requires-clause-few
+of_set-requires-clause-few c =
+    let few = few-packages (all_bytes c.args.inputs.now) c.in_ok-set.set.resolve c.in_ok-set.ensures.ok in
+    omega (arith, few, ap (λ (x : Resolve). length x.packages) c.into_resolve.ensures)
 
 pub returns-in_err-of_set-clause-err : goal.returns-in_err-of_set-clause-err
 returns-in_err-of_set-clause-err c =

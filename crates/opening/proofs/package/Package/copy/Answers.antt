@@ -1,4 +1,4 @@
-use Rattle.std.proofs.Common.{rules, arith, length, ◌<◌, sym, subst}
+use Rattle.std.proofs.Common.{rules, arith, length, ◌<◌, ◌≤◌, sym, subst}
 use Rattle.std.proofs.Math.Logic.{∥∥₁_elim}
 use Rattle.std.proofs.lemmas.Grind.{common_steps}
 use Rattle.package_sets.specs.Tower.{IsInTower}
@@ -16,6 +16,11 @@ pub invariant_of-result-clause-some : goal.invariant_of-result-clause-some
 invariant_of-result-clause-some c =
     let set = same-tables c.in_ok-resolve.resolve c.args.self.now.resolve c.in_ok-resolve.ensures in
     subst (λ (r : Resolve). 0 < length r.packages) (sym set) c.args.self.now.some
+
+pub invariant_of-result-clause-few : goal.invariant_of-result-clause-few
+invariant_of-result-clause-few c =
+    let set = same-tables c.in_ok-resolve.resolve c.args.self.now.resolve c.in_ok-resolve.ensures in
+    subst (λ (r : Resolve). length r.packages ≤ 64) (sym set) c.args.self.now.few
 
 pub unreachable-requires : goal.unreachable-requires
 unreachable-requires c = ∥∥₁_elim c.args.self.now.within (λ x y. absurd x) (λ w.
