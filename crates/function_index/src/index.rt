@@ -53,7 +53,8 @@ impl FunctionIndex {
         name: &Label,
         func: FunctionId,
     ) -> Result<(), AllocError>
-        ensures { OnOk result ((i n : List ℕ) → function_in self.new i n ≡ option_or (function_in self.old i n) (if bytes_eq i interface.now && bytes_eq n name.now then Some func else None)) }
+        ensures { OnOk result ((i n : List ℕ) → function_in self.new i n
+            ≡ option_or (function_in self.old i n) (if bytes_eq i interface.now && bytes_eq n name.now then Some func else None)) }
     {
         if let Some(functions) = self.interfaces.get_mut(interface) {
             return functions.put(alloc, name, func);
@@ -72,7 +73,8 @@ impl FunctionIndex {
         interface: &str,
         row: FunctionId,
     ) -> Result<(), AllocError>
-        ensures { (cs : List Candidate) → IsIndexOver table.now cs self.old → OnOk result (IsIndexOver table.now (cs ++ under interface.now (row ∷ [])) self.new) }
+        ensures { (cs : List Candidate) → IsIndexOver table.now cs self.old
+            → OnOk result (IsIndexOver table.now (cs ++ under interface.now (row ∷ [])) self.new) }
     {
         if !table.is_function(row) {
             return Ok(());
@@ -89,7 +91,8 @@ impl FunctionIndex {
         interface: &str,
         rows: &[FunctionId],
     ) -> Result<(), AllocError>
-        ensures { (cs : List Candidate) → IsIndexOver table.now cs self.old → OnOk result (IsIndexOver table.now (cs ++ under interface.now rows.now) self.new) }
+        ensures { (cs : List Candidate) → IsIndexOver table.now cs self.old
+            → OnOk result (IsIndexOver table.now (cs ++ under interface.now rows.now) self.new) }
     {
         for row in rows {
             self.put_row(alloc, table, interface, *row)?;

@@ -57,7 +57,8 @@ impl NamedFunctions {
         name: &Label,
         func: FunctionId,
     ) -> Result<(), AllocError>
-        ensures { OnOk result ((n : List ℕ) → lookup (bytes_eq n) self.new ≡ option_or (lookup (bytes_eq n) self.old) (if bytes_eq n name.now then Some func else None)) }
+        ensures { OnOk result ((n : List ℕ) → lookup (bytes_eq n) self.new
+            ≡ option_or (lookup (bytes_eq n) self.old) (if bytes_eq n name.now then Some func else None)) }
     {
         if !self.functions.contains_key(name.as_str()) {
             self.functions

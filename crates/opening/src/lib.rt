@@ -6,6 +6,7 @@
 #![tactic(auto)]
 
 mod binary;
+mod indexed;
 pub mod laws;
 mod package;
 mod printed;
@@ -13,5 +14,6 @@ mod set;
 mod text;
 mod typing;
 
+pub use indexed::{IndexedPackage, open_indexed};
 pub use package::{MAX_INPUT, OpenError, Package, open};
 pub use set::open_set;
