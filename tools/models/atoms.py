@@ -32,12 +32,13 @@ def words_of(line):
     words, earlier = line.split(" ")[2:], []
     while words and (words[0] == "--with" or words[0].startswith("--with=")):
         flag, _, file = words.pop(0).partition("=")
-        if not file and not words:
+        # the word after a lone `--with` is no file if it is an option, or if there is none
+        if not file and (not words or words[0].startswith("-") and words[0] != "-"):
             return None
         earlier.append(file or words.pop(0))
     if words and words[0] == "--":
         return earlier, words[1:]
-    return None if any(word.startswith("-") for word in words) else (earlier, words)
+    return None if any(word.startswith("-") and word != "-" for word in words) else (earlier, words)
 
 
 def words_row(line):

@@ -28,3 +28,14 @@ both_ways = refl
 
 left : other_words (codes "witcall" ∷ codes "show" ∷ codes "--with=b" ∷ codes "c" ∷ []) ≡ codes "witcall" ∷ codes "show" ∷ codes "c" ∷ []
 left = refl
+
+-- a word that `clap` takes for an option is no file of a `--with` before it, which `clap` then refuses
+no_file : other_words (codes "witcall" ∷ codes "show" ∷ codes "--with" ∷ codes "-x" ∷ codes "c" ∷ []) ≡ codes "witcall" ∷ codes "show" ∷ codes "--with" ∷ codes "-x" ∷ codes "c" ∷ []
+no_file = refl
+
+not_taken : takes program_app (codes "witcall" ∷ codes "show" ∷ codes "--with" ∷ codes "-x" ∷ codes "c" ∷ []) ≡ false
+unfolding clap_on_literals
+not_taken = refl
+
+lone_mark : with_files (codes "--with" ∷ codes "-" ∷ codes "--with=-x" ∷ codes "c" ∷ []) ≡ codes "-" ∷ codes "-x" ∷ []
+lone_mark = refl

@@ -1,5 +1,5 @@
 -- Which words name the earlier packages' files.
-use Rattle.std.specs.Prelude.{◌≡◌, ℕ, List, [], ◌∷◌, ◌++◌, String, Option, Some, None, map, take, drop, codes, string_bytes, if◌then◌else◌}
+use Rattle.std.specs.Prelude.{◌≡◌, ℕ, ◌&&◌, Bool, not, List, [], ◌∷◌, ◌++◌, String, Option, Some, None, map, take, drop, codes, string_bytes, if◌then◌else◌}
 use Rattle.std.specs.Option.{option_map_or}
 use Rattle.std.specs.Str.{bytes_eq}
 use Rattle.std.specs.Global.{Global}
@@ -17,12 +17,20 @@ lent_texts = map (λ text. text.now)
 abbrev pub joined_file : List ℕ → Option (List ℕ)
 joined_file word = if bytes_eq (take 7 word) (codes "--with=") then Some (drop 7 word) else None
 
+-- `clap` takes the word for an option: it begins with `-`, and is more than that
+abbrev pub is_option : List ℕ → Bool
+is_option word = bytes_eq (take 1 word) (codes "-") && not (bytes_eq word (codes "-"))
+
+-- the two words are `--with` and a file that it may name
+abbrev pub is_pair : List ℕ → List ℕ → Bool
+is_pair word next = bytes_eq word (codes "--with") && not (is_option next)
+
 -- the files that the words begin with, each by a pair `--with FILE` or a word `--with=FILE`
 abbrev pub with_files : List (List ℕ) → List (List ℕ)
 with_files [] = []
 with_files (word ∷ []) = option_map_or (λ file. file ∷ []) (joined_file word) []
 with_files (word ∷ next ∷ rest) =
-    if bytes_eq word (codes "--with") then next ∷ with_files rest
+    if is_pair word next then next ∷ with_files rest
     else option_map_or (λ file. file ∷ with_files (next ∷ rest)) (joined_file word) []
 
 -- the words after the files that the words begin with
@@ -30,7 +38,7 @@ abbrev pub behind_files : List (List ℕ) → List (List ℕ)
 behind_files [] = []
 behind_files (word ∷ []) = option_map_or (λ file. []) (joined_file word) (word ∷ [])
 behind_files (word ∷ next ∷ rest) =
-    if bytes_eq word (codes "--with") then behind_files rest
+    if is_pair word next then behind_files rest
     else option_map_or (λ file. behind_files (next ∷ rest)) (joined_file word) (word ∷ next ∷ rest)
 
 -- the words begin with no file

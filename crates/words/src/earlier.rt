@@ -1,11 +1,18 @@
 //! The earlier packages' files, which stand right after the command, each as `--with FILE` or `--with=FILE`.
 
 ghost use Rattle.std.specs.Prelude.{◌≡◌, ◌++◌, ◌<◌, IfOk, IfSome, MatchOption, OnOk, drop, length};
-ghost use Rattle.words.specs.Earlier.{with_files, behind_files, other_words, texts_of, lent_texts, NamesNoFile, NamesFile};
+ghost use Rattle.words.specs.Earlier.{with_files, behind_files, other_words, texts_of, lent_texts, is_option, NamesNoFile, NamesFile};
 
 use std::alloc::{AllocError, Global};
 
-/// The file that the words begin with, and the words after it.
+/// Whether `clap` takes the word for an option. A lone `-` is none.
+fn is_option(word: &str) -> bool
+    ensures { result ≡ is_option word.now }
+{
+    word.starts_with('-') && word != "-"
+}
+
+/// The file that the words begin with, and the words after it. A word that is an option is no file of the `--with` before it.
 fn file_in_front(words: &[String]) -> Option<(&str, &[String])>
     ensures named { MatchOption result (NamesNoFile (texts_of words.now)) (λ parts. NamesFile (texts_of words.now) parts.0.now (texts_of parts.1.now)) }
     ensures fewer { IfSome result (λ parts. length parts.1.now < length words.now) }
@@ -14,7 +21,9 @@ fn file_in_front(words: &[String]) -> Option<(&str, &[String])>
         return None;
     };
     match after {
-        [file, rest @ ..] if word.as_str() == "--with" => Some((file.as_str(), rest)),
+        [file, rest @ ..] if word.as_str() == "--with" && !is_option(file.as_str()) => {
+            Some((file.as_str(), rest))
+        }
         _ => match word.as_str().strip_prefix("--with=") {
             Some(file) => Some((file, after)),
             None => None,
