@@ -1,0 +1,5 @@
+use Rattle.world_functions.proofs.Names.{both_behind}
+use Rattle.world_functions.proofs.name.after_part.Goals as goal
+
+pub returns : goal.returns
+returns c = both_behind _ _ _ _ _ c.in_ok-rest.ensures c.after-2.ensures
