@@ -149,7 +149,7 @@ def way(program):
     left, bottom = steps(picture, 30, 56, 340, [
         ("FILE, a text", pathlib.Path(file).read_text().replace("; ", ";\n").splitlines()[:1] + [call["text"].partition("; ")[2]],
          [clauses("lex", "ok"), clauses("parse", "found", "only")]),
-        ("syntax tree", [], [clauses("PackageSet::add_tree", "ok", "only")]),
+        ("syntax tree", [], [clauses("PackageSet::add_ast", "ok", "only")]),
         ("tables: witcall show", printed(program, "show", file), [clauses("Layouts::of", "ok")]),
         ("layouts: witcall layout", [signature[:at], signature[at + 1:]], []),
     ])
@@ -158,7 +158,7 @@ def way(program):
     picture.text(40, bottom + 93, f"{binary[:8].hex(' ')} ..")
     picture.arrow((60, bottom + 58), (60, bottom + 40), (20, bottom + 40), (20, left[2] + 30), (30, left[2] + 30))
     picture.text(72, bottom + 36, clauses("decode", "spelt", "only"), "clause")
-    picture.text(72, bottom + 52, clauses("PackageSet::add_component", "ok", "only"), "clause")
+    picture.text(72, bottom + 52, clauses("PackageSet::add_raw", "ok", "only"), "clause")
     right, end = steps(picture, 430, 56, 340, [
         ("ARGS", [given[4]], [clauses("from_json", "ok")]),
         ("the caller passes", [flats(call["flats"])], [clauses("Session::call", "promise", "finds")]),

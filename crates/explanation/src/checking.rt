@@ -57,7 +57,7 @@ struct Checker<'a> {
 
 /// Adds a package to a set.
 fn added(alloc: Global, set: &mut PackageSet, member: &Member<'_>) -> Result<Checked, Cause> {
-    let id = set.add_tree(alloc, &member.tree)?;
+    let id = set.add_ast(alloc, &member.tree)?;
     let tables = set.table(alloc, id)?;
     match Layouts::of(alloc, &tables) {
         Ok(layouts) => Ok(Checked {

@@ -1,5 +1,6 @@
 pub mod Alone
 pub mod Followed
+pub mod Numbers
 pub mod Opening
 pub mod Sets
 pub mod Stays

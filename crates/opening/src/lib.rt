@@ -6,8 +6,10 @@
 #![tactic(auto)]
 
 mod binary;
+mod earlier;
 mod indexed;
 pub mod laws;
+mod number;
 mod package;
 mod printed;
 mod set;
@@ -15,5 +17,9 @@ mod text;
 mod typing;
 
 pub use indexed::{IndexedPackage, open_indexed};
+pub use number::{
+    add_number, attach_number, binary_number, is_out_of_memory, layout_number, resolve_number,
+    text_number,
+};
 pub use package::{MAX_INPUT, OpenError, Package, open};
 pub use set::open_set;

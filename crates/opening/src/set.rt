@@ -27,7 +27,7 @@ fn add_text(alloc: Global, set: &mut PackageSet, bytes: &[u8]) -> Result<(), Ope
     texts_have_full_names();
     let text = text_of(bytes)?;
     let ast = parse(alloc, text)?;
-    set.add_tree(alloc, &ast)?;
+    set.add_ast(alloc, &ast)?;
     Ok(())
 }
 
@@ -40,7 +40,7 @@ fn add_binary(alloc: Global, set: &mut PackageSet, bytes: &[u8]) -> Result<(), O
     ensures err { IfErr result (MemberRefuses set.old.resolve bytes.now) }
 {
     let raw = decode(alloc, bytes)?;
-    set.add_component(alloc, &raw, bytes)?;
+    set.add_raw_with_bytes(alloc, &raw, bytes)?;
     Ok(())
 }
 

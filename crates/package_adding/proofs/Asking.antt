@@ -1,5 +1,5 @@
 -- What is asked of a set, one name after the other.
-use Rattle.std.proofs.Common.{◌≡◌, ◌↔◌, ◌<◌, ◌+◌, ◌&&◌, ◌||◌, ℕ, Bool, true, false, List, [], ◌∷◌, map, length, take, get_or, replicate, slice_get, Some, Result, Ok, Err, OnOk, refl, ap, sym, subst, ◌∙◌, arith}
+use Rattle.std.proofs.Common.{◌≡◌, ◌<◌, ◌+◌, ◌&&◌, ◌||◌, ℕ, Bool, true, false, List, [], ◌∷◌, map, length, take, get_or, replicate, slice_get, Some, Result, Ok, Err, OnOk, refl, ap, sym, ◌∙◌, arith}
 use Rattle.std.specs.List.{list_any}
 use Rattle.std.specs.Str.{bytes_eq}
 use Rattle.std.proofs.lemmas.Bool.Decides.{nat_tests}
@@ -15,7 +15,6 @@ use Rattle.package_names.specs.Asked.{has_names, is_asked, is_asked_of}
 use Rattle.package_sets.proofs.Lists.{map-get}
 use Rattle.package_sets.specs.NamedIn.{AreMarksOf}
 use Rattle.tables.specs.PackageNames.{PackageParts}
-use Rattle.tables.specs.declared.tables.Interface.{Interface}
 use Rattle.tables.specs.declared.tables.Resolve.{Resolve}
 use Rattle.package_adding.specs.Asked.{nothing, also, AreAsked}
 use Rattle.package_adding.specs.Named.{any_names}

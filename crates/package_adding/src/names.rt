@@ -9,7 +9,7 @@ use atoms::{is_label, is_package_label, is_version};
 use std::alloc::{AllocError, Global};
 use wit_syntax::{Ast, Item};
 
-/// Whether the names of the tree's package and interfaces make full names, as those of every text do: what `add_tree` asks for.
+/// Whether the names of the tree's package and interfaces make full names, as those of every text do: what `add_ast` asks for.
 /// (WIT.md, "Package Names")
 pub fn has_full_names(alloc: Global, ast: &Ast) -> Result<bool, AllocError>
     ensures { IfOk result (λ full. full ≡ file_has_full_names (file_view ast.now)) }

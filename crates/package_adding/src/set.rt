@@ -29,9 +29,9 @@ use package_sets::laws::{attaches_alone, attaches_one, is_set_of_none};
 use package_sets::{AttachError, Joined, MOST_PACKAGES, fitting, put_behind};
 use package_text::names_are_labels;
 use std::alloc::{AllocError, Global};
-use tables::{PackageId, Resolve, Sequence};
+use tables::{PackageId, Resolve, ResolveError, Sequence};
 use tree_scopes::{has_package, package_name};
-use wit_component::closed_from_component;
+use wit_component::{closed_from_component, spelling};
 use wit_syntax::Ast;
 
 /// Packages that use each other, as one table: each behind those that it uses, at most 64. None is empty, and none has more
@@ -178,12 +178,29 @@ impl PackageSet {
         Ok(self.put(alloc, &closed, &to)?)
     }
 
-    /// Adds the package of a component that these bytes spell behind the others, and answers its id. The interfaces that the component
-    /// imports are those of earlier packages. 49 where there are 64 packages; then 43, 44 and 40 as `closed_from_component` tests them; then
+    /// Adds the package of a component behind the others, and answers its id. The interfaces that the component imports are those of
+    /// earlier packages. 49 where there are 64 packages; then 43, 44 and 40 as `closed_from_component` tests them; then
     /// 48 where there is a package of this name, 47 for the first package that it imports from and that isn't there, and 44 where an
     /// interface that it imports isn't there or differs from the earlier package's, or where its imports stand in another order than the
     /// set's; 46 where memory is wanting. The set is as it was then. (Binary.md)
-    pub fn add_component(
+    pub fn add_raw(&mut self, alloc: Global, raw: &RawComponent) -> Result<PackageId, AddError>
+        ensures ok { IfOk result (λ id. ComponentIsAdded raw.now self.old.resolve self.new.resolve id.0) }
+        ensures known { IfOk result (λ id. id.0 < length self.new.resolve.packages) }
+        ensures earlier { OnOk result (KeepsTables self.old.resolve self.new.resolve) }
+        ensures only { (closed r : Resolve) (id : ℕ) → AddsComponent raw.now self.old.resolve closed r id
+            → MatchResult result (λ _. IsSamePackage self.new.resolve r) IsWantOfMemoryToAdd }
+        ensures err { IfErr result (ComponentNotAdded raw.now self.old.resolve) }
+        ensures same { OnErr result (self.new ≡ self.old) }
+    {
+        self.has_room()?;
+        let Ok(bytes) = spelling(alloc, raw) else {
+            return Err(AddError::Resolve(ResolveError::NoMemory));
+        };
+        self.add_raw_with_bytes(alloc, raw, &bytes)
+    }
+
+    /// The same of a component that these bytes spell: who has read it has them, so that they need not be written anew. (Binary.md)
+    pub fn add_raw_with_bytes(
         &mut self,
         alloc: Global,
         raw: &RawComponent,
@@ -223,7 +240,7 @@ impl PackageSet {
     /// nor world, 48 where there is a package of its name; then 40, 47, 41, 42 and 45 as `closed_table` tests them over the interfaces
     /// that the paths name, with what these reach; 46 where memory is wanting. 47 also where a use of a package names no type, as in no text,
     /// and nothing else is used of it. The set is as it was then. (WIT.md)
-    pub fn add_tree(&mut self, alloc: Global, ast: &Ast) -> Result<PackageId, AddError>
+    pub fn add_ast(&mut self, alloc: Global, ast: &Ast) -> Result<PackageId, AddError>
         requires names { IsTrue (file_has_full_names (file_view ast.now)) }
         ensures ok { IfOk result (λ id. TreeIsAdded (file_view ast.now) self.old.resolve self.new.resolve id.0) }
         ensures known { IfOk result (λ id. id.0 < length self.new.resolve.packages) }

@@ -13,8 +13,7 @@ use crate::set::PackageSet;
 use ctype_bin::RawComponent;
 use package_text::names_are_labels;
 use std::alloc::Global;
-use tables::{Resolve, ResolveError};
-use wit_component::spelling;
+use tables::Resolve;
 use wit_syntax::Ast;
 
 /// The package of a syntax tree that names no other package: it is added to a set that has none. A path that names one is 47. (WIT.md)
@@ -26,7 +25,7 @@ pub fn from_ast(alloc: Global, ast: &Ast) -> Result<Resolve, AddError>
     ensures err { IfErr result (FileAloneRefuses (file_view ast.now)) }
 {
     let mut set = PackageSet::new(alloc);
-    set.add_tree(alloc, ast)?;
+    set.add_ast(alloc, ast)?;
     let package = set.into_resolve();
     names_are_labels(&package);
     Ok(package)
@@ -40,11 +39,8 @@ pub fn from_raw(alloc: Global, raw: &RawComponent) -> Result<Resolve, AddError>
     ensures only { (r : Resolve) → IsComponentAlone raw.now r → MatchResult result (λ p. IsSamePackage p r) IsWantOfMemoryToAdd }
     ensures err { IfErr result (ComponentAloneRefuses raw.now) }
 {
-    let Ok(bytes) = spelling(alloc, raw) else {
-        return Err(AddError::Resolve(ResolveError::NoMemory));
-    };
     let mut set = PackageSet::new(alloc);
-    set.add_component(alloc, raw, &bytes)?;
+    set.add_raw(alloc, raw)?;
     let package = set.into_resolve();
     names_are_labels(&package);
     Ok(package)

@@ -7,8 +7,8 @@ use Rattle.opening.proofs.Members.{adds-text, of-member, tree-added, text-refuse
 use Rattle.opening.proofs.PrintedTexts.{read-tree, only-memory}
 use Rattle.opening.proofs.set.add_text.Goals as goal
 
-pub add_tree-requires : goal.add_tree-requires
-add_tree-requires c = record { names = c.texts_have_full_names.ensures _ (file_view c.in_ok-ast.ast) c.in_ok-ast.ensures.found }
+pub add_ast-requires : goal.add_ast-requires
+add_ast-requires c = record { names = c.texts_have_full_names.ensures _ (file_view c.in_ok-ast.ast) c.in_ok-ast.ensures.found }
 
 pub returns-in_err-text-clause-err : goal.returns-in_err-text-clause-err
 returns-in_err-text-clause-err c =
@@ -30,27 +30,27 @@ returns-in_err-ast-clause-only c = λ closed r h.
     let t = of-member c.args.set.now.resolve c.args.bytes.now c.requires.text closed r h in
     rw (p.1, p.2) (only-memory _ t.file (c.in_err-ast.ensures.only t.file (subst (λ x. IsRead x t.file) (sym c.in_ok-text.ensures.ok) t.read)))
 
-pub returns-in_err-add_tree-clause-err : goal.returns-in_err-add_tree-clause-err
-returns-in_err-add_tree-clause-err c =
-    let p = err_from_is_err_and c.from_residual-in_err-add_tree.result c.from_residual-in_err-add_tree.ensures.1 in
+pub returns-in_err-add_ast-clause-err : goal.returns-in_err-add_ast-clause-err
+returns-in_err-add_ast-clause-err c =
+    let p = err_from_is_err_and c.from_residual-in_err-add_ast.result c.from_residual-in_err-add_ast.ensures.1 in
     let f = file_view c.in_ok-ast.ast in
     let read = subst (λ t. IsRead t f) c.in_ok-text.ensures.ok c.in_ok-ast.ensures.found in
-    rw (p.1, p.2) (text-refuses c.args.set.now.resolve c.args.bytes.now c.requires.text c.requires.room f c.in_ok-text.ensures.utf8 read c.in_err-add_tree.field-0.0 c.in_err-add_tree.ensures.err)
+    rw (p.1, p.2) (text-refuses c.args.set.now.resolve c.args.bytes.now c.requires.text c.requires.room f c.in_ok-text.ensures.utf8 read c.in_err-add_ast.field-0.0 c.in_err-add_ast.ensures.err)
 
-pub returns-in_err-add_tree-clause-only : goal.returns-in_err-add_tree-clause-only
-returns-in_err-add_tree-clause-only c = λ closed r h.
-    let p = err_from_is_err_and c.from_residual-in_err-add_tree.result c.from_residual-in_err-add_tree.ensures.1 in
+pub returns-in_err-add_ast-clause-only : goal.returns-in_err-add_ast-clause-only
+returns-in_err-add_ast-clause-only c = λ closed r h.
+    let p = err_from_is_err_and c.from_residual-in_err-add_ast.result c.from_residual-in_err-add_ast.ensures.1 in
     let t = of-member c.args.set.now.resolve c.args.bytes.now c.requires.text closed r h in
     let f = file_view c.in_ok-ast.ast in
     let same = read-tree t.file f (c.in_ok-ast.ensures.only t.file (subst (λ x. IsRead x t.file) (sym c.in_ok-text.ensures.ok) t.read)) in
     let a = tree-added c.args.set.now.resolve c.args.bytes.now c.requires.text closed r h f (sym same) in
-    rw (p.1, p.2) (wants c.in_err-add_tree.field-0.0 (c.in_err-add_tree.ensures.only closed r h.puts.id a.0 h.puts.writable a.1))
+    rw (p.1, p.2) (wants c.in_err-add_ast.field-0.0 (c.in_err-add_ast.ensures.only closed r h.puts.id a.0 h.puts.writable a.1))
 
 pub returns-clause-ok : goal.returns-clause-ok
 returns-clause-ok c =
     let f = file_view c.in_ok-ast.ast in
     let read = subst (λ t. IsRead t f) c.in_ok-text.ensures.ok c.in_ok-ast.ensures.found in
-    let added = c.in_ok-add_tree.ensures.ok in
+    let added = c.in_ok-add_ast.ensures.ok in
     (_, adds-text c.args.set.now.resolve c.args.bytes.now c.requires.text f added.closed _ _ c.in_ok-text.ensures.utf8 read added.fits added.adds added.writable added.behind)
 
 pub returns-clause-only : goal.returns-clause-only
@@ -59,4 +59,4 @@ returns-clause-only c = λ closed r h.
     let f = file_view c.in_ok-ast.ast in
     let same = read-tree t.file f (c.in_ok-ast.ensures.only t.file (subst (λ x. IsRead x t.file) (sym c.in_ok-text.ensures.ok) t.read)) in
     let a = tree-added c.args.set.now.resolve c.args.bytes.now c.requires.text closed r h f (sym same) in
-    c.in_ok-add_tree.ensures.only closed r h.puts.id a.0 h.puts.writable a.1
+    c.in_ok-add_ast.ensures.only closed r h.puts.id a.0 h.puts.writable a.1

@@ -1,10 +1,11 @@
--- The component is that of the package's table.
-use Rattle.std.proofs.Math.Logic.{∥∥₁_map}
-use Rattle.package_text.proofs.Formed.{form-told}
+-- The set is the one that its table is.
+use Rattle.std.proofs.Common.{subst, IfOk}
+use Rattle.package_sets.specs.Restricted.{IsRestricted}
+use Rattle.tables.specs.declared.tables.Resolve.{Resolve}
+use Rattle.wit_component.specs.ToComponent.{ComponentStands}
 use Rattle.package_adding.proofs.set.PackageSet.to_raw.Goals as goal
 
-pub component_with_bytes-requires : goal.component_with_bytes-requires
-component_with_bytes-requires c = form-told c.in_ok-table.table (∥∥₁_map c.in_ok-table.ensures.form (λ f. f.0))
-
 pub returns : goal.returns
-returns c = record { ok = (c.in_ok-table.table, c.in_ok-table.ensures.ok, c.in_ok-raw.ensures.ok) }
+returns c = record {
+  ok = subst (λ (s : Resolve). IfOk c.to_raw.result (λ raw. (r : Resolve) × IsRestricted s c.args.id.0 r × ComponentStands raw r)) c.resolve.ensures c.to_raw.ensures.ok
+}

@@ -2,7 +2,7 @@
 use Rattle.std.proofs.lemmas.Result.{err_from_is_err_and}
 use Rattle.package_adding.proofs.Only.{one-component, component-for-memory, component-refused, makes-one, is-known}
 use Rattle.package_adding.proofs.Refusals.{not-attached}
-use Rattle.package_adding.proofs.set.PackageSet.add_component.Goals as goal
+use Rattle.package_adding.proofs.set.PackageSet.add_raw_with_bytes.Goals as goal
 
 pub returns-in_err-id-clause-err : goal.returns-in_err-id-clause-err
 returns-in_err-id-clause-err c =

@@ -4,7 +4,7 @@ use Rattle.std.proofs.lemmas.Result.{err_from_is_err_and}
 use Rattle.wit_syntax.specs.View.{file_view}
 use Rattle.package_adding.proofs.Adding.{not-put}
 use Rattle.package_adding.proofs.Only.{want, refused-for-memory, makes-one, is-known}
-use Rattle.package_adding.proofs.set.PackageSet.add_tree.Goals as goal
+use Rattle.package_adding.proofs.set.PackageSet.add_ast.Goals as goal
 
 pub returns-in_err-id-clause-err : goal.returns-in_err-id-clause-err
 returns-in_err-id-clause-err c =
