@@ -67,18 +67,23 @@ class Openings:
 
 
 def opening(given):
-    """Opens each shape of text as long as it is accepted, its binary, and a longer one; and texts that are refused at their end."""
+    """Opens each shape of text as long as it is accepted, its binary, one with a definition more, and a longer one.
+
+    Texts that are refused at their end are opened, too.
+    """
     with tempfile.TemporaryDirectory() as path:
         openings = Openings(given.program, Folder(path))
         print("| input | bytes | answer | KiB | times its bytes |\n|---|---|---|---|---|")
         for name, (made, most) in texts.MEMORY.items():
             count = openings.greatest(made, most)
-            text, longer = made(count), made(count + count // 4)
+            text = made(count)
             openings.tell(name, text)
             if binary := openings.binary(text):
                 openings.tell(f"{name}, binary", binary)
-            if len(longer) <= texts.MEGABYTE:
-                openings.tell(f"{name}, longer", longer)
+            for more, words in ((1, "one more"), (count // 4, "longer")):
+                longer = made(count + more)
+                if len(longer) <= texts.MEGABYTE:
+                    openings.tell(f"{name}, {words}", longer)
         for name, made in texts.READING.items():
             openings.tell(f"{name}, cut", made(texts.MEGABYTE))
     times, name = max(openings.told)
