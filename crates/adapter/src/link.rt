@@ -1,14 +1,14 @@
 //! The call itself.
-ghost use Rattle.std.specs.Prelude.{◌≡◌, ◌≢◌, ◌≤◌, Err, Some, length, IfOk, OnOk, IfErr};
+ghost use Rattle.std.specs.Prelude.{◌≡◌, ◌≢◌, ◌+◌, ◌*◌, ◌≤◌, Err, Some, length, IfOk, OnOk, IfErr};
 ghost use Rattle.asking.specs.Asking.{IsToldAhead};
 ghost use Rattle.canonical_abi.specs.Call.{Calls, Ways, exact, AllowsSameRuns, AllowsSamePosts, KindsFit};
 ghost use Rattle.canonical_abi.specs.Few.{AreFewNodes};
 ghost use Rattle.canonical_abi.specs.Flat.{Denotes, DenotesFault};
 ghost use Rattle.canonical_abi.specs.Halves.{as_world, HasEntered, EntryFails, HasReturned, ReturnFails, RunsBetween, CallsInHalves};
 ghost use Rattle.canonical_abi.specs.Headline.{IsLinkPromised, AreArguments, IsArgumentFault};
-ghost use Rattle.canonical_abi.specs.Layout.{max_flat_params, max_flat_results};
+ghost use Rattle.canonical_abi.specs.Layout.{max_flat_params, max_flat_results, size};
 ghost use Rattle.canonical_abi.specs.Requests.{params_requests, fields_requests};
-ghost use Rattle.canonical_abi.specs.Types.{result_fields};
+ghost use Rattle.canonical_abi.specs.Types.{record_type, result_fields};
 ghost use Rattle.canonical_abi.specs.declared.trap.Step.TheVariants.{LiftArgs, LiftResult};
 ghost use Rattle.tables.specs.Closed.{function_type, IsFunction};
 ghost use Rattle.layout.specs.Layout.{layouts_of, AreWithin};
@@ -121,44 +121,56 @@ impl<'a> Link<'a> {
     /// there are, and the answer is how many there are in all, as far as 64 bits count. So a host may ask with no slot first, and
     /// have the blocks at hand when `enter` asks for them. Where the flat values denote no arguments over the caller, it answers
     /// the trap in `lift-args` that `enter` comes to where the callee refuses nothing before, and the slots say nothing.
-    /// Takes no memory of the host.
+    /// Takes no memory of the host. `nodes` then tells as the first how many values were visited, whatever the answer is:
+    /// elements that ask for nothing whatever their bytes are, aren't.
     pub fn enter_requests<C: Guest>(
-        &self,
+        &mut self,
         func: FunctionId,
         flats: &[Flat],
         caller: &C,
         slots: &mut [Request],
         limit: u64,
     ) -> Result<usize, Unasked>
-        requires function { IsFunction self.now.resolve func }
-        ensures kinds { IfOk result (λ _. KindsFit (function_type self.now.resolve func) flats.now) }
-        ensures told { let f = function_type self.now.resolve func in
+        requires function { IsFunction self.old.resolve func }
+        ensures kinds { IfOk result (λ _. KindsFit (function_type self.old.resolve func) flats.now) }
+        ensures told { let f = function_type self.old.resolve func in
             IfOk result (IsToldAhead (AreArguments f flats.now (C.memory caller.now)) (params_requests max_flat_params f.params) limit slots.old slots.new) }
-        ensures fault { let f = function_type self.now.resolve func in
+        ensures fault { let f = function_type self.old.resolve func in
             IfErr result (IsUnasked LiftArgs (AreArguments f flats.now (C.memory caller.now)) (IsArgumentFault f flats.now (C.memory caller.now)) (params_requests max_flat_params f.params) limit) }
+        ensures few { self.new.there ≤ 64 * (limit + 16) }
+        ensures each { IfOk result (λ count. count ≤ self.new.there + 1) }
+        ensures back { self.new.back ≡ self.old.back }
+        ensures same_package { self.new.resolve ≡ self.old.resolve }
+        ensures same_layouts { self.new.layouts ≡ self.old.layouts }
     {
         let table = &Types::new(self.resolve, self.layouts);
-        ask_arguments(table, func, flats, caller, slots, limit)
+        ask_arguments(table, func, flats, caller, slots, limit, &mut self.there)
     }
 
     /// What `leave` will ask the caller for, in the same way: for what the answer denotes over the callee, the return area
-    /// aside, for which nothing is asked. Where it denotes nothing, the answer is the trap in `lift-result`.
+    /// aside, for which nothing is asked. Where it denotes nothing, the answer is the trap in `lift-result`. `nodes` then tells
+    /// as the second how many values were visited.
     pub fn leave_requests<E: Guest>(
-        &self,
+        &mut self,
         func: FunctionId,
         answer: &[Flat],
         callee: &E,
         slots: &mut [Request],
         limit: u64,
     ) -> Result<usize, Unasked>
-        requires function { IsFunction self.now.resolve func }
-        ensures told { let fs = result_fields (function_type self.now.resolve func).result in
+        requires function { IsFunction self.old.resolve func }
+        ensures told { let fs = result_fields (function_type self.old.resolve func).result in
             IfOk result (IsToldAhead (Denotes max_flat_results fs (E.memory callee.now).bytes answer.now) (fields_requests fs) limit slots.old slots.new) }
-        ensures fault { let fs = result_fields (function_type self.now.resolve func).result in
+        ensures fault { let fs = result_fields (function_type self.old.resolve func).result in
             IfErr result (IsUnasked LiftResult (Denotes max_flat_results fs (E.memory callee.now).bytes answer.now) (DenotesFault max_flat_results fs (E.memory callee.now).bytes answer.now) (fields_requests fs) limit) }
+        ensures few { let f = function_type self.old.resolve func in self.new.back ≤ 64 * (limit + size (record_type (result_fields f.result)) + 16) }
+        ensures each { IfOk result (λ count. count ≤ self.new.back) }
+        ensures there { self.new.there ≡ self.old.there }
+        ensures same_package { self.new.resolve ≡ self.old.resolve }
+        ensures same_layouts { self.new.layouts ≡ self.old.layouts }
     {
         let table = &Types::new(self.resolve, self.layouts);
-        ask_answer(table, func, answer, callee, slots, limit)
+        ask_answer(table, func, answer, callee, slots, limit, &mut self.back)
     }
 
     /// The second half: what the core function answered is lifted from the callee, which is only read, and lowered into the

@@ -1,12 +1,12 @@
 //! What the two ways of a call will ask their targets for.
-ghost use Rattle.std.specs.Prelude.{◌≡◌, IfOk, IfErr};
+ghost use Rattle.std.specs.Prelude.{◌≡◌, ◌+◌, ◌*◌, ◌≤◌, IfOk, IfErr};
 ghost use Rattle.asking.specs.Asking.{IsToldAhead};
 ghost use Rattle.canonical_abi.specs.Call.{KindsFit};
 ghost use Rattle.canonical_abi.specs.Flat.{Denotes, DenotesFault};
 ghost use Rattle.canonical_abi.specs.Headline.{AreArguments, IsArgumentFault};
-ghost use Rattle.canonical_abi.specs.Layout.{max_flat_params, max_flat_results};
+ghost use Rattle.canonical_abi.specs.Layout.{max_flat_params, max_flat_results, size};
 ghost use Rattle.canonical_abi.specs.Requests.{params_requests, fields_requests};
-ghost use Rattle.canonical_abi.specs.Types.{result_fields};
+ghost use Rattle.canonical_abi.specs.Types.{record_type, result_fields};
 ghost use Rattle.canonical_abi.specs.declared.trap.Step.TheVariants.{LiftArgs, LiftResult};
 ghost use Rattle.layout.specs.Layout.{AreWithin};
 ghost use Rattle.tables.specs.Closed.{IsFunction, function_type};
@@ -43,6 +43,7 @@ pub(crate) fn ask_arguments<C: Guest>(
     caller: &C,
     slots: &mut [Request],
     limit: u64,
+    nodes: &mut u64,
 ) -> Result<usize, Unasked>
     requires function { IsFunction table.now func }
     ensures kinds { IfOk result (λ _. KindsFit (function_type table.now func) flats.now) }
@@ -50,7 +51,10 @@ pub(crate) fn ask_arguments<C: Guest>(
         IfOk result (IsToldAhead (AreArguments f flats.now (C.memory caller.now)) (params_requests max_flat_params f.params) limit slots.old slots.new) }
     ensures fault { let f = function_type table.now func in
         IfErr result (IsUnasked LiftArgs (AreArguments f flats.now (C.memory caller.now)) (IsArgumentFault f flats.now (C.memory caller.now)) (params_requests max_flat_params f.params) limit) }
+    ensures few { ∥ AreWithin table.now ∥₁ → nodes.new ≤ 64 * (limit + 16) }
+    ensures each { IfOk result (λ count. count ≤ nodes.new + 1) }
 {
+    *nodes = 0;
     let layouts = table.layouts();
     if !layouts.takes(func, flats) {
         return Err(Unasked::Fault(trap(TrapKind::CoreSignature, Step::LiftArgs)));
@@ -64,7 +68,7 @@ pub(crate) fn ask_arguments<C: Guest>(
         types: table,
         source: caller.bytes(),
     };
-    match walk.ask_params(params, &flats[..count], slots, limit) {
+    match walk.ask_params(params, &flats[..count], slots, limit, nodes) {
         Ok(told) => Ok(told),
         Err(untold) => Err(unasked_of(untold, Step::LiftArgs)),
     }
@@ -78,6 +82,7 @@ pub(crate) fn ask_answer<E: Guest>(
     callee: &E,
     slots: &mut [Request],
     limit: u64,
+    nodes: &mut u64,
 ) -> Result<usize, Unasked>
     requires within { ∥ AreWithin table.now ∥₁ }
     requires function { IsFunction table.now func }
@@ -85,7 +90,10 @@ pub(crate) fn ask_answer<E: Guest>(
         IfOk result (IsToldAhead (Denotes max_flat_results fs (E.memory callee.now).bytes answer.now) (fields_requests fs) limit slots.old slots.new) }
     ensures fault { let fs = result_fields (function_type table.now func).result in
         IfErr result (IsUnasked LiftResult (Denotes max_flat_results fs (E.memory callee.now).bytes answer.now) (DenotesFault max_flat_results fs (E.memory callee.now).bytes answer.now) (fields_requests fs) limit) }
+    ensures few { let f = function_type table.now func in nodes.new ≤ 64 * (limit + size (record_type (result_fields f.result)) + 16) }
+    ensures each { IfOk result (λ count. count ≤ nodes.new) }
 {
+    *nodes = 0;
     let result = table.layouts().lifted_result(func);
     if !are_kinds(result.as_slice(), answer) {
         return Err(Unasked::Fault(trap(TrapKind::CoreSignature, Step::LiftResult)));
@@ -97,7 +105,7 @@ pub(crate) fn ask_answer<E: Guest>(
         types: table,
         source: callee.bytes(),
     };
-    match walk.ask_result(types, answer, slots, limit) {
+    match walk.ask_result(types, answer, slots, limit, nodes) {
         Ok(told) => Ok(told),
         Err(untold) => Err(unasked_of(untold, Step::LiftResult)),
     }

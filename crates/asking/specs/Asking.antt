@@ -1,9 +1,10 @@
 -- CanonicalABI.md, "Storing" and "Flat Lowering" (the calls of `realloc`): the blocks that values will ask for, told ahead of them.
-use Rattle.std.specs.Prelude.{◌≡◌, ℕ, zero, suc, ◌+◌, ◌-◌, ◌^◌, ◌<◌, ◌≤◌, min, List, [], ◌∷◌, length, Result, Ok, Err}
+use Rattle.std.specs.Prelude.{◌≡◌, ℕ, zero, suc, ◌+◌, ◌-◌, ◌*◌, ◌^◌, ◌<◌, ◌≤◌, min, List, [], ◌∷◌, length, Result, Ok, Err}
 use Rattle.canonical_abi.specs.Reading.{reading}
 use Rattle.canonical_abi.specs.Requests.{requests}
 use Rattle.canonical_abi.specs.Trace
-use Rattle.canonical_abi.specs.Types.{ClosedType}
+use Rattle.canonical_abi.specs.Layout.{size}
+use Rattle.canonical_abi.specs.Types.{ClosedType, Fields, no_field, field}
 use Rattle.canonical_abi.specs.Values.{Value}
 use Rattle.canonical_abi.specs.declared.trap.TrapKind.{TrapKind}
 use Rattle.asking.specs.declared.request.Request.{Request}
@@ -56,3 +57,15 @@ IsUntold P D f limit untold.AboveLimit = (vs : List Value) → P vs → limit < 
 -- values of this type stand whatever their bytes are, and ask for nothing
 abbrev pub AsksNothing : ClosedType → Type 0
 AsksNothing t = (m : List ℕ) (a : ℕ) → (v : Value) × (reading t m a ≡ Ok v) × (requests t v ≡ [])
+
+-- the bytes of the members of a record, without padding
+abbrev pub fields_size : Fields → ℕ
+fields_size no_field = 0
+fields_size (field t fs) = size t + fields_size fs
+
+-- at most d values were visited for each of s bytes, or core values, and for each byte that was taken of those that may be asked for: of l bytes l2 are
+-- left, and of n visited values they are n2
+pub record IsFew (d s l l2 n n2 : ℕ) : Type 0 where
+  pub spent : ℕ
+  pub is : l ≡ l2 + spent
+  pub few : n2 ≤ n + d * (s + spent)

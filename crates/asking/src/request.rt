@@ -1,5 +1,5 @@
 //! Requests, and the slots that they are told in.
-ghost use Rattle.std.specs.Prelude.{◌^◌, ◌<◌, ◌≤◌, [], ◌∷◌};
+ghost use Rattle.std.specs.Prelude.{◌≡◌, ◌+◌, ◌-◌, ◌^◌, ◌<◌, ◌≤◌, [], ◌∷◌, min};
 ghost use Rattle.canonical_abi.specs.Requests.{request};
 ghost use Rattle.asking.specs.Asking.{IsTold};
 
@@ -31,7 +31,8 @@ pub(crate) fn tell(
     requires align { align < 2 ^ 32 }
     requires size { size < 2 ^ 32 }
     requires within { size ≤ left.old }
-    ensures { IsTold slots.old count.old left.old (request align size ∷ []) slots.new count.new left.new }
+    ensures told { IsTold slots.old count.old left.old (request align size ∷ []) slots.new count.new left.new }
+    ensures counted { count.new ≡ min (count.old + 1) (2 ^ 64 - 1) }
 {
     if *count < slots.len() {
         slots[*count] = Request {
@@ -41,4 +42,12 @@ pub(crate) fn tell(
     }
     *count = count.saturating_add(1);
     *left -= size as u64;
+}
+
+/// Counts one more value that is visited, as far as 64 bits count.
+pub(crate) fn visit(nodes: &mut u64)
+    ensures counted { nodes.new ≡ min (nodes.old + 1) (2 ^ 64 - 1) }
+    ensures fits { nodes.old < 2 ^ 64 }
+{
+    *nodes = nodes.saturating_add(1);
 }

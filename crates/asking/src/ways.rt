@@ -1,10 +1,10 @@
 //! What whole ways of a call ask for: its parameters, and its result.
-ghost use Rattle.std.specs.Prelude.{◌≡◌, ◌^◌, ◌<◌, ◌≤◌, length, map, IfOk, IfErr};
+ghost use Rattle.std.specs.Prelude.{◌≡◌, ◌+◌, ◌*◌, ◌^◌, ◌<◌, ◌≤◌, ℕ, length, map, IfOk, IfErr};
 ghost use Rattle.canonical_abi.specs.Flat.{Denotes, DenotesFault};
 ghost use Rattle.canonical_abi.specs.Layout.{size, max_flat_params, max_flat_results, passed_kinds};
 ghost use Rattle.canonical_abi.specs.Reading.{kind_of};
 ghost use Rattle.canonical_abi.specs.Requests.{params_requests, fields_requests};
-ghost use Rattle.canonical_abi.specs.Types.{record_type, record_fields};
+ghost use Rattle.canonical_abi.specs.Types.{record_type, record_fields, AreStandardFields, fields_depth};
 ghost use Rattle.values.specs.Members.{fields_of_types, AreAllInside};
 ghost use Rattle.values.specs.Types.{IsInside};
 ghost use Rattle.tables.specs.Closed.{closed_type};
@@ -22,13 +22,15 @@ impl Walk<'_> {
     /// Tells what the parameters of a call ask for, given as the record of them, which `flats` denote over the source: the first
     /// requests, as many as there are slots, and how many there are in all, as far as 64 bits count. Where they denote none, it
     /// answers the first fault, and the slots then say nothing. The kinds of `flats` were tested before. CanonicalABI.md,
-    /// "Lifting and Lowering Values".
+    /// "Lifting and Lowering Values". It visits `nodes` values, whatever it answers; elements that ask for nothing whatever
+    /// their bytes are, are not visited.
     pub fn ask_params(
         &self,
         params: ValType,
         flats: &[Flat],
         slots: &mut [Request],
         limit: u64,
+        nodes: &mut u64,
     ) -> Result<usize, Untold>
         requires inside { IsInside self.now.types.now params }
         requires is_record { closed_type self.now.types.now params ≡ record_type (record_fields (closed_type self.now.types.now params)) }
@@ -38,10 +40,14 @@ impl Walk<'_> {
             IfOk result (IsToldAhead (Denotes max_flat_params ts self.now.source.now flats.now) (params_requests max_flat_params ts) limit slots.old slots.new) }
         ensures fault { let ts = record_fields (closed_type self.now.types.now params) in
             IfErr result (IsUntold (Denotes max_flat_params ts self.now.source.now flats.now) (DenotesFault max_flat_params ts self.now.source.now flats.now) (params_requests max_flat_params ts) limit) }
+        ensures few { let ts = record_fields (closed_type self.now.types.now params) in
+            (d : ℕ) → AreStandardFields ts → fields_depth ts ≤ d → nodes.new ≤ d * (limit + 16) }
+        ensures each { IfOk result (λ count. count ≤ nodes.new + 1) }
     {
         let Shape::Record(fields) = self.types.shape_of(params) else {
             unreachable!()
         };
+        *nodes = 0;
         let mut count = 0;
         let mut left = limit;
         let members = Members::Of(params);
@@ -57,10 +63,10 @@ impl Walk<'_> {
                 return Err(Untold::AboveLimit);
             }
             tell(slots, &mut count, &mut left, align, size);
-            self.ask_fields(&members, fields, from, slots, &mut count, &mut left)?;
+            self.ask_fields(&members, fields, from, slots, &mut count, &mut left, nodes)?;
             return Ok(count);
         };
-        self.ask_flat_fields(&members, fields, flats, slots, &mut count, &mut left)?;
+        self.ask_flat_fields(&members, fields, flats, slots, &mut count, &mut left, nodes)?;
         Ok(count)
     }
 
@@ -72,6 +78,7 @@ impl Walk<'_> {
         flats: &[Flat],
         slots: &mut [Request],
         limit: u64,
+        nodes: &mut u64,
     ) -> Result<usize, Untold>
         requires inside { AreAllInside self.now.types.now types.now }
         requires small { size (record_type (fields_of_types self.now.types.now types.now)) ≤ 16777216 }
@@ -81,7 +88,11 @@ impl Walk<'_> {
             IfOk result (IsToldAhead (Denotes max_flat_results ts self.now.source.now flats.now) (fields_requests ts) limit slots.old slots.new) }
         ensures fault { let ts = fields_of_types self.now.types.now types.now in
             IfErr result (IsUntold (Denotes max_flat_results ts self.now.source.now flats.now) (DenotesFault max_flat_results ts self.now.source.now flats.now) (fields_requests ts) limit) }
+        ensures few { let ts = fields_of_types self.now.types.now types.now in
+            (d : ℕ) → AreStandardFields ts → fields_depth ts ≤ d → nodes.new ≤ d * (limit + size (record_type ts) + 16) }
+        ensures each { IfOk result (λ count. count ≤ nodes.new) }
     {
+        *nodes = 0;
         let mut count = 0;
         let mut left = limit;
         let members = Members::Listed(types);
@@ -93,10 +104,10 @@ impl Walk<'_> {
                 Ok(()) => (),
                 Err(kind) => return Err(Untold::Fault(kind)),
             }
-            self.ask_fields(&members, fields, from, slots, &mut count, &mut left)?;
+            self.ask_fields(&members, fields, from, slots, &mut count, &mut left, nodes)?;
             return Ok(count);
         };
-        self.ask_flat_fields(&members, fields, flats, slots, &mut count, &mut left)?;
+        self.ask_flat_fields(&members, fields, flats, slots, &mut count, &mut left, nodes)?;
         Ok(count)
     }
 }

@@ -37,7 +37,7 @@ pub fn request_arguments(
     ensures same_caller { caller.new ≡ caller.old }
 {
     let lent = Lent::new(caller, &[]);
-    let link = Link::new(types.resolve(), types.layouts());
+    let mut link = Link::new(types.resolve(), types.layouts());
     link.enter_requests(invocation.func, invocation.flats, &lent, slots, limit)
 }
 
@@ -60,6 +60,6 @@ pub fn request_answer(
     ensures same_callee { callee.new ≡ callee.old }
 {
     let lent = Lent::new(callee, &[]);
-    let link = Link::new(types.resolve(), types.layouts());
+    let mut link = Link::new(types.resolve(), types.layouts());
     link.leave_requests(func, answer, &lent, slots, limit)
 }

@@ -356,7 +356,7 @@ pub fn enter_requests(
         return Err(CallError::BadBlock);
     }
     let source = Lent::new(caller, &[]);
-    let link = Link::new(types.resolve(), types.layouts());
+    let mut link = Link::new(types.resolve(), types.layouts());
     match link.enter_requests(func, values.as_slice(), &source, requests, limit) {
         Ok(count) => Ok(count),
         Err(Unasked::Fault(fault)) => Err(CallError::Fault(fault)),
@@ -386,7 +386,7 @@ pub fn leave_requests(
         return Err(CallError::BadBlock);
     }
     let source = Lent::new(callee, &[]);
-    let link = Link::new(types.resolve(), types.layouts());
+    let mut link = Link::new(types.resolve(), types.layouts());
     match link.leave_requests(func, answers.as_slice(), &source, requests, limit) {
         Ok(count) => Ok(count),
         Err(Unasked::Fault(fault)) => Err(CallError::Fault(fault)),

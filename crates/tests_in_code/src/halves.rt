@@ -50,7 +50,7 @@ fn is_then_zeros(memory: &[u8], front: &[u8]) -> bool {
 /// What the first half will ask the callee for: a block of the list, and one of each text.
 fn assert_asks(rt: &impl Abort, package: &Package, caller: &Bump) -> Result<(), Fail> {
     let f = function(package)?;
-    let link = Link::new(package.resolve(), package.layouts());
+    let mut link = Link::new(package.resolve(), package.layouts());
     let mut slots = [NOTHING; 4];
     assert!(rt; link.enter_requests(f, &FLATS, caller, &mut slots, 19) == Ok(3));
     assert!(rt; slots == [asked(4, 16), asked(1, 1), asked(1, 2), NOTHING]);
@@ -60,7 +60,7 @@ fn assert_asks(rt: &impl Abort, package: &Package, caller: &Bump) -> Result<(), 
 /// What the second half will ask the caller for, told where there is no slot too: a block of the text.
 fn assert_asks_back(rt: &impl Abort, package: &Package, callee: &Bump) -> Result<(), Fail> {
     let f = function(package)?;
-    let link = Link::new(package.resolve(), package.layouts());
+    let mut link = Link::new(package.resolve(), package.layouts());
     let mut slots = [NOTHING; 1];
     assert!(rt; link.leave_requests(f, &ANSWER, callee, &mut [], 3) == Ok(1));
     assert!(rt; link.leave_requests(f, &ANSWER, callee, &mut slots, 3) == Ok(1));

@@ -3,8 +3,9 @@ use Rattle.canonical_abi.specs.Types.{record_type, result_fields}
 use Rattle.canonical_abi.specs.Layout.{size}
 use Rattle.tables.specs.Closed.{function_type}
 use Rattle.values.specs.Members.{fields_of_types, AreAllInside}
+use Rattle.tables.proofs.Standards.{function-standard}
 use Rattle.adapter.proofs.Functions.{same_types}
-use Rattle.adapter.proofs.Signatures.{function-stands, result-known, result-inside, result-is, result-fields, all-inside, result-small}
+use Rattle.adapter.proofs.Signatures.{function-stands, function-shallow, result-known, result-inside, result-is, result-fields, all-inside, result-small}
 use Rattle.adapter.proofs.Reasons.{unasked-told}
 use Rattle.adapter.proofs.requests.ask_answer.Goals as goal
 
@@ -43,3 +44,23 @@ returns-in-Err-clause-fault g c =
     let own : fields_of_types r c.as_slice-types.result.now ≡ result_fields f.result = ap (fields_of_types r) (same_types s.result _ c.as_slice-types.ensures) ∙ result-fields r s.result ∙ ap result_fields (sym is) in
     let h = rw (own, c.bytes.ensures) at c.in-Err.ensures.fault in
     rw c.unasked_of.ensures (unasked-told _ _ _ _ _ _ (λ k d. d) c.in-Err.untold h)
+
+pub returns-in-Ok-clause-few : goal.returns-in-Ok-clause-few
+returns-in-Ok-clause-few g c =
+    let r = c.args.table.now in
+    let f = function_type r c.args.func in
+    let s = c.signature.result.now in
+    let is = result-is r c.args.func c.requires.function s (rw c.resolve.ensures at c.signature.ensures) in
+    let own : fields_of_types r c.as_slice-types.result.now ≡ result_fields f.result = ap (fields_of_types r) (same_types s.result _ c.as_slice-types.ensures) ∙ result-fields r s.result ∙ ap result_fields (sym is) in
+    let few = rw own at c.ask_result.ensures.few in
+    few 64 (function-standard r c.args.func c.requires.function).result (function-shallow r c.requires.within c.args.func c.requires.function).result
+
+pub returns-in-Err-clause-few : goal.returns-in-Err-clause-few
+returns-in-Err-clause-few g c =
+    let r = c.args.table.now in
+    let f = function_type r c.args.func in
+    let s = c.signature.result.now in
+    let is = result-is r c.args.func c.requires.function s (rw c.resolve.ensures at c.signature.ensures) in
+    let own : fields_of_types r c.as_slice-types.result.now ≡ result_fields f.result = ap (fields_of_types r) (same_types s.result _ c.as_slice-types.ensures) ∙ result-fields r s.result ∙ ap result_fields (sym is) in
+    let few = rw own at c.ask_result.ensures.few in
+    few 64 (function-standard r c.args.func c.requires.function).result (function-shallow r c.requires.within c.args.func c.requires.function).result

@@ -4,7 +4,8 @@ use Rattle.canonical_abi.specs.Layout.{lifted_signature, max_flat_params, passed
 use Rattle.canonical_abi.specs.Reading.{kind_of}
 use Rattle.canonical_abi.specs.Call.{KindsFit}
 use Rattle.tables.specs.Closed.{function_type}
-use Rattle.adapter.proofs.Signatures.{function-stands, params-row, params-inside}
+use Rattle.tables.proofs.Standards.{function-standard}
+use Rattle.adapter.proofs.Signatures.{function-stands, function-shallow, params-row, params-inside}
 use Rattle.adapter.proofs.Crossings.{argument-kinds, same-arguments}
 use Rattle.adapter.proofs.Reasons.{unasked-told}
 use Rattle.adapter.proofs.requests.ask_arguments.Goals as goal
@@ -52,3 +53,17 @@ returns-in-Err-clause-fault g c =
     let same = same-arguments f flats _ c.lifted_count-count.result (lifted_signature f) refl (c.lifted_count-count.ensures r c.layouts-layouts.ensures c.requires.function) refl in
     let h = rw (row, same, c.bytes.ensures) at c.in-Err.ensures.fault in
     rw c.unasked_of.ensures (unasked-told _ _ _ _ _ _ (λ k d. inr (kinds, d)) c.in-Err.untold h)
+
+pub returns-in-Ok-clause-few : goal.returns-in-Ok-clause-few
+returns-in-Ok-clause-few g c = λ within.
+    let r = c.args.table.now in
+    let row = params-row r c.args.func c.requires.function _ refl in
+    let few = rw row at c.ask_params.ensures.few in
+    few 64 (function-standard r c.args.func c.requires.function).params (function-shallow r within c.args.func c.requires.function).params
+
+pub returns-in-Err-clause-few : goal.returns-in-Err-clause-few
+returns-in-Err-clause-few g c = λ within.
+    let r = c.args.table.now in
+    let row = params-row r c.args.func c.requires.function _ refl in
+    let few = rw row at c.ask_params.ensures.few in
+    few 64 (function-standard r c.args.func c.requires.function).params (function-shallow r within c.args.func c.requires.function).params

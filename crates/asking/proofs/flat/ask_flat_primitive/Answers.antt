@@ -8,9 +8,9 @@ use Rattle.values.specs.Scalar.{value_in}
 use Rattle.asking.proofs.Told.{told-none, first-number}
 use Rattle.asking.proofs.flat.ask_flat_primitive.Goals as goal
 
-pub returns-in-Ok : goal.returns-in-Ok
+pub returns-in-Ok-clause-asks : goal.returns-in-Ok-clause-asks
 unfolding low_bits
-returns-in-Ok c =
+returns-in-Ok-clause-asks c =
     let p = prim_of c.args.primitive in
     let v = value_in c.in-Ok.field-0 in
     let P : ℕ → Type 0 = λ n. PrimIs p (n % 2 ^ flat_bits p) v in

@@ -4,8 +4,8 @@ use Rattle.asking.proofs.Told.{told-one}
 use Rattle.asking.proofs.request.tell.Goals as goal
 use Rattle.asking.proofs.request.tell.Goals.{then-count-slots, else-count-slots}
 
-pub returns : goal.returns
-returns c =
+pub returns-clause-told : goal.returns-clause-told
+returns-clause-told c =
     let r = request c.args.align c.args.size in
     elim c.if-count-slots.branch [
       | then-count-slots w ↦ told-one c.args.slots.now c.args.count.now c.args.left.now r _ _ _ (inl (omega arith, w.slots-is)) (omega arith) (omega (arith, c.requires.within))
