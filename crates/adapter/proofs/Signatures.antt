@@ -1,7 +1,7 @@
 -- A function of a package: where it stands in the layouts, and what is known of the types that it names.
 use Rattle.std.proofs.Common.{◌≡◌, ◌<◌, ◌≤◌, Bool, true, false, List, [], ◌∷◌, Option, Some, None, IfSome, length, map, get_or, refl, sym, ap, ◌∙◌, subst, arith}
 use Rattle.std.specs.List.{list_all}
-use Rattle.std.specs.Option.{option_map}
+use Rattle.std.specs.Option.{option_map, option_to_list}
 use Rattle.std.proofs.Math.Bridge.{le_prop}
 use Rattle.std.proofs.Math.Logic.{∥∥₁_elim}
 use Rattle.std.proofs.lemmas.Bool.{and_parts, and_from, lt-ltb}
@@ -27,7 +27,6 @@ use Rattle.values.specs.Members.{fields_of_types, AreAllInside, AreTypesOf}
 use Rattle.values.specs.Types.{IsInside}
 use Rattle.lift_lower.proofs.Alone.{alone-size}
 use Rattle.values.proofs.Known.{known-inside}
-use Rattle.adapter.specs.Carrying.{types_of_result}
 use Rattle.adapter.proofs.Functions.{params_in}
 use Rattle.adapter.proofs.Within.{type-shallow, type-small}
 
@@ -54,15 +53,15 @@ pub params-inside : (r : Resolve) (f : FunctionId) → IsFunction r f → (t : T
 params-inside r f h t same = rw (lt-ltb t.0 (length r.definitions) (omega (arith, same, (stands r f h).in_range))) refl
 
 -- a result as a list of at most one type
-pub result-fields : (r : Resolve) (o : Option ValType) → fields_of_types r (types_of_result o) ≡ result_fields (option_map (closed_type r) o)
+pub result-fields : (r : Resolve) (o : Option ValType) → fields_of_types r (option_to_list o) ≡ result_fields (option_map (closed_type r) o)
 result-fields r None = refl
 result-fields r (Some t) = refl
 
-pub all-inside : (r : Resolve) (o : Option ValType) → IfSome o (IsInside r) → AreAllInside r (types_of_result o)
+pub all-inside : (r : Resolve) (o : Option ValType) → IfSome o (IsInside r) → AreAllInside r (option_to_list o)
 all-inside r None h = refl
 all-inside r (Some t) h = and_from _ true h refl
 
-pub result-small : (r : Resolve) → ∥ AreWithin r ∥₁ → (o : Option ValType) → IfSome o (IsTypeOf r) → size (record_type (fields_of_types r (types_of_result o))) ≤ 16777216
+pub result-small : (r : Resolve) → ∥ AreWithin r ∥₁ → (o : Option ValType) → IfSome o (IsTypeOf r) → size (record_type (fields_of_types r (option_to_list o))) ≤ 16777216
 result-small r within None known = omega arith
 result-small r within (Some t) known = omega (arith, alone-size (closed_type r t), type-small r within t known)
 
