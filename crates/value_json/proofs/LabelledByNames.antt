@@ -2,7 +2,7 @@
 use Rattle.std.proofs.Common.{◌≡◌, ℕ, zero, suc, Bool, true, false, cond, ◌||◌, List, [], ◌∷◌, ◌++◌, Option, None, Some, length, get_or, refl, ap, sym, subst, ◌∙◌, arith}
 use Rattle.std.proofs.lemmas.List.{length-append, append-nil}
 use Rattle.std.proofs.lemmas.Slice.Eq.{bytes_eq-Decides}
-use Rattle.canonical_abi.specs.Labelled.{Label, ok_label, error_label, LabelledType, labelled_string, labelled_list, labelled_option, labelled_tuple, labelled_result, labelled_record, labelled_variant, labelled_enum, LabelledTypes, LabelledFields, LabelledCases, Payload}
+use Rattle.canonical_abi.specs.Labelled.{Label, ok_label, error_label, LabelledType, labelled_string, labelled_list, labelled_option, labelled_tuple, labelled_record, labelled_variant, labelled_enum, LabelledTypes, LabelledFields, LabelledCases}
 use Rattle.tables.specs.Labelled.{labelled_val, labelled_payload, labelled_members, labelled_fields, labelled_cases, labelled_params, labelled_kind, labelled_definition, labelled_rows}
 use Rattle.tables.specs.Package.{HasDistinctTypes, IsDistinctName, Key, key_of, is_same_key, is_known, meaning_of, named_by, named_function, function_meaning, definitions_from, reference_by, references, interface_names, Tree, TextTree, Reference, RecordTree, Plain, Choices, no_choices, read_val, read_choice, read_tuple, read_fields, read_params, read_cases, read_enum, read_kind}
 use Rattle.tables.specs.declared.tables.ValType.{ValType}

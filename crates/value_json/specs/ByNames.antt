@@ -1,10 +1,10 @@
 -- The labelled types of a package as its names tell them: what the trees of its definitions are, where each name stands for the labelled type of its
 -- definition. No row of a table and no id is in it.
-use Rattle.std.specs.Prelude.{◌≡◌, ℕ, List, [], ◌∷◌, ◌++◌, if◌then◌else◌}
+use Rattle.std.specs.Prelude.{◌≡◌, List, [], ◌∷◌, ◌++◌, if◌then◌else◌}
 use Rattle.canonical_abi.specs.Labelled.{Label, LabelledType, labelled_prim, labelled_string, labelled_list, labelled_option, labelled_tuple, labelled_result, labelled_record, labelled_variant, labelled_enum, labelled_flags, LabelledTypes, no_member, member, Payload, no_payload, payload, LabelledFields, no_labelled_field, labelled_field, LabelledCases, no_labelled_case, labelled_case}
 use Rattle.tables.specs.Closed.{prim_of}
 use Rattle.tables.specs.Labelled.{labelled_type}
-use Rattle.tables.specs.Package.{Key, is_same_key, Tree, PrimTree, TextTree, Reference, ListTree, RecordTree, VariantTree, FlagsTree, Plain, AsTuple, AsEnum, AsOption, AsResult, TreeFields, no_fields, field, Choices, no_choices, empty, holding, Meaning, IsUse, IsType, IsFunction, NamedDefinition, HasDistinctTypes, interface_names, definitions, trees, read_val}
+use Rattle.tables.specs.Package.{Key, is_same_key, Tree, PrimTree, TextTree, Reference, ListTree, RecordTree, VariantTree, FlagsTree, AsTuple, AsEnum, AsOption, AsResult, TreeFields, no_fields, field, Choices, no_choices, empty, holding, Meaning, IsUse, IsType, IsFunction, NamedDefinition, HasDistinctTypes, interface_names, definitions, trees, read_val}
 use Rattle.tables.specs.declared.tables.ValType.{ValType}
 use Rattle.tables.specs.declared.tables.Resolve.{Resolve}
 
