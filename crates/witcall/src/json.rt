@@ -13,6 +13,7 @@ ghost use Rattle.witcall.specs.Json.{IsTextOf, IsTextOfNone, IsTextOfOnly, IsCom
 
 use crate::laws::has_labels_apart;
 use adapter::parameter_types;
+use error_numbers::Numbered;
 use lift_lower::Val;
 use opening::Package;
 use serde_json::Value as Json;
@@ -58,6 +59,21 @@ impl<T: Drop> From<AllocFailed<T>> for JsonError {
     }
 }
 
+/// 61, 62 or 66.
+impl Numbered for JsonError {
+    ghost use Rattle.witcall.specs.Status.{json_number};
+
+    ghost number_of = { json_number };
+
+    fn number(&self) -> u32 {
+        match self {
+            JsonError::BadJson => 61,
+            JsonError::NotThisType => 62,
+            JsonError::NoMemory => 66,
+        }
+    }
+}
+
 /// The value of a type of the package that a text of JSON says.
 pub fn from_json(
     alloc: Global,
@@ -80,7 +96,7 @@ pub fn from_json(
     }
 }
 
-/// The values of these types that a text of JSON says: an array of exactly as many.
+/// The values of these types that a text of JSON says: an array of exactly as many. 61 if the text is no JSON, 62 if it is no such array.
 pub fn values_from_json(
     alloc: Global,
     package: &Package,
@@ -101,7 +117,7 @@ pub fn values_from_json(
     }
 }
 
-/// The arguments of a function of the package that a text of JSON says.
+/// The arguments of a function of the package that a text of JSON says: an array of one value for each parameter, in their order.
 pub fn arguments_from_json(
     alloc: Global,
     package: &Package,

@@ -1,15 +1,16 @@
 //! Why the program did not do what it was asked for, and how it says so.
 
 ghost use Rattle.std.specs.Prelude.{◌≡◌, false};
-ghost use Rattle.witcall.specs.Status.{exit_status};
+ghost use Rattle.witcall.specs.Status.{exit_status, memory_number};
 
 use crate::json::JsonError;
 use crate::line::Line;
 use atoms::Sink;
 use canonical_abi::{Fault, Trap};
 use ctype_bin::BinError;
+use error_numbers::Numbered;
 use memory::MemoryError;
-use opening::OpenError;
+use opening::{OpenError, binary_number, text_number};
 use std::alloc::AllocError;
 use std::fmt::Write;
 use thiserror::Error;
@@ -122,6 +123,40 @@ impl From<Fault> for Refused {
         match fault {
             Fault::Trap(trap) => Refused::Trap(trap),
             Fault::NoMemory => Refused::NoMemory,
+        }
+    }
+}
+
+/// The number of why no memory was made: 53 to 55.
+pub fn memory_number(error: &MemoryError) -> u32
+    ensures { result ≡ memory_number error.now }
+{
+    match error {
+        MemoryError::MemoryLimit => 53,
+        MemoryError::NoMemory => 54,
+        MemoryError::BadPages => 55,
+    }
+}
+
+/// That of its line, for a trap that of its kind. 0 for words that are no command, since the usage line has no number.
+impl Numbered for Refused {
+    ghost use Rattle.witcall.specs.Status.{refused_number};
+
+    ghost number_of = { refused_number };
+
+    fn number(&self) -> u32 {
+        match self {
+            Refused::Words(WordsError::Usage) => 0,
+            Refused::Words(WordsError::NoMemory) | Refused::NoMemory => 66,
+            Refused::File => 64,
+            Refused::Open(error) => error.number(),
+            Refused::Binary(error) => binary_number(error),
+            Refused::Text(error) => text_number(error),
+            Refused::NoFunction => 63,
+            Refused::Json(error) => error.number(),
+            Refused::Memory(error) => memory_number(error),
+            Refused::Trap(trap) => trap.number(),
+            Refused::Write => 65,
         }
     }
 }

@@ -62,6 +62,20 @@ impl<'a, C: Guest, E: Guest, B: Body<E>> Session<'a, C, E, B> {
         &self.callee
     }
 
+    /// The callee's body.
+    pub fn body(&self) -> &B
+        ensures { result.now ≡ self.now.body }
+    {
+        &self.body
+    }
+
+    /// The caller's memory, the callee's memory and the body.
+    pub fn into_parts(self) -> (C, E, B)
+        ensures { result ≡ (self.entry.caller, self.entry.callee, self.entry.body) }
+    {
+        (self.caller, self.callee, self.body)
+    }
+
     /// Calls a function of the package: lowers the arguments into the caller and asks for the return area
     /// where the result does not go flat (step `place`), calls the link, and lifts the result (step `take`).
     /// The blocks that it asked for stay live. Memory of the host is taken for the result's tree alone: none for no result, or

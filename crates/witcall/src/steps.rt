@@ -19,7 +19,7 @@ pub struct Held {
 }
 
 /// A step of a session.
-#[derive(Drop)]
+#[derive(Debug, Drop, PartialEq)]
 pub enum Step {
     /// A function is called with these arguments.
     Call(FunctionId, Vec<Val>),
@@ -32,7 +32,7 @@ pub enum Step {
 }
 
 /// What a step answered.
-#[derive(Drop)]
+#[derive(Debug, Drop)]
 pub enum Answer {
     Called(Result<Option<Val>, Fault>),
     Placed(Result<Held, Fault>),
