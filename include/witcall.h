@@ -215,6 +215,13 @@ witcall_status witcall_status_line(witcall_status status, uint8_t *line, size_t 
 witcall_status witcall_find(witcall_package *package, const uint8_t *interface, size_t interface_len,
                             const uint8_t *function, size_t function_len);
 
+/* Finds a function that a world itself imports or exports, by the full name of the world (a:b/w, or a:b/w@1.0.0) and the function's own; count is
+ * its number. It is called as any other. A function of an interface that the world names is found by witcall_find. */
+witcall_status witcall_find_import(witcall_package *package, const uint8_t *world, size_t world_len,
+                                   const uint8_t *function, size_t function_len);
+witcall_status witcall_find_export(witcall_package *package, const uint8_t *world, size_t world_len,
+                                   const uint8_t *function, size_t function_len);
+
 /* What a package has: the rows of its table, from 0, and the members of each row, from 0. If there is none of this number, each of these is 75,
  * and what it would write is as it was. The number of a function is that of its row. Of a set the table has all packages. */
 witcall_status witcall_row(witcall_package *package, uint32_t number, witcall_row_info *row);

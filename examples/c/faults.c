@@ -415,6 +415,8 @@ static void each_call(const char *name, witcall_package *handle) {
     witcall_row_info row;
     witcall_member_info member;
     expect(name, witcall_find(handle, BYTES("a:b/c"), BYTES("f")), not_open);
+    expect("its import", witcall_find_import(handle, BYTES("a:b/w"), BYTES("now")), not_open);
+    expect("its export", witcall_find_export(handle, BYTES("a:b/w"), BYTES("now")), not_open);
     expect("its requests", witcall_enter_requests(handle, 0, NULL, 0, NULL, 0, NULL, 0, 0), not_open);
     expect("its enter", witcall_enter(handle, 0, NULL, 0, NULL, 0, NULL, 0, NULL, 0, values, ROOM), not_open);
     expect("its requests back", witcall_leave_requests(handle, 0, NULL, 0, NULL, 0, NULL, 0, 0), not_open);
@@ -776,12 +778,39 @@ static void refused_names(void) {
     free(bytes);
 }
 
+static const char WORLD[] =
+    "package a:b@1.0.0;"
+    "interface c { f: func(); }"
+    "world w {"
+    "  import now: func() -> u64;"
+    "  export now: func(s: string) -> u32;"
+    "  export run: func();"
+    "}";
+
+/* A world imports a function and exports another one of the same name. */
+static void functions_of_worlds(void) {
+    witcall_package world = WITCALL_NONE;
+    expect("a package with a world", witcall_open(BYTES(WORLD), &world), DONE_WITH_NONE);
+    witcall_status import = witcall_find_import(&world, BYTES("a:b/w@1.0.0"), BYTES("now"));
+    witcall_status export = witcall_find_export(&world, BYTES("a:b/w@1.0.0"), BYTES("now"));
+    expect("a function that a world imports", import, done(import.count));
+    expect("a function that a world exports", export, done(export.count));
+    expect("the import has no parameters", witcall_parameters(&world, import.count, NULL, 0), done(0));
+    expect("the export has one", witcall_parameters(&world, export.count, NULL, 0), no_room(1));
+    expect("a world does not import what it exports", witcall_find_import(&world, BYTES("a:b/w@1.0.0"), BYTES("run")), refused(63));
+    expect("a world without its version", witcall_find_export(&world, BYTES("a:b/w"), BYTES("run")), refused(63));
+    expect("an interface is no world", witcall_find_export(&world, BYTES("a:b/c@1.0.0"), BYTES("f")), refused(63));
+    expect("a world is no interface", witcall_find(&world, BYTES("a:b/w@1.0.0"), BYTES("run")), refused(63));
+    witcall_close(&world);
+}
+
 static void names_and_numbers(void) {
     expect("an interface that is not there", witcall_find(&package, BYTES("a:b/d"), BYTES("f")), refused(63));
     expect("a function that is not there", witcall_find(&package, BYTES("a:b/c"), BYTES("g")), refused(63));
     expect("a name that is no UTF-8", witcall_find(&package, BYTES("a:b/\377"), BYTES("f")), refused(63));
     expect("a number of no function", witcall_enter_requests(&package, 4711, NULL, 0, NULL, 0, NULL, 0, 0), refused(63));
     uint8_t line[8];
+    functions_of_worlds();
     witcall_status told = witcall_line(&package, line, sizeof line);
     holds("an open package has no line", told.code == WITCALL_DONE && told.count == 0);
 }

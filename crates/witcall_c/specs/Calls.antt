@@ -6,19 +6,21 @@ use Rattle.canonical_abi.specs.Types.{FunctionType}
 use Rattle.layout.specs.Layout.{AreWithin}
 use Rattle.tables.specs.Closed.{IsFunction, function_type}
 use Rattle.tables.specs.Names.{IsNamed}
+use Rattle.tables.specs.declared.tables.Direction.{Direction}
 use Rattle.tables.specs.declared.tables.FunctionId.{FunctionId}
 use Rattle.tables.specs.declared.tables.Resolve.{Resolve}
 use Rattle.host_calls.specs.Status.{status_of, refused, out_of_memory, no_memory}
 use Rattle.host_calls.specs.declared.error.CallError.{CallError}
 use Rattle.host_calls.specs.declared.error.CallError.TheVariants as error
 use Rattle.host_calls.specs.declared.status.Status.{Status}
+use Rattle.opening.specs.Numbers.{open_number, is_out_of_memory}
 use Rattle.opening.specs.Opening.{IsOpened, OpenRefuses}
 use Rattle.opening.specs.declared.package.OpenError.{OpenError}
 use Rattle.opening.specs.declared.package.Package.{Package}
 use Rattle.witcall_c.specs.Inputs.{ArePieces, AreNoPieces}
-use Rattle.witcall_c.specs.Refusals.{open_number, is_out_of_memory}
 use Rattle.witcall_c.specs.declared.handle.Handle.{Handle}
 use Rattle.witcall_c.specs.declared.held.Held.{Held}
+use Rattle.world_functions.specs.Named.{IsNamedOfWorld}
 
 -- what opening inputs gives: a package, or why they are refused
 abbrev pub Opening : Type 0
@@ -78,6 +80,13 @@ FindsFunction None interface name done = done ≡ Err error.NotOpen
 FindsFunction (Some p) interface name done = MatchResult done
     (λ number. IsFunction p.resolve (numbered number) × IsNamed p.resolve interface name (numbered number))
     (λ e. (e ≡ error.NoFunction) × (IsUtf8 interface → IsUtf8 name → (f : FunctionId) → ¬ IsNamed p.resolve interface name f))
+
+-- the number of the function of this name on this side of the world of this full name; 63 where there is none, 70 where there is no package
+abbrev pub FindsOfWorld : Option Package → List ℕ → Direction → List ℕ → Result ℕ CallError → Type 0
+FindsOfWorld None world side name done = done ≡ Err error.NotOpen
+FindsOfWorld (Some p) world side name done = MatchResult done
+    (λ number. IsFunction p.resolve (numbered number) × IsNamedOfWorld p.resolve world side name (numbered number))
+    (λ e. (e ≡ error.NoFunction) × (IsUtf8 world → IsUtf8 name → (f : FunctionId) → ¬ IsNamedOfWorld p.resolve world side name f))
 
 -- a line that fits an array of this length, or how long it is (71 no room)
 abbrev pub LineDone : ℕ → Result ℕ CallError → Type 0

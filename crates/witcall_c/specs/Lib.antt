@@ -2,6 +2,5 @@ pub mod CallObject
 pub mod Calls
 pub mod Handle
 pub mod Inputs
-pub mod Refusals
 pub mod Version
 pub mod Written

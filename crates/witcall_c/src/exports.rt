@@ -14,14 +14,15 @@ ghost use Rattle.host_lists.specs.Rows.{row_info_at};
 ghost use Rattle.host_lists.specs.Told.{BytesDone, TellsName, TellsNewName, TellsOfTable};
 ghost use Rattle.opening.specs.Sets.{all_bytes};
 ghost use Rattle.witcall_c.specs.CallObject.{BeginsCall, flats_of};
-ghost use Rattle.witcall_c.specs.Calls.{FindsFunction, LineDone, LineOf, Opens, OpensPieces, CallsOf, TellsOf, held_package, stands_for, held_table};
+ghost use Rattle.tables.specs.declared.tables.Direction.TheVariants.{Import, Export};
+ghost use Rattle.witcall_c.specs.Calls.{FindsFunction, FindsOfWorld, LineDone, LineOf, Opens, OpensPieces, CallsOf, TellsOf, held_package, stands_for, held_table};
 ghost use Rattle.witcall_c.specs.Version.{abi, library_version};
 ghost use Rattle.witcall_c.specs.Written.{WritesBinary, WritesText};
 
 use crate::call::Call;
 use crate::calls::NumberedHalf;
 use crate::handle::Handle;
-use crate::held::{Held, find, line_of, types};
+use crate::held::{Held, find, find_of_world, line_of, types};
 use crate::line::tell_line;
 use crate::set::pieces;
 use crate::{calls, writing};
@@ -30,6 +31,7 @@ use host_calls::{CallError, Part, Status, Value};
 use host_lists::{MemberInfo, RowInfo, tell_bytes};
 use memory::Block;
 use std::alloc::Global;
+use tables::Direction;
 
 /// The version of the library, which VERSION has for all of the repository.
 const VERSION: &[u8] = b"0.1.0";
@@ -138,6 +140,38 @@ pub extern "C" fn witcall_find(
 {
     let held = handle.take(alloc);
     let done = find(&held, interface, function);
+    handle.give(held);
+    Status::of(done)
+}
+
+/// The number of a function that a world imports, by the full name of the world and its own.
+#[unsafe(no_mangle)]
+pub extern "C" fn witcall_find_import(
+    alloc: Global,
+    handle: &mut Handle,
+    world: &[u8],
+    function: &[u8],
+) -> Status
+    ensures { TellsOf (stands_for handle.old) (stands_for handle.new) result (λ held done. FindsOfWorld (held_package held) world.now Import function.now done) }
+{
+    let held = handle.take(alloc);
+    let done = find_of_world(&held, world, Direction::Import, function);
+    handle.give(held);
+    Status::of(done)
+}
+
+/// The number of a function that a world exports.
+#[unsafe(no_mangle)]
+pub extern "C" fn witcall_find_export(
+    alloc: Global,
+    handle: &mut Handle,
+    world: &[u8],
+    function: &[u8],
+) -> Status
+    ensures { TellsOf (stands_for handle.old) (stands_for handle.new) result (λ held done. FindsOfWorld (held_package held) world.now Export function.now done) }
+{
+    let held = handle.take(alloc);
+    let done = find_of_world(&held, world, Direction::Export, function);
     handle.give(held);
     Status::of(done)
 }

@@ -2,15 +2,15 @@
 ghost use Rattle.std.specs.Prelude.{◌≡◌, ◌<◌, IfOk, IfErr, length};
 ghost use Rattle.std.specs.Option.{option_map};
 ghost use Rattle.opening.specs.Sets.{all_bytes};
-ghost use Rattle.witcall_c.specs.Calls.{IsOpening, opening_status, FindsFunction, HasFunction, HasNoFunction, LineOf, held_package, held_table};
+ghost use Rattle.witcall_c.specs.Calls.{IsOpening, opening_status, FindsFunction, FindsOfWorld, HasFunction, HasNoFunction, LineOf, held_package, held_table};
 
 use crate::line::tell_line;
-use crate::refusal::{is_out_of_memory, open_number};
+use error_numbers::Numbered;
 use host_calls::{CallError, Status, function_of, out_of_memory, refused};
 use lift_lower::Types;
-use opening::{OpenError, Package, open_set};
+use opening::{OpenError, Package, is_out_of_memory, open_set};
 use std::alloc::Global;
-use tables::FunctionId;
+use tables::{Direction, FunctionId};
 
 /// A package, or why the bytes are none.
 #[derive(Drop)]
@@ -36,7 +36,7 @@ impl Held {
         let Err(error) = &self.opened else {
             return Status::of(Ok(0));
         };
-        let number = open_number(error);
+        let number = error.number();
         if is_out_of_memory(number) {
             return out_of_memory(number);
         }
@@ -71,6 +71,28 @@ pub fn find(held: &Target, interface: &[u8], name: &[u8]) -> Result<usize, CallE
         return Err(CallError::NoFunction);
     };
     match package.resolve().function(interface, name) {
+        Some(func) => Ok(func.0 as usize),
+        None => Err(CallError::NoFunction),
+    }
+}
+
+/// The number of a function that a world imports or exports, by the full name of the world and its own: 70 where nothing is open, 63 where no
+/// function of that side is called so.
+pub fn find_of_world(
+    held: &Target,
+    world: &[u8],
+    side: Direction,
+    name: &[u8],
+) -> Result<usize, CallError>
+    ensures { FindsOfWorld (held_package (option_map (λ held. held.value) held.now)) world.now side name.now result }
+{
+    let Some(package) = package(held) else {
+        return Err(CallError::NotOpen);
+    };
+    let (Ok(world), Ok(name)) = (str::from_utf8(world), str::from_utf8(name)) else {
+        return Err(CallError::NoFunction);
+    };
+    match package.world_function(world, side, name) {
         Some(func) => Ok(func.0 as usize),
         None => Err(CallError::NoFunction),
     }

@@ -12,6 +12,5 @@ mod handle;
 mod held;
 mod kept;
 mod line;
-mod refusal;
 mod set;
 mod writing;
