@@ -7,5 +7,5 @@ use Rattle.opening.proofs.package.Package.to_raw.Goals as goal
 
 pub returns : goal.returns
 returns c = record {
-  ok = subst (λ (s : Resolve). IfOk c.to_raw.result (λ raw. (r : Resolve) × IsRestricted s c.args.id.0 r × ComponentStands raw r)) c.resolve.ensures c.to_raw.ensures.ok
+  ok = subst (λ (s : Resolve). IfOk c.to_raw.result (λ raw. (r : Resolve) × IsRestricted s c.args.id.0 r × ComponentStands raw r)) c.resolve.ensures c.to_raw.ensures.ok;
 }
