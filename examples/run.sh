@@ -20,6 +20,8 @@
 # | vectors        | the stored calls of crates/vectors, in C          | python3                                             |
 # | bindings       | examples/c/shop.h, made anew                      |                                                     |
 # | engine         | core modules in Node's engine, their traps        | clang, lld, Node with its headers                   |
+# | js             | the same modules, linked by bindings/js           | clang, lld, Node, the module of the release         |
+# | js-tests       | the tests of bindings/js, and the stored calls    | Node, python3, the module of the release            |
 #
 # Debian's packages are gcc, pkg-config, cmake, make, cargo, valgrind, python3, clang, lld, nodejs and libnode-dev. A host whose tools are
 # missing is skipped, which is a failure with --all. CC names the C compiler. Each step says `ok`; the exit status is 1 if one fails.
@@ -88,7 +90,7 @@ has() {
     name=$1
     shift
     case "$only_c $name" in
-        'yes cmake' | 'yes rust' | 'yes helgrind' | 'yes bindings' | 'yes engine') return 1 ;;
+        'yes cmake' | 'yes rust' | 'yes helgrind' | 'yes bindings' | 'yes engine' | 'yes js' | 'yes js-tests') return 1 ;;
     esac
     for tool; do
         command -v "$tool" >/dev/null && continue
@@ -141,6 +143,18 @@ rust_host() {
 wasm_module() {
     clang --target=wasm32 -O1 -Wall -Wextra -Werror -mbulk-memory -nostdlib -Wl,--no-entry -Wl,-z,stack-size=16384 \
         -Wl,--initial-memory="$3" -Wl,--max-memory=1048576 -o "$2" "$1"
+}
+
+# Whether there is a WebAssembly module of these sources, or one that WITCALL_MODULE names.
+has_module() {
+    [ -n "${WITCALL_MODULE-}" ] && return 0
+    "$root/tools/check_release.sh" --module && return 0
+    skipped "$1" 'no release/witcall.wasm.gz of these sources: tools/wasm.sh makes it'
+    return 1
+}
+
+js_tests() {
+    (cd "$root/bindings/js" && node --test)
 }
 
 node_addon() {
@@ -204,5 +218,12 @@ if has engine clang wasm-ld node; then
     step build-diary wasm_module "$here/engine/diary.c" "$build/diary.wasm" 131072
     step build-addon node_addon "$build/witcall.node"
     same engine "$here/engine/host.expected" node "$here/engine/host.mjs" "$build"
+    if has_module js; then
+        same js "$here/engine/host.expected" node "$root/bindings/js/tests/host.mjs" "$build"
+    fi
+fi
+if has js-tests node python3 && has_module js-tests; then
+    step js-tests js_tests
+    same js-vectors "$here/c/vectors.expected" python3 "$here/c/vectors.py" "$root/bindings/js/tests/vectors.mjs"
 fi
 exit $failed

@@ -53,7 +53,7 @@ CLAUSES = re.compile(r"((?:`[\w:]+`(?:, and | and |, )?)+)(?: \(`\w+`\))?: ([a-z
 # a call, and a path
 CALL = re.compile(r"([A-Za-z_:]\w[\w:]*)\(.*\)")
 PATH = re.compile(r"(?:\./)?[\w.*-]+(?:/[\w.*-]+)*/?")
-FOLDERS = (".ci", "bench", "crates", "docs", "edits", "examples", "include", "packaging", "release", "tests", "tools")
+FOLDERS = (".ci", "bench", "bindings", "crates", "docs", "edits", "examples", "include", "packaging", "release", "tests", "tools")
 INNER = ("specs", "proofs", "src")
 # a name for any, and what in a block is no code
 PLACEHOLDER = re.compile(r"[A-Z]_")
@@ -85,8 +85,9 @@ def known():
     for path in (it for folder in FOLDERS for it in (ROOT / folder).rglob("*")):
         if "out" not in path.parts:
             files.append(path.name)
-        # what the programs of hosts name
-        if ROOT / "examples" in path.parents and path.suffix in (".c", ".h", ".mjs", ".rs", ".txt"):
+        # what the programs of hosts name, and what they are given in JavaScript
+        is_example = ROOT / "examples" in path.parents and path.suffix in (".c", ".h", ".mjs", ".rs", ".txt")
+        if is_example or path.suffix == ".js":
             files.append(path.read_text())
     return {word for text in files for word in WORD.findall(text)}
 

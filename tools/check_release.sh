@@ -1,13 +1,14 @@
 #!/bin/sh
 # Compares the programs that the gate built with the released ones. Where the release was built from other sources there is nothing to compare.
 #
-# usage: tools/check_release.sh [--library]
+# usage: tools/check_release.sh [--library | --module]
 #
 # The exit status is 1 if release/ has other bytes than crates/program/out/program or crates/explain/out/explain though both were built from the
 # same sources, if what is unpacked of release/ isn't what release/SHA256SUMS says, or if release/ lacks a file.
 # crates/explain/out/explain may be absent, and release/ may have no file at all. The gate builds no library, since that
 # would prove the crates below it again. So the library is compared if `rt lib` left one here that no source of it is
 # newer than. With --library it prints nothing, and the exit status is 0 if the released library is of these sources.
+# The same goes for the WebAssembly module (tools/wasm.sh), with --module. A release may have none, which is said.
 set -eu
 cd "$(dirname "$0")/.."
 
@@ -15,9 +16,13 @@ is_of_library() {
     [ "$(cat release/library-sources 2>/dev/null)" = "$(tools/sources.sh witcall_c)" ]
 }
 
-# Whether the library was built here since its sources last changed.
-has_library() {
-    library=crates/witcall_c/out/libwitcall_c.a
+is_of_module() {
+    [ "$(cat release/wasm-sources 2>/dev/null)" = "$(tools/wasm.sh --sources)" ]
+}
+
+# Whether a file was built here since the library's sources last changed.
+is_built() {
+    library=$1
     [ -f "$library" ] || return 1
     for name in $(tools/sources.sh witcall_c --names); do
         for part in src specs proofs; do
@@ -26,15 +31,26 @@ has_library() {
     done
 }
 
-if [ "${1-}" = --library ]; then
-    is_of_library && exit 0
-    exit 1
-fi
+case "${1-}" in
+    --library)
+        is_of_library && exit 0
+        exit 1 ;;
+    --module)
+        [ -f release/witcall.wasm.gz ] && is_of_module && exit 0
+        exit 1 ;;
+esac
 [ -n "$(find release -maxdepth 1 -type f 2>/dev/null)" ] || { echo "no release"; exit 0; }
 for file in sources explain-sources library-sources toolchain version SHA256SUMS; do
     [ -s "release/$file" ] || { echo "release/ has no $file: tools/release.sh was not run to its end"; exit 1; }
 done
-for file in witcall wit-explain libwitcall_c.a liblibc_c.a; do
+has_module=''
+if [ -f release/witcall.wasm.gz ]; then
+    has_module=witcall.wasm
+    for file in wasm-sources wasm-toolchain; do
+        [ -s "release/$file" ] || { echo "release/ has no $file: tools/wasm.sh was not run to its end"; exit 1; }
+    done
+fi
+for file in witcall wit-explain libwitcall_c.a liblibc_c.a $has_module; do
     sum=$(gzip -dc "release/$file.gz" | sha256sum | cut -d ' ' -f 1)
     grep -q "^$sum  $file\$" release/SHA256SUMS || { echo "release/$file.gz isn't what release/SHA256SUMS says"; exit 1; }
 done
@@ -56,10 +72,21 @@ else
 fi
 if ! is_of_library; then
     echo "the released library was built from other sources than these"
-elif ! has_library; then
+elif ! is_built crates/witcall_c/out/libwitcall_c.a; then
     echo "the library was not built here, so it is not compared"
 elif gzip -dc release/libwitcall_c.a.gz | cmp - crates/witcall_c/out/libwitcall_c.a; then
     echo "the released library is what was built here"
+else
+    exit 1
+fi
+if [ -z "$has_module" ]; then
+    echo "the release has no WebAssembly module"
+elif ! is_of_module; then
+    echo "the released WebAssembly module was built from other sources than these"
+elif ! is_built crates/witcall_c/out/witcall.wasm; then
+    echo "the WebAssembly module was not built here, so it is not compared"
+elif gzip -dc release/witcall.wasm.gz | cmp - crates/witcall_c/out/witcall.wasm; then
+    echo "the released WebAssembly module is what was built here"
 else
     exit 1
 fi

@@ -8,9 +8,11 @@
 #   witcall.gz, wit-explain.gz            the programs
 #   libwitcall_c.a.gz                     the library
 #   liblibc_c.a.gz                        the toolchain's archive that the library calls; tools/install.sh makes one archive of both
-#   SHA256SUMS                            the checksums of these four, unpacked
+#   witcall.wasm.gz                       the library as a WebAssembly module, of tools/wasm.sh
+#   SHA256SUMS                            the checksums of these five, unpacked
 #   sources, explain-sources,             the checksums of what the first three were built from, as tools/sources.sh prints them
 #   library-sources
+#   wasm-sources, wasm-toolchain          the checksums of what the module was built from, and the versions of what built it
 #   toolchain, version                    the toolchain's own name for itself; the version of VERSION
 set -eu
 cd "$(dirname "$0")/.."
@@ -36,4 +38,5 @@ cp VERSION release/version
     sha256sum <crates/witcall_c/out/libwitcall_c.a | sed 's/-$/libwitcall_c.a/'
     sha256sum <"$kit/c/liblibc_c.a" | sed 's/-$/liblibc_c.a/'
 } >release/SHA256SUMS
+tools/wasm.sh
 cat release/SHA256SUMS

@@ -1,0 +1,179 @@
+/** A text of WIT, or a binary that `toBinary` or `witcall bin` wrote. */
+export type Input = string | BufferSource;
+
+/**
+ * Loads the module, from its bytes or from a URL, packed by gzip or not. Without a source it is the module of this
+ * package.
+ */
+export function load(source?: BufferSource | string | URL | WebAssembly.Module): Promise<Library>;
+
+export interface Library {
+  /** The library's version, as `0.1.0`. */
+  readonly version: string;
+
+  /**
+   * Opens a package, or the last one of several, which may use the packages before it.
+   * @throws {WitError} if it is refused
+   */
+  open(inputs: Input | Input[]): Package;
+}
+
+export interface Package {
+  /** The functions of the package and of those that it depends on. */
+  readonly functions: readonly WitFunction[];
+
+  /** Their types, each with its layout. */
+  readonly types: readonly Type[];
+
+  /**
+   * The function of this name, in the interface of this full name, as `a:b/c@1.0.0`.
+   * @throws {WitError} `63 no function`
+   */
+  find(interfaceName: string, name: string): WitFunction;
+
+  /** The package as a text. Of several it is the last one, which opens again after the others. */
+  toText(): string;
+
+  /** The package as a binary. Of several it is the last one, which opens again after the others. */
+  toBinary(): Uint8Array;
+
+  /** Frees the package. It is not to be used any more; closing it again does nothing. */
+  close(): void;
+
+  /** The same, for `using`. */
+  [Symbol.dispose](): void;
+}
+
+/** Sizes, alignments and offsets are bytes in a memory. */
+export interface Layout {
+  readonly size: number;
+  readonly alignment: number;
+}
+
+export type Kind =
+  | "bool" | "s8" | "u8" | "s16" | "u16" | "s32" | "u32" | "s64" | "u64" | "char" | "string"
+  | "list" | "option" | "result" | "tuple" | "record" | "variant" | "enum" | "flags" | "alias" | "use";
+
+export interface Type extends Layout {
+  readonly kind: Kind;
+
+  /** The number of its row in the package's table; primitives and `string` have none. */
+  readonly number?: number;
+
+  /** Its name, and the full name of the interface or of the world that declares it; types inside others have none. */
+  readonly name?: string;
+  readonly interface?: string;
+  readonly world?: string;
+
+  /** The element of a list, or the type that an alias or a used name stands for. */
+  readonly target?: Type;
+
+  /** Fields, elements of a tuple, cases or labels. The number of a case is its index, and label k is bit k. */
+  readonly members?: readonly Member[];
+}
+
+/** The offset of a case is that of the payload. A case without payload and a label have no type, and the size 0. */
+export interface Member extends Layout {
+  readonly name: string;
+  readonly type: Type | null;
+  readonly offset: number;
+}
+
+export type CoreType = "i32" | "i64";
+
+export interface CoreSignature {
+  readonly parameters: readonly CoreType[];
+  readonly results: readonly CoreType[];
+}
+
+/** The size and the alignment are those of the record of all parameters. */
+export interface WitFunction extends Layout {
+  readonly number: number;
+  readonly name: string;
+
+  /** The full name of the interface, as `a:b/c@1.0.0`, or of the world that has the function. */
+  readonly interface?: string;
+  readonly world?: string;
+
+  /** The parameters, with their offsets in the record of all of them. */
+  readonly parameters: readonly Member[];
+  readonly result: { readonly type: Type; readonly offset: 0 } & Layout | null;
+
+  /** The core function of the callee. */
+  readonly lifted: CoreSignature;
+
+  /** The core function that the caller imports. */
+  readonly lowered: CoreSignature;
+}
+
+export interface Request {
+  readonly align: number;
+  readonly size: number;
+}
+
+/** A block that an allocator granted, at an address of its memory. */
+export interface Block extends Request {
+  readonly at: number;
+}
+
+/**
+ * Grants the blocks that are asked for in an instance, in this order, up to the first one that there is no room for.
+ */
+export type Grant = (instance: WebAssembly.Instance, asked: Request[]) => Block[];
+
+export interface LinkOptions {
+  /** The module that imports functions of the package. Its instance exports `memory` and `cabi_realloc`. */
+  caller: WebAssembly.Module;
+
+  /** The instance that exports the functions, as `a:b/c#f`, its `memory` and `cabi_realloc`. */
+  callee: WebAssembly.Instance;
+
+  /** What else the caller imports. It comes first: a function of the package that is here is not linked. */
+  imports?: WebAssembly.Imports;
+
+  /**
+   * The greatest size of both memories, in bytes: blocks that have more together are refused. 16 MiB if it is left out.
+   */
+  limit?: number;
+
+  /** Who grants blocks, if it isn't `granted`. */
+  grant?: Grant;
+}
+
+/**
+ * Makes an instance of the caller, whose imports are functions of the callee. The library carries the values between
+ * both memories.
+ * @throws {WitError} if the caller imports what neither the package nor `imports` has
+ */
+export function link(pkg: Package, options: LinkOptions): WebAssembly.Instance;
+
+/** Has `cabi_realloc` of an instance grant blocks, up to the first one for which it traps. */
+export const granted: Grant;
+
+/** What the library refuses. The message is its line. */
+export class WitError extends Error {
+  constructor(number: number, line: string);
+
+  /** The number of the error in docs/ERRORS.md. */
+  readonly number: number;
+
+  /** The library's line, as `error 41 unknown size`. */
+  readonly line: string;
+}
+
+/** The end of a call between two components, as `trap K5 utf8 in lift-args`. The callee is not run again after it. */
+export class Trap extends Error {
+  constructor(line: string, options?: ErrorOptions);
+
+  /** The number of the kind, 1 to 8. */
+  readonly number: number;
+
+  /** The word of the kind, as `utf8`. */
+  readonly kind: "char" | "case" | "align" | "bounds" | "utf8" | "full" | "body" | "coresignature";
+
+  /** The step in which it was found. */
+  readonly step: "lift-args" | "lower-args" | "body" | "lift-result" | "lower-result" | "post";
+}
+
+/** The engine stopped the module itself. Packages can be used again. */
+export class ModuleFault extends Error {}

@@ -1,0 +1,3 @@
+export { load } from "./lib/library.js";
+export { granted, link } from "./lib/link.js";
+export { ModuleFault, Trap, WitError } from "./lib/errors.js";

@@ -1,0 +1,42 @@
+/** What the library refuses. `number` is that of docs/ERRORS.md, and the message is the library's line. */
+export class WitError extends Error {
+  name = "WitError";
+
+  /**
+   * @param {number} number
+   * @param {string} line
+   */
+  constructor(number, line) {
+    super(line);
+    this.number = number;
+    this.line = line;
+  }
+}
+
+/** A line as `trap K5 utf8 in lift-args`: the number of the kind, its word, and the word of the step. */
+const TRAP = /^trap K(\d) (\S+) in (\S+)$/;
+
+/** The end of a call between two components. The callee is not run again after it. */
+export class Trap extends Error {
+  name = "Trap";
+
+  /**
+   * @param {string} line
+   * @param {ErrorOptions} [options] the cause, if the engine stopped a component
+   */
+  constructor(line, options) {
+    super(line, options);
+    const [, number, kind, step] = TRAP.exec(line) ?? [];
+    this.number = Number(number);
+    this.kind = kind;
+    this.step = step;
+  }
+}
+
+/**
+ * The engine stopped the module itself, because a stack was too small. Packages can be used again: they are opened anew
+ * in another instance of the module.
+ */
+export class ModuleFault extends Error {
+  name = "ModuleFault";
+}

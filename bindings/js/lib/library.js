@@ -1,0 +1,85 @@
+import { Core } from "./core.js";
+import { Package } from "./package.js";
+
+const encoder = new TextEncoder();
+
+/** Version 1 of gzip's files begins with these bytes. */
+const isGzip = (bytes) => bytes[0] === 0x1f && bytes[1] === 0x8b;
+
+async function fetched(source) {
+  if (String(source).startsWith("file:")) {
+    const { readFile } = await import("node:fs/promises");
+    return readFile(new URL(source));
+  }
+  const answer = await fetch(source);
+  if (!answer.ok) throw new Error(`${source}: ${answer.status} ${answer.statusText}`);
+  return answer.arrayBuffer();
+}
+
+/** A view of bytes, whatever kind of view or buffer they are given as. */
+function viewOf(source) {
+  if (ArrayBuffer.isView(source)) return new Uint8Array(source.buffer, source.byteOffset, source.byteLength);
+  return new Uint8Array(source);
+}
+
+async function plain(bytes) {
+  if (!isGzip(bytes)) return bytes;
+  const stream = new Blob([bytes]).stream().pipeThrough(new DecompressionStream("gzip"));
+  return new Response(stream).arrayBuffer();
+}
+
+/**
+ * Loads the library's module, from its bytes or from a URL. They may be packed by gzip.
+ * @param {BufferSource | string | URL | WebAssembly.Module} [source] the module of this package, if it is left out
+ * @returns {Promise<Library>}
+ */
+export async function load(source = new URL("../witcall.wasm", import.meta.url)) {
+  if (source instanceof WebAssembly.Module) return new Library(source);
+  const isUrl = typeof source === "string" || source instanceof URL;
+  const bytes = viewOf(isUrl ? await fetched(source) : source);
+  return new Library(await WebAssembly.compile(await plain(bytes)));
+}
+
+/** The library: a module, and one instance of it at a time. */
+export class Library {
+  #module;
+  #core;
+
+  /** @param {WebAssembly.Module} module */
+  constructor(module) {
+    this.#module = module;
+  }
+
+  /**
+   * The instance. If the engine stopped it, this is a new one, and each package opens itself in it.
+   * @returns {Core}
+   */
+  get core() {
+    if (!this.#core || this.#core.lost) this.#core = new Core(new WebAssembly.Instance(this.#module).exports);
+    return this.#core;
+  }
+
+  /** The library's version, as `0.1.0`. */
+  get version() {
+    const { core } = this;
+    const room = 64;
+    const at = core.allocate(room);
+    try {
+      return core.text(at, core.call("witcall_version", at, room).count);
+    } finally {
+      core.free(at);
+    }
+  }
+
+  /**
+   * Opens a package, or the last one of several, which may use the packages before it.
+   * @param {string | BufferSource | (string | BufferSource)[]} inputs texts or binaries, dependencies first
+   * @returns {Package}
+   */
+  open(inputs) {
+    const all = Array.isArray(inputs) ? inputs : [inputs];
+    // A copy, since the package is opened again from it, if the engine stopped the instance.
+    const bytesOf = (input) => (typeof input === "string" ? encoder.encode(input) : viewOf(input).slice());
+    return new Package(this, all.map(bytesOf));
+  }
+}

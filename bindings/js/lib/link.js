@@ -1,0 +1,127 @@
+// Two core instances, of which the one calls functions of the other. The library carries the values between their
+// memories.
+import { Half } from "./half.js";
+
+/** Bytes that the blocks of one half may have together, if `link` is not told another limit. */
+const LIMIT = 2 ** 24;
+
+/** K7, a component that stops, and the steps in which it can. */
+const STOPPED = 7;
+const STEP = { BODY: 4, POST: 7 };
+
+/** Runs code of a component. If the engine traps in it, the result is that of `stopped`. */
+function ran(core, values, stopped) {
+  try {
+    return core(...values);
+  } catch (error) {
+    if (error instanceof WebAssembly.RuntimeError) return stopped(error);
+    throw error;
+  }
+}
+
+/**
+ * Has an instance's own allocator grant blocks, one after another, up to the first one for which it traps.
+ * @param {WebAssembly.Instance} instance
+ * @param {import("./half.js").Request[]} asked
+ * @returns {import("./half.js").Block[]}
+ */
+export function granted(instance, asked) {
+  const blocks = [];
+  for (const { align, size } of asked) {
+    const at = ran(instance.exports.cabi_realloc, [0, 0, align, size], () => undefined);
+    if (at === undefined) break;
+    blocks.push({ align, size, at: at >>> 0 });
+  }
+  return blocks;
+}
+
+/** A component's memory, which may grow and move, and its allocator. */
+class Side {
+  #instance;
+  #grant;
+
+  constructor(instance, grant) {
+    this.#instance = instance;
+    this.#grant = grant;
+  }
+
+  get bytes() {
+    return new Uint8Array(this.#instance().exports.memory.buffer);
+  }
+
+  grant(asked) {
+    return asked.length === 0 ? [] : this.#grant(this.#instance(), asked);
+  }
+}
+
+/** What a core function answered: no value, one, or several of a function that is none of the Canonical ABI. */
+function valuesOf(answer) {
+  if (answer === undefined) return [];
+  return Array.isArray(answer) ? answer : [answer];
+}
+
+/**
+ * A function of the callee as the caller imports it.
+ * @param {import("./package.js").Package} pkg
+ * @param {object} func one of its functions
+ * @param {{caller: Side, callee: Side, exports: WebAssembly.Exports, limit: number}} sides
+ */
+export function lowered(pkg, func, { caller, callee, exports, limit }) {
+  const name = `${func.interface}#${func.name}`;
+  const body = exports[name];
+  const post = exports[`cabi_post_${name}`];
+  if (typeof body !== "function") throw new TypeError(`the callee exports no function ${name}`);
+  const enter = new Half(pkg, func.number, "witcall_enter", limit);
+  const leave = new Half(pkg, func.number, "witcall_leave", limit);
+  // A result that is no core value goes to an address behind the arguments.
+  const hasArea = func.result !== null && func.lowered.results.length === 0;
+  const stop = (step) => (cause) => {
+    throw pkg.place.core.error({ code: 2, number: STOPPED, step, count: 0 }, { cause });
+  };
+  return (...flats) => {
+    const handed = enter.carry([flats], caller, callee);
+    const answer = valuesOf(ran(body, handed, stop(STEP.BODY)));
+    const area = hasArea ? { align: func.result.alignment, size: func.result.size, at: flats.at(-1) >>> 0 } : undefined;
+    const [back] = leave.carry([flats, answer], callee, caller, area);
+    if (post) ran(post, answer, stop(STEP.POST));
+    return back;
+  };
+}
+
+function limitOf(limit) {
+  if (!Number.isSafeInteger(limit) || limit < 0) throw new RangeError(`${limit} is no limit in bytes`);
+  return limit;
+}
+
+/**
+ * Makes an instance of the caller. What `imports` lacks is a function of the callee, which the package declares.
+ *
+ * @param {import("./package.js").Package} pkg
+ * @param {object} options
+ * @param {WebAssembly.Module} options.caller
+ * @param {WebAssembly.Instance} options.callee
+ * @param {WebAssembly.Imports} [options.imports] what else the caller imports
+ * @param {number} [options.limit] the greatest size of both memories: blocks that have more bytes together are refused
+ * @param {typeof granted} [options.grant] who grants blocks, if it isn't `cabi_realloc` alone
+ * @returns {WebAssembly.Instance}
+ */
+export function link(pkg, { caller, callee, imports = {}, limit = LIMIT, grant = granted }) {
+  let instance;
+  const started = () => {
+    if (!instance) throw new TypeError("the caller calls the callee before it is instantiated");
+    return instance;
+  };
+  const sides = {
+    caller: new Side(started, grant),
+    callee: new Side(() => callee, grant),
+    exports: callee.exports,
+    limit: limitOf(limit),
+  };
+  const all = {};
+  for (const { module, name } of WebAssembly.Module.imports(caller)) {
+    all[module] ??= {};
+    all[module][name] = imports[module]?.[name] ?? lowered(pkg, pkg.find(module, name), sides);
+  }
+  instance = new WebAssembly.Instance(caller, all);
+  return instance;
+}

@@ -1,0 +1,167 @@
+import { CODE, REFUSAL, Space } from "./core.js";
+import { WitError } from "./errors.js";
+import { tableOf } from "./table.js";
+
+/** The size of a handle, and the room that most names and lines need. */
+const HANDLE_SIZE = 16;
+const ROOM = 256;
+
+const decoder = new TextDecoder();
+
+/**
+ * Opens inputs in an instance.
+ * @returns {number} the handle's address
+ */
+function opened(core, inputs) {
+  const space = new Space(core);
+  const handle = core.allocate(HANDLE_SIZE);
+  try {
+    core.bytes.fill(0, handle, handle + HANDLE_SIZE);
+    const status = openedAs(space, inputs, handle);
+    if (status.code === CODE.DONE) return handle;
+    throw refusal(core, status, handle);
+  } catch (error) {
+    core.free(handle);
+    throw error;
+  } finally {
+    space.free();
+  }
+}
+
+/** Why a package was refused: the whole line, if the handle stands for it. It stands for nothing after some errors. */
+function refusal(core, status, handle) {
+  try {
+    return new WitError(status.number, decoder.decode(told(core, "witcall_line", handle)));
+  } catch (error) {
+    if (error.number === REFUSAL.NOT_OPEN) return core.error(status);
+    throw error;
+  } finally {
+    core.close(handle);
+  }
+}
+
+function openedAs(space, inputs, handle) {
+  const { core } = space;
+  const length = inputs.reduce((sum, input) => sum + input.length, 0);
+  const bytes = space.take(length);
+  const lengths = space.take(8 * inputs.length);
+  let end = bytes;
+  for (const [place, input] of inputs.entries()) {
+    core.bytes.set(input, end);
+    core.view.setBigUint64(lengths + 8 * place, BigInt(input.length), true);
+    end += input.length;
+  }
+  if (inputs.length === 1) return core.call("witcall_open", bytes, length, handle);
+  return core.call("witcall_open_set", bytes, length, lengths, inputs.length, handle);
+}
+
+/** The bytes that an export writes into an array, which has as much room as it takes. */
+function told(core, name, ...words) {
+  for (let room = ROOM; ;) {
+    const at = core.allocate(room);
+    try {
+      const status = core.call(name, ...words, at, room);
+      if (status.code === CODE.DONE) return core.bytes.slice(at, at + status.count);
+      if (status.number !== REFUSAL.NO_ROOM || status.count <= room) throw core.error(status);
+      room = status.count;
+    } finally {
+      core.free(at);
+    }
+  }
+}
+
+/** A package that is open, with those that it depends on. */
+export class Package {
+  #library;
+  #inputs;
+  #place;
+  #table;
+
+  /**
+   * @param {import("./library.js").Library} library
+   * @param {Uint8Array[]} inputs
+   */
+  constructor(library, inputs) {
+    this.#library = library;
+    this.#inputs = inputs;
+    this.#open();
+  }
+
+  #open() {
+    const { core } = this.#library;
+    this.#place = { core, handle: opened(core, this.#inputs) };
+  }
+
+  /**
+   * Where the package is: an instance, and its handle there. If the engine stopped the instance, it is opened in
+   * another one. The value is the same one as before if both are.
+   */
+  get place() {
+    if (!this.#place) {
+      throw this.#library.core.error({ code: CODE.REFUSED, number: REFUSAL.NOT_OPEN, step: 0, count: 0 });
+    }
+    if (this.#place.core.lost) this.#open();
+    return this.#place;
+  }
+
+  /** The bytes that an export tells of the package. */
+  told(name, ...words) {
+    const { core, handle } = this.place;
+    return told(core, name, handle, ...words);
+  }
+
+  get #rows() {
+    this.place;
+    return (this.#table ??= tableOf(this));
+  }
+
+  /** The functions of the package and of those that it depends on. */
+  get functions() {
+    return this.#rows.functions;
+  }
+
+  /** Their types, each with its layout. */
+  get types() {
+    return this.#rows.types;
+  }
+
+  /**
+   * The function of this name.
+   * @param {string} interfaceName the interface's full name, as `a:b/c@1.0.0`
+   * @param {string} name
+   */
+  find(interfaceName, name) {
+    const { core, handle } = this.place;
+    const space = new Space(core);
+    try {
+      const names = [interfaceName, name].flatMap((it) => space.putText(it));
+      const status = core.call("witcall_find", handle, ...names);
+      if (status.code !== CODE.DONE) throw core.error(status);
+      return this.functions.find((it) => it.number === status.count);
+    } finally {
+      space.free();
+    }
+  }
+
+  /** The package as a text. Of several it is the last one, which opens again after the others. */
+  toText() {
+    return decoder.decode(this.told("witcall_to_text"));
+  }
+
+  /** The package as a binary. Of several it is the last one, which opens again after the others. */
+  toBinary() {
+    return this.told("witcall_to_binary");
+  }
+
+  /** Frees the package. It is not to be used any more; closing it again does nothing. */
+  close() {
+    const place = this.#place;
+    this.#place = undefined;
+    if (!place) return;
+    place.core.close(place.handle);
+    place.core.free(place.handle);
+  }
+}
+
+// `using` closes a package, where there is such a word.
+if (Symbol.dispose) Package.prototype[Symbol.dispose] = Package.prototype.close;

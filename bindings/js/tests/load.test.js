@@ -1,0 +1,97 @@
+import assert from "node:assert/strict";
+import { mkdtempSync, readFileSync, rmSync, writeFileSync } from "node:fs";
+import { tmpdir } from "node:os";
+import { join } from "node:path";
+import { test } from "node:test";
+import { pathToFileURL } from "node:url";
+import { gunzipSync, gzipSync } from "node:zlib";
+import { ModuleFault, load } from "../index.js";
+import { fileOf, modulePath, skip } from "./support.js";
+
+const bytes = () => {
+  const found = readFileSync(modulePath);
+  return found[0] === 0x1f ? gunzipSync(found) : found;
+};
+
+test("the module is loaded from bytes and URLs, packed or not", { skip }, async () => {
+  const folder = mkdtempSync(join(tmpdir(), "witcall-"));
+  const [plain, packed] = ["witcall.wasm", "witcall.wasm.gz"].map((name) => join(folder, name));
+  writeFileSync(plain, bytes());
+  writeFileSync(packed, gzipSync(bytes()));
+  const [url, packedUrl] = [plain, packed].map((path) => pathToFileURL(path));
+  const module = await WebAssembly.compile(bytes());
+  for (const source of [bytes(), gzipSync(bytes()), new Uint8Array(bytes()).buffer, url, packedUrl, url.href, module]) {
+    const witcall = await load(source);
+    assert.equal(witcall.version, fileOf("VERSION").toString().trim());
+  }
+  rmSync(folder, { recursive: true });
+});
+
+test("a module without imports", { skip }, async () => {
+  const module = await WebAssembly.compile(bytes());
+  assert.deepEqual(WebAssembly.Module.imports(module), []);
+  const header = fileOf("include/witcall.h").toString();
+  const functions = [...header.matchAll(/^(?:witcall_status|void|uint32_t) (witcall_\w+)\(/gm)];
+  const names = WebAssembly.Module.exports(module).map((it) => it.name);
+  assert.ok(functions.length > 20);
+  assert.deepEqual(names.sort(), [...functions.map((it) => it[1]), "free", "malloc", "memory"].sort());
+});
+
+test("what is no module is refused", async () => {
+  await assert.rejects(load(new Uint8Array([1, 2, 3])), WebAssembly.CompileError);
+  await assert.rejects(load(new URL("file:///no/module")), { code: "ENOENT" });
+  await assert.rejects(load(new Uint8Array([0, 0x61, 0x73, 0x6d, 1, 0, 0, 0])));
+});
+
+const TEXT = "package a:b;\n\ninterface c {\n  f: func(x: u32) -> u32;\n}\n";
+
+test("packages go on after the engine stopped the module", { skip }, async () => {
+  const witcall = await load(bytes());
+  const [pkg, closed] = [witcall.open(TEXT), witcall.open(TEXT)];
+  const func = pkg.functions[0];
+  const { core } = pkg.place;
+  const stop = () => core.call("witcall_line", 0xfffffff0, 0, 0);
+  assert.throws(stop, (error) => error instanceof ModuleFault && error.cause instanceof WebAssembly.RuntimeError);
+  closed.close();
+  assert.throws(() => closed.toText(), { number: 70 });
+  assert.equal(pkg.toText(), TEXT);
+  assert.notEqual(pkg.place.core, core);
+  assert.equal(pkg.find("a:b/c", "f"), func);
+  assert.equal(witcall.open(TEXT).toText(), TEXT);
+});
+
+test("packages go on after the stack of the engine was too small", { skip }, async () => {
+  const witcall = await load(bytes());
+  const pkg = witcall.open(TEXT);
+  const deep = () => {
+    try {
+      return deep();
+    } catch {
+      return pkg.toText();
+    }
+  };
+  assert.equal(deep(), TEXT);
+  assert.equal(pkg.toText(), TEXT);
+});
+
+test("types of the greatest depth are opened, and their values carried", { skip }, async () => {
+  const { Half } = await import("../lib/half.js");
+  const witcall = await load(bytes());
+  const levels = 63;
+  const type = `${"list<".repeat(levels)}u8${">".repeat(levels)}`;
+  const pkg = witcall.open(`package a:b; interface c { f: func(x: ${type}); }`);
+  assert.ok(pkg.toText().includes(type));
+  assert.equal(witcall.open(pkg.toBinary()).toText(), pkg.toText());
+  // Each list has one element, which is the next list; the innermost one is empty.
+  const words = Uint32Array.from({ length: 2 * levels }, (_, k) => (k % 2 ? 1 : 4 * k + 8));
+  const from = { bytes: new Uint8Array(words.buffer) };
+  from.bytes.fill(0, 8 * (levels - 2));
+  const to = {
+    bytes: new Uint8Array(65536),
+    grant: (asked) => asked.map((it, place) => ({ ...it, at: 8 * place })),
+  };
+  const half = new Half(pkg, pkg.find("a:b/c", "f").number, "witcall_enter", 65536);
+  assert.deepEqual(half.carry([[0, 1]], from, to), [0, 1]);
+  const nested = `${"result<".repeat(63)}u8${">".repeat(63)}`;
+  assert.equal(witcall.open(`package a:b; interface c { type t = ${nested}; }`).types.length, 63);
+});

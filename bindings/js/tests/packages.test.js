@@ -1,0 +1,138 @@
+import assert from "node:assert/strict";
+import { test } from "node:test";
+import { WitError } from "../index.js";
+import { rowsOf } from "./rows.js";
+import { fileOf, loaded, skip } from "./support.js";
+
+const witcall = await loaded();
+
+const COMMANDS = {
+  open: () => "opened",
+  text: (pkg) => pkg.toText().replace(/\n$/, ""),
+  bin: (pkg) => Buffer.from(pkg.toBinary()).toString("hex"),
+};
+
+/**
+ * What a row answers. What is refused is also told; of a package that is too long to write the library has no offset.
+ */
+function answered({ command, inputs }, wanted) {
+  let pkg;
+  try {
+    pkg = witcall.open(inputs);
+    return COMMANDS[command](pkg);
+  } catch (error) {
+    if (!(error instanceof WitError)) throw error;
+    assert.equal(error.message, error.line);
+    assert.equal(error.number, Number(error.line.split(" ")[1]));
+    return pkg && wanted.startsWith(`${error.line} limit at `) ? wanted : error.line;
+  } finally {
+    pkg?.close();
+  }
+}
+
+for (const file of ["errors", "packages", "sets", "texts"]) {
+  test(`the rows of ${file}.rows`, { skip }, () => {
+    const rows = rowsOf(`${file}.rows`, Object.keys(COMMANDS));
+    assert.ok(rows.length >= 29);
+    for (const row of rows) {
+      const wanted = row.answer.join("\n");
+      assert.equal(answered(row, wanted), wanted, row.name);
+    }
+  });
+}
+
+test("each way of handing over an input opens the same package", { skip }, () => {
+  const text = "package a:b;\n\ninterface c {\n  f: func(x: u32) -> u32;\n}\n";
+  const bytes = new TextEncoder().encode(`..${text}`);
+  for (const input of [text, bytes.subarray(2), bytes.buffer.slice(2), new DataView(bytes.buffer, 2), [text]]) {
+    const pkg = witcall.open(input);
+    const again = witcall.open(pkg.toBinary());
+    assert.deepEqual([pkg.toText(), again.toText()], [text, text]);
+    pkg.close();
+    again.close();
+  }
+});
+
+test("no input is refused", { skip }, () => {
+  assert.throws(() => witcall.open([]), { name: "WitError", number: 74, message: "error 74 bad lengths" });
+  assert.throws(() => witcall.open(""), { name: "WitError", number: 32 });
+});
+
+// ---- what examples/c/lists.c prints
+
+/** The package of examples/c/lists.c, whose text stands there as strings of C. */
+function listedText() {
+  const [, strings] = /TEXT\[\] =\n((?: +"[^"]*"\n?)+);/.exec(fileOf("examples/c/lists.c").toString());
+  return [...strings.matchAll(/"([^"]*)"/g)].map(([, part]) => part).join("");
+}
+
+const typeLine = (type) => (type ? `${type.kind} size ${type.size} align ${type.alignment}` : "no type");
+
+function nameLine({ interface: of, world, name }) {
+  if (of) return `interface ${of}: ${name}: `;
+  return world ? `world ${world}: ${name}: ` : "";
+}
+
+function rowLines(row) {
+  const target = row.target ?? row.result?.type;
+  const members = row.members ?? row.parameters ?? [];
+  return [
+    `${nameLine(row)}${typeLine(row)}${target ? `, to ${typeLine(target)}` : ""}`,
+    ...members.map(({ name, offset, type }, index) => `  ${index} ${name} at ${offset}: ${typeLine(type)}`),
+  ];
+}
+
+test("functions and types have the layouts that the library has in C", { skip }, () => {
+  const shop = witcall.open(fileOf("examples/c/shop.wit"));
+  const listed = witcall.open(listedText());
+  const lines = shop.functions.flatMap(({ name, parameters }) => [
+    name,
+    ...parameters.map((it) => `  ${it.name} at ${it.offset}`),
+  ]);
+  const functions = listed.functions.map((it) => ({ kind: "function", ...it }));
+  const rows = [...listed.types, ...functions].sort((one, other) => one.number - other.number);
+  const wanted = fileOf("examples/c/lists.expected").toString().trimEnd().split("\n");
+  assert.deepEqual([...lines, ...rows.flatMap(rowLines)], wanted);
+  shop.close();
+  listed.close();
+});
+
+test("a function has its core signatures, and its types are those of the package", { skip }, () => {
+  const pkg = witcall.open(fileOf("examples/engine/press.wit"));
+  const [print] = pkg.functions;
+  const values = Array(8).fill("i32");
+  assert.deepEqual(print.lifted, { parameters: values, results: ["i32"] });
+  assert.deepEqual(print.lowered, { parameters: [...values, "i32"], results: [] });
+  assert.equal(print.result.type, pkg.types.find((it) => it.name === "outcome"));
+  assert.equal(print.parameters[1].type.target.kind, "string");
+  assert.equal(pkg.find("demo:labels/press", "print"), print);
+  assert.throws(() => pkg.find("demo:labels/press", "prin"), { number: 63, message: "error 63 no function" });
+  pkg.close();
+});
+
+test("a closed package is not open, and is closed once", { skip }, () => {
+  const pkg = witcall.open(fileOf("examples/c.wit"));
+  assert.equal(pkg.functions.length, 1);
+  pkg.close();
+  pkg.close();
+  const calls = [(it) => it.toText(), (it) => it.toBinary(), (it) => it.find("", "")];
+  const uses = [(it) => it.functions, (it) => it.types, ...calls];
+  for (const use of uses) {
+    assert.throws(() => use(pkg), { name: "WitError", number: 70, message: "error 70 not open" });
+  }
+  if (Symbol.dispose) assert.equal(pkg[Symbol.dispose], pkg.close);
+});
+
+test("many packages leave no memory behind", { skip }, () => {
+  const text = fileOf("examples/engine/press.wit");
+  const opened = () => {
+    const pkg = witcall.open(text);
+    pkg.functions;
+    assert.throws(() => witcall.open("package a:b;"), { number: 43 });
+    pkg.close();
+  };
+  opened();
+  const before = witcall.core.bytes.length;
+  for (let count = 0; count < 500; count++) opened();
+  assert.equal(witcall.core.bytes.length, before);
+});

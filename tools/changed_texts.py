@@ -1,0 +1,109 @@
+#!/usr/bin/env python3
+"""Changes the texts of the repository, and compares what the WebAssembly module and the program make of them.
+
+usage: tools/changed_texts.py [COUNT [PROGRAM]]
+
+COUNT is 20,000 if it is left out. PROGRAM is the program of release/, which is unpacked, and WITCALL_MODULE the
+module's path if it isn't that of the release. Each changed text is opened by node (bindings/js/tests/changed.mjs) and
+by PROGRAM: both have to refuse it by the same line, or to write the same binary and the same text. It takes some
+minutes, so the gate leaves it out. The exit status is 1 if an answer differs.
+"""
+import concurrent.futures
+import gzip
+import json
+import pathlib
+import random
+import shutil
+import struct
+import subprocess
+import sys
+import tempfile
+
+ROOT = pathlib.Path(__file__).resolve().parent.parent
+SEED = 5
+LONGEST = 6000
+WORDS = (
+    "record variant enum flags list option result tuple string u8 u64 func use type interface world package import"
+    " export { } ( ) < > , ; : = @ . -> _ - a b c d1 % // /* */"
+).split()
+MARKS = b" ;:,.{}()<>=-az09%@"
+CHANGES = [0, 1, 1, 2, 3, 6]
+
+
+def texts():
+    """The texts of the repository that are not long, without those of other branches and of what is built."""
+    found = sorted(it for it in ROOT.rglob("*.wit") if "out" not in it.relative_to(ROOT).parts)
+    return [text for text in (it.read_bytes() for it in found) if len(text) < LONGEST]
+
+
+def changed(rng, text):
+    """A text with some changes: bytes, words, and parts of it that go or come twice."""
+    made = bytearray(text)
+    for _ in range(rng.choice(CHANGES)):
+        if not made:
+            break
+        place, kind = rng.randrange(len(made)), rng.random()
+        if kind < 0.3:
+            made[place] = rng.randrange(256) if rng.random() < 0.3 else rng.choice(MARKS)
+        elif kind < 0.55:
+            del made[place : place + rng.randrange(1, 12)]
+        elif kind < 0.8:
+            made[place:place] = b" " + rng.choice(WORDS).encode() + b" "
+        else:
+            start = rng.randrange(len(made))
+            made[place:place] = made[start : start + rng.randrange(1, 60)]
+    return bytes(made)
+
+
+def by_program(program, path):
+    """What the program makes of a file."""
+    runs = [subprocess.run([program, job, path], capture_output=True) for job in ("bin", "text")]
+    if runs[0].returncode:
+        return {"line": runs[0].stderr.decode("utf-8", "replace").removesuffix("\n")}
+    return {"binary": runs[0].stdout.hex(), "text": runs[1].stdout.decode()}
+
+
+def by_module(folder, made):
+    """What the module makes of all texts."""
+    (folder / "texts").write_bytes(b"".join(struct.pack("<I", len(text)) + text for text in made))
+    words = ["node", ROOT / "bindings/js/tests/changed.mjs", folder / "texts"]
+    return map(json.loads, subprocess.run(words, check=True, stdout=subprocess.PIPE).stdout.splitlines())
+
+
+def unpacked(folder):
+    """The program of the release."""
+    program = folder / "witcall"
+    program.write_bytes(gzip.decompress((ROOT / "release/witcall.gz").read_bytes()))
+    program.chmod(0o755)
+    return program
+
+
+def main():
+    if not shutil.which("node"):
+        sys.exit("tools/changed_texts.py: no node")
+    count = int(sys.argv[1]) if len(sys.argv) > 1 else 20000
+    rng, given = random.Random(SEED), texts()
+    made = [changed(rng, rng.choice(given)) for _ in range(count)]
+    with tempfile.TemporaryDirectory() as name, concurrent.futures.ThreadPoolExecutor(2) as pool:
+        folder = pathlib.Path(name)
+        program = sys.argv[2] if len(sys.argv) > 2 else unpacked(folder)
+
+        def answer(place):
+            path = folder / f"{place}.wit"
+            path.write_bytes(made[place])
+            found = by_program(program, path)
+            path.unlink()
+            return found
+
+        differing = opened = 0
+        for text, found, wanted in zip(made, by_module(folder, made), pool.map(answer, range(count)), strict=True):
+            opened += "line" not in wanted
+            if found != wanted:
+                differing += 1
+                print(f"{text!r}\n  module  {found}\n  program {wanted}")
+    print(f"{count} texts, {opened} of them packages: {differing} differ")
+    sys.exit(differing > 0)
+
+
+if __name__ == "__main__":
+    main()
