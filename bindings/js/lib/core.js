@@ -34,6 +34,7 @@ export class Core {
   /** @param {WebAssembly.Exports} exports */
   constructor(exports) {
     this.#exports = exports;
+    if (typeof exports.witcall_abi !== "function") throw new TypeError("this is not the module of the library");
     const abi = this.#run("witcall_abi", []);
     if (abi !== ABI) throw new TypeError(`the module's interface is ${abi}, and this package needs ${ABI}`);
     this.#status = this.allocate(STATUS_SIZE);

@@ -34,10 +34,17 @@ async function plain(bytes) {
  * @returns {Promise<Library>}
  */
 export async function load(source = new URL("../witcall.wasm", import.meta.url)) {
-  if (source instanceof WebAssembly.Module) return new Library(source);
+  if (source instanceof WebAssembly.Module) return instantiated(source);
   const isUrl = typeof source === "string" || source instanceof URL;
   const bytes = viewOf(isUrl ? await fetched(source) : source);
-  return new Library(await WebAssembly.compile(await plain(bytes)));
+  return instantiated(await WebAssembly.compile(await plain(bytes)));
+}
+
+/** The library of a module, which is instantiated at once, so that another module is refused. */
+function instantiated(module) {
+  const library = new Library(module);
+  library.core;
+  return library;
 }
 
 /** The library: a module, and one instance of it at a time. */
