@@ -1,9 +1,9 @@
 #!/usr/bin/env python3
 """Measures witcall beside what does the same without it, and prints the tables of docs/BENCHMARKS.md.
 
-FOLDER, outside the repository, stays for the next run; else a temporary one is taken. What is proved and built is a copy in it of the crates
-that it needs, with what their checks have kept, and one of the benchmark's own. It needs `rt` on the path, and proves these crates first where
-no check has kept anything.
+FOLDER, outside the repository, stays for the next run; else a temporary one is taken. What is proved and built is a
+copy in it of the crates that it needs, with what their checks have kept, and one of the benchmark's own. It needs `rt`
+on the path, and proves these crates first where no check has kept anything.
 """
 import argparse
 import contextlib
@@ -20,11 +20,11 @@ import tempfile
 
 import writer
 
-TOP = pathlib.Path(__file__).resolve().parent.parent
-sys.path.insert(0, str(TOP))
+sys.path.insert(0, str(pathlib.Path(__file__).resolve().parent.parent))
 
 from tools.measure import times  # noqa: E402
-from tools.measure.harness import INSTRUCTIONS, PROGRAM, TIME, Cost, Folder, Growth, Starter, milliseconds  # noqa: E402
+from tools.measure.harness import INSTRUCTIONS, TIME, Cost, Folder, Growth, Starter, milliseconds  # noqa: E402
+from tools.repository import PROGRAM, ROOT, crate_lines, crates_below  # noqa: E402
 
 LIBRARIES = ["atoms", "canonical_abi", "tables", "table_building", "layout", "memory"]
 # of each table over a library: the library's crate and that crate's source, what it stands on, and the program over it
@@ -37,23 +37,6 @@ TABLES = {
 # ---- copies of the crates
 
 
-def lines_of_crates():
-    """The line of each crate, by its name."""
-    lines = (TOP / "crates.txt").read_text().splitlines()
-    return {line.split(":")[0].split()[0]: line for line in lines if ":" in line}
-
-
-def crates_below(lines, names):
-    """These crates and all that they stand on, as far as the repository has them."""
-    found, rest = [], list(names)
-    while rest:
-        name = rest.pop()
-        if name in lines and name not in found:
-            found.append(name)
-            rest += lines[name].split(":")[1].split()
-    return found
-
-
 def copy_tree(source, target):
     """Copies a folder in the place of what was there."""
     if target.exists():
@@ -64,19 +47,18 @@ def copy_tree(source, target):
 
 def fill(folder, libraries, crate, source, kind=""):
     """Writes the copy: the crates, and one of the benchmark's own, of this kind, over these libraries."""
-    lines = lines_of_crates()
-    names = crates_below(lines, libraries)
+    names = crates_below(libraries)
     for name in names:
         target = folder / "crates" / name
         for part in ["src", "specs", "proofs"]:
-            copy_tree(TOP / "crates" / name / part, target / part)
+            copy_tree(ROOT / "crates" / name / part, target / part)
         if not (target / "out").exists():
-            copy_tree(TOP / "crates" / name / "out", target / "out")
+            copy_tree(ROOT / "crates" / name / "out", target / "out")
     own = folder / "crates" / crate
     (own / "src").mkdir(parents=True, exist_ok=True)
-    shutil.copy(TOP / "bench" / source, own / "src" / ("lib.rt" if kind else "main.rt"))
-    shutil.copy(TOP / "HANDLES", folder)
-    listed = [lines[name] for name in names] + [f"{crate}{kind}: {' '.join(libraries)}"]
+    shutil.copy(ROOT / "bench" / source, own / "src" / ("lib.rt" if kind else "main.rt"))
+    shutil.copy(ROOT / "HANDLES", folder)
+    listed = [crate_lines()[name] for name in names] + [f"{crate}{kind}: {' '.join(libraries)}"]
     (folder / "crates.txt").write_text("\n".join(listed) + "\n")
     return own
 
@@ -87,7 +69,8 @@ def kit():
 
 
 def program_of(folder, libraries, source, needs_words=False):
-    """The program of a crate of the benchmark's own, proved and built. If it needs words, it fails where it is run without."""
+    """The program of a crate of the benchmark's own, proved and built. If it needs words, it fails where it is run
+    without."""
     crate = f"{source.partition('.')[0]}_bench"
     own = fill(folder, libraries, crate, source)
     subprocess.run(["rt", "run"], cwd=own, check=not needs_words, stdout=subprocess.DEVNULL, stderr=sys.stderr)
@@ -100,7 +83,7 @@ def program_over(folder, table):
     out = fill(folder, libraries, crate, source, " staticlib") / "out"
     subprocess.run(["rt", "lib"], cwd=out.parent, check=True, stdout=sys.stderr)
     binary = folder / crate
-    words = ["rustc", "--edition", "2024", "-O", "-o", binary, TOP / "bench" / program]
+    words = ["rustc", "--edition", "2024", "-O", "-o", binary, ROOT / "bench" / program]
     words += ["-L", f"native={out}", "-L", f"native={kit() / 'c'}"]
     if platform.machine() == "x86_64":
         # what `rt lib` builds for
@@ -170,9 +153,9 @@ TURNS = 5
 
 def host_program(folder):
     """bench/host.c over the library, both built in the repository."""
-    crate = TOP / "crates/witcall_c"
+    crate = ROOT / "crates/witcall_c"
     subprocess.run(["rt", "lib"], cwd=crate, check=True, stdout=sys.stderr)
-    words = ["clang", "-std=gnu11", "-O2", "-I", TOP / "include", "-o", folder / "host", TOP / "bench/host.c"]
+    words = ["clang", "-std=gnu11", "-O2", "-I", ROOT / "include", "-o", folder / "host", ROOT / "bench/host.c"]
     subprocess.run(words + [crate / "out/libwitcall_c.a", kit() / "c/liblibc_c.a"], check=True)
     return folder / "host"
 
@@ -185,26 +168,30 @@ def times_of(host_binary, calls_binary):
 
 
 def host(given):
-    """Calls through the C library, beside `Link::call` and a plain copy: of five turns the least. Needs `rustc` and clang."""
+    """Calls through the C library, beside `Link::call` and a plain copy: of five turns the least. Needs `rustc` and
+    clang."""
     programs = host_program(given.folder), program_over(given.folder, "calls")
     with machine(("rustc", "--version"), ("clang", "--version")):
         turns = [times_of(*programs) for _ in range(TURNS)]
     number, link, taken, copied = (min(turn[name] for turn in turns) for name in ("number", "link", "list", "copy"))
     print("\n| | the C library | beside it | | wanted |\n|---|---|---|---|---|")
-    print(f"| a call of a `u32`, both halves, ns | {number:.0f} | `Link::call` {link:.0f} | {number - link:+.0f} | at most +40 |")
-    print(f"| a `list<u8>` of 1 MiB, first half, ns | {taken:.0f} | a plain copy {copied:.0f} | {taken / copied:.2f} | at most 1.1 |")
+    cells = f"{number:.0f} | `Link::call` {link:.0f} | {number - link:+.0f} | at most +40"
+    print(f"| a call of a `u32`, both halves, ns | {cells} |")
+    cells = f"{taken:.0f} | a plain copy {copied:.0f} | {taken / copied:.2f} | at most 1.1"
+    print(f"| a `list<u8>` of 1 MiB, first half, ns | {cells} |")
 
 
 # ---- JSON
 
 
-# how many elements the longest list has: its JSON has less than 1 MiB, which is all that the program reads, and so have the blocks of two such
-# lists, which the callee's memory holds
+# how many elements the longest list has: its JSON has less than 1 MiB, which is all that the program reads, and so have
+# the blocks of two such lists, which the callee's memory holds
 MOST_ELEMENTS = {"texts": 25000, "lists": 25000}
 
 
 def json(given):
-    """Calls with JSON of up to 100,000 elements, whose body answers the list: twice as many may take 2.3 times as long."""
+    """Calls with JSON of up to 100,000 elements, whose body answers the list: twice as many may take 2.3 times as
+    long."""
     program = program_of(given.folder, ["atoms", "words", "witcall"], "json.rt.in", needs_words=True)
 
     def words(path, element, count):
@@ -313,9 +300,10 @@ def opening_table(program, folder):
 def opening(given):
     """Opening of texts and binaries in milliseconds, beside wit-parser, without what each takes for an empty text.
 
-    wit-parser is the one in `wasm-component-ld` of the Rust toolchain, which reads the text as a component's type (--component-type) and
-    writes a component without code; a stub stands for the linker that it calls. All programs run in turn. The program is
-    crates/program/out/program, as `rt run` in crates/program leaves it; with --earlier another build is measured too.
+    wit-parser is the one in `wasm-component-ld` of the Rust toolchain, which reads the text as a component's type
+    (--component-type) and writes a component without code; a stub stands for the linker that it calls. All programs run
+    in turn. The program is crates/program/out/program, as `rt run` in crates/program leaves it; with --earlier another
+    build is measured too.
     """
     write_texts(given.folder)
     programs = [pathlib.Path(it).resolve() for it in ([given.earlier] if given.earlier else []) + [PROGRAM]]
@@ -330,7 +318,7 @@ BENCHMARKS = (values, calls, holes, host, json, opening)
 def outside(folder):
     """A folder, which has to be outside the repository."""
     folder = pathlib.Path(folder).resolve()
-    if folder == TOP or TOP in folder.parents:
+    if folder == ROOT or ROOT in folder.parents:
         sys.exit("bench/run.py: the folder has to be outside the repository")
     folder.mkdir(parents=True, exist_ok=True)
     return folder
@@ -338,7 +326,7 @@ def outside(folder):
 
 def main():
     """Measures what the command line asks for. The exit status is 1 where JSON grows too much."""
-    parser = argparse.ArgumentParser(prog="bench/run.py", description=__doc__, formatter_class=argparse.RawDescriptionHelpFormatter)
+    parser = argparse.ArgumentParser(prog="bench/run.py", description=__doc__)
     benchmarks = parser.add_subparsers(metavar="WHAT", dest="what", required=True)
     for benchmark in BENCHMARKS:
         told = inspect.getdoc(benchmark)
@@ -346,7 +334,7 @@ def main():
         one.add_argument("folder", nargs="?", metavar="FOLDER")
         one.set_defaults(benchmark=benchmark)
         if benchmark is json:
-            one.add_argument("--instructions", action="store_true", help="count instructions by callgrind in place of the time")
+            one.add_argument("--instructions", action="store_true", help="count these by callgrind, and no time")
         if benchmark is opening:
             one.add_argument("--earlier", metavar="PROGRAM")
     given = parser.parse_args()

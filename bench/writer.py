@@ -1,16 +1,17 @@
-"""Texts of packages as people write them, of any length: interfaces of some tens of definitions, of two or three words a name."""
+"""Texts of packages as people write them, of any length: interfaces of some tens of definitions, of two or three words
+a name."""
 import random
 
-WORDS = """account address amount answer article balance basket branch budget cache carrier category channel charge city client
-clock comment company contact content count country coupon currency customer date delivery detail device discount document
-driver email entry error event factor field file filter folder format frame group handle header history image index invoice
-item journal label language level limit line list location login market member message method model module month name network
-node note number object offer option order owner package page parcel parent partner path payment person phone place plan
-point policy position price product profile project query quota range rate reason record region report request resource result
-return review role route sale sample schedule scope score section segment sender server service session shape signal size
-source stage state status step stock store stream subject supplier system table target task team term text theme ticket time
-title token topic total track trade transfer type unit update user value vendor version video view visit volume week weight
-window worker zone""".split()
+WORDS = """account address amount answer article balance basket branch budget cache carrier category channel charge
+city client clock comment company contact content count country coupon currency customer date delivery detail device
+discount document driver email entry error event factor field file filter folder format frame group handle header
+history image index invoice item journal label language level limit line list location login market member message
+method model module month name network node note number object offer option order owner package page parcel parent
+partner path payment person phone place plan point policy position price product profile project query quota range
+rate reason record region report request resource result return review role route sale sample schedule scope score
+section segment sender server service session shape signal size source stage state status step stock store stream
+subject supplier system table target task team term text theme ticket time title token topic total track trade
+transfer type unit update user value vendor version video view visit volume week weight window worker zone""".split()
 KEYWORDS = {"list", "option", "result", "record", "type", "resource", "package", "stream"}
 PLAIN = ["bool", "u8", "u16", "u32", "u64", "s32", "s64", "char", "string", "string", "string", "u32"]
 

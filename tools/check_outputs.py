@@ -33,7 +33,7 @@ import subprocess
 import sys
 import tempfile
 
-from repository import BUILT, ROOT, blocks, columns, pages as all_pages, place
+from repository import PROGRAM, ROOT, blocks, columns, pages as all_pages, place
 
 sys.path.insert(0, str(ROOT))
 
@@ -289,7 +289,7 @@ def check_hosts(pages, name, text):
 
 def main():
     parser = argparse.ArgumentParser(description=__doc__.splitlines()[0])
-    parser.add_argument("--program", type=pathlib.Path, default=BUILT)
+    parser.add_argument("--program", type=pathlib.Path, default=PROGRAM)
     parser.add_argument("--verbose", action="store_true")
     given = parser.parse_args()
     if not given.program.is_file():

@@ -1,14 +1,16 @@
 #!/usr/bin/env python3
-"""Measures the gate: how many seconds of processor time each crate takes for its proofs, its tests, its must-fail edits and its builds.
+"""Measures the gate: how many seconds of processor time each crate takes for its proofs, its tests, its must-fail edits
+and its builds.
 
 usage: tools/gate_times.py [--log FILE] [COMMAND..]
        tools/gate_times.py --table FILE [--cores N]
 
-Runs COMMAND, `rt ci` if none is given, and looks twice a second at the prover's processes, whose own words tell the crate and what is checked.
-It prints the table of docs/GATE.md, the totals and the minutes. FILE gets a line for each process, from which --table prints the table again,
-and the minute in which each crate was proved. --cores computes from it how long the run would take on N cores, if a check uses one and the one
-with the longest chain behind it starts first. What a process takes after the last look is not counted: half a second of each at most. The exit
-status is that of COMMAND.
+Runs COMMAND, `rt ci` if none is given, and looks twice a second at the prover's processes, whose own words tell the
+crate and what is checked. It prints the table of docs/GATE.md, the totals and the minutes. FILE gets a line for each
+process, from which --table prints the table again, and the minute in which each crate was proved. --cores computes from
+it how long the run would take on N cores, if a check uses one and the one with the longest chain behind it starts
+first. What a process takes after the last look is not counted: half a second of each at most. The exit status is that
+of COMMAND.
 """
 import collections
 import json
@@ -90,7 +92,8 @@ def summed(rows, key_of):
 
 
 def table(rows):
-    """The table's lines: a crate each in the order in which the proofs began, and the sums of the seconds as they are shown."""
+    """The table's lines: a crate each in the order in which the proofs began, and the sums of the seconds as they are
+    shown."""
     seconds = summed(rows, lambda row: (row["crate"], row["kind"]))
     names = list(dict.fromkeys(crate for crate, _ in seconds))
     shown = {key: round(used) for key, used in seconds.items()}

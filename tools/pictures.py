@@ -23,7 +23,7 @@ import sys
 from html import escape
 
 import crates_page
-from repository import BUILT, ROOT, all_crates, functions, sources, vectors
+from repository import PROGRAM, ROOT, all_crates, functions, sources, vectors
 
 sys.path.insert(0, str(ROOT))
 
@@ -416,7 +416,7 @@ def graph():
 def main():
     parser = argparse.ArgumentParser(description=__doc__.splitlines()[0])
     parser.add_argument("--check", action="store_true")
-    parser.add_argument("--program", type=pathlib.Path, default=BUILT)
+    parser.add_argument("--program", type=pathlib.Path, default=PROGRAM)
     given = parser.parse_args()
     folder, stale, pictures = ROOT / "docs" / "pictures", [], {"bytes.svg": in_bytes(), "halves.svg": in_halves(), "crates.svg": graph()}
     if given.program.is_file():

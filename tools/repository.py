@@ -1,4 +1,5 @@
-"""What the scripts read of the repository: its pages, its crates with their contracts and edits, and its stored rows."""
+"""What the scripts read of the repository: its pages, its crates with their contracts and edits, and its stored
+rows."""
 import argparse
 import functools
 import itertools
@@ -9,7 +10,7 @@ import sys
 from dataclasses import dataclass, field
 
 ROOT = pathlib.Path(__file__).resolve().parent.parent
-BUILT = ROOT / "crates/program/out/program"
+PROGRAM = ROOT / "crates/program/out/program"
 # a word in backquotes
 SPAN = re.compile(r"`([^`]+)`")
 WORD = re.compile(r"[A-Za-z_][A-Za-z0-9_]*")
@@ -70,16 +71,33 @@ def counted(numeral):
 # ---- crates
 
 
+def crate_lines():
+    """The lines of crates.txt by the names of their crates, in its order and without comments."""
+    lines = [line.partition("#")[0].strip() for line in (ROOT / "crates.txt").read_text().splitlines()]
+    return {line.partition(":")[0].split()[0]: line for line in lines if ":" in line}
+
+
+def all_crates():
+    """The repository's crates in the order of crates.txt, each with those that it names, of the toolchain too."""
+    return {name: line.partition(":")[2].split() for name, line in crate_lines().items()}
+
+
 def crates():
-    """The repository's crates in the order of crates.txt, each with those of crates.txt that it names."""
+    """The same with the repository's crates alone."""
     found = all_crates()
     return {name: [it for it in below if it in found] for name, below in found.items()}
 
 
-def all_crates():
-    """The same with all crates that they name, those of the toolchain too."""
-    named = [line.partition("#")[0].partition(":") for line in (ROOT / "crates.txt").read_text().splitlines()]
-    return {name.split()[0]: below.split() for name, colon, below in named if colon}
+def crates_below(names):
+    """These crates and all of the repository that they stand on, in the order of crates.txt."""
+    own, left = crates(), list(names)
+    found = set()
+    while left:
+        name = left.pop()
+        if name in own and name not in found:
+            found.add(name)
+            left += own[name]
+    return [name for name in own if name in found]
 
 
 def sources(*suffixes):
@@ -117,7 +135,8 @@ REQUIRES = re.compile(r"(?:^|[\s)>\]])requires\b ?(\w*)")
 
 @dataclass
 class Function:
-    """A function: the head of the block that it is in, if it is in one, what its own line says, and the names of its clauses and conditions."""
+    """A function: the head of the block that it is in, if it is in one, what its own line says, and the names of its
+    clauses and conditions."""
 
     name: str
     block: str

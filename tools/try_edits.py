@@ -16,23 +16,13 @@ import subprocess
 import sys
 import tempfile
 
-from repository import ROOT, crates, edits
+from repository import ROOT, crate_lines, crates, crates_below, edits
 
 GOAL = re.compile(r"note: (\S+?):\d+:\d+: (.*)")
 # a goal that a proof by hand doesn't meet, by the function that the proof is of
 BY_HAND = re.compile(r"(?:\./)?proofs/(\S+?)/\w+\.antt:\d+:\d+: error: `([^`]*)`: (.*)")
 # what is told of a proof that names what the edit took away
 NAMES = re.compile(r"(\./)?proofs/.*(has no field|is not in scope|has no `|was not admitted)")
-
-
-def crates_below():
-    """The repository's crates, each with those that it stands on, directly or not."""
-    own = crates()
-
-    def all_below(name):
-        return {name}.union(*(all_below(it) for it in own[name]))
-
-    return {name: all_below(name) for name in own}
 
 
 def edits_of(name, only):
@@ -43,8 +33,7 @@ def edits_of(name, only):
 def copied(room, crate, names):
     """Copies the crates, with what was proved of them, into the room: of the crate itself all that its checks have kept."""
     (room / "crates").mkdir()
-    lines = (ROOT / "crates.txt").read_text().splitlines()
-    (room / "crates.txt").write_text("".join(f"{it}\n" for it in lines if it.split(":")[0].split()[:1] and it.split(":")[0].split()[0] in names))
+    (room / "crates.txt").write_text("".join(f"{line}\n" for name, line in crate_lines().items() if name in names))
     shutil.copy(ROOT / "HANDLES", room)
     for name in names:
         for part in ("src", "specs", "proofs", "out" if name == crate else "out/rlib"):
@@ -121,19 +110,18 @@ def tried(name, names, only):
 
 
 def main():
-    below = crates_below()
     names, only = sys.argv[1:], None
     if "--only" in names[:-1]:
         only = names[names.index("--only") + 1]
         names = [it for it in names if it not in ("--only", only)]
-    unknown = [it for it in names if it not in below]
+    unknown = [it for it in names if it not in crates()]
     if unknown:
         sys.exit(f"no crate {unknown[0]}")
-    there = {it.stem for name in names or below for it in edits_of(name, only)}
+    there = {it.stem for name in names or crates() for it in edits_of(name, only)}
     lacking = sorted(set(only.split(",") if only else []) - there)
     if lacking or not there:
         sys.exit(f"no edit {lacking[0] if lacking else ''}".rstrip())
-    sys.exit(0 if all([tried(name, below[name], only) for name in names or list(below)]) else 1)
+    sys.exit(0 if all([tried(name, crates_below([name]), only) for name in names or crates()]) else 1)
 
 
 if __name__ == "__main__":

@@ -4,8 +4,10 @@ import inspect
 import pathlib
 import sys
 
+from tools.repository import ROOT
+
 from . import changed, memory, refused, times
-from .harness import INSTRUCTIONS, PROGRAM, ROOT, TIME
+from .harness import INSTRUCTIONS, TIME
 
 # what `python3 -m tools.measure` measures, and the words that each takes
 MEASURES = {
@@ -29,7 +31,13 @@ MEASURES = {
 def built(crate):
     """The word for a program that `rt run` in its crate's folder leaves."""
     path = ROOT / "crates" / crate / "out" / crate
-    return {"nargs": "?", "type": lambda word: pathlib.Path(word).resolve(), "default": path, "help": f"by default {path.relative_to(ROOT)}"}
+    told = f"by default {path.relative_to(ROOT)}"
+    return {"nargs": "?", "type": lambda word: pathlib.Path(word).resolve(), "default": path, "help": told}
+
+
+def several(word, choices, told):
+    """The word for some of these."""
+    return {"nargs": "*", "choices": [*choices, []], "metavar": word, "help": f"of {', '.join(choices)}; {told}"}
 
 
 WORDS = {
@@ -39,9 +47,9 @@ WORDS = {
     "program": ("program", built("program")),
     "vectors": ("vectors", built("vectors")),
     "rows": ("rows", built("rows_texts")),
-    "jobs": ("jobs", {"nargs": "*", "choices": [*times.JOBS, []], "metavar": "JOB", "help": f"of {', '.join(times.JOBS)}; call alone"}),
-    "crates": ("crates", {"nargs": "*", "choices": [*refused.WORDS, "program", []], "metavar": "CRATE", "help": "all three by default"}),
-    "command": ("command", {"nargs": argparse.REMAINDER, "help": "the words of a command, with {} for the input's path"}),
+    "jobs": ("jobs", several("JOB", [*times.JOBS], "call alone by default")),
+    "crates": ("crates", several("CRATE", [*refused.WORDS, "program"], "all three by default")),
+    "command": ("command", {"nargs": argparse.REMAINDER, "help": "a command's words, with {} for the input's path"}),
 }
 
 

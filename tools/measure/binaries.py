@@ -7,7 +7,9 @@ U8 = b"\x7d"
 # a function type without parameters and without a result, as a type of a value and declared
 FUNCTION = b"\x40\x00\x01\x00"
 DECLARED = bytes([TYPE]) + FUNCTION
-RECORD, VARIANT, TUPLE, FLAGS, ENUM, PARAMETERS, COMPONENT, INSTANCE = (bytes([it]) for it in b"\x72\x71\x6f\x6e\x6d\x40\x41\x42")
+RECORD, VARIANT, TUPLE, FLAGS, ENUM = b"\x72", b"\x71", b"\x6f", b"\x6e", b"\x6d"
+PARAMETERS, COMPONENT, INSTANCE = b"\x40", b"\x41", b"\x42"
+EMPTY_INSTANCE = bytes([TYPE]) + INSTANCE + b"\x00"
 OF_TYPE, OF_FUNCTION = b"\x03\x00\x00", b"\x01\x00"
 # more than the frame of any shape
 FRAME = 128
@@ -123,7 +125,8 @@ def alias(place):
 
 def scope(place):
     """Three scopes, the innermost with a function type and exports of it."""
-    exports = [bytes([EXPORT]) + extern(f"{text}-function{place}") + OF_FUNCTION for text in ("first", "second", "third")]
+    names = [f"{text}-function{place}" for text in ("first", "second", "third")]
+    exports = [bytes([EXPORT]) + extern(name) + OF_FUNCTION for name in names]
     inner = bytes([TYPE]) + INSTANCE + vector([DECLARED, *exports])
     return bytes([TYPE]) + COMPONENT + vector([bytes([TYPE]) + INSTANCE + vector([inner])])
 
@@ -139,7 +142,7 @@ READING = {
     "parameters": listed(PARAMETERS, lambda n: label(f"p{n}") + U8, OF_FUNCTION),
     "declarations": declared(lambda n: bytes([EXPORT]) + extern(f"f{n}") + OF_FUNCTION),
     "full names": declared(full),
-    "instances": declared(lambda n: bytes([IMPORT]) + extern(f"i{n}") + b"\x05\x00", bytes([TYPE]) + INSTANCE + b"\x00"),
+    "instances": declared(lambda n: bytes([IMPORT]) + extern(f"i{n}") + b"\x05\x00", EMPTY_INSTANCE),
     "aliases": one_type(deep, alias),
     "scopes": declared(scope),
     "exports": exported,

@@ -6,8 +6,9 @@ import subprocess
 import tempfile
 import time
 
+from tools.repository import ROOT
+
 from . import texts
-from .harness import ROOT
 
 COMMENT = re.compile(r"//[^\n]*")
 LINE = re.compile(rb"error [0-9]+ [^\n]*\n")
@@ -55,7 +56,8 @@ def told(program, asked):
 
 
 def counted(answer):
-    """How many fronts, changed binaries and packages among them an answer has, and opened texts; none where it is no such answer."""
+    """How many fronts, changed binaries and packages among them an answer has, and opened texts; none where it is no
+    such answer."""
     if fronts := FRONTS.match(answer):
         return int(fronts[1]), 0, 0, int(answer[fronts.end():].startswith("opened"))
     found = CHANGES.fullmatch(answer)
@@ -63,9 +65,11 @@ def counted(answer):
 
 
 def by_rows(given):
-    """Cuts the texts of the call vectors and of examples/ after each byte, and their binaries, of which each byte is changed to all values.
+    """Cuts the texts of the call vectors and of examples/ after each byte, and their binaries, of which each byte is
+    changed to all values.
 
-    The answers have to be as crates/row_sets/src/changes.rt says, and the program has to make a binary of the texts that the rows open.
+    The answers have to be as crates/row_sets/src/changes.rt says, and the program has to make a binary of the texts
+    that the rows open.
     """
     begun, asked, failed = time.monotonic(), list(rows_of(given.program)), 0
     with concurrent.futures.ThreadPoolExecutor(2) as pool:
@@ -110,7 +114,8 @@ def changed_binaries(whole):
 def behind_sets(given):
     """Cuts and changes the binary of examples/wasi/app.wit, and opens each behind the packages that it uses.
 
-    The program has to refuse it in one line and write nothing, or to write a binary that it writes again as the same bytes.
+    The program has to refuse it in one line and write nothing, or to write a binary that it writes again as the same
+    bytes.
     """
     begun = time.monotonic()
     status, whole, line = written(given.program, (ROOT / "examples/wasi/app.wit").read_bytes(), *EARLIER)
@@ -123,6 +128,7 @@ def behind_sets(given):
     for data, answer in zip(asked, answers):
         if answer is None:
             print(f"neither refused nor written as itself: {data.hex()}")
-    kinds = f"{len(whole)} cut and {len(asked) - len(whole)} changed binaries, of which {answers.count(True)} are packages"
-    print(f"{kinds}; {answers.count(None)} failed; {time.monotonic() - begun:.0f} seconds")
+    kinds = f"{len(whole)} cut and {len(asked) - len(whole)} changed binaries"
+    counts = f"of which {answers.count(True)} are packages; {answers.count(None)} failed"
+    print(f"{kinds}, {counts}; {time.monotonic() - begun:.0f} seconds")
     return None not in answers

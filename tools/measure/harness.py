@@ -8,8 +8,8 @@ import sys
 from dataclasses import dataclass, replace
 from typing import Callable
 
-ROOT = pathlib.Path(__file__).resolve().parents[2]
-PROGRAM = ROOT / "crates/program/out/program"
+from tools.repository import ROOT
+
 # how many times as much twice the input may cost
 MOST = 2.3
 # milliseconds, or millions of instructions: what costs less is no measure
@@ -19,7 +19,8 @@ COUNTER = r"""
 #include <errno.h>
 #include <stddef.h>
 #include <stdlib.h>
-extern void *__libc_malloc(size_t), *__libc_calloc(size_t, size_t), *__libc_realloc(void *, size_t), *__libc_memalign(size_t, size_t);
+extern void *__libc_malloc(size_t), *__libc_calloc(size_t, size_t);
+extern void *__libc_realloc(void *, size_t), *__libc_memalign(size_t, size_t);
 static long made, refused = -1;
 static size_t largest, sum;
 static int is_refused(size_t size) {
@@ -51,7 +52,8 @@ __attribute__((destructor)) static void tell(void) {
     close(file);
 }
 """
-# starts a program, and tells the most memory that it had: a child of Python is told to have had at least what Python has
+# starts a program, and tells the most memory that it had: a child of Python is told to have had at least what Python
+# has
 STARTER = r"""
 #include <stdio.h>
 #include <sys/resource.h>
@@ -178,7 +180,8 @@ class Starter:
 
     def run(self, words, **more):
         """A run with its lines of errors, and the most memory that it had, in KiB."""
-        ran = subprocess.run([self.program, *words], capture_output=True, text=True, errors="replace", check=False, **more)
+        words = [self.program, *words]
+        ran = subprocess.run(words, capture_output=True, text=True, errors="replace", check=False, **more)
         *lines, most = ran.stderr.splitlines()
         return ran, lines, int(most)
 
@@ -199,10 +202,12 @@ class Counter:
         self.library, self.told = folder.compile(COUNTER, "counter.so", "-shared", "-fPIC"), folder.path / "requests"
 
     def run(self, words, data="", refused=0):
-        """A run in which the request of this number is refused, and its requests; None where it ended before it told them."""
+        """A run in which the request of this number is refused, and its requests; None where it ended before it told
+        them."""
         self.told.unlink(missing_ok=True)
         env = {**os.environ, "LD_PRELOAD": str(self.library), "REFUSED": str(refused), "REQUESTS": str(self.told)}
-        ran = subprocess.run(words, input=data, env=env, cwd=ROOT, capture_output=True, text=True, errors="backslashreplace")
+        streams = {"capture_output": True, "text": True, "errors": "backslashreplace"}
+        ran = subprocess.run(words, input=data, env=env, cwd=ROOT, check=False, **streams)
         return ran, Requests(*map(int, self.told.read_text().split())) if self.told.exists() else None
 
     def counted(self, words, data=""):

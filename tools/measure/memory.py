@@ -1,4 +1,5 @@
-"""The memory that programs take: the most of opening and of calls, what they do with little, and the largest request."""
+"""The memory that programs take: the most of opening and of calls, what they do with little, and the largest
+request."""
 import collections
 import re
 import sys
@@ -11,7 +12,8 @@ from . import binaries, texts
 from .harness import Counter, Folder, Starter, limited
 
 MEGABYTE = 1000000
-# the refusal of a function that no package has, so that the input is read, its tables are made and laid out, and nothing after that
+# the refusal of a function that no package has, so that the input is read, its tables are made and laid out, and
+# nothing after that
 ACCEPTED = "error 63 no function"
 ASKED = ["a:b/none", "none", "[]", "[]"]
 # a call of `f` of the text of every shape
@@ -127,12 +129,14 @@ def tried(words, whole):
 
 
 def small(given):
-    """Runs commands under a limit of their memory: each writes what it writes without one, or reports a want of memory."""
+    """Runs commands under a limit of their memory: each writes what it writes without one, or reports a want of
+    memory."""
     runs, faults, most = 0, [], 0
     with tempfile.TemporaryDirectory() as path:
         source = Folder(path).keep(texts.mixed(), "long.wit")
         binary = Folder(path).keep(limited([given.program, "bin", source], 0).stdout, "long.wasm")
-        asked = [[job, source] for job in ("show", "bin", "text", "layout")] + [["call", it, *CALLED] for it in (source, binary)]
+        asked = [[job, source] for job in ("show", "bin", "text", "layout")]
+        asked += [["call", it, *CALLED] for it in (source, binary)]
         for words in asked:
             whole = limited([given.program, *words], 0)
             if whole.returncode:
@@ -160,7 +164,8 @@ def line_of(ran):
 
 
 def are_alike(few, many):
-    """Whether a binary that states few items and one that states many ask for the same, and are refused for the same reason."""
+    """Whether a binary that states few items and one that states many ask for the same, and are refused for the same
+    reason."""
     (_, less), (_, more) = few, many
     lines = [line_of(ran) for ran, _ in (few, many)]
     # The place of a refusal depends on how long the count is.
@@ -196,15 +201,18 @@ def recorded(program, counter, folder):
 
 
 def largest(given):
-    """Gives binaries that state a large count: it may not change the requests for memory. Records those of long inputs."""
+    """Gives binaries that state a large count: it may not change the requests for memory. Records those of long
+    inputs."""
     with tempfile.TemporaryDirectory() as path:
         folder = Folder(path)
         counter = Counter(folder)
         if not given.brief:
-            print("stated: bytes read, largest request if 4 is stated, and if the most is, and the same of the sum of all requests")
+            told = "largest request if 4 is stated, and if the most is, and the same of the sum of all requests"
+            print(f"stated: bytes read, {told}")
         right = stated(given.program, counter, folder, given.brief)
         if given.brief:
-            print(f"{len(binaries.STATED)} shapes of binaries; {'no' if right else 'a'} stated count changes the requests for memory")
+            which = "no" if right else "a"
+            print(f"{len(binaries.STATED)} shapes of binaries; {which} stated count changes the requests for memory")
         else:
             print("long: bytes read, largest request")
             recorded(given.program, counter, folder)

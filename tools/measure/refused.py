@@ -1,4 +1,5 @@
-"""Rows and commands that are asked while one of the allocations that they make is refused: the first, the second, and so on."""
+"""Rows and commands that are asked while one of the allocations that they make is refused: the first, the second, and
+so on."""
 import collections
 import json
 import re
@@ -6,7 +7,9 @@ import sys
 import tempfile
 import time
 
-from .harness import PROGRAM, ROOT, Counter, Folder
+from tools.repository import PROGRAM, ROOT
+
+from .harness import Counter, Folder
 
 PLAIN = "memory allocation failed"
 # What the programs that answer rows tell of themselves: of the allocator, of their files, of their JSON and of what
@@ -106,7 +109,8 @@ class Refuser:
         self.refused = self.calls = 0
 
     def answers(self, command, data, told, whole, count):
-        """How often each answer came of refusing each allocation of a run in turn, and lines of those that aren't right."""
+        """How often each answer came of refusing each allocation of a run in turn, and lines of those that aren't
+        right."""
         counts, wrong = collections.Counter(), []
         for refused in range(1, count + 1):
             ran, _ = self.counter.run(command, data, refused)
@@ -152,7 +156,8 @@ def told_by_rows(allowed):
         if len(differing) > 1:
             return None
         line = differing[0]
-        word = json.loads(line)["error"] if line.startswith('{"error"') else line.partition(": ")[2].strip().split(" (")[0]
+        is_json = line.startswith('{"error"')
+        word = json.loads(line)["error"] if is_json else line.partition(": ")[2].strip().split(" (")[0]
         return word if word in spelt else None
 
     return told
@@ -180,7 +185,8 @@ def asked_twice(crate, row, folder):
 
 
 def calls_of(crate, folder):
-    """What is asked of a program: a name, the command, its input, how a run is told, and the words that have to be told."""
+    """What is asked of a program: a name, the command, its input, how a run is told, and the words that have to be
+    told."""
     if crate == "program":
         for arguments, allowed in COMMANDS:
             yield " ".join(arguments[:2]), [PROGRAM, *arguments], "", told_by_program(allowed), allowed
@@ -192,10 +198,11 @@ def calls_of(crate, folder):
 def refused(given):
     """Refuses each allocation of rows, each asked twice, and of the program's commands.
 
-    The row whose allocation was refused has to tell a want of memory in the words of one of the layers that it passes (WORDS), or in those of
-    the program that asks it (OWN); the other one has to be answered as with all memory; and each word of WORDS has to be told at least once. A
-    refusal of what the program itself asks for, as for a line that it reads, ends the run with status 1. Each command ends with one line
-    `error N no memory` and status 1, or as it does with all memory.
+    The row whose allocation was refused has to tell a want of memory in the words of one of the layers that it passes
+    (WORDS), or in those of the program that asks it (OWN); the other one has to be answered as with all memory; and
+    each word of WORDS has to be told at least once. A refusal of what the program itself asks for, as for a line that
+    it reads, ends the run with status 1. Each command ends with one line `error N no memory` and status 1, or as it
+    does with all memory.
     """
     begun, right = time.monotonic(), True
     with tempfile.TemporaryDirectory() as path:

@@ -1,5 +1,5 @@
 """Texts of packages by their shape: each shape is a function from a size to a text, or to the texts of a set."""
-from .harness import ROOT
+from tools.repository import ROOT
 
 PACKAGE = "package a:b;\n"
 MEGABYTE = 1 << 20
@@ -13,7 +13,8 @@ def label(number):
 
 
 def each(entry, count, start=0):
-    """So many copies of an entry, each with its label `{0}`, the one before `{1}` and the one behind `{2}`, and its number `{3}`."""
+    """So many copies of an entry, each with its label `{0}`, the one before `{1}` and the one behind `{2}`, and its
+    number `{3}`."""
     return "".join(entry.format(label(n), label(n - 1), label(n + 1), n) for n in range(start, count))
 
 
@@ -160,7 +161,8 @@ LONG = {
 
 def mixed():
     """A text of some 750 KB, with types of every shape."""
-    items = ["record r { a: u8, b: list<string> }", "variant v { p, q(r) }", "f: func(x: r, y: option<v>) -> result<r>;"]
+    items = ["record r { a: u8, b: list<string> }", "variant v { p, q(r) }"]
+    items.append("f: func(x: r, y: option<v>) -> result<r>;")
     items += [f"record r{n} {{ a: u8, b: list<r>, c: option<string> }} g{n}: func(x: r{n});" for n in range(7500)]
     return "package a:b; interface c { " + "\n".join(items) + " }"
 

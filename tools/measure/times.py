@@ -1,11 +1,14 @@
-"""How what a program takes grows with its input: with texts, binaries, tables, sets of packages and JSON, and with names that collide."""
+"""How what a program takes grows with its input: with texts, binaries, tables, sets of packages and JSON, and with
+names that collide."""
 import contextlib
 import random
 import subprocess
 import tempfile
 
+from tools.repository import ROOT
+
 from . import binaries, texts
-from .harness import LEAST, MOST, ROOT, Folder, Growth, milliseconds
+from .harness import LEAST, MOST, Folder, Growth
 
 # bytes, from 64 KiB to 1 MiB
 LENGTHS = [65536 << step for step in range(5)]
@@ -14,7 +17,10 @@ DEFINITIONS = [4095 << step for step in range(5)]
 USES = [1250 << step for step in range(4)]
 PACKAGES, PACKAGE_BYTES = [8 << step for step in range(4)], [16000, 64000]
 ELEMENTS = [12800 >> step for step in (4, 3, 2, 1, 0)]
-# how many times as long two packages may take as one, a package in a set as alone, and labels that collide as random ones
+# what has cost so much in all is not run again: milliseconds, or millions of instructions, of which one run is enough
+ENOUGH = 4000
+# how many times as long two packages may take as one, a package in a set as alone, and labels that collide as random
+# ones
 MOST_BESIDE = 1.5
 # asks for a function that no package has: the input is read, its tables are made and laid out, and nothing after that
 CALL = ["call", "{}", "a:b/c", "none", "[]", "[]"]
@@ -87,7 +93,8 @@ def written(program, folder, files):
 
 
 def sets(given):
-    """Times `show` of one package, of two as texts, and of two of which the second is a binary, all with the same uses."""
+    """Times `show` of one package, of two as texts, and of two of which the second is a binary, all with the same
+    uses."""
     right, cost = True, given.cost.of_fewer(9)
     growth = Growth(cost, "uses")
     with folder_of() as folder:
@@ -125,9 +132,8 @@ def families(given):
         for name, uses in texts.FAMILIES.items():
             for length in PACKAGE_BYTES:
                 files = [folder.keep(text) for text in texts.family(uses, length, PACKAGES[-1])]
-                all_kinds = {"texts": files}
-                all_kinds["binaries"] = [written(given.program, folder, files[: number + 1]) for number in range(len(files))]
-                for kind, inputs in all_kinds.items():
+                made = [written(given.program, folder, files[: number + 1]) for number in range(len(files))]
+                for kind, inputs in (("texts", files), ("binaries", made)):
                     for number, took, alone in in_sets(given.program, cost, empty, inputs):
                         what = f"{name:18} {length // 1000:3} KB {kind:8} {number:3} packages"
                         print(f"{what} {took:9.1f} {cost.unit} {took / alone:5.2f} times", flush=True)
@@ -204,6 +210,6 @@ def names(given):
             paths = [folder.keep(made(it)) for it in labels]
             for end, inputs in (("", paths), (", binary", [written(given.program, folder, [path]) for path in paths])):
                 commands = [asked(command, path) for path in inputs]
-                costs = given.cost.beyond(empty, commands, enough=4000 if given.cost.of == milliseconds else float("inf"))
+                costs = given.cost.beyond(empty, commands, enough=ENOUGH)
                 right &= tell_beside(name + end, given.cost, costs)
     return right
