@@ -8,14 +8,13 @@ docs/condition-facts.txt. With --check nothing is written, and the exit status i
 as well if a line fits a condition of no call, or if no line fits a condition.
 """
 import fnmatch
-import pathlib
 import re
 import sys
 
 import check_conditions
 from crates_page import wrapped
+from repository import ROOT, keep_page
 
-ROOT = pathlib.Path(__file__).resolve().parent.parent
 PAGE = ROOT / "docs" / "guarantees" / "conditions.md"
 FACTS = ROOT / "docs" / "condition-facts.txt"
 PART = re.compile(r"([\w:* ]*?) *(?:\{(.+)\})?")
@@ -141,16 +140,5 @@ def page():
     return head + "".join(f"\n{shown(group)}\n" for group in found)
 
 
-def main():
-    """Writes the page, or checks that it is current."""
-    if sys.argv[1:] == ["--check"]:
-        if not PAGE.exists() or PAGE.read_text() != page():
-            sys.exit(f"tools/conditions_page.py: {PAGE.relative_to(ROOT)} is not current: run tools/conditions_page.py")
-    elif sys.argv[1:]:
-        sys.exit(__doc__)
-    else:
-        PAGE.write_text(page())
-
-
 if __name__ == "__main__":
-    main()
+    keep_page(__doc__, PAGE, page)

@@ -12,7 +12,7 @@ import re
 import sys
 import textwrap
 
-from repository import ROOT, all_crates
+from repository import ROOT, all_crates, keep_page
 
 PAGE = ROOT / "docs" / "CRATES.md"
 WIDTH = 120
@@ -133,15 +133,5 @@ def page():
     return "\n\n".join(parts) + "\n"
 
 
-def main():
-    if sys.argv[1:] == ["--check"]:
-        if not PAGE.exists() or PAGE.read_text() != page():
-            sys.exit("tools/crates_page.py: docs/CRATES.md is not current: run tools/crates_page.py")
-    elif sys.argv[1:]:
-        sys.exit(__doc__)
-    else:
-        PAGE.write_text(page())
-
-
 if __name__ == "__main__":
-    main()
+    keep_page(__doc__, PAGE, page)

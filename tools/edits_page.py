@@ -7,12 +7,11 @@ The first line of an edit says what it leaves open, after `# open: `. The crates
 --check nothing is written, and the exit status is 1 if the page is not current. It is 1 as well if an edit has no such
 line.
 """
-import pathlib
 import sys
 
 import repository
+from repository import ROOT, keep_page
 
-ROOT = pathlib.Path(__file__).resolve().parent.parent
 PAGE = ROOT / "docs" / "guarantees" / "edits.md"
 MARK = "# open: "
 HEAD = """\
@@ -75,16 +74,5 @@ def page():
     return HEAD + "".join(f"{row}\n" for crate in crates for row in rows(crate))
 
 
-def main():
-    """Writes the page, or checks that it is current."""
-    if sys.argv[1:] == ["--check"]:
-        if not PAGE.exists() or PAGE.read_text() != page():
-            sys.exit(f"tools/edits_page.py: {PAGE.relative_to(ROOT)} is not current: run tools/edits_page.py")
-    elif sys.argv[1:]:
-        sys.exit(__doc__)
-    else:
-        PAGE.write_text(page())
-
-
 if __name__ == "__main__":
-    main()
+    keep_page(__doc__, PAGE, page)

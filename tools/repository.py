@@ -215,6 +215,18 @@ def parser(doc):
     return argparse.ArgumentParser(usage=doc.split("\n\n")[1].removeprefix("usage: "))
 
 
+def keep_page(doc, page, made):
+    """What a script of a page does: it writes the page, or checks with --check that it is the one that is made."""
+    if sys.argv[1:] == ["--check"]:
+        if not page.exists() or page.read_text() != made():
+            script = place(pathlib.Path(sys.argv[0]).resolve())
+            sys.exit(f"{script}: {place(page)} is not current: run {script}")
+    elif sys.argv[1:]:
+        sys.exit(doc)
+    else:
+        page.write_text(made())
+
+
 def finish(faults):
     """Prints what is wrong, and ends the script with status 1 if something is."""
     faults = list(faults)
