@@ -8,7 +8,7 @@ pub fn places(alloc: Global, package: &Package) -> Result<String, Refused> {
     let ty = ValType::Id(TypeId(0));
     let layouts = package.layouts();
     let mut text = String::from_str(alloc, "fields at")?;
-    if !package.is_type(ty) {
+    if !layouts.has(ty) {
         return Ok(text);
     }
     if let Shape::Record(count) = layouts.shape(ty) {
