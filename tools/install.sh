@@ -93,12 +93,13 @@ is_built() {
         [ "$(cat crates/program/out/built-from 2>/dev/null)" = "$(tools/sources.sh program)" ]
 }
 
-# Unpacks the release, and compares its checksums.
+# Unpacks what is installed of the release, which is all but the WebAssembly module, and compares the checksums.
 take_release() {
     for file in witcall wit-explain libwitcall_c.a liblibc_c.a; do
         gzip -dc "release/$file.gz" >"$work/$file" || fail "release/$file.gz can't be unpacked"
     done
-    (cd "$work" && sha256sum --quiet -c "$root/release/SHA256SUMS") || fail "release/ isn't what release/SHA256SUMS says"
+    (cd "$work" && grep -v '  witcall\.wasm$' "$root/release/SHA256SUMS" | sha256sum --quiet -c -) ||
+        fail "release/ isn't what release/SHA256SUMS says"
 }
 
 # Takes what was built here; rt builds the library anew if its sources changed.
