@@ -2,9 +2,9 @@
 
 use atoms::Watched;
 use row_bytes::done;
-use row_calls::calls::{called, job_of, short_call, streamed};
-use row_calls::json;
-use row_calls::opened::{line_of, package, told};
+use crate::calls::{called, job_of, short_call, streamed};
+use crate::json;
+use crate::opened::{line_of, package, told};
 use row_inputs::{Inputs, Set, inputs_in};
 use row_layouts::laid_out;
 use row_sets::changes::{changes, cuts, fronts, is_opened_alone};

@@ -3,6 +3,9 @@
 //! something else.
 #![tactic(auto)]
 
+pub mod opened;
+pub mod json;
+pub mod calls;
 mod answers;
 mod rows;
 
