@@ -11,7 +11,7 @@ use lift_lower::{FlatResults, Types};
 use serde_json::Value;
 use std::alloc::Global;
 use tables::FunctionId;
-use vector_sides::{
+use crate::vector_sides::{
     Acting, Logged, all_given, body, field, first_given, flats, flats_told, guest, list, object_of,
     push_memories, text,
 };

@@ -14,7 +14,7 @@ use serde_json::Value;
 use std::alloc::Global;
 use tables::ValType;
 use value_json::{JsonError, json_of_value, value_of_json};
-use vector_sides::{Logged, field, flats, flats_told, guest, list, object_of, push_memories, text};
+use crate::vector_sides::{Logged, field, flats, flats_told, guest, list, object_of, push_memories, text};
 
 /// The type of the first parameter of the row's function, which is small.
 fn type_of(types: &Types<'_>, row: &Value) -> anyhow::Result<ValType>

@@ -7,6 +7,7 @@
 mod calls;
 mod conversions;
 mod functions;
+pub mod vector_sides;
 
 pub use calls::Calls;
 pub use conversions::conversion_told;

@@ -9,7 +9,7 @@ use serde_json::Value;
 use std::alloc::Global;
 use tables::{FunctionId, ValType};
 use vector_calls::{fault_told, function, parameter};
-use vector_sides::{
+use vector_calls::vector_sides::{
     Acting, Logged, body, field, guest, list, list_of, number, object_of, package_bytes,
     push_memories, text,
 };

@@ -1,6 +1,5 @@
 //! The two sides of a vector's calls: memories that log what they are asked, bodies that do what a row says, how a row says both, and how
 //! they are told. `vectors` answers rows over them. docs/FORMATS.md has the form of rows.
-#![tactic(auto)]
 
 mod acting;
 mod logged;

@@ -1,7 +1,7 @@
 //! What a row of JSON says: numbers, texts, core values, memories, and what the body does.
 
-use crate::acting::{Act, Acting, Stop, answered};
-use crate::logged::Logged;
+use crate::vector_sides::acting::{Act, Acting, Stop, answered};
+use crate::vector_sides::logged::Logged;
 use canonical_abi::{Flat, Guest};
 use lift_lower::FlatResults;
 use memory::{Bump, FirstFit, Space};

@@ -1,7 +1,7 @@
 //! What is told, as JSON.
 
-use crate::acting::Acting;
-use crate::logged::{Logged, Request};
+use crate::vector_sides::acting::Acting;
+use crate::vector_sides::logged::{Logged, Request};
 use canonical_abi::{Flat, Guest};
 use lift_lower::Flats;
 use std::alloc::{AllocError, Global};
