@@ -5,3 +5,10 @@ pub mod Parts
 pub mod Signatures
 pub mod Status
 pub mod Values
+pub mod Contents
+pub mod Kinds
+pub mod Members
+pub mod Names
+pub mod Owners
+pub mod Rows
+pub mod Told

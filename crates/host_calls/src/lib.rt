@@ -12,6 +12,7 @@ mod calling;
 mod error;
 mod half;
 mod half_error;
+pub mod host_lists;
 mod parts;
 mod signature;
 mod status;

@@ -2,7 +2,7 @@
 use Rattle.std.specs.Prelude.{◌≡◌, ◌⊎◌, ℕ, List, Result, Err, Option, Some, None}
 use Rattle.host_calls.specs.declared.error.CallError.{CallError}
 use Rattle.host_calls.specs.declared.error.CallError.TheVariants as error
-use Rattle.host_lists.specs.Told.{BytesDone}
+use Rattle.host_calls.specs.Told.{BytesDone}
 use Rattle.opening.specs.Opening.{AreBytesOf, HasLongBinary, HasLongText, IsCanonicalText, IsWrittenAs, IsPrintedAs}
 use Rattle.opening.specs.declared.package.Package.{Package}
 

@@ -7,11 +7,11 @@ ghost use Rattle.host_calls.specs.Parts.{PartsDone};
 ghost use Rattle.host_calls.specs.Signatures.{KindsDone};
 ghost use Rattle.host_calls.specs.Status.{status_of};
 ghost use Rattle.host_calls.specs.declared.error.CallError.{CallError};
-ghost use Rattle.host_lists.specs.Members.{member_at};
-ghost use Rattle.host_lists.specs.Names.{member_name_at, row_name_at};
-ghost use Rattle.host_lists.specs.Owners.{owner_name_at};
-ghost use Rattle.host_lists.specs.Rows.{row_info_at};
-ghost use Rattle.host_lists.specs.Told.{BytesDone, TellsName, TellsNewName, TellsOfTable};
+ghost use Rattle.host_calls.specs.Members.{member_at};
+ghost use Rattle.host_calls.specs.Names.{member_name_at, row_name_at};
+ghost use Rattle.host_calls.specs.Owners.{owner_name_at};
+ghost use Rattle.host_calls.specs.Rows.{row_info_at};
+ghost use Rattle.host_calls.specs.Told.{BytesDone, TellsName, TellsNewName, TellsOfTable};
 ghost use Rattle.opening.specs.Sets.{all_bytes};
 ghost use Rattle.witcall_c.specs.CallObject.{BeginsCall, flats_of};
 ghost use Rattle.tables.specs.declared.tables.Direction.TheVariants.{Import, Export};
@@ -28,7 +28,7 @@ use crate::set::pieces;
 use crate::{calls, writing};
 use adapter::Request;
 use host_calls::{CallError, Part, Status, Value};
-use host_lists::{MemberInfo, RowInfo, tell_bytes};
+use host_calls::host_lists::{MemberInfo, RowInfo, tell_bytes};
 use memory::Block;
 use std::alloc::Global;
 use tables::Direction;
@@ -510,7 +510,7 @@ pub extern "C" fn witcall_row(
         (λ held done. TellsOfTable (held_table held) (λ r. row_info_at r number) row.old done row.new) }
 {
     let held = handle.take(alloc);
-    let done = host_lists::row(&types(&held), number, row);
+    let done = host_calls::host_lists::row(&types(&held), number, row);
     handle.give(held);
     Status::of(done)
 }
@@ -527,7 +527,7 @@ pub extern "C" fn witcall_row_name(
         (λ held done. TellsName (held_table held) (λ r. row_name_at r row) name.old done name.new) }
 {
     let held = handle.take(alloc);
-    let done = host_lists::row_name(&types(&held), row, name);
+    let done = host_calls::host_lists::row_name(&types(&held), row, name);
     handle.give(held);
     Status::of(done)
 }
@@ -545,7 +545,7 @@ pub extern "C" fn witcall_member(
         (λ held done. TellsOfTable (held_table held) (λ r. member_at r row index) member.old done member.new) }
 {
     let held = handle.take(alloc);
-    let done = host_lists::member(&types(&held), row, index, member);
+    let done = host_calls::host_lists::member(&types(&held), row, index, member);
     handle.give(held);
     Status::of(done)
 }
@@ -563,7 +563,7 @@ pub extern "C" fn witcall_member_name(
         (λ held done. TellsName (held_table held) (λ r. member_name_at r row index) name.old done name.new) }
 {
     let held = handle.take(alloc);
-    let done = host_lists::member_name(&types(&held), row, index, name);
+    let done = host_calls::host_lists::member_name(&types(&held), row, index, name);
     handle.give(held);
     Status::of(done)
 }
@@ -581,7 +581,7 @@ pub extern "C" fn witcall_owner_name(
         (λ held done. TellsNewName (held_table held) (λ r. owner_name_at r kind number) name.old done name.new) }
 {
     let held = handle.take(alloc);
-    let done = host_lists::owner_name(&types(&held), alloc, kind, number, name);
+    let done = host_calls::host_lists::owner_name(&types(&held), alloc, kind, number, name);
     handle.give(held);
     Status::of(done)
 }

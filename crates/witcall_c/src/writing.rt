@@ -6,7 +6,7 @@ ghost use Rattle.witcall_c.specs.Written.{WritesBinary, WritesText};
 use crate::held::{Target, package};
 use ctype_format::BinError;
 use host_calls::CallError;
-use host_lists::tell_bytes;
+use host_calls::host_lists::tell_bytes;
 use std::alloc::Global;
 use wit_tokens::TextError;
 

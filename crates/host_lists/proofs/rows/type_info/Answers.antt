@@ -1,9 +1,0 @@
--- The type stands in the layouts.
-use Rattle.values.proofs.TypesExtents.{has-row}
-use Rattle.host_lists.proofs.rows.type_info.Goals as goal
-
-pub size-requires : goal.size-requires
-size-requires c = has-row c.args.types.now c.layouts-layouts.result.now c.in-Some.ty c.layouts-layouts.ensures (rw c.in-Some.is at c.requires)
-
-pub align-requires : goal.align-requires
-align-requires c = has-row c.args.types.now c.layouts-layouts.result.now c.in-Some.ty c.layouts-layouts.ensures (rw c.in-Some.is at c.requires)
