@@ -4,9 +4,9 @@ use Rattle.canonical_abi.specs.Trace
 use Rattle.canonical_abi.specs.Values.{Value}
 use Rattle.canonical_abi.specs.declared.trap.Step.{Step}
 use Rattle.canonical_abi.specs.declared.trap.TrapKind.{TrapKind}
-use Rattle.asking.specs.Asking.{IsUntold}
-use Rattle.asking.specs.declared.request.Untold.{Untold}
-use Rattle.asking.specs.declared.request.Untold.TheVariants as untold
+use Rattle.adapter.specs.Asking.{IsUntold}
+use Rattle.adapter.specs.declared.asking.request.Untold.{Untold}
+use Rattle.adapter.specs.declared.asking.request.Untold.TheVariants as untold
 use Rattle.adapter.specs.Asked.{IsUnasked, unasked_in}
 
 pub unasked-told : (s : Step) (P : List Value → Type 0) (D E : TrapKind → Type 0) (f : List Value → List Trace.Request) (l : ℕ) → ((k : TrapKind) → D k → E k)

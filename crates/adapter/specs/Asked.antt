@@ -2,9 +2,9 @@
 use Rattle.std.specs.Prelude.{◌≡◌, ℕ, ◌<◌, List}
 use Rattle.canonical_abi.specs.Trace
 use Rattle.canonical_abi.specs.Values.{Value}
-use Rattle.asking.specs.Asking.{total}
-use Rattle.asking.specs.declared.request.Untold.{Untold}
-use Rattle.asking.specs.declared.request.Untold.TheVariants as untold
+use Rattle.adapter.specs.Asking.{total}
+use Rattle.adapter.specs.declared.asking.request.Untold.{Untold}
+use Rattle.adapter.specs.declared.asking.request.Untold.TheVariants as untold
 use Rattle.adapter.specs.declared.requests.Unasked.{Unasked}
 use Rattle.adapter.specs.declared.requests.Unasked.TheVariants as unasked
 use Rattle.canonical_abi.specs.declared.trap.Fault.{Fault}

@@ -4,3 +4,4 @@ pub mod Faults
 pub mod Linked
 pub mod Leaving
 pub mod Plain
+pub mod Asking

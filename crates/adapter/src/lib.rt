@@ -7,6 +7,7 @@
 #![tactic(auto)]
 
 mod arguments;
+pub mod asking;
 mod body;
 mod fault;
 mod invocation;
@@ -16,7 +17,7 @@ mod requests;
 mod results;
 mod signature;
 
-pub use asking::Request;
+pub use crate::asking::Request;
 pub use body::{Body, BoxedBody, Export, Stopped};
 pub use invocation::Invocation;
 pub use link::Link;

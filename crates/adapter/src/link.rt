@@ -1,6 +1,6 @@
 //! The call itself.
 ghost use Rattle.std.specs.Prelude.{◌≡◌, ◌≢◌, ◌+◌, ◌*◌, ◌≤◌, Err, Some, length, IfOk, OnOk, IfErr};
-ghost use Rattle.asking.specs.Asking.{IsToldAhead};
+ghost use Rattle.adapter.specs.Asking.{IsToldAhead};
 ghost use Rattle.canonical_abi.specs.Call.{Calls, Ways, exact, AllowsSameRuns, AllowsSamePosts, KindsFit};
 ghost use Rattle.canonical_abi.specs.Few.{AreFewNodes};
 ghost use Rattle.canonical_abi.specs.Flat.{Denotes, DenotesFault};
@@ -25,7 +25,7 @@ use crate::invocation::Invocation;
 use crate::plain::{are_plain, is_plain_answer};
 use crate::requests::{Unasked, ask_answer, ask_arguments};
 use crate::results::pass_answer;
-use asking::Request;
+use crate::asking::Request;
 use canonical_abi::{Fault, Flat, Guest, Step, TrapKind};
 use crossing::Walk;
 use layout::Layouts;

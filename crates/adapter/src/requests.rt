@@ -1,6 +1,6 @@
 //! What the two ways of a call will ask their targets for.
 ghost use Rattle.std.specs.Prelude.{◌≡◌, ◌+◌, ◌*◌, ◌≤◌, IfOk, IfErr};
-ghost use Rattle.asking.specs.Asking.{IsToldAhead};
+ghost use Rattle.adapter.specs.Asking.{IsToldAhead};
 ghost use Rattle.canonical_abi.specs.Call.{KindsFit};
 ghost use Rattle.canonical_abi.specs.Flat.{Denotes, DenotesFault};
 ghost use Rattle.canonical_abi.specs.Headline.{AreArguments, IsArgumentFault};
@@ -13,7 +13,7 @@ ghost use Rattle.tables.specs.Closed.{IsFunction, function_type};
 ghost use Rattle.adapter.specs.Asked.{IsUnasked, unasked_in};
 
 use crate::fault::trap;
-use asking::{Request, Untold, Walk};
+use crate::asking::{Request, Untold, Walk};
 use canonical_abi::{Fault, Flat, Guest, Step, TrapKind};
 use lift_lower::{Types, are_kinds};
 use tables::{FunctionId, TypeId, ValType};

@@ -1,7 +1,7 @@
 -- A call in halves over two arrays of bytes, by a host that runs the core function itself: what is known of each step, and what the call promises.
 use Rattle.std.specs.Prelude.{◌≡◌, ◌⊎◌, ◌<◌, ℕ, List, [], drop, length, Option, Result, Ok, Err, MatchResult}
 use Rattle.arrayvec.specs.ArrayVec.{ArrayVec}
-use Rattle.asking.specs.declared.request.Request.{Request}
+use Rattle.adapter.specs.declared.asking.request.Request.{Request}
 use Rattle.canonical_abi.specs.Call.{Parties, PostRun, Run, World}
 use Rattle.canonical_abi.specs.Guest.{Memory, with_bytes}
 use Rattle.canonical_abi.specs.Halves.{source, as_world, CallsInHalves, HalvesKeep}

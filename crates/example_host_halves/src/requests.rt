@@ -1,6 +1,6 @@
 //! The first step of each half: which blocks it will need.
 ghost use Rattle.std.specs.Prelude.{◌≡◌, ◌<◌, IfOk, IfErr, length};
-ghost use Rattle.asking.specs.Asking.{IsToldAhead};
+ghost use Rattle.adapter.specs.Asking.{IsToldAhead};
 ghost use Rattle.canonical_abi.specs.Flat.{Denotes, DenotesFault};
 ghost use Rattle.canonical_abi.specs.Halves.{source};
 ghost use Rattle.canonical_abi.specs.Headline.{AreArguments, IsArgumentFault};

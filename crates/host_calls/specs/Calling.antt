@@ -4,9 +4,9 @@ use Rattle.canonical_abi.specs.Call.{KindsFit, area_of}
 use Rattle.canonical_abi.specs.Headline.{AreArguments, IsArgumentFault, IsLentLive, area_size}
 use Rattle.canonical_abi.specs.Flat.{Denotes, DenotesFault}
 use Rattle.canonical_abi.specs.Requests.{params_requests, fields_requests}
-use Rattle.asking.specs.Asking.{IsToldAhead, total}
+use Rattle.adapter.specs.Asking.{IsToldAhead, total}
 use Rattle.canonical_abi.specs.Values as Semantic
-use Rattle.asking.specs.declared.request.Request.{Request}
+use Rattle.adapter.specs.declared.asking.request.Request.{Request}
 use Rattle.canonical_abi.specs.Halves.{source}
 use Rattle.canonical_abi.specs.Layout.{max_flat_params, max_flat_results, lifted_signature}
 use Rattle.canonical_abi.specs.Reading.{kind_of}

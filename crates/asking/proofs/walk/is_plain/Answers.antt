@@ -1,5 +1,0 @@
-use Rattle.asking.proofs.Told.{plain-asks-nothing}
-use Rattle.asking.proofs.walk.is_plain.Goals as goal
-
-pub returns-in_default : goal.returns-in_default
-returns-in_default c = λ _. plain-asks-nothing c.args.primitive c.in_default.not-Char
