@@ -2,7 +2,7 @@
 
 use crate::header::Header;
 use atoms::Label;
-use c_names::{c_label, c_word};
+use c_types::c_names::{c_label, c_word};
 use c_types::{Form, Part, Row, tag_bits};
 use std::alloc::{AllocError, Global};
 use std::fmt::Write;

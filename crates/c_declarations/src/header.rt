@@ -1,7 +1,7 @@
 //! What is written.
 
 use atoms::KeyedState;
-use c_names::Names;
+use c_types::c_names::Names;
 use c_types::{Laid, Types};
 use std::alloc::{AllocError, Global};
 use std::fmt::Write;

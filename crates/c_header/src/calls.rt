@@ -3,7 +3,7 @@
 use crate::fills::push_fill;
 use crate::reads::push_read;
 use c_declarations::{Header, Scope};
-use c_names::c_label;
+use c_types::c_names::c_label;
 use c_types::{Form, Laid, Part, Passing, Row, Types, parameters_of};
 use std::alloc::{AllocError, Global};
 use std::fmt::Write;

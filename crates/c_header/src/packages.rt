@@ -5,7 +5,7 @@ use crate::common::COMMON;
 use crate::prefixes::{prefix_of, stems_of};
 use atoms::{KeyedState, NameKey};
 use c_declarations::{Header, Scope};
-use c_names::{c_word, text_constant};
+use c_types::c_names::{c_word, text_constant};
 use c_types::Laid;
 use std::alloc::{AllocError, Global};
 use std::fmt::Write;

@@ -1,6 +1,6 @@
 //! What the names of a package begin with in C.
 
-use c_names::c_word;
+use c_types::c_names::c_word;
 use std::alloc::{AllocError, Global};
 use tables::PackageName;
 

@@ -4,6 +4,7 @@
 //! of `canonical_abi`. It writes no definitions. It stands on `layout` and `tables`, and on `c_names`.
 #![tactic(auto)]
 
+pub mod c_names;
 mod flats;
 mod inner;
 mod laid;

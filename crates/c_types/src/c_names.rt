@@ -2,7 +2,6 @@
 //!
 //! `c_word` and `c_label` make names of labels. `Names::take` gives a name that nothing else has. `short_key` cuts long names, and
 //! `text_constant` writes a text as a constant. It knows no types. It stands on `atoms`.
-#![tactic(auto)]
 
 mod keys;
 mod names;
