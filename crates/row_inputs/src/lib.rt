@@ -4,6 +4,7 @@
 
 mod inputs;
 mod parts;
+pub mod row_layouts;
 mod streams;
 
 pub use inputs::{Inputs, Set};

@@ -1,5 +1,4 @@
 //! Rows of layouts: what the types and functions of a text's package take. docs/FORMATS.md has the language of rows.
-#![tactic(auto)]
 
 mod layouts;
 mod shapes;
