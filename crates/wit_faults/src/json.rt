@@ -1,7 +1,7 @@
 //! Faults as JSON, for editors.
 
 use crate::drawing::Fault;
-use source_lines::place_at;
+use wit_hints::source_lines::place_at;
 use std::alloc::AllocError;
 use std::fmt::Write;
 use wit_text::Span;

@@ -13,6 +13,7 @@ mod marks;
 mod missing;
 mod names;
 mod scopes;
+pub mod source_lines;
 mod spot;
 mod texts;
 

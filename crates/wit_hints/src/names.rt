@@ -3,7 +3,7 @@
 use crate::features::NO_FLOATS;
 use crate::foreign::{is_float, is_nothing, type_for};
 use crate::scopes::{Twins, find_twins};
-use source_lines::place_at;
+use crate::source_lines::place_at;
 use std::alloc::{AllocError, Global};
 use strsim::levenshtein;
 use wit_places::{Declarations, Lexed};

@@ -1,6 +1,6 @@
 //! What is around a token that is not allowed where it is.
 
-use source_lines::place_at;
+use crate::source_lines::place_at;
 use wit_places::Lexed;
 use wit_text::{Keyword, Punctuation, Span, TokenKind};
 

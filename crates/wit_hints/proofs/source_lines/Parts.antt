@@ -4,7 +4,7 @@ use Rattle.std.proofs.lemmas.List.{append-nil, take-append-drop}
 use Rattle.std.proofs.lemmas.Str.Pattern.{IsSplitOnceResult, split_parts, NoCharPasses-char, drop_at_char}
 use Rattle.std.specs.Str.{NoCharPasses}
 use Rattle.std.specs.Str.Pattern.{RFindsChar, SplitsAroundMatch}
-use Rattle.source_lines.specs.Lines.{BeginsInLine, EndsInLine, HasNoLineEnd}
+use Rattle.wit_hints.specs.Lines.{BeginsInLine, EndsInLine, HasNoLineEnd}
 
 no_line_end : (text : List ℕ) → NoCharPasses (λ d. d == 10) text → HasNoLineEnd text
 no_line_end text none i inside = NoCharPasses-char 10 text i none (lit< tt) inside

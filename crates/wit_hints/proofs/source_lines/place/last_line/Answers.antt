@@ -1,5 +1,5 @@
-use Rattle.source_lines.proofs.Parts.{back_part, whole_back}
-use Rattle.source_lines.proofs.place.last_line.Goals as goal
+use Rattle.wit_hints.proofs.source_lines.Parts.{back_part, whole_back}
+use Rattle.wit_hints.proofs.source_lines.place.last_line.Goals as goal
 
 pub returns-in-Some : goal.returns-in-Some
 returns-in-Some c = back_part c.args.text.now c.in-Some.field-0-0.now c.in-Some.line.now c.in-Some.ensures.cases

@@ -1,5 +1,5 @@
-use Rattle.source_lines.proofs.Parts.{front_part, whole_front}
-use Rattle.source_lines.proofs.place.first_line.Goals as goal
+use Rattle.wit_hints.proofs.source_lines.Parts.{front_part, whole_front}
+use Rattle.wit_hints.proofs.source_lines.place.first_line.Goals as goal
 
 pub returns-in-Some : goal.returns-in-Some
 returns-in-Some c = front_part c.args.text.now (c.in-Some.line, c.in-Some.field-0-1) c.in-Some.ensures.cases

@@ -2,7 +2,6 @@
 //!
 //! `place_at` says where a byte offset stands: the line, counted from 1 by the line ends before it, the column, counted
 //! from 1 in characters, and the text of the line. The crate stands on no other.
-#![tactic(auto)]
 
 mod laws;
 mod place;

@@ -3,7 +3,7 @@ use Rattle.std.proofs.Common.{◌≡◌, ◌+◌, ◌-◌, ◌<◌, ◌≤◌, �
 use Rattle.std.proofs.lemmas.Bool.{cases_lt}
 use Rattle.std.proofs.lemmas.List.{get_or_append_left, get_or-append-add, length-append}
 use Rattle.std.proofs.Math.Seq.{get_or-append_seam, drop-append_seam}
-use Rattle.source_lines.specs.Lines.{AreLinesAbove, EndsInLine, HasNoLineEnd}
+use Rattle.wit_hints.specs.Lines.{AreLinesAbove, EndsInLine, HasNoLineEnd}
 
 -- a line end before the one part would stand in the other, were that longer
 no_longer : (text above line upper part : List ℕ) → text ≡ above ++ line → AreLinesAbove above → text ≡ upper ++ part → HasNoLineEnd part

@@ -3,7 +3,7 @@
 ghost use Rattle.std.specs.Prelude.{◌≡◌, ◌==◌, ◌+◌, ◌≤◌, ◌↔◌, IfSome, IsSome, length, take, drop};
 ghost use Rattle.std.specs.List.{count_by};
 ghost use Rattle.std.specs.Str.{IsCharBoundary, chars};
-ghost use Rattle.source_lines.specs.Lines.{EndsInLine, BeginsInLine};
+ghost use Rattle.wit_hints.specs.Lines.{EndsInLine, BeginsInLine};
 
 /// Where a byte offset stands.
 #[derive(Clone, Copy, Debug, PartialEq, Eq)]

@@ -1,0 +1,5 @@
+use Rattle.wit_hints.proofs.source_lines.OneLine.{one_line}
+use Rattle.wit_hints.proofs.source_lines.laws.texts_end_in_one_line.Goals as goal
+
+pub returns : goal.returns
+returns c = one_line
