@@ -18,7 +18,7 @@ use Rattle.package_text.specs.Writable.{IsWritable}
 use Rattle.tree_meaning.specs.Resolves.{file_fits}
 use Rattle.tables.specs.declared.error.ResolveError.TheVariants as cause
 use Rattle.tables.specs.declared.tables.Resolve.{Resolve}
-use Rattle.wit_syntax.specs.Syntax.{File}
+use Rattle.wit_tokens.specs.Syntax.{File}
 use Rattle.wit_text.specs.Reading.{IsRead, FaultyText}
 use Rattle.wit_tokens.specs.Lexing.{limit}
 use Rattle.wit_tokens.specs.declared.error.TextError.{TextError}

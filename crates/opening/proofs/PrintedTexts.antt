@@ -6,7 +6,7 @@ use Rattle.std.proofs.Math.Logic.{∥∥₁_map}
 use Rattle.wit_tokens.specs.Lexing.{limit}
 use Rattle.wit_tokens.specs.declared.error.TextError.{TextError}
 use Rattle.wit_tokens.specs.declared.error.TextError.TheVariants as text_error
-use Rattle.wit_syntax.specs.Syntax.{File}
+use Rattle.wit_tokens.specs.Syntax.{File}
 use Rattle.wit_grammar.specs.Faults.{Fails}
 use Rattle.tables.specs.declared.tables.Definition.TheVariants as row
 use Rattle.tables.specs.declared.tables.Resolve.{Resolve}

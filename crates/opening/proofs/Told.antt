@@ -30,7 +30,7 @@ use Rattle.tree_meaning.specs.Declarations.{InterfaceTree, full_interfaces, full
 use Rattle.tree_meaning.specs.Resolved.{interface_meaning}
 use Rattle.tree_meaning.specs.Resolves.{IsClosedPackageOf, Resolves, is_of_interfaces, names_in_order}
 use Rattle.tree_meaning.proofs.Trees.{definitions-within}
-use Rattle.wit_syntax.specs.Syntax.{File}
+use Rattle.wit_tokens.specs.Syntax.{File}
 use Rattle.opening.specs.Told.{and_then, IsTold, AddsFile, TreeIsTold, own_part, ComponentIsTold}
 use Rattle.package_sets.specs.Attached.{IsAttached}
 use Rattle.ctype_bin.specs.declared.component.RawComponent.{RawComponent}

@@ -9,7 +9,7 @@ use Rattle.package_adding.specs.Alone.{IsFileAlone, IsComponentAlone, FileAloneR
 use Rattle.package_adding.specs.declared.error.AddError.{AddError}
 use Rattle.package_adding.specs.declared.error.AddError.TheVariants as add
 use Rattle.tables.specs.declared.tables.Resolve.{Resolve}
-use Rattle.wit_syntax.specs.Syntax.{File}
+use Rattle.wit_tokens.specs.Syntax.{File}
 use Rattle.wit_text.specs.Reading.{IsRead}
 use Rattle.opening.specs.Opening.{IsOpened}
 use Rattle.opening.specs.Sets.{is_binary, IsNothing}

@@ -18,7 +18,7 @@ use Rattle.package_sets.specs.declared.error.AttachError.TheVariants as attach
 use Rattle.package_text.specs.Writable.{IsWritable}
 use Rattle.tree_meaning.specs.Resolves.{file_fits}
 use Rattle.tables.specs.declared.tables.Resolve.{Resolve}
-use Rattle.wit_syntax.specs.Syntax.{File}
+use Rattle.wit_tokens.specs.Syntax.{File}
 use Rattle.wit_text.specs.Reading as text
 use Rattle.wit_text.specs.Reading.{IsRead}
 use Rattle.wit_tokens.specs.Lexing.{limit}

@@ -8,7 +8,7 @@ use Rattle.opening.specs.Sets.{IsSetOf, is_binary}
 use Rattle.package_sets.specs.SetForm.{IsEmpty}
 use Rattle.tables.specs.declared.tables.Resolve.{Resolve}
 use Rattle.tree_meaning.specs.Resolves.{file_fits}
-use Rattle.wit_syntax.specs.Syntax.{File}
+use Rattle.wit_tokens.specs.Syntax.{File}
 use Rattle.wit_text.specs.Reading.{IsRead}
 use Rattle.opening.specs.Told.{AddsFile, AddsRaw}
 

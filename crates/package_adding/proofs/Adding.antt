@@ -20,8 +20,8 @@ use Rattle.tables.specs.PackageNames.{PackageParts}
 use Rattle.tables.specs.declared.error.ResolveError.{ResolveError}
 use Rattle.tables.specs.declared.error.ResolveError.TheVariants as cause
 use Rattle.tables.specs.declared.tables.Resolve.{Resolve}
-use Rattle.wit_syntax.specs.FullNames.{file_has_full_names}
-use Rattle.wit_syntax.specs.Syntax.{File}
+use Rattle.wit_tokens.specs.FullNames.{file_has_full_names}
+use Rattle.wit_tokens.specs.Syntax.{File}
 use Rattle.package_adding.specs.Added.{AreImportsFrom, IsOfTree, IsNewName, IsRefusedTree, CauseStands, TreeNotAdded}
 use Rattle.package_adding.specs.declared.error.AddError.TheVariants.{Attach}
 use Rattle.package_adding.proofs.Importing.{named-behind, reached-from}

@@ -26,8 +26,8 @@ use Rattle.tables.specs.declared.tables.Resolve.{Resolve}
 use Rattle.tree_meaning.specs.Resolves.{IsPackageOf, ResolveRefuses, file_fits}
 use Rattle.tree_meaning.proofs.Alone.{no-faults, is-package, without-faults, closed-package, refuses}
 use Rattle.tree_forms.proofs.AloneForms.{has-form, has-distinct-names}
-use Rattle.wit_syntax.specs.Syntax.{File}
-use Rattle.wit_syntax.specs.FullNames.{file_has_full_names}
+use Rattle.wit_tokens.specs.Syntax.{File}
+use Rattle.wit_tokens.specs.FullNames.{file_has_full_names}
 use Rattle.package_adding.specs.Added.{IsOfComponent, AddsComponent, ComponentNotAdded, AreImportsFrom, AddsTree, IsRefusedTree, TreeNotAdded}
 use Rattle.package_adding.specs.Alone.{IsFileAlone, IsComponentAlone, FileAloneRefuses, ComponentAloneRefuses}
 use Rattle.package_adding.specs.Named.{NamesInterface}

@@ -34,7 +34,7 @@ use Rattle.tables.specs.declared.tables.Definition.{Definition}
 use Rattle.tables.specs.declared.tables.Interface.{Interface}
 use Rattle.tables.specs.declared.tables.Resolve.{Resolve}
 use Rattle.tables.specs.declared.tables.World.{World}
-use Rattle.wit_syntax.specs.Syntax.{File}
+use Rattle.wit_tokens.specs.Syntax.{File}
 use Rattle.package_adding.specs.Added.{IsOfTree}
 use Rattle.package_sets.specs.BehindImports.{HasImportTable, IsBehindImports}
 use Rattle.package_adding.proofs.SameNames.{named-of-tree}

@@ -42,8 +42,8 @@ use Rattle.tables.specs.declared.tables.Definition.TheVariants as row
 use Rattle.tables.specs.declared.tables.Interface.{Interface}
 use Rattle.tables.specs.declared.tables.World.{World}
 use Rattle.tables.specs.declared.tables.Resolve.{Resolve}
-use Rattle.wit_syntax.specs.FullNames.{file_has_full_names}
-use Rattle.wit_syntax.specs.Syntax.{File}
+use Rattle.wit_tokens.specs.FullNames.{file_has_full_names}
+use Rattle.wit_tokens.specs.Syntax.{File}
 use Rattle.package_adding.specs.Named.{NamesInterface, AreNamed}
 use Rattle.package_adding.proofs.Naming.{one-any}
 

@@ -14,8 +14,8 @@ use Rattle.tree_meaning.proofs.FileEntries.{found}
 use Rattle.tree_meaning.proofs.PathNames.{any-there, any-not}
 use Rattle.tables.proofs.Rows.{split, both}
 use Rattle.tables.specs.PackageNames.{PackageParts}
-use Rattle.wit_syntax.specs.Syntax.{PathTo, Local, Foreign, UsedAs, Entry, Uses, Defines, Declares, WorldEntry, Whole, Single, FileEntry, AnInterface, AWorld, File}
-use Rattle.wit_syntax.specs.declared.ast.Direction.{Direction}
+use Rattle.wit_tokens.specs.Syntax.{PathTo, Local, Foreign, UsedAs, Entry, Uses, Defines, Declares, WorldEntry, Whole, Single, FileEntry, AnInterface, AWorld, File}
+use Rattle.wit_tokens.specs.declared.wit_syntax.ast.Direction.{Direction}
 use Rattle.wit_tokens.specs.declared.token.Span.{Span}
 use Rattle.package_adding.specs.Named.{NamesInterface, path_names, entry_names_interface, world_entry_names, file_entry_names, any_names}
 

@@ -20,7 +20,7 @@ use Rattle.tables.specs.Same.{IsSamePackage}
 use Rattle.tables.specs.declared.error.ResolveError.{ResolveError}
 use Rattle.tables.specs.declared.error.ResolveError.TheVariants as cause
 use Rattle.tables.specs.declared.tables.Resolve.{Resolve}
-use Rattle.wit_syntax.specs.Syntax.{File}
+use Rattle.wit_tokens.specs.Syntax.{File}
 use Rattle.wit_component.specs.ToComponent.{ComponentStands}
 use Rattle.package_sets.specs.BehindImports.{IsBehindImports}
 use Rattle.package_adding.specs.Added.{IsOfComponent, IsRefusedBehind, AreImportsFrom, IsOfTree, AddsTree, HasName, IsWantOfMemoryToAdd}

@@ -55,7 +55,7 @@ use Rattle.tables.specs.declared.tables.World.{World}
 use Rattle.tables.specs.declared.tables.WorldItem.{WorldItem}
 use Rattle.tables.specs.declared.tables.WorldItemKind.{WorldItemKind}
 use Rattle.tables.specs.declared.tables.WorldItemKind.TheVariants as item
-use Rattle.wit_syntax.specs.Syntax.{File}
+use Rattle.wit_tokens.specs.Syntax.{File}
 use Rattle.package_adding.specs.Added.{IsOfTree}
 use Rattle.package_adding.specs.Named.{NamesInterface, AreNamed}
 use Rattle.package_sets.specs.NamedIn.{own_rows, own_reached, IsImportAt, NamesIn, AreNamedIn}

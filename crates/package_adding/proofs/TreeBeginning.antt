@@ -6,7 +6,7 @@ use Rattle.tree_meaning.specs.Declarations.{package_named}
 use Rattle.tree_meaning.specs.Resolves.{in_package, IsClosedPackageOf}
 use Rattle.tables.specs.declared.tables.Interface.{Interface}
 use Rattle.tables.specs.declared.tables.Resolve.{Resolve}
-use Rattle.wit_syntax.specs.Syntax.{File}
+use Rattle.wit_tokens.specs.Syntax.{File}
 
 pub begins-with : (t : Resolve) (f : File) (closed : Resolve) → IsClosedPackageOf t f closed → BeginsWith t closed
 begins-with t f closed r = record {

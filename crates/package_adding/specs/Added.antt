@@ -16,7 +16,7 @@ use Rattle.tree_meaning.specs.Imports.{imports_of}
 use Rattle.tree_meaning.specs.Resolves.{HasEntries, HasNoFaultsOf, IsClosedPackageOf, ResolveRefusesOf, file_fits}
 use Rattle.tables.specs.declared.error.ResolveError.{ResolveError}
 use Rattle.tables.specs.declared.error.ResolveError.TheVariants as cause
-use Rattle.wit_syntax.specs.Syntax.{File}
+use Rattle.wit_tokens.specs.Syntax.{File}
 use Rattle.wit_component.specs.FromComponent.{ClosedComponentRefuses}
 use Rattle.wit_component.specs.ToComponent.{ComponentStands}
 use Rattle.package_sets.specs.BehindImports.{IsBehindImports}

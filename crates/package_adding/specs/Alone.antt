@@ -10,7 +10,7 @@ use Rattle.tables.specs.PackageNames.{PackageParts}
 use Rattle.tables.specs.declared.tables.Resolve.{Resolve}
 use Rattle.tree_meaning.specs.Resolves.{HasNoFaults, IsPackageOf, ResolveRefuses, file_fits}
 use Rattle.wit_component.specs.FromComponent.{ClosedComponentRefuses}
-use Rattle.wit_syntax.specs.Syntax.{File}
+use Rattle.wit_tokens.specs.Syntax.{File}
 use Rattle.package_adding.specs.Added.{IsOfComponent}
 use Rattle.package_adding.specs.declared.error.AddError.{AddError}
 use Rattle.package_adding.specs.declared.error.AddError.TheVariants as add

@@ -7,7 +7,7 @@ use Rattle.tree_meaning.specs.ImportForms.{UsesImport, HasImportItem}
 use Rattle.tables.specs.PackageNames.{PackageParts}
 use Rattle.tables.specs.declared.tables.Resolve.{Resolve}
 use Rattle.package_sets.specs.NamedIn.{AreMarksOf}
-use Rattle.wit_syntax.specs.Syntax.{PathTo, Local, Foreign, Entry, Uses, Defines, Declares, WorldEntry, Whole, Single, FileEntry, AnInterface, AWorld, File}
+use Rattle.wit_tokens.specs.Syntax.{PathTo, Local, Foreign, Entry, Uses, Defines, Declares, WorldEntry, Whole, Single, FileEntry, AnInterface, AWorld, File}
 
 -- the interface of this name of the package: an interface of the file uses a type of it, or it is an item of a world
 abbrev pub NamesInterface : File → PackageParts → List ℕ → Type 0

@@ -1,8 +1,8 @@
 //! What the paths of a tree name of a set.
 ghost use Rattle.std.specs.Prelude.{ℕ, Bool, List, map, IfOk, OnOk};
 ghost use Rattle.tables.specs.PackageNames.{PackageParts};
-ghost use Rattle.wit_syntax.specs.Syntax.{Uses};
-ghost use Rattle.wit_syntax.specs.View.{path_view, used_view, entry_view, world_entry_view, item_view, file_view};
+ghost use Rattle.wit_tokens.specs.Syntax.{Uses};
+ghost use Rattle.wit_tokens.specs.View.{path_view, used_view, entry_view, world_entry_view, item_view, file_view};
 ghost use Rattle.package_adding.specs.Named.{AreNamed, path_names, entry_names_interface, world_entry_names, file_entry_names, any_names};
 ghost use Rattle.package_adding.specs.Asked.{also, AreAsked};
 
@@ -11,7 +11,7 @@ use package_names::Asked;
 use std::alloc::{AllocError, Global};
 use tables::Resolve;
 use tree_scopes::package_key;
-use wit_syntax::{Ast, InterfaceItem, Item, Path, Use, WorldItem, WorldItemKind};
+use wit_tokens::wit_syntax::{Ast, InterfaceItem, Item, Path, Use, WorldItem, WorldItemKind};
 
 /// Asks for the interface of another package that a path names.
 fn ask_path<'a>(set: &Resolve, asked: &mut Asked<'a>, path: &'a Path) -> Result<(), AllocError>

@@ -1,13 +1,13 @@
 //! Whether a tree's names make full names.
 ghost use Rattle.std.specs.Prelude.{◌≡◌, IfOk};
 ghost use Rattle.std.specs.List.{list_all};
-ghost use Rattle.wit_syntax.specs.FullNames.{file_has_full_names, has_label};
-ghost use Rattle.wit_syntax.specs.View.{file_view, item_view, version_view};
+ghost use Rattle.wit_tokens.specs.FullNames.{file_has_full_names, has_label};
+ghost use Rattle.wit_tokens.specs.View.{file_view, item_view, version_view};
 ghost use Rattle.atoms.specs.FullName.{is_version_or_none};
 
 use atoms::{is_label, is_package_label, is_version};
 use std::alloc::{AllocError, Global};
-use wit_syntax::{Ast, Item};
+use wit_tokens::wit_syntax::{Ast, Item};
 
 /// Whether the names of the tree's package and interfaces make full names, as those of every text do: what `add_ast` asks for.
 /// (WIT.md, "Package Names")

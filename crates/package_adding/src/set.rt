@@ -18,8 +18,8 @@ ghost use Rattle.tree_meaning.specs.Resolves.{file_fits};
 ghost use Rattle.tables.specs.Same.{IsSamePackage};
 ghost use Rattle.tables.specs.declared.tables.Resolve.{Resolve};
 ghost use Rattle.tree_meaning.specs.Declarations.{package_named};
-ghost use Rattle.wit_syntax.specs.FullNames.{file_has_full_names};
-ghost use Rattle.wit_syntax.specs.View.{file_view};
+ghost use Rattle.wit_tokens.specs.FullNames.{file_has_full_names};
+ghost use Rattle.wit_tokens.specs.View.{file_view};
 
 use crate::error::AddError;
 use crate::imported::is_behind_imports;
@@ -32,7 +32,7 @@ use std::alloc::{AllocError, Global};
 use tables::{PackageId, Resolve, ResolveError, Sequence};
 use tree_scopes::{has_package, package_name};
 use wit_component::{closed_from_component, spelling};
-use wit_syntax::Ast;
+use wit_tokens::wit_syntax::Ast;
 
 /// Packages that use each other, as one table: each behind those that it uses, at most 64. None is empty, and none has more
 /// than 65,535 type entries with what it reaches.

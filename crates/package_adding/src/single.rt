@@ -5,8 +5,8 @@ ghost use Rattle.package_adding.specs.Alone.{IsFileAlone, IsComponentAlone, File
 ghost use Rattle.package_text.specs.Writable.{IsWritable};
 ghost use Rattle.tables.specs.Same.{IsSamePackage};
 ghost use Rattle.tables.specs.declared.tables.Resolve.{Resolve};
-ghost use Rattle.wit_syntax.specs.FullNames.{file_has_full_names};
-ghost use Rattle.wit_syntax.specs.View.{file_view};
+ghost use Rattle.wit_tokens.specs.FullNames.{file_has_full_names};
+ghost use Rattle.wit_tokens.specs.View.{file_view};
 
 use crate::error::AddError;
 use crate::set::PackageSet;
@@ -14,7 +14,7 @@ use ctype_bin::RawComponent;
 use package_text::names_are_labels;
 use std::alloc::Global;
 use tables::Resolve;
-use wit_syntax::Ast;
+use wit_tokens::wit_syntax::Ast;
 
 /// The package of a syntax tree that names no other package: it is added to a set that has none. A path that names one is 47. (WIT.md)
 pub fn from_ast(alloc: Global, ast: &Ast) -> Result<Resolve, AddError>

@@ -1,8 +1,8 @@
 //! The closed table of a tree over the packages of a set.
 ghost use Rattle.std.specs.Prelude.{◌≡◌, true, [], All, IsTrue, IfOk, OnOk, IfErr, MatchResult};
 ghost use Rattle.atoms.specs.Label.{IsLabel};
-ghost use Rattle.wit_syntax.specs.View.{file_view};
-ghost use Rattle.wit_syntax.specs.FullNames.{file_has_full_names};
+ghost use Rattle.wit_tokens.specs.View.{file_view};
+ghost use Rattle.wit_tokens.specs.FullNames.{file_has_full_names};
 ghost use Rattle.package_form.specs.Form.{IsInPackageForm};
 ghost use Rattle.package_form.specs.Laws.{IsLabelled};
 ghost use Rattle.package_form.specs.Naming.{package_scopes};
@@ -25,7 +25,7 @@ use package_text::names_are_labels;
 use std::alloc::{AllocError, Global};
 use tables::{Interface, Resolve, ResolveError};
 use tree_rows::closed_table;
-use wit_syntax::Ast;
+use wit_tokens::wit_syntax::Ast;
 
 /// That a tree has an interface or a world. 43 where it has neither.
 pub fn has_entries(ast: &Ast) -> Result<(), ResolveError>

@@ -2,7 +2,7 @@
 use Rattle.std.proofs.Common.{◌≡◌, ℕ, List, [], ◌∷◌, map, refl, ap, ◌∙◌}
 use Rattle.std.specs.Prelude.{All, Option, None, Some}
 use Rattle.std.specs.Option.{option_map}
-use Rattle.wit_syntax.specs.Syntax.{Alias}
+use Rattle.wit_tokens.specs.Syntax.{Alias}
 use Rattle.tables.specs.declared.tables.Primitive.{Primitive}
 use Rattle.tables.specs.declared.tables.Primitive.TheVariants as primitive
 use Rattle.tables.specs.Package.{Tree, PrimTree, TextTree, Reference, ListTree, RecordTree, VariantTree, FlagsTree, Choices, Plain, AsEnum, read_enum}

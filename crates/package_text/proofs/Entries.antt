@@ -5,9 +5,9 @@ use Rattle.std.specs.List.{list_all}
 use Rattle.std.proofs.lemmas.List.{map-append}
 use Rattle.std.proofs.lemmas.List.Folds.{flat_map-map}
 use Rattle.std.proofs.lemmas.Bool.{false≢true}
-use Rattle.wit_syntax.specs.Syntax.{Entry, Uses}
-use Rattle.wit_syntax.specs.View.{entry_view}
-use Rattle.wit_syntax.specs.declared.ast.InterfaceItem.{InterfaceItem}
+use Rattle.wit_tokens.specs.Syntax.{Entry, Uses}
+use Rattle.wit_tokens.specs.View.{entry_view}
+use Rattle.wit_tokens.specs.declared.wit_syntax.ast.InterfaceItem.{InterfaceItem}
 use Rattle.wit_print.specs.Unplaced.{nowhere}
 use Rattle.tables.specs.Tables.{function_of, is_there, is_function_of, is_placed_item, is_placed_world, are_placed_worlds}
 use Rattle.tables.specs.Package.{Tree, Reference, key_of, read_val, named_by, named_function, function_meaning, meaning_of}

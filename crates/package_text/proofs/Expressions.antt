@@ -1,10 +1,10 @@
 -- The expressions and the definitions that are written for kinds of types.
 use Rattle.std.proofs.Common.{◌≡◌, ℕ, List, [], ◌∷◌, map, refl, sym, ap, ◌∙◌, Option, None, Some, Global, Vec}
 use Rattle.std.specs.Option.{option_map}
-use Rattle.wit_syntax.specs.Syntax.{more, tys_of, TupleOf, Record, Variant, Enumeration}
-use Rattle.wit_syntax.specs.View.{ty_view}
-use Rattle.wit_syntax.specs.declared.ast.TypeExpression.{TypeExpression, Tuple}
-use Rattle.wit_syntax.proofs.Views.{view-Tuple}
+use Rattle.wit_tokens.specs.Syntax.{more, tys_of, TupleOf, Record, Variant, Enumeration}
+use Rattle.wit_tokens.specs.View.{ty_view}
+use Rattle.wit_tokens.specs.declared.wit_syntax.ast.TypeExpression.{TypeExpression, Tuple}
+use Rattle.wit_tokens.proofs.wit_syntax.Views.{view-Tuple}
 use Rattle.tables.specs.Package.{Tree, Choices, read_val, read_choice, read_tuple, read_fields, read_params, read_cases, read_enum, read_kind}
 use Rattle.tables.specs.declared.tables.ValType.{ValType}
 use Rattle.tables.specs.declared.tables.TypeDefKind.{TypeDefKind}

@@ -6,8 +6,8 @@ use Rattle.std.proofs.lemmas.Bool.{and_parts, eqb-true, eq-eqb, ne_eqb, ltb-true
 use Rattle.std.proofs.lemmas.List.{length-map, map-append, get_or_default, get_or_append_left, append_cancel_right}
 use Rattle.std.proofs.lemmas.Option.{slice_get-get_or, get_or_from_slice_get}
 use Rattle.atoms.specs.Label.{IsLabel}
-use Rattle.wit_syntax.specs.Syntax.{PathTo, Local, Foreign, Whole}
-use Rattle.wit_syntax.specs.declared.ast.Direction.{Direction as Way}
+use Rattle.wit_tokens.specs.Syntax.{PathTo, Local, Foreign, Whole}
+use Rattle.wit_tokens.specs.declared.wit_syntax.ast.Direction.{Direction as Way}
 use Rattle.tables.specs.PackageNames.{PackageParts, own_name}
 use Rattle.tables.specs.Names.{full_name_in, full_name}
 use Rattle.tables.specs.Tables.{are_grouped, type_of, is_type_id, is_function_id, is_placed, function_of, is_there}

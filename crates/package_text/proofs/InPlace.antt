@@ -5,7 +5,7 @@ use Rattle.std.specs.Option.{option_map}
 use Rattle.std.specs.Str.{bytes_eq}
 use Rattle.std.proofs.lemmas.List.{map-append, length-map}
 use Rattle.package_form.proofs.Lists.{flat_map-append}
-use Rattle.wit_syntax.specs.Syntax.{Entry, FileEntry, AnInterface}
+use Rattle.wit_tokens.specs.Syntax.{Entry, FileEntry, AnInterface}
 use Rattle.tables.specs.Package.{Tree, Reference, Key, IsUse, IsType, IsFunction, NamedDefinition}
 use Rattle.placement.specs.Order.{IsPlacement}
 use Rattle.tables.specs.Names.{full_name_in}

@@ -1,6 +1,6 @@
 -- The tree of a package as its names tell it: a use is written for what its row stands for, by the path that the name of its interface spells.
 use Rattle.std.proofs.Common.{ℕ, List, [], ◌∷◌, ◌++◌, map, flat_map, slice_get}
-use Rattle.wit_syntax.specs.Syntax.{Entry, Uses, Defines, Declares, Alias, WorldEntry, Whole, Single, FileEntry, AnInterface, AWorld, File}
+use Rattle.wit_tokens.specs.Syntax.{Entry, Uses, Defines, Declares, Alias, WorldEntry, Whole, Single, FileEntry, AnInterface, AWorld, File}
 use Rattle.wit_print.specs.Unplaced.{nowhere}
 use Rattle.tables.specs.Package.{Tree, Reference, Meaning, IsUse, IsType, IsFunction, NamedDefinition, ItemMeaning, WithInterface, WithFunction}
 use Rattle.tables.specs.declared.tables.Interface.{Interface}

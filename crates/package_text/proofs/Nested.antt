@@ -36,7 +36,7 @@ use Rattle.package_form.specs.Postfix.{is_inner, IsPostfix}
 use Rattle.package_form.specs.Form.{ids_of}
 use Rattle.package_form.proofs.Postfix.{postfix-used}
 use Rattle.package_form.proofs.Lists.{all-get}
-use Rattle.wit_syntax.specs.Syntax.{Ty, depth_all, PathTo, ty_depth}
+use Rattle.wit_tokens.specs.Syntax.{Ty, depth_all, PathTo, ty_depth}
 use Rattle.tree_meaning.specs.Resolves.{fits, fits_if, member_fits, case_fits, body_fits, signature_fits, entry_fits, world_entry_fits, interface_fits, file_fits}
 use Rattle.tree_meaning.proofs.Owning.{is_inner_row, used-inner}
 use Rattle.tree_meaning.proofs.TableRows.{name-tree}

@@ -33,7 +33,7 @@ use Rattle.package_form.proofs.OnePackage.{one-full-name}
 use Rattle.package_form.proofs.Lists.{all-left, all-contained, contains-map}
 use Rattle.atoms.specs.Label.{IsLabel}
 use Rattle.package_form.proofs.DistinctTypes.{types-apart}
-use Rattle.wit_syntax.specs.Syntax.{File}
+use Rattle.wit_tokens.specs.Syntax.{File}
 use Rattle.tree_meaning.specs.Declarations.{package_named, full_interfaces, full_worlds}
 use Rattle.tree_meaning.specs.Resolves.{is_behind, in_package, interfaces_behind, IsPackageOf, IsClosedPackageOf}
 use Rattle.tree_meaning.proofs.Owning.{used-inner}

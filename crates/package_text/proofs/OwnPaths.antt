@@ -2,7 +2,7 @@
 use Rattle.std.proofs.Common.{◌≡◌, ◌<◌, ◌+◌, ℕ, zero, suc, List, [], ◌∷◌, ◌++◌, length, map, flat_map, slice_get, refl, sym, ap, subst, ◌∙◌, length-append, arith, inl, inr, All, Contains}
 use Rattle.std.specs.Prelude.{Bool, true, false, Option, None, Some, cond}
 use Rattle.std.proofs.lemmas.Bool.{eq-eqb, false≢true, cases_lt}
-use Rattle.wit_syntax.specs.Syntax.{PathTo}
+use Rattle.wit_tokens.specs.Syntax.{PathTo}
 use Rattle.tables.specs.PackageNames.{PackageParts}
 use Rattle.tables.specs.Package.{Tree, PrimTree, TextTree, Reference, ListTree, RecordTree, VariantTree, FlagsTree, Meaning, IsUse, IsType, IsFunction, NamedDefinition, ItemMeaning, WithInterface, WithFunction}
 use Rattle.tables.specs.declared.tables.TypeName.{TypeName}

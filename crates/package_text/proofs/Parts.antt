@@ -10,7 +10,7 @@ use Rattle.tables.specs.declared.tables.FunctionId.{FunctionId}
 use Rattle.tables.specs.declared.tables.Definition.{Definition}
 use Rattle.tables.specs.declared.tables.Definition.TheVariants as row
 use Rattle.tables.specs.declared.tables.Interface.{Interface}
-use Rattle.wit_syntax.specs.Syntax.{FileEntry, AnInterface}
+use Rattle.wit_tokens.specs.Syntax.{FileEntry, AnInterface}
 use Rattle.package_form.specs.Entries.{labels_of}
 use Rattle.package_form.specs.Postfix.{IsPostfix}
 use Rattle.package_form.specs.Ids.{places_where, is_use, is_of_worlds}

@@ -6,7 +6,7 @@ use Rattle.atoms.specs.Label.{IsLabel, is_label}
 use Rattle.atoms.specs.FullName.{Lacks, is_package_label, is_version_or_none, version_suffix}
 use Rattle.atoms.proofs.FullNames.{label_lacks, package_lacks}
 use Rattle.atoms.proofs.FullNames as marks
-use Rattle.wit_syntax.specs.Syntax.{PathTo, Local, Foreign}
+use Rattle.wit_tokens.specs.Syntax.{PathTo, Local, Foreign}
 use Rattle.wit_print.specs.Printable.{IsPrintablePath}
 use Rattle.tables.specs.PackageNames.{PackageParts, own_name}
 use Rattle.tables.specs.Names.{full_name_in}

@@ -26,7 +26,7 @@ use Rattle.tables.specs.declared.tables.Definition.{Definition}
 use Rattle.tables.specs.declared.tables.Definition.TheVariants as row
 use Rattle.tables.specs.declared.tables.Interface.{Interface}
 use Rattle.wit_tokens.specs.Lexing.{limit}
-use Rattle.wit_syntax.specs.Syntax.{Ty, Alias, ty_depth}
+use Rattle.wit_tokens.specs.Syntax.{Ty, Alias, ty_depth}
 use Rattle.wit_tokens.specs.declared.token.Punctuation.TheVariants as mark
 use Rattle.wit_print.specs.Words.{mark_word}
 use Rattle.wit_print.specs.Canonical.{blank, ty_words, member_words, parameter_words, result_words, field_words, case_words, label_words, lined_words, definition_words, entry_words, file_entry_words, items_words}

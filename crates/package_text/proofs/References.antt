@@ -2,10 +2,10 @@
 use Rattle.std.proofs.Common.{◌≡◌, ℕ, List, get_or, slice_get, refl, sym, ap, ◌∙◌, Option, None, Some}
 use Rattle.std.specs.Prelude.{true}
 use Rattle.std.proofs.lemmas.Bool.{false≢true}
-use Rattle.wit_syntax.specs.Syntax.{Ty, Alias}
-use Rattle.wit_syntax.specs.View.{ty_view}
-use Rattle.wit_syntax.specs.declared.ast.TypeExpression.{Named as Name}
-use Rattle.wit_syntax.proofs.Views.{view-Named}
+use Rattle.wit_tokens.specs.Syntax.{Ty, Alias}
+use Rattle.wit_tokens.specs.View.{ty_view}
+use Rattle.wit_tokens.specs.declared.wit_syntax.ast.TypeExpression.{Named as Name}
+use Rattle.wit_tokens.proofs.wit_syntax.Views.{view-Named}
 use Rattle.tables.proofs.Rows.{split}
 use Rattle.tables.specs.Tables.{is_below, is_type_before, is_type, type_of, is_there}
 use Rattle.tables.specs.Package.{Tree, TextTree, Reference, key_of, read_val, read_kind}

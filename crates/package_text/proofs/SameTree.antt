@@ -4,7 +4,7 @@ use Rattle.std.specs.Prelude.{true, Option, None, Some}
 use Rattle.std.specs.List.{list_all}
 use Rattle.std.proofs.lemmas.Bool.{and_parts, false≢true, ltb-true}
 use Rattle.std.proofs.lemmas.List.{map-append}
-use Rattle.wit_syntax.specs.Syntax.{PathTo, Local, Entry, Whole, WorldEntry, FileEntry, AnInterface, AWorld}
+use Rattle.wit_tokens.specs.Syntax.{PathTo, Local, Entry, Whole, WorldEntry, FileEntry, AnInterface, AWorld}
 use Rattle.wit_print.specs.Unplaced.{nowhere}
 use Rattle.tables.specs.Tables.{type_of, function_of, is_function_of, is_placed_item, is_placed_world, are_placed_worlds}
 use Rattle.tables.specs.Package.{Tree, TextTree, Reference, NamedDefinition, key_of, read_val, meaning_of, function_meaning, function_item, item_meaning, named_by, named_function}

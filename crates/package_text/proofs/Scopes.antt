@@ -22,7 +22,7 @@ use Rattle.tables.specs.declared.tables.Interface.{Interface}
 use Rattle.tables.specs.declared.tables.Resolve.{Resolve}
 use Rattle.tables.specs.declared.tables.World.{World}
 use Rattle.tables.specs.PackageNames.{PackageParts}
-use Rattle.wit_syntax.specs.Syntax.{Alias, FileEntry}
+use Rattle.wit_tokens.specs.Syntax.{Alias, FileEntry}
 use Rattle.package_form.specs.Ends.{end_of, rows_of, interfaces_end}
 use Rattle.package_form.specs.Scope.{AreDistinct}
 use Rattle.package_form.specs.Closed.{own_package, is_world_of}

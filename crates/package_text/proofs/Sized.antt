@@ -5,7 +5,7 @@ use Rattle.std.proofs.lemmas.Bool.{and_parts, le-leb}
 use Rattle.atoms.specs.Label.{is_label}
 use Rattle.wit_tokens.specs.Lexing.{limit}
 use Rattle.wit_tokens.specs.declared.token.Punctuation.TheVariants as mark
-use Rattle.wit_syntax.specs.Syntax.{Ty, Prim, Named, ListOf, OptionOf, TupleOf, ResultOf, Tys, none, more, MaybeTy, Absent, Present}
+use Rattle.wit_tokens.specs.Syntax.{Ty, Prim, Named, ListOf, OptionOf, TupleOf, ResultOf, Tys, none, more, MaybeTy, Absent, Present}
 use Rattle.wit_print.specs.Words.{Word, words_text, mark_word}
 use Rattle.wit_print.specs.Canonical.{blank, ty_words, tys_words, listed_words, lined_words, braced_words}
 use Rattle.wit_print.specs.Printable.{types_count, is_spelt, are_spelt}

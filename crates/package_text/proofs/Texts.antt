@@ -13,7 +13,7 @@ use Rattle.tables.specs.declared.tables.Definition.TheVariants as row
 use Rattle.tables.specs.declared.tables.World.{World}
 use Rattle.tables.specs.declared.tables.Resolve.{Resolve}
 use Rattle.wit_tokens.specs.Lexing.{limit}
-use Rattle.wit_syntax.specs.Syntax.{FileEntry, File}
+use Rattle.wit_tokens.specs.Syntax.{FileEntry, File}
 use Rattle.wit_tokens.specs.declared.token.Punctuation.TheVariants as mark
 use Rattle.wit_print.specs.Words.{mark_word}
 use Rattle.wit_print.specs.Canonical.{line, file_entry_words, items_words, version_words, file_words, canonical_text}
@@ -43,8 +43,8 @@ use Rattle.package_text.specs.Written.{direction_for}
 use Rattle.package_text.specs.Tree.{function_by, own_trees, own_item}
 use Rattle.package_text.proofs.Named.{item_entry}
 use Rattle.wit_print.specs.Unplaced.{nowhere}
-use Rattle.wit_syntax.specs.Syntax.{WorldEntry, Whole, Single, AnInterface, AWorld}
-use Rattle.wit_syntax.specs.declared.ast.Direction.{Direction as Way}
+use Rattle.wit_tokens.specs.Syntax.{WorldEntry, Whole, Single, AnInterface, AWorld}
+use Rattle.wit_tokens.specs.declared.wit_syntax.ast.Direction.{Direction as Way}
 use Rattle.tables.specs.declared.tables.Direction.{Direction}
 use Rattle.tables.specs.declared.tables.WorldItemKind.{WorldItemKind}
 use Rattle.tables.specs.declared.tables.WorldItemKind.TheVariants as item

@@ -10,7 +10,7 @@ use Rattle.tables.specs.declared.tables.Interface.{Interface}
 use Rattle.tables.specs.declared.tables.World.{World}
 use Rattle.tables.specs.declared.tables.Resolve.{Resolve}
 use Rattle.wit_tokens.specs.Lexing.{limit}
-use Rattle.wit_syntax.specs.Syntax.{File}
+use Rattle.wit_tokens.specs.Syntax.{File}
 use Rattle.wit_print.specs.Canonical.{canonical_text}
 use Rattle.wit_print.specs.Printable.{IsPrintable}
 use Rattle.wit_print.specs.Laws.{IsReadBack}

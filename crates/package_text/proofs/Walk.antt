@@ -22,7 +22,7 @@ use Rattle.package_form.specs.Postfix.{IsPostfix}
 use Rattle.package_form.specs.Form.{is_own_name, ids_of}
 use Rattle.package_form.proofs.Lists.{all-head, all-tail, all-mono, contains-here, contains-later, contains-left, contains-right, contains-flat, flat_map-append, flat_map-one, get-front}
 use Rattle.atoms.specs.Label.{IsLabel}
-use Rattle.wit_syntax.specs.Syntax.{PathTo, Local}
+use Rattle.wit_tokens.specs.Syntax.{PathTo, Local}
 use Rattle.tree_meaning.specs.Imports.{Imports}
 use Rattle.tree_meaning.specs.Resolves.{IsKnownIn}
 use Rattle.tree_meaning.specs.Declarations.{path_package, path_interface, InterfaceTree, interface_of, interface_tree, type_names, named_definition, names_in_function}

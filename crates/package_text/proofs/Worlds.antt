@@ -22,8 +22,8 @@ use Rattle.package_form.specs.Ids.{is_of_worlds, is_world_function}
 use Rattle.package_form.specs.Form.{is_local, IsInPackageForm}
 use Rattle.package_form.proofs.Lists.{all-none, all-cons, all-head, all-get}
 use Rattle.tree_meaning.specs.Declarations.{world_of, file_worlds, item_tree, names_in_function}
-use Rattle.wit_syntax.specs.Syntax.{Whole}
-use Rattle.wit_syntax.specs.declared.ast.Direction.{Direction as Way}
+use Rattle.wit_tokens.specs.Syntax.{Whole}
+use Rattle.wit_tokens.specs.declared.wit_syntax.ast.Direction.{Direction as Way}
 use Rattle.tree_meaning.specs.Imports.{Imports}
 use Rattle.tree_meaning.specs.Resolves.{IsKnownItemOf, IsKnownWorldOf}
 use Rattle.package_text.specs.Tree.{function_by}

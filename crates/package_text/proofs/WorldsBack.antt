@@ -21,8 +21,8 @@ use Rattle.package_form.specs.Ids.{is_owned_by, is_of_worlds}
 use Rattle.package_form.specs.Postfix.{unnamed_if, unnamed_parameter}
 use Rattle.package_form.specs.Form.{IsInPackageForm}
 use Rattle.tables.specs.Names.{full_name_in}
-use Rattle.wit_syntax.specs.declared.ast.Direction.{Direction as Way}
-use Rattle.wit_syntax.specs.Syntax.{PathTo, Local, Foreign, Whole}
+use Rattle.wit_tokens.specs.declared.wit_syntax.ast.Direction.{Direction as Way}
+use Rattle.wit_tokens.specs.Syntax.{PathTo, Local, Foreign, Whole}
 use Rattle.tree_meaning.specs.Declarations.{path_package, path_interface, world_of, file_worlds, item_tree}
 use Rattle.tree_meaning.specs.Resolved.{direction_meaning, fields_of_labelled, resolved_if, member_meaning}
 use Rattle.tree_meaning.specs.Resolved as tree

@@ -11,7 +11,7 @@ use Rattle.package_form.specs.Naming.{package_scopes}
 use Rattle.package_form.specs.Closed.{IsAlone}
 use Rattle.package_form.specs.Form.{IsInPackageForm}
 use Rattle.wit_tokens.specs.Lexing.{limit}
-use Rattle.wit_syntax.specs.Syntax.{File}
+use Rattle.wit_tokens.specs.Syntax.{File}
 use Rattle.wit_text.specs.Reading.{IsRead}
 use Rattle.tree_meaning.specs.Imports.{imports_of}
 use Rattle.tree_meaning.specs.Resolves.{file_fits, HasNoFaults, HasNoFaultsOf, IsPackageOf, AreImports, IsClosedPackageOf, HasPackage, HasClosedPackage}

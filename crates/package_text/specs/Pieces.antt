@@ -1,7 +1,7 @@
 -- What is written for the parts of a row, by what the rows of the table stand for.
 use Rattle.std.specs.Prelude.{ℕ, Bool, nat_lt, List, length, Option, None, Some}
 use Rattle.std.specs.Option.{option_map}
-use Rattle.wit_syntax.specs.Syntax.{Ty, MaybeTy, Absent, Present, Member, CaseOf}
+use Rattle.wit_tokens.specs.Syntax.{Ty, MaybeTy, Absent, Present, Member, CaseOf}
 use Rattle.tables.specs.Tables.{is_function_id}
 use Rattle.tables.specs.Package.{Tree, read_val}
 use Rattle.tables.specs.declared.tables.ValType.{ValType}

@@ -1,12 +1,12 @@
 -- From what a package's names tell to the syntax that is written for it: a type, a definition, a use and a function.
 use Rattle.std.specs.Prelude.{ℕ, List, [], ◌∷◌, None, Some}
-use Rattle.wit_syntax.specs.Syntax.{Ty, Prim, Named, ListOf, OptionOf, TupleOf, ResultOf, Tys, none, more, MaybeTy, Absent, Present, Alias, Record, Variant, Enumeration, FlagSet, Member, CaseOf, TypeBody}
-use Rattle.wit_syntax.specs.declared.ast.Primitive.{Primitive as Keyword}
-use Rattle.wit_syntax.specs.declared.ast.Primitive.TheVariants as keyword
+use Rattle.wit_tokens.specs.Syntax.{Ty, Prim, Named, ListOf, OptionOf, TupleOf, ResultOf, Tys, none, more, MaybeTy, Absent, Present, Alias, Record, Variant, Enumeration, FlagSet, Member, CaseOf, TypeBody}
+use Rattle.wit_tokens.specs.declared.wit_syntax.ast.Primitive.{Primitive as Keyword}
+use Rattle.wit_tokens.specs.declared.wit_syntax.ast.Primitive.TheVariants as keyword
 use Rattle.tables.specs.declared.tables.Primitive.{Primitive}
 use Rattle.tables.specs.declared.tables.Primitive.TheVariants as primitive
-use Rattle.wit_syntax.specs.declared.ast.Direction.{Direction as Way}
-use Rattle.wit_syntax.specs.declared.ast.Direction.TheVariants as way
+use Rattle.wit_tokens.specs.declared.wit_syntax.ast.Direction.{Direction as Way}
+use Rattle.wit_tokens.specs.declared.wit_syntax.ast.Direction.TheVariants as way
 use Rattle.tables.specs.declared.tables.Direction.{Direction}
 use Rattle.tables.specs.declared.tables.Direction.TheVariants as direction
 use Rattle.tables.specs.Package.{Tree, PrimTree, TextTree, Reference, ListTree, RecordTree, VariantTree, FlagsTree, no_fields, field, Choices, no_choices, empty, holding, Plain, AsEnum, AsResult, TreeFields}

@@ -1,7 +1,7 @@
 //! Definitions of types, and what functions take and give.
 ghost use Rattle.std.specs.Prelude.{◌≡◌, List, map, IfOk, IsTrue, option_map};
 ghost use Rattle.std.specs.List.{list_all};
-ghost use Rattle.wit_syntax.specs.View.{field_view, case_view, optional_view, definition_view, function_view};
+ghost use Rattle.wit_tokens.specs.View.{field_view, case_view, optional_view, definition_view, function_view};
 ghost use Rattle.tables.specs.Tables.{option_all, kind_all, function_all, is_type_before};
 ghost use Rattle.tables.specs.Package.{read_val, read_kind, read_params};
 ghost use Rattle.package_form.specs.Form.{IsInPackageForm};
@@ -13,7 +13,7 @@ use crate::expression::{expression, inner};
 use atoms::Label;
 use std::alloc::{AllocError, Global};
 use tables::{Case, Field, Function, Parameter, Resolve, TypeDefKind, ValType};
-use wit_syntax::{FuncType, TypeExpression};
+use wit_tokens::wit_syntax::{FuncType, TypeExpression};
 
 /// The expression of a type, if there is one.
 fn optional(
@@ -39,12 +39,12 @@ fn member(
     place: usize,
     name: &Label,
     ty: ValType,
-) -> Result<wit_syntax::Field, AllocError>
+) -> Result<wit_tokens::wit_syntax::Field, AllocError>
     requires form { IsInPackageForm resolve.now }
     requires earlier { IsTrue (is_type_before resolve.now.definitions place ty) }
     ensures { IfOk result (λ m. field_view m ≡ member_by (own_trees resolve.now) name.now ty) }
 {
-    Ok(wit_syntax::Field {
+    Ok(wit_tokens::wit_syntax::Field {
         name: name.copy(alloc)?,
         ty: expression(alloc, resolve, place, ty)?,
     })
@@ -55,7 +55,7 @@ fn fields(
     resolve: &Resolve,
     place: usize,
     fields: &[Field],
-) -> Result<Vec<wit_syntax::Field>, AllocError>
+) -> Result<Vec<wit_tokens::wit_syntax::Field>, AllocError>
     requires form { IsInPackageForm resolve.now }
     requires earlier { IsTrue (list_all (λ f. is_type_before resolve.now.definitions place f.ty) fields.now) }
     ensures { IfOk result (λ ms. map field_view ms.items ≡ map (field_by (own_trees resolve.now)) fields.now) }
@@ -72,7 +72,7 @@ fn parameters(
     resolve: &Resolve,
     place: usize,
     parameters: &[Parameter],
-) -> Result<Vec<wit_syntax::Field>, AllocError>
+) -> Result<Vec<wit_tokens::wit_syntax::Field>, AllocError>
     requires form { IsInPackageForm resolve.now }
     requires earlier { IsTrue (list_all (λ p. is_type_before resolve.now.definitions place p.ty) parameters.now) }
     ensures { IfOk result (λ ms. map field_view ms.items ≡ map (parameter_by (own_trees resolve.now)) parameters.now) }
@@ -89,12 +89,12 @@ fn case(
     resolve: &Resolve,
     place: usize,
     case: &Case,
-) -> Result<wit_syntax::Case, AllocError>
+) -> Result<wit_tokens::wit_syntax::Case, AllocError>
     requires form { IsInPackageForm resolve.now }
     requires earlier { IsTrue (option_all (is_type_before resolve.now.definitions place) case.now.ty) }
     ensures { IfOk result (λ c. case_view c ≡ case_by (own_trees resolve.now) case.now) }
 {
-    Ok(wit_syntax::Case {
+    Ok(wit_tokens::wit_syntax::Case {
         name: case.name.copy(alloc)?,
         payload: optional(alloc, resolve, place, case.ty)?,
     })
@@ -105,7 +105,7 @@ fn cases(
     resolve: &Resolve,
     place: usize,
     choices: &[Case],
-) -> Result<Vec<wit_syntax::Case>, AllocError>
+) -> Result<Vec<wit_tokens::wit_syntax::Case>, AllocError>
     requires form { IsInPackageForm resolve.now }
     requires earlier { IsTrue (list_all (λ c. option_all (is_type_before resolve.now.definitions place) c.ty) choices.now) }
     ensures { IfOk result (λ cs. map case_view cs.items ≡ map (case_by (own_trees resolve.now)) choices.now) }
@@ -133,13 +133,13 @@ fn alias(
     resolve: &Resolve,
     place: usize,
     target: ValType,
-) -> Result<wit_syntax::TypeDefKind, AllocError>
+) -> Result<wit_tokens::wit_syntax::TypeDefKind, AllocError>
     requires form { IsInPackageForm resolve.now }
     requires earlier { IsTrue (is_type_before resolve.now.definitions place target) }
     ensures { IfOk result (λ d. definition_view d ≡ body_of (read_val (own_trees resolve.now) target)) }
 {
     let ty = expression(alloc, resolve, place, target)?;
-    Ok(wit_syntax::TypeDefKind::Alias(ty))
+    Ok(wit_tokens::wit_syntax::TypeDefKind::Alias(ty))
 }
 
 /// The definition of the type at this place, which has a name.
@@ -148,7 +148,7 @@ pub(crate) fn definition(
     resolve: &Resolve,
     place: usize,
     kind: &TypeDefKind,
-) -> Result<wit_syntax::TypeDefKind, AllocError>
+) -> Result<wit_tokens::wit_syntax::TypeDefKind, AllocError>
     requires form { IsInPackageForm resolve.now }
     requires earlier { IsTrue (kind_all (is_type_before resolve.now.definitions place) kind.now) }
     ensures { IfOk result (λ d. definition_view d ≡ body_of (read_kind (own_trees resolve.now) kind.now)) }
@@ -158,26 +158,26 @@ pub(crate) fn definition(
         TypeDefKind::Alias(target) => alias(alloc, resolve, place, *target),
         TypeDefKind::Record(members) => {
             let members = fields(alloc, resolve, place, members.as_slice())?;
-            Ok(wit_syntax::TypeDefKind::Record(members))
+            Ok(wit_tokens::wit_syntax::TypeDefKind::Record(members))
         }
         TypeDefKind::Variant(choices) => {
             let cases = cases(alloc, resolve, place, choices.as_slice())?;
-            Ok(wit_syntax::TypeDefKind::Variant(cases))
+            Ok(wit_tokens::wit_syntax::TypeDefKind::Variant(cases))
         }
         TypeDefKind::Enum(names) => {
             let names = labels(alloc, names.as_slice())?;
-            Ok(wit_syntax::TypeDefKind::Enum(names))
+            Ok(wit_tokens::wit_syntax::TypeDefKind::Enum(names))
         }
         TypeDefKind::Flags(names) => {
             let names = labels(alloc, names.as_slice())?;
-            Ok(wit_syntax::TypeDefKind::Flags(names))
+            Ok(wit_tokens::wit_syntax::TypeDefKind::Flags(names))
         }
         TypeDefKind::List(_)
         | TypeDefKind::Option(_)
         | TypeDefKind::Result(_, _)
         | TypeDefKind::Tuple(_) => {
             let ty = inner(alloc, resolve, place, kind)?;
-            Ok(wit_syntax::TypeDefKind::Alias(ty))
+            Ok(wit_tokens::wit_syntax::TypeDefKind::Alias(ty))
         }
     }
 }

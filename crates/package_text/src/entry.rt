@@ -1,7 +1,7 @@
 //! Interfaces: what is written for each of their rows.
 ghost use Rattle.std.specs.Prelude.{◌≡◌, ◌<◌, ◌∷◌, [], ◌++◌, map, flat_map, length, None, Some, MatchOption, IfOk, OnOk, IsTrue, slice_get};
 ghost use Rattle.wit_tokens.specs.declared.token.Span.{Span};
-ghost use Rattle.wit_syntax.specs.View.{version_view, path_view, used_view, entry_view, item_view};
+ghost use Rattle.wit_tokens.specs.View.{version_view, path_view, used_view, entry_view, item_view};
 ghost use Rattle.wit_print.specs.Unplaced.{nowhere};
 ghost use Rattle.tables.specs.Tables.{kind_all, function_all, is_type_before};
 ghost use Rattle.tables.specs.declared.tables.ValType.TheVariants as val;
@@ -18,7 +18,7 @@ use tables::{
     Definition, Function, FunctionId, Interface, InterfaceId, Owner, PackageName, Resolve,
     TypeDefKind, TypeId, TypeName, copy_version,
 };
-use wit_syntax::{Func, InterfaceItem, Item, PackageId, Path, TypeDef, Use, UsedName};
+use wit_tokens::wit_syntax::{Func, InterfaceItem, Item, PackageId, Path, TypeDef, Use, UsedName};
 use wit_tokens::Span;
 
 /// The place of what stands in no text.
@@ -242,7 +242,7 @@ pub(crate) fn interface_tree(
     push_types(alloc, resolve, interface.uses.as_slice(), &mut items)?;
     push_types(alloc, resolve, interface.types.as_slice(), &mut items)?;
     push_functions(alloc, resolve, interface.functions.as_slice(), &mut items)?;
-    Ok(Item::Interface(wit_syntax::Interface {
+    Ok(Item::Interface(wit_tokens::wit_syntax::Interface {
         name: interface.name.copy(alloc)?,
         items,
     }))

@@ -1,7 +1,7 @@
 //! Types as expressions.
 ghost use Rattle.std.specs.Prelude.{◌≡◌, List, map, IfOk, IsTrue, slice_get, slice_index_or};
 ghost use Rattle.std.specs.List.{list_all};
-ghost use Rattle.wit_syntax.specs.View.{ty_view, boxed_view};
+ghost use Rattle.wit_tokens.specs.View.{ty_view, boxed_view};
 ghost use Rattle.tables.specs.Tables.{option_all, kind_all, is_type_id, is_type_before};
 ghost use Rattle.tables.specs.Package.{TextTree, read_kind};
 ghost use Rattle.package_form.specs.Postfix.{is_inner};
@@ -12,22 +12,22 @@ ghost use Rattle.package_text.specs.Pieces.{type_by, maybe_by};
 
 use std::alloc::{AllocError, Global};
 use tables::{Definition, Primitive, Resolve, TypeDef, TypeDefKind, TypeId, ValType};
-use wit_syntax::TypeExpression;
+use wit_tokens::wit_syntax::TypeExpression;
 
-fn keyword(primitive: Primitive) -> wit_syntax::Primitive
+fn keyword(primitive: Primitive) -> wit_tokens::wit_syntax::Primitive
     ensures { result ≡ keyword_for primitive }
 {
     match primitive {
-        Primitive::Bool => wit_syntax::Primitive::Bool,
-        Primitive::S8 => wit_syntax::Primitive::S8,
-        Primitive::U8 => wit_syntax::Primitive::U8,
-        Primitive::S16 => wit_syntax::Primitive::S16,
-        Primitive::U16 => wit_syntax::Primitive::U16,
-        Primitive::S32 => wit_syntax::Primitive::S32,
-        Primitive::U32 => wit_syntax::Primitive::U32,
-        Primitive::S64 => wit_syntax::Primitive::S64,
-        Primitive::U64 => wit_syntax::Primitive::U64,
-        Primitive::Char => wit_syntax::Primitive::Char,
+        Primitive::Bool => wit_tokens::wit_syntax::Primitive::Bool,
+        Primitive::S8 => wit_tokens::wit_syntax::Primitive::S8,
+        Primitive::U8 => wit_tokens::wit_syntax::Primitive::U8,
+        Primitive::S16 => wit_tokens::wit_syntax::Primitive::S16,
+        Primitive::U16 => wit_tokens::wit_syntax::Primitive::U16,
+        Primitive::S32 => wit_tokens::wit_syntax::Primitive::S32,
+        Primitive::U32 => wit_tokens::wit_syntax::Primitive::U32,
+        Primitive::S64 => wit_tokens::wit_syntax::Primitive::S64,
+        Primitive::U64 => wit_tokens::wit_syntax::Primitive::U64,
+        Primitive::Char => wit_tokens::wit_syntax::Primitive::Char,
     }
 }
 
@@ -56,7 +56,7 @@ pub(crate) fn expression(
 {
     match ty {
         ValType::Primitive(primitive) => Ok(TypeExpression::Primitive(keyword(primitive))),
-        ValType::String => Ok(TypeExpression::Primitive(wit_syntax::Primitive::String)),
+        ValType::String => Ok(TypeExpression::Primitive(wit_tokens::wit_syntax::Primitive::String)),
         ValType::Id(id) => reference(alloc, resolve, id),
     }
 }

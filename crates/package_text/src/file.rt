@@ -1,7 +1,7 @@
 //! Whole packages.
 ghost use Rattle.std.specs.Prelude.{◌≡◌, ◌++◌, map, filter, IfOk, OnOk, OnErr};
 ghost use Rattle.std.specs.String.{string_bytes};
-ghost use Rattle.wit_syntax.specs.View.{item_view, file_view};
+ghost use Rattle.wit_tokens.specs.View.{item_view, file_view};
 ghost use Rattle.package_form.specs.Reached.{is_interface_of};
 ghost use Rattle.package_form.specs.Form.{IsInPackageForm};
 ghost use Rattle.package_text.specs.Tree.{interface_entry, world_written, file_of};
@@ -13,7 +13,7 @@ use package_form::own_package;
 use std::alloc::{AllocError, Global};
 use tables::Resolve;
 use wit_print::print_file;
-use wit_syntax::{Ast, Item};
+use wit_tokens::wit_syntax::{Ast, Item};
 
 /// The interfaces of the package at place `own`.
 fn push_interfaces(

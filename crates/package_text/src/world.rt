@@ -1,7 +1,7 @@
 //! Worlds: what is written for each of their items.
 ghost use Rattle.std.specs.Prelude.{◌≡◌, IfOk, IsTrue};
 ghost use Rattle.std.specs.List.{list_all};
-ghost use Rattle.wit_syntax.specs.View.{world_entry_view, item_view};
+ghost use Rattle.wit_tokens.specs.View.{world_entry_view, item_view};
 ghost use Rattle.package_form.specs.Form.{IsInPackageForm};
 ghost use Rattle.package_text.specs.Written.{direction_for};
 ghost use Rattle.package_text.specs.Tree.{item_written, world_written};
@@ -10,14 +10,14 @@ ghost use Rattle.package_text.specs.Pieces.{is_item};
 use crate::entry::{func, nowhere, path_to};
 use std::alloc::{AllocError, Global};
 use tables::{Direction, Resolve, World, WorldItem, WorldItemKind};
-use wit_syntax::Item;
+use wit_tokens::wit_syntax::Item;
 
-fn direction(direction: Direction) -> wit_syntax::Direction
+fn direction(direction: Direction) -> wit_tokens::wit_syntax::Direction
     ensures { result ≡ direction_for direction }
 {
     match direction {
-        Direction::Import => wit_syntax::Direction::Import,
-        Direction::Export => wit_syntax::Direction::Export,
+        Direction::Import => wit_tokens::wit_syntax::Direction::Import,
+        Direction::Export => wit_tokens::wit_syntax::Direction::Export,
     }
 }
 
@@ -25,21 +25,21 @@ fn item_tree(
     alloc: Global,
     resolve: &Resolve,
     item: WorldItem,
-) -> Result<wit_syntax::WorldItem, AllocError>
+) -> Result<wit_tokens::wit_syntax::WorldItem, AllocError>
     requires form { IsInPackageForm resolve.now }
     requires placed { IsTrue (is_item resolve.now item.kind) }
     ensures { IfOk result (λ i. world_entry_view i ≡ item_written resolve.now item) }
 {
     let kind = match item.kind {
         WorldItemKind::Interface(id) => {
-            wit_syntax::WorldItemKind::Interface(path_to(alloc, resolve, id)?)
+            wit_tokens::wit_syntax::WorldItemKind::Interface(path_to(alloc, resolve, id)?)
         }
         WorldItemKind::Function(id) => {
             let function = resolve.signature(id);
-            wit_syntax::WorldItemKind::Func(func(alloc, resolve, id.0 as usize, function)?)
+            wit_tokens::wit_syntax::WorldItemKind::Func(func(alloc, resolve, id.0 as usize, function)?)
         }
     };
-    Ok(wit_syntax::WorldItem {
+    Ok(wit_tokens::wit_syntax::WorldItem {
         direction: direction(item.direction),
         kind,
     })
@@ -59,7 +59,7 @@ pub(crate) fn world_tree(
     for item in world.items.as_slice() {
         items.push(item_tree(alloc, resolve, *item)?)?;
     }
-    Ok(Item::World(wit_syntax::World {
+    Ok(Item::World(wit_tokens::wit_syntax::World {
         span: nowhere(),
         name: world.name.copy(alloc)?,
         items,

@@ -1,8 +1,8 @@
 -- A file that stands alone: its package is in the form that packages have, and has distinct names in each scope.
 use Rattle.std.proofs.Common.{◌≡◌, ℕ, IsTrue, List, [], ◌++◌, map, flat_map, length, refl, ap, sym, ◌∙◌, subst, arith, All}
 use Rattle.std.specs.List.{list_all}
-use Rattle.wit_syntax.specs.Syntax.{File}
-use Rattle.wit_syntax.specs.FullNames.{file_has_full_names}
+use Rattle.wit_tokens.specs.Syntax.{File}
+use Rattle.wit_tokens.specs.FullNames.{file_has_full_names}
 use Rattle.tables.specs.PackageNames.{PackageParts}
 use Rattle.tables.specs.Names.{world_name}
 use Rattle.tables.specs.Package.{WorldMeaning, interface_names as names_in, trees as trees_in, world_meaning as meaning_in}

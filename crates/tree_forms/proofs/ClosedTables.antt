@@ -4,7 +4,7 @@ use Rattle.std.specs.List.{list_all, list_any}
 use Rattle.std.proofs.lemmas.Bool.{leb-true, le-leb}
 use Rattle.std.proofs.lemmas.List.{length-map, length-append, get_or_default}
 use Rattle.std.proofs.lemmas.List.Folds.{list_any-append}
-use Rattle.wit_syntax.specs.Syntax.{FileEntry, AnInterface, AWorld, File}
+use Rattle.wit_tokens.specs.Syntax.{FileEntry, AnInterface, AWorld, File}
 use Rattle.tables.specs.PackageNames.{PackageParts, own_name}
 use Rattle.tables.specs.Names.{full_name_in, world_name}
 use Rattle.tables.specs.Package.{NamedDefinition, WorldMeaning, references, interface_names as names_in, trees as trees_in, world_meaning as meaning_in, WithInterface, Tree}

@@ -1,9 +1,9 @@
 -- The names of the members of rows are those of what the rows define.
 use Rattle.std.proofs.Common.{◌≡◌, ℕ, true, cond, is_some, List, [], ◌∷◌, ◌++◌, map, Option, None, Some, refl, ap, sym, subst, ◌∙◌, All}
 use Rattle.std.specs.List.{list_all}
-use Rattle.wit_syntax.specs.Syntax.{Ty, Prim, Named, ListOf, OptionOf, TupleOf, ResultOf, TypeBody as Body, Alias, Record, Variant, Enumeration, FlagSet, Member, CaseOf}
-use Rattle.wit_syntax.specs.declared.ast.Primitive.{Primitive as Keyword}
-use Rattle.wit_syntax.specs.declared.ast.Primitive.TheVariants as keyword
+use Rattle.wit_tokens.specs.Syntax.{Ty, Prim, Named, ListOf, OptionOf, TupleOf, ResultOf, TypeBody as Body, Alias, Record, Variant, Enumeration, FlagSet, Member, CaseOf}
+use Rattle.wit_tokens.specs.declared.wit_syntax.ast.Primitive.{Primitive as Keyword}
+use Rattle.wit_tokens.specs.declared.wit_syntax.ast.Primitive.TheVariants as keyword
 use Rattle.tables.specs.Package.{Plain, AsTuple, AsEnum, AsOption, AsResult, Tree, PrimTree, TextTree, Reference, ListTree, RecordTree, VariantTree, FlagsTree, no_fields, field, Choices, no_choices, empty, holding, Meaning, IsUse, IsType, IsFunction, NamedDefinition, reference, meaning_of, read_choice, read_fields, read_params, read_cases, read_enum, TreeFields}
 use Rattle.tables.specs.declared.tables.ValType.{ValType}
 use Rattle.tables.specs.declared.tables.TypeName.{TypeName}

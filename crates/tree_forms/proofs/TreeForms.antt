@@ -9,8 +9,8 @@ use Rattle.atoms.specs.FullName.{is_package_label, is_version_or_none}
 use Rattle.atoms.specs.Label.{is_label}
 use Rattle.tables.specs.PackageNames.{PackageParts, own_name}
 use Rattle.tables.specs.Names.{full_name, world_name, full_name_in}
-use Rattle.wit_syntax.specs.Syntax.{FileEntry, AnInterface, AWorld, File}
-use Rattle.wit_syntax.specs.FullNames.{has_label}
+use Rattle.wit_tokens.specs.Syntax.{FileEntry, AnInterface, AWorld, File}
+use Rattle.wit_tokens.specs.FullNames.{has_label}
 use Rattle.tables.specs.Package.{Tree, NamedDefinition, named_by, reference, references, interface_names as names_in, definitions, definitions_from}
 use Rattle.tables.specs.declared.tables.TypeName.{TypeName}
 use Rattle.tables.specs.declared.tables.Owner.{Owner}

@@ -3,7 +3,7 @@ use Rattle.std.proofs.Common.{◌≡◌, ℕ, ◌+◌, ◌<◌, true, cond, ◌&
 use Rattle.std.specs.List.{list_all}
 use Rattle.std.proofs.lemmas.List.{append_cancel_left}
 use Rattle.atoms.specs.Label.{IsLabel}
-use Rattle.wit_syntax.specs.Syntax.{File}
+use Rattle.wit_tokens.specs.Syntax.{File}
 use Rattle.tables.specs.Tables.{are_earlier, name_types}
 use Rattle.tables.specs.Package.{Tree, NamedDefinition, definition_of, definitions_from, reference, references, package_of, interface_names as names_in}
 use Rattle.tables.specs.declared.tables.Definition.{Definition}

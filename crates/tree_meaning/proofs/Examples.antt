@@ -20,10 +20,10 @@ use Rattle.package_form.specs.Ids.{is_world_function}
 use Rattle.package_form.specs.Entries.{type_entries, Table, table_of}
 use Rattle.package_form.proofs.Examples.{p-postfix, found, all-distinct}
 use Rattle.package_form.proofs.Postfix.{used-postfix}
-use Rattle.wit_syntax.specs.declared.ast.Primitive.TheVariants as keyword
-use Rattle.wit_syntax.specs.declared.ast.Direction.{Direction as Way}
-use Rattle.wit_syntax.specs.declared.ast.Direction.TheVariants as way
-use Rattle.wit_syntax.specs.Syntax.{WorldEntry, PathTo, Ty, Prim, Named, ListOf, OptionOf, TupleOf, ResultOf, none, more, Absent, Present, Member, UsedAs, TypeBody as Body, Alias, Record, Variant, Enumeration, FlagSet, Function, Local, Foreign, Entry, Uses, Defines, Declares, Whole, Single, FileEntry, AnInterface, AWorld, File}
+use Rattle.wit_tokens.specs.declared.wit_syntax.ast.Primitive.TheVariants as keyword
+use Rattle.wit_tokens.specs.declared.wit_syntax.ast.Direction.{Direction as Way}
+use Rattle.wit_tokens.specs.declared.wit_syntax.ast.Direction.TheVariants as way
+use Rattle.wit_tokens.specs.Syntax.{WorldEntry, PathTo, Ty, Prim, Named, ListOf, OptionOf, TupleOf, ResultOf, none, more, Absent, Present, Member, UsedAs, TypeBody as Body, Alias, Record, Variant, Enumeration, FlagSet, Function, Local, Foreign, Entry, Uses, Defines, Declares, Whole, Single, FileEntry, AnInterface, AWorld, File}
 use Rattle.tree_meaning.specs.Declarations.{FunctionItem, TypeItem, interface_at, interface_tree, UsedItem, InterfaceTree, InterfaceNamed, ForeignNamed, FunctionOf, interfaces, file_worlds, full_interfaces, full_worlds, other_packages, named_definition, names_in_function, type_names, names_of_trees}
 use Rattle.tree_meaning.specs.Scopes.{scopes}
 use Rattle.tree_meaning.specs.Imports.{import_of, Import, no_package, no_imports, imports_of, interfaces_of, HasImport}

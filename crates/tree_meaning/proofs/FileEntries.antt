@@ -1,7 +1,7 @@
 -- The interfaces and the worlds among the entries of a file.
 use Rattle.std.proofs.Common.{◌≡◌, ℕ, zero, suc, ◌+◌, ◌<◌, inl, inr, subst, List, [], ◌∷◌, ◌++◌, Option, None, Some, map, take, length, get_or, refl, ap, sym, ◌∙◌, arith, All, Contains}
 use Rattle.std.specs.List.{cons_option, filter_map}
-use Rattle.wit_syntax.specs.Syntax.{FileEntry, AnInterface, AWorld}
+use Rattle.wit_tokens.specs.Syntax.{FileEntry, AnInterface, AWorld}
 use Rattle.tree_meaning.specs.Declarations.{InterfaceTree, interface_tree, world_tree, interface_of, world_of, names_of_trees}
 use Rattle.tree_meaning.specs.Imports.{Imports}
 use Rattle.tree_meaning.specs.Resolves.{HasKnownNamesOf, IsKnownWorldOf}

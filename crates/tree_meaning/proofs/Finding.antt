@@ -3,7 +3,7 @@ use Rattle.std.proofs.Common.{◌≡◌, ℕ, suc, Bool, true, false, cond, List
 use Rattle.std.specs.Option.{option_map}
 use Rattle.std.specs.Str.{bytes_eq}
 use Rattle.std.proofs.lemmas.Slice.Eq.{bytes_eq-Decides}
-use Rattle.wit_syntax.specs.Syntax.{Entry, Uses, Defines, Declares}
+use Rattle.wit_tokens.specs.Syntax.{Entry, Uses, Defines, Declares}
 use Rattle.tree_meaning.specs.Declarations.{TypeItem, FunctionItem, InterfaceTree, interface_tree, entry_uses, entry_types, entry_functions, path_uses, type_names, named_definition, names_in_function}
 use Rattle.tree_meaning.specs.Knowing.{KnowsEntry, LacksEntry, LacksAny}
 use Rattle.tree_meaning.specs.Imports.{Imports}

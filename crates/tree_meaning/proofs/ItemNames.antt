@@ -1,6 +1,6 @@
 -- The scopes of a syntax tree, seen from what its interfaces declare.
 use Rattle.std.proofs.Common.{◌≡◌, ℕ, List, [], ◌∷◌, ◌++◌, map, flat_map, filter_map, refl, ap, sym, subst, append_assoc, All}
-use Rattle.wit_syntax.specs.Syntax.{PathTo, UsedAs, Entry, Uses, Defines, Declares, FileEntry, AnInterface, AWorld}
+use Rattle.wit_tokens.specs.Syntax.{PathTo, UsedAs, Entry, Uses, Defines, Declares, FileEntry, AnInterface, AWorld}
 use Rattle.package_form.specs.Scope.{AreDistinct}
 use Rattle.tree_meaning.specs.Declarations.{UsedItem, TypeItem, FunctionItem, InterfaceTree, local_name, used_item, entry_uses, entry_types, entry_functions, interface_of, use_local, type_name, member_name, definition_scopes, entry_names, entry_scopes}
 use Rattle.tree_meaning.specs.Scopes.{interface_scopes}

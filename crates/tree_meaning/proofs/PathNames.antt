@@ -2,12 +2,12 @@
 use Rattle.std.proofs.Common.{◌≡◌, ◌+◌, ◌<◌, ◌∙◌, ℕ, zero, suc, true, false, Bool, ◌||◌, IsTrue, ◌↔◌, is_some, List, [], ◌∷◌, Option, map, flat_map, take, length, get_or, ap, refl, sym, subst, arith, All}
 use Rattle.std.specs.Prelude.{Contains, Some, None}
 use Rattle.std.specs.List.{list_any}
-use Rattle.wit_syntax.specs.Syntax.{PathTo, Local, Foreign, Whole}
-use Rattle.wit_syntax.specs.View.{path_view, version_view}
-use Rattle.wit_syntax.specs.declared.ast.Direction.{Direction}
-use Rattle.wit_syntax.specs.declared.ast.PackageId.{PackageId}
-use Rattle.wit_syntax.specs.declared.ast.Path.{Path}
-use Rattle.wit_syntax.specs.declared.ast.Path.TheVariants as path
+use Rattle.wit_tokens.specs.Syntax.{PathTo, Local, Foreign, Whole}
+use Rattle.wit_tokens.specs.View.{path_view, version_view}
+use Rattle.wit_tokens.specs.declared.wit_syntax.ast.Direction.{Direction}
+use Rattle.wit_tokens.specs.declared.wit_syntax.ast.PackageId.{PackageId}
+use Rattle.wit_tokens.specs.declared.wit_syntax.ast.Path.{Path}
+use Rattle.wit_tokens.specs.declared.wit_syntax.ast.Path.TheVariants as path
 use Rattle.tables.specs.PackageNames.{PackageParts}
 use Rattle.package_form.specs.Closed.{is_same_package}
 use Rattle.package_form.proofs.Lists.{contains-here, contains-later, flat_map-more, all-append}

@@ -2,9 +2,9 @@
 use Rattle.std.proofs.Common.{◌≡◌, ℕ, List, [], ◌∷◌, ◌++◌, flat_map, map, Option, None, Some, refl}
 use Rattle.std.specs.Prelude.{slice_index_or}
 use Rattle.std.specs.Option.{option_map}
-use Rattle.wit_syntax.specs.Syntax.{Ty, Prim, Named, ListOf, OptionOf, TupleOf, ResultOf, Tys, none, more, MaybeTy, Absent, Present, TypeBody as Body, Alias, Record, Variant, Enumeration, FlagSet, Member, CaseOf}
-use Rattle.wit_syntax.specs.declared.ast.Primitive.{Primitive as Keyword}
-use Rattle.wit_syntax.specs.declared.ast.Primitive.TheVariants as keyword
+use Rattle.wit_tokens.specs.Syntax.{Ty, Prim, Named, ListOf, OptionOf, TupleOf, ResultOf, Tys, none, more, MaybeTy, Absent, Present, TypeBody as Body, Alias, Record, Variant, Enumeration, FlagSet, Member, CaseOf}
+use Rattle.wit_tokens.specs.declared.wit_syntax.ast.Primitive.{Primitive as Keyword}
+use Rattle.wit_tokens.specs.declared.wit_syntax.ast.Primitive.TheVariants as keyword
 use Rattle.tables.specs.Package.{Tree, PrimTree, TextTree, Reference, ListTree, RecordTree, VariantTree, FlagsTree, no_fields, field, Choices, no_choices, empty, holding, read_val, read_choice, read_tuple, read_fields, read_params, read_cases, read_kind, read_enum, TreeFields}
 use Rattle.tables.specs.declared.tables.TypeId.{TypeId}
 use Rattle.tables.specs.declared.tables.ValType.{ValType}

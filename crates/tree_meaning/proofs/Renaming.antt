@@ -3,9 +3,9 @@ use Rattle.std.proofs.Common.{◌≡◌, ℕ, zero, suc, List, [], ◌∷◌, �
 use Rattle.std.specs.Prelude.{slice_index_or}
 use Rattle.std.specs.Option.{option_map}
 use Rattle.std.proofs.lemmas.List.{map-append}
-use Rattle.wit_syntax.specs.Syntax.{Ty, Prim, Named, ListOf, OptionOf, TupleOf, ResultOf, Tys, none, more, MaybeTy, Absent, Present, TypeBody as Body, Alias, Record, Variant, Enumeration, FlagSet, Member, CaseOf}
-use Rattle.wit_syntax.specs.declared.ast.Primitive.{Primitive as Keyword}
-use Rattle.wit_syntax.specs.declared.ast.Primitive.TheVariants as keyword
+use Rattle.wit_tokens.specs.Syntax.{Ty, Prim, Named, ListOf, OptionOf, TupleOf, ResultOf, Tys, none, more, MaybeTy, Absent, Present, TypeBody as Body, Alias, Record, Variant, Enumeration, FlagSet, Member, CaseOf}
+use Rattle.wit_tokens.specs.declared.wit_syntax.ast.Primitive.{Primitive as Keyword}
+use Rattle.wit_tokens.specs.declared.wit_syntax.ast.Primitive.TheVariants as keyword
 use Rattle.tables.specs.Package.{Key, key_of, Tree, PrimTree, TextTree, Reference, ListTree, RecordTree, VariantTree, FlagsTree, no_fields, field, Choices, no_choices, empty, holding, Plain, AsTuple, AsResult, AsEnum, Meaning, IsUse, IsType, IsFunction, NamedDefinition, read_val, read_choice, read_tuple, read_fields, read_params, read_cases, read_enum, read_kind, reference, reference_by, meaning_of, named_function, function_meaning as called, named_by, definition_of, definitions_from, references, ItemMeaning, WithInterface, WithFunction, function_item, item_meaning, TreeFields}
 use Rattle.tables.specs.PackageNames.{own_name}
 use Rattle.tables.specs.Tables.{function_of}

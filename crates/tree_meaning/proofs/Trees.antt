@@ -12,7 +12,7 @@ use Rattle.std.specs.Option.{option_map}
 use Rattle.std.specs.String.{string_bytes}
 use Rattle.std.specs.declared.string.String.{String}
 use Rattle.std.specs.declared.alloc.Global.{Global}
-use Rattle.wit_syntax.specs.View.{version_view}
+use Rattle.wit_tokens.specs.View.{version_view}
 use Rattle.placement.specs.Order.{IsPlacement}
 use Rattle.tables.specs.Package.{Key, key_of, Tree, Reference, IsUse, NamedDefinition, ItemMeaning, WithInterface, WorldMeaning, trees, world_meaning, reference, reference_by, read_kind, references, package_of, interface_names as names_in, named_by, meaning_of, named_function, function_meaning as called, definition_of, definitions_from}
 use Rattle.tree_meaning.specs.Resolved.{interface_meaning}

@@ -2,9 +2,9 @@
 use Rattle.std.proofs.Common.{◌≡◌, ℕ, List, [], ◌∷◌, Option, None, Some, All, refl, ap, Contains}
 use Rattle.std.specs.List.{cons_option, filter_map}
 use Rattle.package_form.proofs.Lists.{all-none, all-cons, contains-here, contains-later}
-use Rattle.wit_syntax.specs.View.{path_view}
-use Rattle.wit_syntax.specs.declared.ast.Path.{Path}
-use Rattle.wit_syntax.specs.declared.ast.Path.TheVariants as path
+use Rattle.wit_tokens.specs.View.{path_view}
+use Rattle.wit_tokens.specs.declared.wit_syntax.ast.Path.{Path}
+use Rattle.wit_tokens.specs.declared.wit_syntax.ast.Path.TheVariants as path
 use Rattle.tables.specs.PackageNames.{PackageParts}
 use Rattle.tables.specs.Names.{full_name_in}
 use Rattle.tree_meaning.specs.Declarations.{UsedItem, InterfaceTree, path_package, path_interface, own_use, own_interface, use_interface}

@@ -2,7 +2,7 @@
 use Rattle.std.proofs.Common.{◌≡◌, ℕ, zero, suc, ◌+◌, true, ◌&&◌, ◌==◌, nat_lt, List, [], ◌∷◌, ◌++◌, Option, None, Some, map, flat_map, length, get_or, slice_get, refl, ap, sym, ◌∙◌}
 use Rattle.std.specs.List.{list_all}
 use Rattle.std.specs.Option.{option_map}
-use Rattle.wit_syntax.specs.Syntax.{Ty, Prim, Named, ListOf, OptionOf, TupleOf, ResultOf, Tys, none, more, MaybeTy, Absent, Present, Member}
+use Rattle.wit_tokens.specs.Syntax.{Ty, Prim, Named, ListOf, OptionOf, TupleOf, ResultOf, Tys, none, more, MaybeTy, Absent, Present, Member}
 use Rattle.tables.specs.Tables.{is_type, option_all, function_all, function_of, is_owner_world, is_function_of, is_placed_item}
 use Rattle.tables.specs.Package.{Tree, ListTree, ItemMeaning, WithInterface, WorldMeaning, read_val, read_params, function_item, item_meaning}
 use Rattle.package_form.specs.Postfix.{unnamed_parameter}

@@ -1,10 +1,10 @@
 -- What the interfaces of a syntax tree declare: used names, types and functions, each in source order; what its worlds import and export;
 -- and what they name.
 use Rattle.std.specs.Prelude.{ℕ, List, [], ◌∷◌, ◌++◌, map, flat_map, filter_map, Option, None, Some, slice_index_or, unwrap_or}
-use Rattle.wit_syntax.specs.Syntax.{Ty, Prim, Named, ListOf, OptionOf, TupleOf, ResultOf, Tys, none, more, MaybeTy, Absent, Present, Alias, Record, Variant, Enumeration, FlagSet, Function, Member, CaseOf, PathTo, Local, Foreign, UsedAs, Entry, Uses, Defines, Declares, WorldEntry, Whole, Single, FileEntry, AnInterface, AWorld, File, TypeBody}
+use Rattle.wit_tokens.specs.Syntax.{Ty, Prim, Named, ListOf, OptionOf, TupleOf, ResultOf, Tys, none, more, MaybeTy, Absent, Present, Alias, Record, Variant, Enumeration, FlagSet, Function, Member, CaseOf, PathTo, Local, Foreign, UsedAs, Entry, Uses, Defines, Declares, WorldEntry, Whole, Single, FileEntry, AnInterface, AWorld, File, TypeBody}
 use Rattle.tables.specs.PackageNames.{PackageParts, own_name}
 use Rattle.tables.specs.Names.{full_name_in}
-use Rattle.wit_syntax.specs.declared.ast.Direction.{Direction}
+use Rattle.wit_tokens.specs.declared.wit_syntax.ast.Direction.{Direction}
 
 -- `use interface.{name as local}`, of an interface of the file's own package or of another one
 pub record UsedItem : Type 0 where

@@ -3,7 +3,7 @@ use Rattle.std.specs.Prelude.{◌≡◌, ◌≤◌, ℕ, List, [], ◌∷◌, �
 use Rattle.std.specs.Option.{option_map}
 use Rattle.std.specs.String.{string_bytes}
 use Rattle.tables.specs.PackageNames.{PackageParts}
-use Rattle.wit_syntax.specs.declared.ast.PackageId.{PackageId}
+use Rattle.wit_tokens.specs.declared.wit_syntax.ast.PackageId.{PackageId}
 use Rattle.package_form.specs.Entries.{Table, type_entries}
 use Rattle.package_form.specs.Ids.{type_id, function_id}
 use Rattle.tree_meaning.specs.Resolves.{interfaces_behind}

@@ -1,8 +1,8 @@
 -- What it takes of imports for the table of a package behind them to be one that packages have.
 use Rattle.std.specs.Prelude.{◌≡◌, ◌<◌, ◌⊎◌, ℕ, List, [], length, All, IsTrue, Contains, Some}
-use Rattle.wit_syntax.specs.Syntax.{File}
-use Rattle.wit_syntax.specs.FullNames.{file_has_full_names}
-use Rattle.wit_syntax.specs.declared.ast.Direction.{Direction}
+use Rattle.wit_tokens.specs.Syntax.{File}
+use Rattle.wit_tokens.specs.FullNames.{file_has_full_names}
+use Rattle.wit_tokens.specs.declared.wit_syntax.ast.Direction.{Direction}
 use Rattle.tables.specs.PackageNames.{PackageParts}
 use Rattle.tables.specs.declared.tables.Resolve.{Resolve}
 use Rattle.package_form.specs.Closed.{are_apart, has_each_package}

@@ -2,7 +2,7 @@
 use Rattle.std.specs.Prelude.{◌≡◌, ◌⊎◌, ℕ, List, All, Contains}
 use Rattle.std.specs.Map.{lookup}
 use Rattle.std.specs.Str.{bytes_eq}
-use Rattle.wit_syntax.specs.Syntax.{PathTo, Local, Foreign, Entry, Uses, Defines, Declares, FileEntry, AnInterface, AWorld}
+use Rattle.wit_tokens.specs.Syntax.{PathTo, Local, Foreign, Entry, Uses, Defines, Declares, FileEntry, AnInterface, AWorld}
 use Rattle.tree_meaning.specs.Declarations.{UsedItem, InterfaceTree, ItemTree, WorldTree, interface_tree, world_tree, names_of_trees, path_uses, type_names, named_definition, names_in_function}
 use Rattle.tree_meaning.specs.Imports.{Imports, HasImport}
 use Rattle.tree_meaning.specs.Resolves.{place_of, IsKnownUseOf, IsUnknownUse, IsUnknownName, IsUnknownIn, HasKnownNamesOf, IsUnknownItem, IsUnknownInWorld, IsKnownWorldOf}

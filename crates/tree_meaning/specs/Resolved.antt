@@ -1,10 +1,10 @@
 -- What the syntax stands for in an interface: each name for that name of the interface's scope.
 use Rattle.std.specs.Prelude.{ℕ, List, [], ◌∷◌, ◌++◌, map, slice_index_or, Option, None, Some}
-use Rattle.wit_syntax.specs.Syntax.{Ty, Prim, Named, ListOf, OptionOf, TupleOf, ResultOf, Tys, none, more, MaybeTy, Absent, Present, Alias, Record, Variant, Enumeration, FlagSet, Member, CaseOf, TypeBody}
-use Rattle.wit_syntax.specs.declared.ast.Direction.{Direction as Syntax}
-use Rattle.wit_syntax.specs.declared.ast.Direction.TheVariants as syntax
-use Rattle.wit_syntax.specs.declared.ast.Primitive.{Primitive as Keyword}
-use Rattle.wit_syntax.specs.declared.ast.Primitive.TheVariants as keyword
+use Rattle.wit_tokens.specs.Syntax.{Ty, Prim, Named, ListOf, OptionOf, TupleOf, ResultOf, Tys, none, more, MaybeTy, Absent, Present, Alias, Record, Variant, Enumeration, FlagSet, Member, CaseOf, TypeBody}
+use Rattle.wit_tokens.specs.declared.wit_syntax.ast.Direction.{Direction as Syntax}
+use Rattle.wit_tokens.specs.declared.wit_syntax.ast.Direction.TheVariants as syntax
+use Rattle.wit_tokens.specs.declared.wit_syntax.ast.Primitive.{Primitive as Keyword}
+use Rattle.wit_tokens.specs.declared.wit_syntax.ast.Primitive.TheVariants as keyword
 use Rattle.canonical_abi.specs.Labelled.{none_label, some_label, ok_label, error_label}
 use Rattle.tables.specs.declared.tables.Direction.{Direction}
 use Rattle.tables.specs.declared.tables.Direction.TheVariants as direction

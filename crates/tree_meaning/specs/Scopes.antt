@@ -1,6 +1,6 @@
 -- The scopes of a syntax tree, in which names differ in more than the case of their letters.
 use Rattle.std.specs.Prelude.{ℕ, List, ◌∷◌, map, flat_map}
-use Rattle.wit_syntax.specs.Syntax.{FileEntry, AnInterface, AWorld, File}
+use Rattle.wit_tokens.specs.Syntax.{FileEntry, AnInterface, AWorld, File}
 use Rattle.tables.specs.PackageNames.{PackageParts}
 use Rattle.package_form.specs.Naming.{world_scopes}
 use Rattle.tree_meaning.specs.Declarations.{item_scopes, world_tree, full_world, package_named}

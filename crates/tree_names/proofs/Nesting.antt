@@ -2,9 +2,9 @@
 use Rattle.std.proofs.Common.{◌≡◌, ℕ, zero, suc, ◌+◌, ◌<◌, ◌≤◌, Bool, true, false, ◌&&◌, nat_le, List, [], ◌∷◌, ◌++◌, map, take, length, get_or, refl, ap, sym, ◌∙◌, arith}
 use Rattle.std.specs.List.{list_all}
 use Rattle.std.proofs.lemmas.Bool.{le-leb, leb-true, lt-leb, leb-false}
-use Rattle.wit_syntax.specs.Syntax.{depth_all, tys_of, ty_depth}
-use Rattle.wit_syntax.specs.View.{ty_view}
-use Rattle.wit_syntax.specs.declared.ast.TypeExpression.{TypeExpression}
+use Rattle.wit_tokens.specs.Syntax.{depth_all, tys_of, ty_depth}
+use Rattle.wit_tokens.specs.View.{ty_view}
+use Rattle.wit_tokens.specs.declared.wit_syntax.ast.TypeExpression.{TypeExpression}
 use Rattle.tree_meaning.specs.Declarations.{named, named_all}
 
 depth-among : (xs : List TypeExpression) (k : ℕ) (x : TypeExpression) → k < length xs → x ≡ get_or xs k x → ty_depth (ty_view x) ≤ depth_all (tys_of (map ty_view xs))

@@ -2,14 +2,14 @@
 use Rattle.std.proofs.Common.{◌≡◌, ℕ, List, [], ◌∷◌, map, refl, ap, sym}
 use Rattle.tables.specs.PackageNames.{PackageParts}
 use Rattle.tables.specs.Package.{ItemMeaning}
-use Rattle.wit_syntax.specs.Syntax.{Member}
-use Rattle.wit_syntax.specs.View.{world_entry_view}
-use Rattle.wit_syntax.specs.declared.ast.WorldItem.{WorldItem}
-use Rattle.wit_syntax.specs.declared.ast.WorldItemKind.{WorldItemKind}
-use Rattle.wit_syntax.specs.declared.ast.WorldItemKind.TheVariants as world
-use Rattle.wit_syntax.specs.declared.ast.Direction.{Direction}
-use Rattle.wit_syntax.specs.declared.ast.Path.{Path}
-use Rattle.wit_syntax.specs.declared.ast.Path.TheVariants as path
+use Rattle.wit_tokens.specs.Syntax.{Member}
+use Rattle.wit_tokens.specs.View.{world_entry_view}
+use Rattle.wit_tokens.specs.declared.wit_syntax.ast.WorldItem.{WorldItem}
+use Rattle.wit_tokens.specs.declared.wit_syntax.ast.WorldItemKind.{WorldItemKind}
+use Rattle.wit_tokens.specs.declared.wit_syntax.ast.WorldItemKind.TheVariants as world
+use Rattle.wit_tokens.specs.declared.wit_syntax.ast.Direction.{Direction}
+use Rattle.wit_tokens.specs.declared.wit_syntax.ast.Path.{Path}
+use Rattle.wit_tokens.specs.declared.wit_syntax.ast.Path.TheVariants as path
 use Rattle.package_form.specs.Naming.{item_direction, item_parameters, field_labels, world_scopes}
 use Rattle.tree_meaning.specs.Declarations.{item_tree, full_item, full_world, world_tree, member_name}
 use Rattle.tree_meaning.specs.Resolved.{direction_meaning, fields_of_labelled, member_meaning, tree_item_meaning, meaning_of_world}

@@ -1,6 +1,6 @@
 //! 40: names of one scope differ in more than the case of their letters.
 ghost use Rattle.std.specs.Prelude.{◌≡◌, ◌++◌, ◌∷◌, [], ◌⊎◌, List, ℕ, map, All, IfOk, IfErr, OnOk};
-ghost use Rattle.wit_syntax.specs.View.{used_view, field_view, case_view, definition_view, entry_view, item_view};
+ghost use Rattle.wit_tokens.specs.View.{used_view, field_view, case_view, definition_view, entry_view, item_view};
 ghost use Rattle.tables.specs.PackageNames.{PackageParts};
 ghost use Rattle.tables.specs.Package.{ItemMeaning};
 ghost use Rattle.tree_meaning.specs.Declarations.{local_name, member_name, tree_case_name, definition_scopes, entry_names, entry_scopes, item_scopes};
@@ -16,7 +16,7 @@ use package_names::{Scope, Sides};
 use std::alloc::{AllocError, Global};
 use tables::{Name, PackageName, ResolveError};
 use tree_scopes::{local_name, package_name, side_of};
-use wit_syntax::{
+use wit_tokens::wit_syntax::{
     Case, Field, InterfaceItem, Item, Path, TypeDefKind, UsedName, WorldItem, WorldItemKind,
 };
 

@@ -12,7 +12,7 @@ use placement::{OrderError, placement};
 use std::alloc::{AllocError, Global};
 use tables::{ResolveError, Sequence};
 use tree_scopes::{Declarations, Names, UsedType, interface_names, push_types};
-use wit_syntax::Path;
+use wit_tokens::wit_syntax::Path;
 
 /// The places of these names, without those that don't stand there.
 fn places(alloc: Global, names: &Names, wanted: &[&Label]) -> Result<Sequence<usize>, AllocError>

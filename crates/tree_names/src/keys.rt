@@ -3,7 +3,7 @@ use atoms::{KeyedState, Label, NameKey};
 use package_names::FEW;
 use tables::{Definition, Resolve};
 use tree_scopes::{interface_label, local_name};
-use wit_syntax::{
+use wit_tokens::wit_syntax::{
     Ast, Case, Field, InterfaceItem, Item, PackageId, TypeDefKind, UsedName, WorldItem,
     WorldItemKind,
 };

@@ -1,13 +1,13 @@
 //! The names of types in a syntax tree.
 ghost use Rattle.std.specs.Prelude.{◌≡◌, ◌++◌, map, flat_map, OnOk, IfOk};
-ghost use Rattle.wit_syntax.specs.Syntax.{tys_of};
-ghost use Rattle.wit_syntax.specs.View.{ty_view, boxed_view, optional_view, field_view, case_view, definition_view, function_view};
+ghost use Rattle.wit_tokens.specs.Syntax.{tys_of};
+ghost use Rattle.wit_tokens.specs.View.{ty_view, boxed_view, optional_view, field_view, case_view, definition_view, function_view};
 ghost use Rattle.tree_meaning.specs.Declarations.{named, named_all, named_maybe, named_if, named_member, named_case, named_definition, names_in_function};
 ghost use Rattle.tree_scopes.specs.Lent.{lent_names};
 
 use atoms::Label;
 use std::alloc::{AllocError, Global};
-use wit_syntax::{Case, Field, FuncType, TypeDefKind, TypeExpression};
+use wit_tokens::wit_syntax::{Case, Field, FuncType, TypeDefKind, TypeExpression};
 
 /// Appends the names that a type names, from the left.
 #[cycle(named)]

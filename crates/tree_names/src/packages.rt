@@ -1,6 +1,6 @@
 //! 47: the packages that paths name.
 ghost use Rattle.std.specs.Prelude.{map, flat_map, All, Contains, OnOk, IfErr, IfSome, IfNone};
-ghost use Rattle.wit_syntax.specs.View.{path_view, entry_view, world_entry_view, item_view};
+ghost use Rattle.wit_tokens.specs.View.{path_view, entry_view, world_entry_view, item_view};
 ghost use Rattle.tree_meaning.specs.Declarations.{path_packages, entry_packages, world_entry_packages, file_entry_packages};
 ghost use Rattle.tree_meaning.specs.Finished.{header_name};
 ghost use Rattle.tree_meaning.specs.Knowing.{IsLacking, RefusesPackage};
@@ -8,7 +8,7 @@ ghost use Rattle.tree_meaning.specs.Knowing.{IsLacking, RefusesPackage};
 use std::alloc::Global;
 use tables::{PackageName, ResolveError};
 use tree_scopes::{has_package, package_name};
-use wit_syntax::{InterfaceItem, Item, PackageId, Path, WorldItem, WorldItemKind};
+use wit_tokens::wit_syntax::{InterfaceItem, Item, PackageId, Path, WorldItem, WorldItemKind};
 
 /// The package that a path names, where none of these has that name.
 fn lacking<'a>(packages: &[PackageName], path: &'a Path) -> Option<&'a PackageId>

@@ -1,7 +1,7 @@
 //! What the interfaces of a tree declare, if each name stands for something: 43, 45 for nesting, 40, 47 and 41.
 ghost use Rattle.std.specs.Prelude.{◌≡◌, true, map, filter_map, All, IfOk, IfErr, OnOk};
 ghost use Rattle.atoms.specs.Label.{IsLabel};
-ghost use Rattle.wit_syntax.specs.View.{item_view, file_view};
+ghost use Rattle.wit_tokens.specs.View.{item_view, file_view};
 ghost use Rattle.tree_meaning.specs.Declarations.{interface_of, interfaces, names_of_trees};
 ghost use Rattle.tree_meaning.specs.Imports.{imports_of};
 ghost use Rattle.tree_meaning.specs.Resolves.{ResolveRefusesOf, HasNoFaultsOf, file_fits};
@@ -15,7 +15,7 @@ use atoms::KeyedState;
 use std::alloc::{AllocError, Global};
 use tables::ResolveError;
 use tree_scopes::{Declarations, Imports, package_name};
-use wit_syntax::{Ast, Item};
+use wit_tokens::wit_syntax::{Ast, Item};
 
 fn all_declarations<'a>(
     alloc: Global,

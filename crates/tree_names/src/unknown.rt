@@ -1,7 +1,7 @@
 //! 41: each name stands for something. Names are exact in case.
 ghost use Rattle.std.specs.Prelude.{◌≡◌, ◌↔◌, ◌<◌, All, Contains, IsTrue, IfOk, IfErr, OnOk, IfSome, IfNone, None, Some, map, filter_map, length};
 ghost use Rattle.atoms.specs.Label.{IsLabel};
-ghost use Rattle.wit_syntax.specs.View.{entry_view, path_view, used_view, world_entry_view, item_view};
+ghost use Rattle.wit_tokens.specs.View.{entry_view, path_view, used_view, world_entry_view, item_view};
 ghost use Rattle.tree_meaning.specs.Declarations.{InterfaceTree, path_uses, item_tree, interface_of, world_of, interface_at, names_of_trees};
 ghost use Rattle.tree_meaning.specs.Imports.{imports_of};
 ghost use Rattle.tree_meaning.specs.Resolves.{IsKnownIn, IsKnownUseOf, IsLackingIn, IsUnknownUse, HasKnownNamesOf, IsKnownItemOf, IsUnknownItem, IsKnownWorldOf};
@@ -15,7 +15,7 @@ use atoms::Label;
 use std::alloc::{AllocError, Global};
 use tables::ResolveError;
 use tree_scopes::{Declarations, Imports, Names, import_place, interface_label, interface_names};
-use wit_syntax::{InterfaceItem, Item, PackageId, Path, UsedName, WorldItem, WorldItemKind};
+use wit_tokens::wit_syntax::{InterfaceItem, Item, PackageId, Path, UsedName, WorldItem, WorldItemKind};
 
 /// What the names of a tree may stand for: its imports, and what its interfaces declare.
 #[derive(Drop)]

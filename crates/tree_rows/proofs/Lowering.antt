@@ -1,8 +1,8 @@
 -- Types that stand in a table, when more rows come behind it.
 use Rattle.std.proofs.Common.{◌≡◌, ℕ, zero, suc, ◌+◌, ◌<◌, List, [], ◌∷◌, ◌++◌, Option, Some, map, take, length, get_or, refl, ap, sym, ◌∙◌, subst, arith, All}
-use Rattle.wit_syntax.specs.Syntax.{Ty, tys_of}
-use Rattle.wit_syntax.specs.View.{ty_view}
-use Rattle.wit_syntax.specs.declared.ast.TypeExpression.{TypeExpression}
+use Rattle.wit_tokens.specs.Syntax.{Ty, tys_of}
+use Rattle.wit_tokens.specs.View.{ty_view}
+use Rattle.wit_tokens.specs.declared.wit_syntax.ast.TypeExpression.{TypeExpression}
 use Rattle.tables.specs.Tables.{is_type, option_all}
 use Rattle.tables.specs.Package.{Tree, Reference, ListTree, IsType, read_val, read_kind, Choices, RecordTree, VariantTree, Plain, AsTuple, TreeFields}
 use Rattle.package_form.specs.Postfix.{unnamed, unnamed_if, unnamed_field, unnamed_case}

@@ -3,8 +3,8 @@ use Rattle.std.proofs.Common.{◌≡◌, ◌+◌, ◌<◌, ◌∙◌, ◌++◌, 
 use Rattle.std.specs.Prelude.{Some, None}
 use Rattle.std.specs.Option.{option_map}
 use Rattle.std.proofs.lemmas.List.{length-append, length-map, get_or_append_left}
-use Rattle.wit_syntax.specs.Syntax.{PathTo, Local, Foreign, Whole}
-use Rattle.wit_syntax.specs.declared.ast.Direction.{Direction}
+use Rattle.wit_tokens.specs.Syntax.{PathTo, Local, Foreign, Whole}
+use Rattle.wit_tokens.specs.declared.wit_syntax.ast.Direction.{Direction}
 use Rattle.tables.specs.PackageNames.{PackageParts}
 use Rattle.tables.specs.Names.{full_name}
 use Rattle.tables.specs.Package.{interface_names as import_names}

@@ -1,8 +1,8 @@
 -- The order in which the definitions of a tree are made.
 use Rattle.std.specs.Prelude.{ℕ, ◌<◌, ◌≡◌, List, [], map, length, slice_index_or, All}
 use Rattle.atoms.specs.Label.{IsLabel}
-use Rattle.wit_syntax.specs.Syntax.{File}
-use Rattle.wit_syntax.specs.View.{file_view}
+use Rattle.wit_tokens.specs.Syntax.{File}
+use Rattle.wit_tokens.specs.View.{file_view}
 use Rattle.tables.specs.declared.tables.Resolve.{Resolve}
 use Rattle.placement.specs.Order.{IsPlacement}
 use Rattle.tree_meaning.specs.Declarations.{InterfaceTree, interfaces, interface_at, names_of_trees}

@@ -1,6 +1,6 @@
 //! Definitions of the syntax as kinds of the table.
 ghost use Rattle.std.specs.Prelude.{◌≡◌, map, flat_map, IfOk};
-ghost use Rattle.wit_syntax.specs.View.{field_view, case_view, definition_view};
+ghost use Rattle.wit_tokens.specs.View.{field_view, case_view, definition_view};
 ghost use Rattle.tables.specs.Package.{IsType};
 ghost use Rattle.tree_meaning.specs.Declarations.{named_member, named_case, named_definition};
 ghost use Rattle.tree_meaning.specs.Resolved.{member_meaning, case_meaning, definition_meaning};
@@ -18,7 +18,7 @@ pub fn lower_fields(
     alloc: Global,
     builder: &mut Builder,
     scope: &KnownTypes,
-    members: &[wit_syntax::Field],
+    members: &[wit_tokens::wit_syntax::Field],
 ) -> Result<Sequence<Field>, AllocError>
     requires known { KnowsNames scope.now (flat_map named_member (map field_view members.now)) }
     requires scoped { IsScope builder.old scope.now }
@@ -39,7 +39,7 @@ pub fn lower_parameters(
     alloc: Global,
     builder: &mut Builder,
     scope: &KnownTypes,
-    members: &[wit_syntax::Field],
+    members: &[wit_tokens::wit_syntax::Field],
 ) -> Result<Sequence<Parameter>, AllocError>
     requires known { KnowsNames scope.now (flat_map named_member (map field_view members.now)) }
     requires scoped { IsScope builder.old scope.now }
@@ -60,7 +60,7 @@ fn lower_cases(
     alloc: Global,
     builder: &mut Builder,
     scope: &KnownTypes,
-    items: &[wit_syntax::Case],
+    items: &[wit_tokens::wit_syntax::Case],
 ) -> Result<Sequence<Case>, AllocError>
     requires known { KnowsNames scope.now (flat_map named_case (map case_view items.now)) }
     requires scoped { IsScope builder.old scope.now }
@@ -91,24 +91,24 @@ pub fn lower_definition(
     alloc: Global,
     builder: &mut Builder,
     scope: &KnownTypes,
-    definition: &wit_syntax::TypeDefKind,
+    definition: &wit_tokens::wit_syntax::TypeDefKind,
 ) -> Result<TypeDefKind, AllocError>
     requires known { KnowsNames scope.now (named_definition (definition_view definition.now)) }
     requires scoped { IsScope builder.old scope.now }
     ensures { IfOk result (λ k. LowersKind builder.old builder.new k (IsType (definition_meaning (scope_name builder.old scope.now) (definition_view definition.now)))) }
 {
     match definition {
-        wit_syntax::TypeDefKind::Alias(target) => lower_kind(alloc, builder, scope, target),
-        wit_syntax::TypeDefKind::Record(fields) => {
+        wit_tokens::wit_syntax::TypeDefKind::Alias(target) => lower_kind(alloc, builder, scope, target),
+        wit_tokens::wit_syntax::TypeDefKind::Record(fields) => {
             let fields = lower_fields(alloc, builder, scope, fields)?;
             Ok(TypeDefKind::Record(fields))
         }
-        wit_syntax::TypeDefKind::Variant(cases) => {
+        wit_tokens::wit_syntax::TypeDefKind::Variant(cases) => {
             let cases = lower_cases(alloc, builder, scope, cases)?;
             Ok(TypeDefKind::Variant(cases))
         }
-        wit_syntax::TypeDefKind::Enum(names) => Ok(TypeDefKind::Enum(copy_labels(alloc, names)?)),
-        wit_syntax::TypeDefKind::Flags(labels) => Ok(TypeDefKind::Flags(copy_labels(
+        wit_tokens::wit_syntax::TypeDefKind::Enum(names) => Ok(TypeDefKind::Enum(copy_labels(alloc, names)?)),
+        wit_tokens::wit_syntax::TypeDefKind::Flags(labels) => Ok(TypeDefKind::Flags(copy_labels(
             alloc, labels,
         )?)),
     }

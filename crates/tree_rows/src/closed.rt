@@ -2,7 +2,7 @@
 ghost use Rattle.std.specs.Prelude.{◌≡◌, ◌<◌, ◌≤◌, ◌⊎◌, ◌+◌, ◌++◌, nat_lt, true, List, [], map, sum, length, IsTrue, IfOk, IfErr, OnOk, IfSome, IfNone, Some, ℕ};
 ghost use Rattle.tables.specs.Tables.{are_earlier, name_types};
 ghost use Rattle.tables.specs.Package.{interface_names};
-ghost use Rattle.wit_syntax.specs.View.{file_view};
+ghost use Rattle.wit_tokens.specs.View.{file_view};
 ghost use Rattle.tree_meaning.specs.Declarations.{package_named};
 ghost use Rattle.tree_meaning.specs.Resolves.{PassesLimit, interfaces_behind};
 ghost use Rattle.package_form.specs.Entries.{world_entries, entries_of};

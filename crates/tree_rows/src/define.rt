@@ -21,7 +21,7 @@ use atoms::Label;
 use std::alloc::{AllocError, Global};
 use tables::{Definition, Function, Owner, TypeDef, TypeDefKind, TypeId, TypeName};
 use tree_scopes::{KnownTypes, TypeIds, UsedType, interface_place};
-use wit_syntax::Func;
+use wit_tokens::wit_syntax::Func;
 
 /// Puts a type under a name at the end of the table; the scope then knows it.
 fn define_named(
@@ -48,7 +48,7 @@ fn define_type(
     alloc: Global,
     builder: &mut Builder,
     scope: &mut KnownTypes,
-    item: &wit_syntax::TypeDef,
+    item: &wit_tokens::wit_syntax::TypeDef,
 ) -> Result<(), AllocError>
     requires known { KnowsNames scope.old (named_definition (type_item item.now).definition) }
     requires scoped { IsScope builder.old scope.old }
@@ -102,7 +102,7 @@ fn define_types(
     alloc: Global,
     builder: &mut Builder,
     scope: &mut KnownTypes,
-    types: &[&wit_syntax::TypeDef],
+    types: &[&wit_tokens::wit_syntax::TypeDef],
     order: &[usize],
 ) -> Result<(), AllocError>
     requires earlier { NamesEarlier (scope_names scope.old) (map declared_type types.now) order.now }

@@ -1,7 +1,7 @@
 //! Types of the syntax as types of the table.
 ghost use Rattle.std.specs.Prelude.{◌≡◌, map, IfOk};
-ghost use Rattle.wit_syntax.specs.Syntax.{tys_of};
-ghost use Rattle.wit_syntax.specs.View.{ty_view, boxed_view, optional_view};
+ghost use Rattle.wit_tokens.specs.Syntax.{tys_of};
+ghost use Rattle.wit_tokens.specs.View.{ty_view, boxed_view, optional_view};
 ghost use Rattle.tree_meaning.specs.Declarations.{named, named_all, named_maybe, named_if};
 ghost use Rattle.tree_meaning.specs.Resolved.{resolved, resolved_all, resolved_maybe, resolved_if, val_of_primitive};
 ghost use Rattle.tree_meaning.specs.Building.{LowersInner, LowersIf, LowersAll, LowersType};
@@ -11,23 +11,23 @@ use crate::builder::Builder;
 use std::alloc::{AllocError, Global};
 use tables::{Primitive, Sequence, TypeDefKind, ValType};
 use tree_scopes::KnownTypes;
-use wit_syntax::TypeExpression;
+use wit_tokens::wit_syntax::TypeExpression;
 
-fn lower_primitive(primitive: wit_syntax::Primitive) -> ValType
+fn lower_primitive(primitive: wit_tokens::wit_syntax::Primitive) -> ValType
     ensures { result ≡ val_of_primitive primitive }
 {
     match primitive {
-        wit_syntax::Primitive::Bool => ValType::Primitive(Primitive::Bool),
-        wit_syntax::Primitive::S8 => ValType::Primitive(Primitive::S8),
-        wit_syntax::Primitive::U8 => ValType::Primitive(Primitive::U8),
-        wit_syntax::Primitive::S16 => ValType::Primitive(Primitive::S16),
-        wit_syntax::Primitive::U16 => ValType::Primitive(Primitive::U16),
-        wit_syntax::Primitive::S32 => ValType::Primitive(Primitive::S32),
-        wit_syntax::Primitive::U32 => ValType::Primitive(Primitive::U32),
-        wit_syntax::Primitive::S64 => ValType::Primitive(Primitive::S64),
-        wit_syntax::Primitive::U64 => ValType::Primitive(Primitive::U64),
-        wit_syntax::Primitive::Char => ValType::Primitive(Primitive::Char),
-        wit_syntax::Primitive::String => ValType::String,
+        wit_tokens::wit_syntax::Primitive::Bool => ValType::Primitive(Primitive::Bool),
+        wit_tokens::wit_syntax::Primitive::S8 => ValType::Primitive(Primitive::S8),
+        wit_tokens::wit_syntax::Primitive::U8 => ValType::Primitive(Primitive::U8),
+        wit_tokens::wit_syntax::Primitive::S16 => ValType::Primitive(Primitive::S16),
+        wit_tokens::wit_syntax::Primitive::U16 => ValType::Primitive(Primitive::U16),
+        wit_tokens::wit_syntax::Primitive::S32 => ValType::Primitive(Primitive::S32),
+        wit_tokens::wit_syntax::Primitive::U32 => ValType::Primitive(Primitive::U32),
+        wit_tokens::wit_syntax::Primitive::S64 => ValType::Primitive(Primitive::S64),
+        wit_tokens::wit_syntax::Primitive::U64 => ValType::Primitive(Primitive::U64),
+        wit_tokens::wit_syntax::Primitive::Char => ValType::Primitive(Primitive::Char),
+        wit_tokens::wit_syntax::Primitive::String => ValType::String,
     }
 }
 

@@ -3,7 +3,7 @@ use atoms::{KeyedState, Label};
 use package_names::IndexedTable;
 use tables::{InterfaceId, Sequence};
 use tree_scopes::{Declarations, Names};
-use wit_syntax::Ast;
+use wit_tokens::wit_syntax::Ast;
 
 /// A tree behind its imports, in the order of its definitions.
 #[derive(Clone, Copy)]

@@ -1,7 +1,7 @@
 //! The closed table of a syntax tree.
 ghost use Rattle.std.specs.Prelude.{◌≡◌, true, map, All, IsTrue, IfOk, IfErr, OnOk};
 ghost use Rattle.atoms.specs.Label.{IsLabel};
-ghost use Rattle.wit_syntax.specs.View.{file_view};
+ghost use Rattle.wit_tokens.specs.View.{file_view};
 ghost use Rattle.package_form.specs.Closed.{is_closed};
 ghost use Rattle.package_form.specs.Form.{IsInPackageForm};
 ghost use Rattle.package_form.specs.Naming.{package_scopes};
@@ -23,7 +23,7 @@ use std::alloc::Global;
 use tables::{Resolve, ResolveError};
 use tree_names::{declarations, interface_order, keyed_by_tree, type_orders};
 use tree_scopes::{Declarations, Imports, KnownTypes};
-use wit_syntax::Ast;
+use wit_tokens::wit_syntax::Ast;
 
 /// The closed table of a tree, whose definitions are made in this order behind the imports, whose scopes these are.
 fn planned(alloc: Global, plan: &Plan<'_>, scopes: Vec<KnownTypes>) -> Result<Resolve, ResolveError>

@@ -1,6 +1,6 @@
 //! The worlds of a tree: their functions as rows of the table, and their items.
 ghost use Rattle.std.specs.Prelude.{◌≡◌, ◌<◌, ◌++◌, [], map, filter_map, length, All, IfOk, IfErr};
-ghost use Rattle.wit_syntax.specs.View.{item_view};
+ghost use Rattle.wit_tokens.specs.View.{item_view};
 ghost use Rattle.tree_meaning.specs.Declarations.{FunctionOf, world_of, names_in_function};
 ghost use Rattle.tree_meaning.specs.Resolved.{direction_meaning, tree_item_meaning, meaning_of_world};
 ghost use Rattle.tables.specs.Package.{interface_names as named_imports};
@@ -8,7 +8,7 @@ ghost use Rattle.tree_meaning.specs.Imports.{imports_of};
 ghost use Rattle.tree_meaning.specs.Resolves.{IsKnownItemOf, IsKnownWorldOf};
 ghost use Rattle.tree_scopes.specs.Sources.{function_in_tree, declared_item, declared_world};
 ghost use Rattle.tree_meaning.specs.WorldRows.{DefinesItem, DefinesItems, DefinesWorld, DefinesWorlds};
-ghost use Rattle.wit_syntax.specs.declared.ast.Direction.{Direction as Way};
+ghost use Rattle.wit_tokens.specs.declared.wit_syntax.ast.Direction.{Direction as Way};
 ghost use Rattle.tables.specs.declared.tables.WorldItemKind.TheVariants.{Function as FunctionAt};
 
 use crate::bodies::lower_parameters;
@@ -23,7 +23,7 @@ use tables::{
     WorldItemKind,
 };
 use tree_scopes::{KnownTypes, TypeIds, interface_id, interface_place, side_of};
-use wit_syntax::{Func, Item};
+use wit_tokens::wit_syntax::{Func, Item};
 
 /// Defines a function of a world. It names no type, so no type is known to it.
 fn define_function(
@@ -58,7 +58,7 @@ fn define_item(
     plan: &Plan<'_>,
     builder: &mut Builder,
     world: WorldId,
-    item: &wit_syntax::WorldItem,
+    item: &wit_tokens::wit_syntax::WorldItem,
 ) -> Result<WorldItem, AllocError>
     requires known { IsKnownItemOf (imports_of plan.now.imports.now) plan.now.names.now (declared_item item.now) }
     requires names { builder.old.interfaces ≡ named_imports plan.now.imports.now ++ plan.now.names.now }
@@ -66,7 +66,7 @@ fn define_item(
 {
     let direction = side_of(item.direction);
     match &item.kind {
-        wit_syntax::WorldItemKind::Interface(path) => {
+        wit_tokens::wit_syntax::WorldItemKind::Interface(path) => {
             match interface_place(plan.imports, plan.names, path)? {
                 Some(place) => {
                     let kind = WorldItemKind::Interface(interface_id(place)?);
@@ -75,7 +75,7 @@ fn define_item(
                 None => unreachable!(),
             }
         }
-        wit_syntax::WorldItemKind::Func(function) => {
+        wit_tokens::wit_syntax::WorldItemKind::Func(function) => {
             let id = define_function(alloc, plan.keyed, builder, world, function)?;
             let kind = WorldItemKind::Function(id);
             Ok(WorldItem { direction, kind })
@@ -88,7 +88,7 @@ fn define_items(
     plan: &Plan<'_>,
     builder: &mut Builder,
     world: WorldId,
-    items: &[wit_syntax::WorldItem],
+    items: &[wit_tokens::wit_syntax::WorldItem],
 ) -> Result<Vec<WorldItem>, AllocError>
     requires known { All (IsKnownItemOf (imports_of plan.now.imports.now) plan.now.names.now) (map declared_item items.now) }
     requires names { builder.old.interfaces ≡ named_imports plan.now.imports.now ++ plan.now.names.now }
@@ -107,7 +107,7 @@ fn define_world(
     plan: &Plan<'_>,
     builder: &mut Builder,
     id: WorldId,
-    world: &wit_syntax::World,
+    world: &wit_tokens::wit_syntax::World,
 ) -> Result<World, AllocError>
     requires known { IsKnownWorldOf (imports_of plan.now.imports.now) plan.now.names.now (declared_world world.now) }
     requires names { builder.old.interfaces ≡ named_imports plan.now.imports.now ++ plan.now.names.now }

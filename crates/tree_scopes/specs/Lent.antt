@@ -1,8 +1,8 @@
 -- Parts of a syntax tree that are lent.
 use Rattle.std.specs.Prelude.{ℕ, List, map}
 use Rattle.std.specs.Borrow.{Bor}
-use Rattle.wit_syntax.specs.View.{definition_view, path_view}
-use Rattle.wit_syntax.specs.declared.ast.TypeDef.{TypeDef}
+use Rattle.wit_tokens.specs.View.{definition_view, path_view}
+use Rattle.wit_tokens.specs.declared.wit_syntax.ast.TypeDef.{TypeDef}
 use Rattle.tree_meaning.specs.Declarations.{UsedItem, TypeItem, path_package, path_interface}
 use Rattle.tree_scopes.specs.declared.declared.UsedType.{UsedType}
 

@@ -1,12 +1,12 @@
 -- What is declared by parts of a syntax tree that are lent.
 use Rattle.std.specs.Prelude.{ℕ, List, [], map}
 use Rattle.std.specs.Borrow.{Bor}
-use Rattle.wit_syntax.specs.Syntax.{PathTo}
-use Rattle.wit_syntax.specs.View.{function_view, world_entry_view}
-use Rattle.wit_syntax.specs.declared.ast.WorldItem.{WorldItem}
-use Rattle.wit_syntax.specs.declared.ast.World.{World}
+use Rattle.wit_tokens.specs.Syntax.{PathTo}
+use Rattle.wit_tokens.specs.View.{function_view, world_entry_view}
+use Rattle.wit_tokens.specs.declared.wit_syntax.ast.WorldItem.{WorldItem}
+use Rattle.wit_tokens.specs.declared.wit_syntax.ast.World.{World}
 use Rattle.tables.specs.PackageNames.{PackageParts}
-use Rattle.wit_syntax.specs.declared.ast.Func.{Func}
+use Rattle.wit_tokens.specs.declared.wit_syntax.ast.Func.{Func}
 use Rattle.tables.specs.Package.{Key, ItemMeaning, WorldMeaning}
 use Rattle.tree_meaning.specs.Resolved.{tree_item_meaning}
 use Rattle.tree_meaning.specs.Declarations.{UsedItem, FunctionItem, InterfaceTree, ItemTree, WorldTree, item_tree, full_item, world_tree, path_package, path_interface, use_interface}

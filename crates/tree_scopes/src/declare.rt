@@ -1,7 +1,7 @@
 //! The declarations of an interface of a syntax tree.
 ghost use Rattle.std.specs.Prelude.{◌≡◌, ◌++◌, map, All, OnOk, IfOk};
 ghost use Rattle.atoms.specs.Label.{IsLabel};
-ghost use Rattle.wit_syntax.specs.View.{entry_view, path_view, used_view};
+ghost use Rattle.wit_tokens.specs.View.{entry_view, path_view, used_view};
 ghost use Rattle.tree_meaning.specs.Declarations.{interface_tree, interface_tree_name, names_of_trees, path_uses, local_name, use_local, type_name};
 ghost use Rattle.tree_scopes.specs.Lent.{declared_type, used_item_of, lent_names};
 ghost use Rattle.tree_scopes.specs.Sources.{declared_tree};
@@ -10,7 +10,7 @@ use crate::declared::{Declarations, UsedType};
 use crate::names::Names;
 use atoms::{KeyedState, Label};
 use std::alloc::{AllocError, Global};
-use wit_syntax::{Interface, InterfaceItem, Path, TypeDef, Use, UsedName};
+use wit_tokens::wit_syntax::{Interface, InterfaceItem, Path, TypeDef, Use, UsedName};
 
 /// The name that a used type gets.
 pub fn local_name(used: &UsedName) -> &Label

@@ -5,7 +5,7 @@ ghost use Rattle.tree_scopes.specs.Lent.{declared_type, used_item_of};
 
 use crate::names::Names;
 use atoms::Label;
-use wit_syntax::{Func, Path, TypeDef};
+use wit_tokens::wit_syntax::{Func, Path, TypeDef};
 
 /// One used name: `use path.{name as local};`
 #[derive(Drop)]

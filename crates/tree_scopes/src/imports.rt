@@ -17,7 +17,7 @@ use std::alloc::{AllocError, Global};
 use tables::{
     Definition, Interface, InterfaceId, PackageName, Resolve, TypeId, TypeName, copy_version,
 };
-use wit_syntax::PackageId;
+use wit_tokens::wit_syntax::PackageId;
 
 /// Whether the package has the name that a path gives.
 fn is_package(package: &PackageName, id: &PackageId) -> bool

@@ -1,6 +1,6 @@
 //! The interface that a path names.
 ghost use Rattle.std.specs.Prelude.{◌≡◌, ◌<◌, ℕ, IfOk, IfErr, Some};
-ghost use Rattle.wit_syntax.specs.View.{path_view};
+ghost use Rattle.wit_tokens.specs.View.{path_view};
 ghost use Rattle.tree_meaning.specs.Declarations.{path_interface};
 ghost use Rattle.tree_meaning.specs.Imports.{interfaces_of};
 ghost use Rattle.tree_meaning.specs.Resolves.{path_place};
@@ -10,7 +10,7 @@ use crate::names::Names;
 use atoms::Label;
 use package_names::IndexedTable;
 use std::alloc::AllocError;
-use wit_syntax::Path;
+use wit_tokens::wit_syntax::Path;
 
 /// The place of the interface that a path names: among these of its own package, which stand behind the imports, or
 /// among the imports. No memory where no number can tell it.

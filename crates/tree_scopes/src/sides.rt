@@ -5,11 +5,11 @@ ghost use Rattle.tree_meaning.specs.Resolved.{direction_meaning};
 use tables::Direction;
 
 /// On which side of its world an item stands.
-pub fn side_of(direction: wit_syntax::Direction) -> Direction
+pub fn side_of(direction: wit_tokens::wit_syntax::Direction) -> Direction
     ensures { result ≡ direction_meaning direction }
 {
     match direction {
-        wit_syntax::Direction::Import => Direction::Import,
-        wit_syntax::Direction::Export => Direction::Export,
+        wit_tokens::wit_syntax::Direction::Import => Direction::Import,
+        wit_tokens::wit_syntax::Direction::Export => Direction::Export,
     }
 }

@@ -1,8 +1,8 @@
 //! Packages whose files were read.
 ghost use Rattle.std.specs.Prelude.{◌≡◌, ◌+◌, ◌≤◌, length, IsTrue, IfOk, OnOk};
 ghost use Rattle.std.specs.List.{sum_by};
-ghost use Rattle.wit_syntax.specs.FullNames.{file_has_full_names};
-ghost use Rattle.wit_syntax.specs.View.{file_view};
+ghost use Rattle.wit_tokens.specs.FullNames.{file_has_full_names};
+ghost use Rattle.wit_tokens.specs.View.{file_view};
 
 use crate::sources::Source;
 use crate::texts::{Header, Text, headers_of, texts_of, tree_of};
@@ -10,7 +10,7 @@ use package_adding::has_full_names;
 use std::alloc::{AllocError, Global};
 use tables::ResolveError;
 use wit_faults::{Around, Cause, Lexed, PackageRef, Report};
-use wit_syntax::Item;
+use wit_tokens::wit_syntax::Item;
 use wit_text::Ast;
 
 /// A package whose files were read, as one tree.

@@ -5,9 +5,9 @@ use Rattle.wit_tokens.specs.Tokens.{Lexeme, optional_lexeme}
 use Rattle.wit_tokens.specs.declared.error.TextError.{TextError}
 use Rattle.wit_tokens.specs.declared.error.TextError.TheVariants as error
 use Rattle.std.specs.Option.{option_map}
-use Rattle.wit_syntax.specs.Syntax.{FileEntry}
-use Rattle.wit_syntax.specs.View.{item_view}
-use Rattle.wit_syntax.specs.declared.ast.Item.{Item}
+use Rattle.wit_tokens.specs.Syntax.{FileEntry}
+use Rattle.wit_tokens.specs.View.{item_view}
+use Rattle.wit_tokens.specs.declared.wit_syntax.ast.Item.{Item}
 use Rattle.wit_grammar.specs.Faults.{Fails}
 
 pub Fails-on : {Y V : Type 0} (e : TextError) (r : Result Y TextError) (s : Result V TextError) → (r ≡ Err e → s ≡ Err e) → Fails e r → Fails e s

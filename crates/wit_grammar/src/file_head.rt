@@ -2,14 +2,14 @@
 ghost use Rattle.std.specs.Prelude.{◌≡◌, ◌<◌, ◌≤◌, ℕ, List, length, is_some, IfOk, IfSome};
 ghost use Rattle.std.specs.String.{string_bytes};
 ghost use Rattle.wit_tokens.specs.Tokens.{lexeme, lexemes};
-ghost use Rattle.wit_syntax.specs.View.{version_view, header_view};
+ghost use Rattle.wit_tokens.specs.View.{version_view, header_view};
 ghost use Rattle.wit_grammar.specs.Faults.{AnswersRead};
 ghost use Rattle.wit_grammar.specs.Grammar.{is_version_text, is_version_token, version, is_lower_name, lower_id, gate, first_feature, first_fault, package_word, version_or, header_fault, header_end, header};
 
 use crate::parser::{feature_or, label_of, met, name_of, punctuation, same};
 use atoms::{Label, is_package_label, is_version};
 use std::alloc::{AllocError, Global};
-use wit_syntax::PackageId;
+use wit_tokens::wit_syntax::PackageId;
 use wit_tokens::{Expected, Feature, Keyword, Punctuation, TextError, Token, TokenKind};
 
 /// The text, where a package's version may be spelled so.

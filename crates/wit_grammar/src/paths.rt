@@ -1,7 +1,7 @@
 //! Paths: the interfaces that uses and items of worlds name.
 ghost use Rattle.std.specs.Prelude.{◌≡◌, ◌<◌, ◌≤◌, length, IfOk};
 ghost use Rattle.wit_tokens.specs.Tokens.{lexeme, lexemes};
-ghost use Rattle.wit_syntax.specs.View.{path_view};
+ghost use Rattle.wit_tokens.specs.View.{path_view};
 ghost use Rattle.wit_grammar.specs.Faults.{AnswersRead};
 ghost use Rattle.wit_grammar.specs.Grammar.{foreign, behind_namespace, path, path_fault, path_end};
 
@@ -9,7 +9,7 @@ use crate::file_head::{version, version_or};
 use crate::parser::{identifier, met, punctuation, same};
 use atoms::Label;
 use std::alloc::Global;
-use wit_syntax::{PackageId, Path};
+use wit_tokens::wit_syntax::{PackageId, Path};
 use wit_tokens::{Expected, Punctuation, TextError, Token, TokenKind};
 
 /// Another package's interface, behind the names of its package.

@@ -2,14 +2,14 @@
 ghost use Rattle.std.specs.Prelude.{◌≡◌, ◌<◌, ◌≤◌, length, map, IfOk};
 ghost use Rattle.wit_tokens.specs.Lexing.{limit};
 ghost use Rattle.wit_tokens.specs.Tokens.{lexeme, lexemes};
-ghost use Rattle.wit_syntax.specs.View.{ty_view, boxed_view};
-ghost use Rattle.wit_syntax.specs.Syntax.{ResultOf};
+ghost use Rattle.wit_tokens.specs.View.{ty_view, boxed_view};
+ghost use Rattle.wit_tokens.specs.Syntax.{ResultOf};
 ghost use Rattle.wit_grammar.specs.Faults.{AnswersRead};
 ghost use Rattle.wit_grammar.specs.Grammar.{keyword_start, kind_start, is_start, begins_type, type_fault, begun, type_behind, type_phrase, is_bare, greater_wanted, close_list, close_angle, list, option, members, tuple, error_type, result_error, result_ok, result_parts, result_type, ty};
 
 use crate::parser::{is_name, label_of, met, punctuation, same, separator};
 use std::alloc::Global;
-use wit_syntax::{Primitive, TypeExpression};
+use wit_tokens::wit_syntax::{Primitive, TypeExpression};
 use wit_tokens::{Expected, Feature, Keyword, Punctuation, TextError, Token, TokenKind};
 
 /// What a keyword is at the place of a type.

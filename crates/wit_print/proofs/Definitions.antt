@@ -10,7 +10,7 @@ use Rattle.wit_tokens.specs.declared.token.Span.{Span}
 use Rattle.wit_tokens.specs.declared.error.TextError.{TextError}
 use Rattle.wit_tokens.specs.Tokens.{Lexeme}
 use Rattle.wit_tokens.specs.Lexing.{limit}
-use Rattle.wit_syntax.specs.Syntax.{Ty, Member, CaseOf, Alias, Record, Variant, Enumeration, FlagSet, Defines, TypeBody}
+use Rattle.wit_tokens.specs.Syntax.{Ty, Member, CaseOf, Alias, Record, Variant, Enumeration, FlagSet, Defines, TypeBody}
 use Rattle.wit_grammar.specs.declared.starts.ItemStart.{ItemStart}
 use Rattle.wit_grammar.specs.declared.starts.ItemStart.TheVariants as begin
 use Rattle.wit_grammar.specs.Faults.{is}

@@ -12,9 +12,9 @@ use Rattle.wit_tokens.specs.declared.token.Span.{Span}
 use Rattle.wit_tokens.specs.declared.error.TextError.{TextError}
 use Rattle.wit_tokens.specs.Tokens.{Lexeme, span_of}
 use Rattle.wit_tokens.specs.Lexing.{limit}
-use Rattle.wit_syntax.specs.declared.ast.Direction.{Direction}
-use Rattle.wit_syntax.specs.declared.ast.Direction.TheVariants as direction
-use Rattle.wit_syntax.specs.Syntax.{UsedAs, Function, PathTo, Local, Foreign, Alias, Record, Variant, Enumeration, FlagSet, Entry, Uses, Defines, Declares, WorldEntry, Whole, Single}
+use Rattle.wit_tokens.specs.declared.wit_syntax.ast.Direction.{Direction}
+use Rattle.wit_tokens.specs.declared.wit_syntax.ast.Direction.TheVariants as direction
+use Rattle.wit_tokens.specs.Syntax.{UsedAs, Function, PathTo, Local, Foreign, Alias, Record, Variant, Enumeration, FlagSet, Entry, Uses, Defines, Declares, WorldEntry, Whole, Single}
 use Rattle.wit_grammar.specs.declared.starts.ItemStart.{ItemStart}
 use Rattle.wit_grammar.specs.declared.starts.ItemStart.TheVariants as begin
 use Rattle.wit_grammar.specs.Faults.{is}

@@ -10,7 +10,7 @@ use Rattle.wit_tokens.specs.declared.token.Span.{Span}
 use Rattle.wit_tokens.specs.declared.error.Expected.TheVariants as want
 use Rattle.wit_tokens.specs.Tokens.{Lexeme, lexemes, same_kind, span_of}
 use Rattle.wit_tokens.specs.Lexing.{limit}
-use Rattle.wit_syntax.specs.Syntax.{Entry, WorldEntry, FileEntry, AnInterface, AWorld, HeaderNames, File}
+use Rattle.wit_tokens.specs.Syntax.{Entry, WorldEntry, FileEntry, AnInterface, AWorld, HeaderNames, File}
 use Rattle.wit_grammar.specs.Faults.{is, wanted}
 use Rattle.wit_grammar.specs.Grammar.{punctuation, nesting, package_word, header_end, header, entry, interface, world_entry, world, is_interface, begins_item, item, items, file, file_fault}
 use Rattle.wit_print.specs.Words.{Word, mark_word, keyword_word, name_word}

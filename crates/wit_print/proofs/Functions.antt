@@ -7,7 +7,7 @@ use Rattle.wit_tokens.specs.declared.token.Keyword.TheVariants as kw
 use Rattle.wit_tokens.specs.declared.token.Punctuation.TheVariants as mark
 use Rattle.wit_tokens.specs.declared.error.Expected.TheVariants as want
 use Rattle.wit_tokens.specs.Lexing.{limit}
-use Rattle.wit_syntax.specs.Syntax.{Ty, Member, Function}
+use Rattle.wit_tokens.specs.Syntax.{Ty, Member, Function}
 use Rattle.wit_grammar.specs.Faults.{is, wanted}
 use Rattle.wit_grammar.specs.Grammar.{punctuation, nesting, ty, type_phrase, member, after_member, param_list, parameters, function_result, optional_result, function, function_end, whole_function, comma, close_parenthesis, comma_wanted, arrow}
 use Rattle.wit_print.specs.Words.{Word, mark_word, name_word}

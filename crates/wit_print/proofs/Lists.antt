@@ -3,7 +3,7 @@ use Rattle.std.proofs.Common.{◌≡◌, ◌+◌, ◌<◌, ◌≤◌, ℕ, zero,
 use Rattle.std.specs.declared.alloc.Global.{Global}
 use Rattle.std.specs.declared.string.String.{String}
 use Rattle.std.proofs.lemmas.List.{at_drop_more, at_drop_all}
-use Rattle.wit_syntax.specs.Syntax.{Ty, tys_of}
+use Rattle.wit_tokens.specs.Syntax.{Ty, tys_of}
 use Rattle.wit_tokens.specs.declared.token.Punctuation.TheVariants as mark
 use Rattle.wit_print.specs.Words.{Word, mark_word}
 use Rattle.wit_print.specs.Canonical.{blank, listed_words, ty_words, tys_words}

@@ -4,7 +4,7 @@ use Rattle.std.specs.Prelude.{true, Option, Some, None}
 use Rattle.productions.specs.Production.{give}
 use Rattle.wit_tokens.specs.declared.token.Punctuation.TheVariants as mark
 use Rattle.wit_tokens.specs.Lexing.{version_run}
-use Rattle.wit_syntax.specs.Syntax.{PathTo, Local, Foreign}
+use Rattle.wit_tokens.specs.Syntax.{PathTo, Local, Foreign}
 use Rattle.wit_grammar.specs.Faults.{is}
 use Rattle.wit_grammar.specs.Grammar.{punctuation, colon, is_version_token, version, foreign, behind_namespace, path_or, path}
 use Rattle.wit_print.specs.Words.{Word, words_text, mark_word, name_word, version_word}

@@ -1,11 +1,11 @@
 -- The words of a result, with a type of an error and without.
 use Rattle.std.proofs.Common.{◌≡◌, ℕ, List, [], ◌∷◌, ◌++◌, Option, Some, None, Box, Global, refl, ap, sym, ◌∙◌}
-use Rattle.wit_syntax.specs.declared.ast.TypeExpression.{TypeExpression, Result as Either}
-use Rattle.wit_syntax.specs.Syntax.{Ty, MaybeTy, Absent, Present, ResultOf}
-use Rattle.wit_syntax.specs.View.{ty_view, boxed_view}
+use Rattle.wit_tokens.specs.declared.wit_syntax.ast.TypeExpression.{TypeExpression, Result as Either}
+use Rattle.wit_tokens.specs.Syntax.{Ty, MaybeTy, Absent, Present, ResultOf}
+use Rattle.wit_tokens.specs.View.{ty_view, boxed_view}
 use Rattle.wit_tokens.specs.declared.token.Keyword.TheVariants as kw
 use Rattle.wit_tokens.specs.declared.token.Punctuation.TheVariants as mark
-use Rattle.wit_syntax.proofs.Views.{view-Result}
+use Rattle.wit_tokens.proofs.wit_syntax.Views.{view-Result}
 use Rattle.wit_print.specs.Words.{mark_word, keyword_word}
 use Rattle.wit_print.specs.Canonical.{blank, ty_words}
 use Rattle.wit_print.specs.Pieces.{ok_alone, ok_before}

@@ -9,9 +9,9 @@ use Rattle.wit_tokens.specs.declared.token.Punctuation.TheVariants as mark
 use Rattle.wit_tokens.specs.declared.token.TokenKind.TheVariants as kind
 use Rattle.wit_tokens.specs.Tokens.{Lexeme}
 use Rattle.wit_tokens.specs.Lexing.{limit}
-use Rattle.wit_syntax.specs.declared.ast.Primitive.{Primitive}
-use Rattle.wit_syntax.specs.declared.ast.Primitive.TheVariants as primitive
-use Rattle.wit_syntax.specs.Syntax.{Ty, Prim, Named, ListOf, OptionOf, TupleOf, ResultOf, Tys, none, more, Absent, Present, tys_of, depth_all, ty_depth}
+use Rattle.wit_tokens.specs.declared.wit_syntax.ast.Primitive.{Primitive}
+use Rattle.wit_tokens.specs.declared.wit_syntax.ast.Primitive.TheVariants as primitive
+use Rattle.wit_tokens.specs.Syntax.{Ty, Prim, Named, ListOf, OptionOf, TupleOf, ResultOf, Tys, none, more, Absent, Present, tys_of, depth_all, ty_depth}
 use Rattle.wit_grammar.specs.declared.types.Start.TheVariants as start
 use Rattle.wit_grammar.specs.Faults.{is}
 use Rattle.wit_grammar.specs.Lookahead.{Phrase}

@@ -4,11 +4,11 @@ use Rattle.std.specs.Prelude.{ℕ, List, [], ◌∷◌, ◌++◌, Option, Some, 
 use Rattle.wit_tokens.specs.declared.token.Keyword.{Keyword}
 use Rattle.wit_tokens.specs.declared.token.Keyword.TheVariants as kw
 use Rattle.wit_tokens.specs.declared.token.Punctuation.TheVariants as mark
-use Rattle.wit_syntax.specs.declared.ast.Primitive.{Primitive}
-use Rattle.wit_syntax.specs.declared.ast.Primitive.TheVariants as primitive
-use Rattle.wit_syntax.specs.declared.ast.Direction.{Direction}
-use Rattle.wit_syntax.specs.declared.ast.Direction.TheVariants as direction
-use Rattle.wit_syntax.specs.Syntax.{Ty, Prim, Named, ListOf, OptionOf, TupleOf, ResultOf, Tys, none, more, Absent, Present, Member, CaseOf, UsedAs, Alias, Record, Variant, Enumeration, FlagSet, Function, PathTo, Local, Foreign, Entry, Uses, Defines, Declares, WorldEntry, Whole, Single, FileEntry, AnInterface, AWorld, File, TypeBody}
+use Rattle.wit_tokens.specs.declared.wit_syntax.ast.Primitive.{Primitive}
+use Rattle.wit_tokens.specs.declared.wit_syntax.ast.Primitive.TheVariants as primitive
+use Rattle.wit_tokens.specs.declared.wit_syntax.ast.Direction.{Direction}
+use Rattle.wit_tokens.specs.declared.wit_syntax.ast.Direction.TheVariants as direction
+use Rattle.wit_tokens.specs.Syntax.{Ty, Prim, Named, ListOf, OptionOf, TupleOf, ResultOf, Tys, none, more, Absent, Present, Member, CaseOf, UsedAs, Alias, Record, Variant, Enumeration, FlagSet, Function, PathTo, Local, Foreign, Entry, Uses, Defines, Declares, WorldEntry, Whole, Single, FileEntry, AnInterface, AWorld, File, TypeBody}
 use Rattle.wit_print.specs.Words.{Word, words_text, mark_word, keyword_word, name_word, version_word}
 
 -- ---- blanks: one, a new line, one with two blanks or with four, and an empty line

@@ -1,6 +1,6 @@
 -- What holds of canonical text.
 use Rattle.std.specs.Prelude.{◌≡◌, ◌≤◌, length}
-use Rattle.wit_syntax.specs.Syntax.{File}
+use Rattle.wit_tokens.specs.Syntax.{File}
 use Rattle.wit_tokens.specs.Lexing.{limit}
 use Rattle.wit_text.specs.Reading.{IsRead}
 use Rattle.wit_print.specs.Canonical.{canonical_text}

@@ -1,7 +1,7 @@
 -- Pieces of lists and of results, as a writer puts them one behind the other.
 use Rattle.std.specs.Prelude.{ℕ, zero, suc, List, [], ◌∷◌, ◌++◌}
 use Rattle.wit_tokens.specs.declared.token.Punctuation.TheVariants as mark
-use Rattle.wit_syntax.specs.Syntax.{MaybeTy, Absent, Present}
+use Rattle.wit_tokens.specs.Syntax.{MaybeTy, Absent, Present}
 use Rattle.wit_print.specs.Words.{Word, mark_word}
 use Rattle.wit_print.specs.Canonical.{blank, ty_words}
 

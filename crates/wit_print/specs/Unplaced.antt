@@ -1,7 +1,7 @@
 -- A file as it is wherever its items stand in a text: every span is left out.
 use Rattle.std.specs.Prelude.{map}
 use Rattle.wit_tokens.specs.declared.token.Span.{Span}
-use Rattle.wit_syntax.specs.Syntax.{Entry, Uses, Defines, Declares, WorldEntry, Whole, Single, FileEntry, AnInterface, AWorld, File}
+use Rattle.wit_tokens.specs.Syntax.{Entry, Uses, Defines, Declares, WorldEntry, Whole, Single, FileEntry, AnInterface, AWorld, File}
 
 -- the span in place of each span that is left out
 abbrev pub nowhere : Span

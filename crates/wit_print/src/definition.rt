@@ -1,7 +1,7 @@
 //! Definitions of types.
 ghost use Rattle.std.specs.Prelude.{◌≡◌, ◌∷◌, [], ◌++◌, map, OnOk};
-ghost use Rattle.wit_syntax.specs.Syntax.{Alias};
-ghost use Rattle.wit_syntax.specs.View.{ty_view, field_view, case_view, optional_view, definition_view};
+ghost use Rattle.wit_tokens.specs.Syntax.{Alias};
+ghost use Rattle.wit_tokens.specs.View.{ty_view, field_view, case_view, optional_view, definition_view};
 ghost use Rattle.wit_tokens.specs.declared.token.Punctuation.TheVariants as mark;
 ghost use Rattle.wit_print.specs.Words.{mark_word, keyword_word, name_word};
 ghost use Rattle.wit_print.specs.Canonical.{blank, item_line, payload_words, case_words, field_words, label_words, lined_words, definition_words};
@@ -12,7 +12,7 @@ use crate::ty::write_type;
 use crate::word::{write_keyword, write_mark, write_name};
 use atoms::Label;
 use std::alloc::AllocError;
-use wit_syntax::{Case, Field, TypeDefKind, TypeExpression};
+use wit_tokens::wit_syntax::{Case, Field, TypeDefKind, TypeExpression};
 use wit_tokens::{Keyword, Punctuation};
 
 /// The blanks before a member of a definition.

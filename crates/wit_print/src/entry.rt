@@ -1,7 +1,7 @@
 //! Items of interfaces and of worlds.
 ghost use Rattle.std.specs.Prelude.{◌≡◌, [], ◌++◌, map, OnOk};
-ghost use Rattle.wit_syntax.specs.Syntax.{Uses};
-ghost use Rattle.wit_syntax.specs.View.{used_view, version_view, path_view, entry_view, world_entry_view};
+ghost use Rattle.wit_tokens.specs.Syntax.{Uses};
+ghost use Rattle.wit_tokens.specs.View.{used_view, version_view, path_view, entry_view, world_entry_view};
 ghost use Rattle.wit_print.specs.Canonical.{local_words, used_words, uses_words, version_words, path_words, direction_keyword, entry_words, world_entry_words, braced_words};
 ghost use Rattle.wit_print.specs.Adding.{AddsWords};
 
@@ -11,7 +11,7 @@ use crate::list::write_comma;
 use crate::word::{write_keyword, write_mark, write_name, write_version};
 use atoms::Label;
 use std::alloc::AllocError;
-use wit_syntax::{Direction, InterfaceItem, Path, Use, UsedName, WorldItem, WorldItemKind};
+use wit_tokens::wit_syntax::{Direction, InterfaceItem, Path, Use, UsedName, WorldItem, WorldItemKind};
 use wit_tokens::{Keyword, Punctuation};
 
 fn write_local(out: &mut String, local: &Option<Label>) -> Result<(), AllocError>

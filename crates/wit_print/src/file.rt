@@ -1,14 +1,14 @@
 //! Whole files.
 ghost use Rattle.std.specs.Prelude.{◌≡◌, [], ◌++◌, map, OnOk, OnErr};
 ghost use Rattle.std.specs.String.{string_bytes};
-ghost use Rattle.wit_syntax.specs.View.{item_view, file_view};
+ghost use Rattle.wit_tokens.specs.View.{item_view, file_view};
 ghost use Rattle.wit_print.specs.Canonical.{file_entry_words, items_words, file_words, canonical_text};
 ghost use Rattle.wit_print.specs.Adding.{AddsWords};
 
 use crate::entry::{write_entries, write_optional_version, write_world_entries};
 use crate::word::{write_keyword, write_mark, write_name};
 use std::alloc::{AllocError, Global};
-use wit_syntax::{Ast, Item};
+use wit_tokens::wit_syntax::{Ast, Item};
 use wit_tokens::{Keyword, Punctuation};
 
 fn write_item(out: &mut String, item: &Item) -> Result<(), AllocError>

@@ -1,6 +1,6 @@
 //! Functions.
 ghost use Rattle.std.specs.Prelude.{◌≡◌, [], ◌++◌, map, OnOk};
-ghost use Rattle.wit_syntax.specs.View.{field_view, function_view, optional_view};
+ghost use Rattle.wit_tokens.specs.View.{field_view, function_view, optional_view};
 ghost use Rattle.wit_print.specs.Canonical.{member_words, parameter_words, result_words, function_words};
 ghost use Rattle.wit_print.specs.Adding.{AddsWords};
 
@@ -8,7 +8,7 @@ use crate::list::write_comma;
 use crate::ty::write_type;
 use crate::word::{write_keyword, write_mark, write_name};
 use std::alloc::AllocError;
-use wit_syntax::{Field, FuncType, TypeExpression};
+use wit_tokens::wit_syntax::{Field, FuncType, TypeExpression};
 use wit_tokens::{Keyword, Punctuation};
 
 /// Puts a name with its type behind the text.

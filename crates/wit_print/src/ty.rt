@@ -1,7 +1,7 @@
 //! Types.
 ghost use Rattle.std.specs.Prelude.{◌≡◌, ◌∷◌, [], ◌++◌, map, OnOk};
-ghost use Rattle.wit_syntax.specs.Syntax.{tys_of};
-ghost use Rattle.wit_syntax.specs.View.{ty_view, boxed_view};
+ghost use Rattle.wit_tokens.specs.Syntax.{tys_of};
+ghost use Rattle.wit_tokens.specs.View.{ty_view, boxed_view};
 ghost use Rattle.wit_tokens.specs.declared.token.Punctuation.TheVariants as mark;
 ghost use Rattle.wit_print.specs.Words.{mark_word};
 ghost use Rattle.wit_print.specs.Canonical.{blank, primitive_keyword, ty_words, tys_words};
@@ -11,7 +11,7 @@ ghost use Rattle.wit_print.specs.Adding.{AddsWords};
 use crate::list::write_comma;
 use crate::word::{write_keyword, write_mark, write_name};
 use std::alloc::AllocError;
-use wit_syntax::{Primitive, TypeExpression};
+use wit_tokens::wit_syntax::{Primitive, TypeExpression};
 use wit_tokens::{Keyword, Punctuation};
 
 fn primitive_keyword(primitive: Primitive) -> Keyword

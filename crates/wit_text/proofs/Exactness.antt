@@ -16,10 +16,10 @@ use Rattle.wit_grammar.specs.declared.types.Start.{Start}
 use Rattle.wit_grammar.specs.declared.types.Start.TheVariants as start
 use Rattle.wit_grammar.specs.declared.starts.ItemStart.{ItemStart}
 use Rattle.wit_grammar.specs.declared.starts.ItemStart.TheVariants as begin
-use Rattle.wit_syntax.specs.declared.ast.Direction.{Direction}
+use Rattle.wit_tokens.specs.declared.wit_syntax.ast.Direction.{Direction}
 use Rattle.wit_tokens.specs.Lexing.{limit}
 use Rattle.wit_tokens.specs.Tokens.{Lexeme, span_of}
-use Rattle.wit_syntax.specs.Syntax.{Ty, Member, PathTo, Local, Foreign}
+use Rattle.wit_tokens.specs.Syntax.{Ty, Member, PathTo, Local, Foreign}
 use Rattle.wit_grammar.specs.Faults.{wanted, is, StandsAt}
 use Rattle.wit_grammar.specs.Lookahead.{lookahead, Phrase}
 use Rattle.wit_grammar.specs.Grammar as g

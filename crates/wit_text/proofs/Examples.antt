@@ -20,9 +20,9 @@ use Rattle.wit_tokens.specs.Lexing.{limit}
 use Rattle.wit_tokens.specs.Tokens.{Lexeme, lexemes}
 use Rattle.wit_tokens.proofs.Walked.{tokens_on_literals, walked, lexed, spoilt, within, faulty}
 use Rattle.wit_tokens.proofs.Unique.{one_lexing}
-use Rattle.wit_syntax.specs.declared.ast.Primitive.TheVariants as primitive
-use Rattle.wit_syntax.specs.declared.ast.Direction.TheVariants as direction
-use Rattle.wit_syntax.specs.Syntax.{Ty, Prim, Named, ListOf, OptionOf, TupleOf, ResultOf, Absent, Present, tys_of, Member, CaseOf, UsedAs, Alias, Record, Variant, Enumeration, FlagSet, Local, Foreign, Entry, Uses, Defines, Declares, WorldEntry, Whole, Single, FileEntry, AnInterface, AWorld, File, ty_depth}
+use Rattle.wit_tokens.specs.declared.wit_syntax.ast.Primitive.TheVariants as primitive
+use Rattle.wit_tokens.specs.declared.wit_syntax.ast.Direction.TheVariants as direction
+use Rattle.wit_tokens.specs.Syntax.{Ty, Prim, Named, ListOf, OptionOf, TupleOf, ResultOf, Absent, Present, tys_of, Member, CaseOf, UsedAs, Alias, Record, Variant, Enumeration, FlagSet, Local, Foreign, Entry, Uses, Defines, Declares, WorldEntry, Whole, Single, FileEntry, AnInterface, AWorld, File, ty_depth}
 use Rattle.wit_grammar.specs.Faults.{Fails}
 use Rattle.wit_grammar.specs.Grammar.{file, nesting}
 use Rattle.wit_grammar.specs.Grammar as g

@@ -10,8 +10,8 @@ use Rattle.wit_tokens.specs.Tokens.{Lexeme, lexemes, span_of}
 use Rattle.productions.specs.Production.{give, ◌>>=◌, when, all, at_end, by_option}
 use Rattle.wit_tokens.specs.declared.token.Span.{Span}
 use Rattle.wit_tokens.specs.Lexing.{limit}
-use Rattle.wit_syntax.specs.Syntax.{FileEntry, HeaderNames, File}
-use Rattle.wit_syntax.specs.FullNames.{has_label, file_has_full_names}
+use Rattle.wit_tokens.specs.Syntax.{FileEntry, HeaderNames, File}
+use Rattle.wit_tokens.specs.FullNames.{has_label, file_has_full_names}
 use Rattle.wit_grammar.specs.Faults.{is as is-kind}
 use Rattle.wit_grammar.specs.Grammar as g
 use Rattle.wit_text.specs.Laws.{HasFullNames}

@@ -13,10 +13,10 @@ use Rattle.wit_grammar.specs.declared.types.Start.{Start}
 use Rattle.wit_grammar.specs.declared.types.Start.TheVariants as start
 use Rattle.wit_grammar.specs.declared.starts.ItemStart.{ItemStart}
 use Rattle.wit_grammar.specs.declared.starts.ItemStart.TheVariants as begin
-use Rattle.wit_syntax.specs.declared.ast.Direction.{Direction}
+use Rattle.wit_tokens.specs.declared.wit_syntax.ast.Direction.{Direction}
 use Rattle.wit_tokens.specs.Lexing.{limit}
 use Rattle.wit_tokens.specs.Tokens.{Lexeme, span_of}
-use Rattle.wit_syntax.specs.Syntax.{Ty, File}
+use Rattle.wit_tokens.specs.Syntax.{Ty, File}
 use Rattle.wit_grammar.specs.Faults.{is}
 use Rattle.wit_grammar.specs.Lookahead.{Phrase, NoneBegins}
 use Rattle.wit_grammar.specs.Grammar as g

@@ -8,10 +8,10 @@ use Rattle.wit_tokens.specs.declared.error.TextError.{TextError}
 use Rattle.wit_tokens.specs.declared.error.TextError.TheVariants as error
 use Rattle.wit_tokens.specs.Lexing.{limit, Lexes, LexFault}
 use Rattle.wit_tokens.specs.Tokens.{Lexeme, lexemes}
-use Rattle.wit_syntax.specs.Syntax.{File}
+use Rattle.wit_tokens.specs.Syntax.{File}
 use Rattle.wit_grammar.specs.Faults.{StandsAt, Fails, AnswersRead}
-use Rattle.wit_syntax.specs.View.{file_view}
-use Rattle.wit_syntax.specs.declared.ast.Ast.{Ast}
+use Rattle.wit_tokens.specs.View.{file_view}
+use Rattle.wit_tokens.specs.declared.wit_syntax.ast.Ast.{Ast}
 use Rattle.wit_grammar.specs.Lookahead.{NoneBegins}
 use Rattle.wit_text.specs.Reading.{IsRead, IsFile, IsDepth, GrammarFault, FaultyText}
 use Rattle.wit_grammar.specs.Grammar.{nesting, file}

@@ -3,8 +3,8 @@ use Rattle.std.specs.Prelude.{◌≡◌, IsTrue, ℕ, List, Err}
 use Rattle.productions.specs.Exactness.{Exact, AtEnd}
 use Rattle.wit_tokens.specs.declared.error.TextError.{TextError}
 use Rattle.wit_tokens.specs.Tokens.{Lexeme}
-use Rattle.wit_syntax.specs.Syntax.{File}
-use Rattle.wit_syntax.specs.FullNames.{file_has_full_names}
+use Rattle.wit_tokens.specs.Syntax.{File}
+use Rattle.wit_tokens.specs.FullNames.{file_has_full_names}
 use Rattle.wit_grammar.specs.Lookahead.{lookahead, NoneBegins}
 use Rattle.wit_grammar.specs.Grammar.{nesting, file}
 use Rattle.wit_text.specs.Reading.{IsRead, IsFile, IsDepth}

@@ -6,7 +6,7 @@ use Rattle.wit_tokens.specs.declared.error.TextError.{TextError}
 use Rattle.wit_tokens.specs.declared.error.TextError.TheVariants as error
 use Rattle.wit_tokens.specs.Lexing.{limit, Lexes, LexFault}
 use Rattle.wit_tokens.specs.Tokens.{Lexeme, lexemes}
-use Rattle.wit_syntax.specs.Syntax.{File}
+use Rattle.wit_tokens.specs.Syntax.{File}
 use Rattle.wit_grammar.specs.Lookahead.{NoneBegins}
 use Rattle.wit_grammar.specs.Grammar.{nesting, file}
 

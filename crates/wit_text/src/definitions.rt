@@ -2,7 +2,7 @@
 ghost use Rattle.std.specs.Prelude.{◌≡◌, ◌<◌, ◌≤◌, length, IfOk};
 ghost use Rattle.wit_tokens.specs.Lexing.{limit};
 ghost use Rattle.wit_tokens.specs.Tokens.{lexemes};
-ghost use Rattle.wit_syntax.specs.View.{ty_view, optional_view, case_view, definition_view};
+ghost use Rattle.wit_tokens.specs.View.{ty_view, optional_view, case_view, definition_view};
 ghost use Rattle.wit_grammar.specs.Faults.{AnswersRead};
 ghost use Rattle.wit_grammar.specs.Grammar.{nesting, alias, record_body, payload, optional_payload, case_fault, case_id, variant_case, variant_body, enum_cases, flag_names};
 
@@ -13,7 +13,7 @@ use wit_grammar::{
     EntryReader, comma_list, feature_or, first_feature, identifier, is_name, label_of, punctuation,
     same, type_at,
 };
-use wit_syntax::{Case, Field, TypeDefKind, TypeExpression};
+use wit_tokens::wit_syntax::{Case, Field, TypeDefKind, TypeExpression};
 use wit_tokens::{Expected, Punctuation, TextError, Token, TokenKind};
 
 /// `=`, a type and `;`.
@@ -39,8 +39,8 @@ struct Fields;
 impl EntryReader for Fields {
     ghost use Rattle.wit_tokens.specs.declared.error.Expected.TheVariants as want;
     ghost use Rattle.wit_tokens.specs.declared.token.Punctuation.TheVariants.{Comma};
-    ghost use Rattle.wit_syntax.specs.Syntax.{Member};
-    ghost use Rattle.wit_syntax.specs.View.{field_view};
+    ghost use Rattle.wit_tokens.specs.Syntax.{Member};
+    ghost use Rattle.wit_tokens.specs.View.{field_view};
     ghost use Rattle.wit_grammar.specs.Grammar.{nesting, member};
 
     type Entry = Field;
@@ -172,8 +172,8 @@ struct Cases;
 impl EntryReader for Cases {
     ghost use Rattle.wit_tokens.specs.declared.error.Expected.TheVariants as want;
     ghost use Rattle.wit_tokens.specs.declared.token.Punctuation.TheVariants.{Comma};
-    ghost use Rattle.wit_syntax.specs.Syntax.{CaseOf};
-    ghost use Rattle.wit_syntax.specs.View.{case_view};
+    ghost use Rattle.wit_tokens.specs.Syntax.{CaseOf};
+    ghost use Rattle.wit_tokens.specs.View.{case_view};
     ghost use Rattle.wit_grammar.specs.Grammar.{nesting, variant_case};
 
     type Entry = Case;

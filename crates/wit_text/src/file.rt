@@ -4,8 +4,8 @@ ghost use Rattle.std.specs.Option.{option_map};
 ghost use Rattle.productions.specs.Production.{at_end};
 ghost use Rattle.wit_tokens.specs.Lexing.{limit};
 ghost use Rattle.wit_tokens.specs.Tokens.{lexeme, lexemes};
-ghost use Rattle.wit_syntax.specs.Syntax.{File};
-ghost use Rattle.wit_syntax.specs.View.{item_view, file_view};
+ghost use Rattle.wit_tokens.specs.Syntax.{File};
+ghost use Rattle.wit_tokens.specs.View.{item_view, file_view};
 ghost use Rattle.wit_grammar.specs.Faults.{AnswersRead};
 ghost use Rattle.wit_grammar.specs.Grammar.{nesting, file_keyword, file_feature, file_fault, begins_item, item, optional_item, items, file};
 ghost use Rattle.wit_text.specs.Reading.{IsRead, FaultyText};
@@ -14,7 +14,7 @@ use crate::interfaces::interface;
 use crate::worlds::world;
 use std::alloc::Global;
 use wit_grammar::{feature_or, gate, header, same};
-use wit_syntax::{Ast, Item};
+use wit_tokens::wit_syntax::{Ast, Item};
 use wit_tokens::{
     Expected, Feature, Keyword, TextError, Token, TokenKind, lex, texts_have_one_lexing,
 };

@@ -2,7 +2,7 @@
 ghost use Rattle.std.specs.Prelude.{◌≡◌, ◌<◌, ◌≤◌, length, map, IfOk};
 ghost use Rattle.wit_tokens.specs.Lexing.{limit};
 ghost use Rattle.wit_tokens.specs.Tokens.{lexeme, lexemes};
-ghost use Rattle.wit_syntax.specs.View.{ty_view, field_view, function_view, optional_view};
+ghost use Rattle.wit_tokens.specs.View.{ty_view, field_view, function_view, optional_view};
 ghost use Rattle.wit_grammar.specs.Faults.{AnswersRead, unless_feature};
 ghost use Rattle.wit_tokens.specs.declared.error.Expected.TheVariants as want;
 ghost use Rattle.wit_tokens.specs.declared.token.Keyword.TheVariants as kw;
@@ -13,7 +13,7 @@ use wit_grammar::{
     begins_type, comma_or, feature_or, identifier, met, punctuation, same, type_at, type_behind,
     type_fault,
 };
-use wit_syntax::{Field, FuncType, TypeExpression};
+use wit_tokens::wit_syntax::{Field, FuncType, TypeExpression};
 use wit_tokens::{Expected, Feature, Keyword, Punctuation, TextError, Token, TokenKind};
 
 /// The levels of types that are read.

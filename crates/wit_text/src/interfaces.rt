@@ -2,7 +2,7 @@
 ghost use Rattle.std.specs.Prelude.{◌≡◌, ◌<◌, ◌≤◌, length, map, IfOk};
 ghost use Rattle.wit_tokens.specs.Lexing.{limit};
 ghost use Rattle.wit_tokens.specs.Tokens.{lexeme, lexemes};
-ghost use Rattle.wit_syntax.specs.View.{definition_view, entry_view, item_view};
+ghost use Rattle.wit_tokens.specs.View.{definition_view, entry_view, item_view};
 ghost use Rattle.wit_grammar.specs.Faults.{AnswersRead};
 ghost use Rattle.wit_grammar.specs.Grammar.{nesting, item_kind, is_item_start, begins_entry, item_feature, entry_fault, definition, defined, declared, keyword_entry, entry_behind, entry, entry_list, interface};
 
@@ -15,7 +15,7 @@ use wit_grammar::{
     ItemStart, feature_or, identifier, is_item_start, is_name, item_kind, label_of, peek,
     punctuation,
 };
-use wit_syntax::{Func, Interface, InterfaceItem, Item, TypeDef, TypeDefKind};
+use wit_tokens::wit_syntax::{Func, Interface, InterfaceItem, Item, TypeDef, TypeDefKind};
 use wit_tokens::{Expected, Feature, Keyword, Punctuation, Span, TextError, Token, TokenKind};
 
 #[tactic(auto, unfolding(wit_grammar::specs::Grammar::begins_entry))]

@@ -14,7 +14,7 @@ mod worlds;
 
 pub use file::parse;
 pub use laws::{files_are_read_exactly, texts_have_full_names};
-pub use wit_syntax::{
+pub use wit_tokens::wit_syntax::{
     Ast, Case, Direction, Field, Func, FuncType, Interface, InterfaceItem, Item, PackageId, Path,
     Primitive, TypeDef, TypeDefKind, TypeExpression, Use, UsedName, World, WorldItem,
     WorldItemKind,

@@ -2,14 +2,14 @@
 ghost use Rattle.std.specs.Prelude.{◌≡◌, ◌<◌, ◌≤◌, length, IfOk};
 ghost use Rattle.wit_tokens.specs.Lexing.{limit};
 ghost use Rattle.wit_tokens.specs.Tokens.{lexemes};
-ghost use Rattle.wit_syntax.specs.View.{used_view, entry_view};
+ghost use Rattle.wit_tokens.specs.View.{used_view, entry_view};
 ghost use Rattle.wit_grammar.specs.Faults.{AnswersRead};
 ghost use Rattle.wit_grammar.specs.Grammar.{local_alias, used, use_item};
 
 use atoms::Label;
 use std::alloc::Global;
 use wit_grammar::{EntryReader, comma_list, identifier, path, path_end, punctuation, same};
-use wit_syntax::{InterfaceItem, Use, UsedName};
+use wit_tokens::wit_syntax::{InterfaceItem, Use, UsedName};
 use wit_tokens::{Expected, Keyword, Punctuation, Span, TextError, Token, TokenKind};
 
 /// `as` and a name, or nothing.
@@ -51,8 +51,8 @@ fn used<'a>(
 struct UsedNames;
 
 impl EntryReader for UsedNames {
-    ghost use Rattle.wit_syntax.specs.Syntax.{UsedAs};
-    ghost use Rattle.wit_syntax.specs.View.{used_view};
+    ghost use Rattle.wit_tokens.specs.Syntax.{UsedAs};
+    ghost use Rattle.wit_tokens.specs.View.{used_view};
     ghost use Rattle.wit_grammar.specs.Grammar.{used, after_used};
 
     type Entry = UsedName;

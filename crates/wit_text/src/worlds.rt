@@ -2,7 +2,7 @@
 ghost use Rattle.std.specs.Prelude.{◌≡◌, ◌<◌, ◌≤◌, length, map, IfOk};
 ghost use Rattle.wit_tokens.specs.Lexing.{limit};
 ghost use Rattle.wit_tokens.specs.Tokens.{lexeme, lexemes};
-ghost use Rattle.wit_syntax.specs.View.{world_entry_view, item_view};
+ghost use Rattle.wit_tokens.specs.View.{world_entry_view, item_view};
 ghost use Rattle.wit_grammar.specs.Faults.{AnswersRead};
 ghost use Rattle.wit_grammar.specs.Grammar.{nesting, keyword_direction, direction_of, world_keyword, world_feature, world_fault, single_keyword, single_kind, single_fault, begins_behind_colon, whole_foreign, single, colon_behind, world_colon, world_entry_behind, world_entry, world_list, world};
 
@@ -12,7 +12,7 @@ use std::alloc::Global;
 use wit_grammar::{
     feature_or, foreign, gate, identifier, is_name, label_of, path_end, peek, punctuation, same,
 };
-use wit_syntax::{Direction, Func, Item, Path, World, WorldItem, WorldItemKind};
+use wit_tokens::wit_syntax::{Direction, Func, Item, Path, World, WorldItem, WorldItemKind};
 use wit_tokens::{Expected, Feature, Keyword, Punctuation, Span, TextError, Token, TokenKind};
 
 fn direction_keyword(keyword: Keyword) -> Option<Direction>

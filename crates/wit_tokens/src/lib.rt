@@ -9,6 +9,7 @@ mod laws;
 mod lexer;
 mod mark;
 mod token;
+pub mod wit_syntax;
 
 pub use error::{Expected, Feature, TextError};
 pub use keyword::{keyword_of, spelling};

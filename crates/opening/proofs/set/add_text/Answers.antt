@@ -1,7 +1,7 @@
 -- A text's package is added where it is read and stands in the set, and makes one set.
 use Rattle.std.proofs.Common.{sym, subst}
 use Rattle.std.proofs.lemmas.Result.{err_from_is_err_and}
-use Rattle.wit_syntax.specs.View.{file_view}
+use Rattle.wit_tokens.specs.View.{file_view}
 use Rattle.wit_text.specs.Reading.{IsRead, FaultyText}
 use Rattle.opening.proofs.Members.{adds-text, of-member, tree-added, text-refuses, no-text, not-read, not-long, wants}
 use Rattle.opening.proofs.PrintedTexts.{read-tree, only-memory}

@@ -1,6 +1,6 @@
 use Rattle.std.proofs.Common.{List, map, take}
-use Rattle.wit_syntax.specs.View.{item_view}
-use Rattle.wit_syntax.specs.declared.ast.Item.{Item}
+use Rattle.wit_tokens.specs.View.{item_view}
+use Rattle.wit_tokens.specs.declared.wit_syntax.ast.Item.{Item}
 use Rattle.package_form.proofs.Meeting.{all-taken}
 use Rattle.package_adding.specs.Named.{file_entry_names, any_names}
 use Rattle.package_adding.specs.Asked.{also, AreAsked}

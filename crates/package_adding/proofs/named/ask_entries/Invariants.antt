@@ -1,6 +1,6 @@
 use Rattle.std.proofs.Common.{Bool, List, ℕ, map, take}
 use Rattle.tables.specs.PackageNames.{PackageParts}
-use Rattle.wit_syntax.specs.View.{item_view}
+use Rattle.wit_tokens.specs.View.{item_view}
 use Rattle.package_adding.specs.Named.{file_entry_names, any_names}
 use Rattle.package_adding.specs.Asked.{also, AreAsked}
 use Rattle.package_adding.proofs.named.ask_entries.Given as goal

@@ -1,8 +1,8 @@
 use Rattle.std.proofs.Common.{List, map, sym, subst}
-use Rattle.wit_syntax.specs.View.{entry_view, world_entry_view, item_view}
-use Rattle.wit_syntax.specs.declared.ast.InterfaceItem.{InterfaceItem}
-use Rattle.wit_syntax.specs.declared.ast.Item.{Item}
-use Rattle.wit_syntax.specs.declared.ast.WorldItem.{WorldItem}
+use Rattle.wit_tokens.specs.View.{entry_view, world_entry_view, item_view}
+use Rattle.wit_tokens.specs.declared.wit_syntax.ast.InterfaceItem.{InterfaceItem}
+use Rattle.wit_tokens.specs.declared.wit_syntax.ast.Item.{Item}
+use Rattle.wit_tokens.specs.declared.wit_syntax.ast.WorldItem.{WorldItem}
 use Rattle.package_adding.specs.Named.{entry_names_interface, world_entry_names, file_entry_names, any_names}
 use Rattle.package_adding.specs.Asked.{also, AreAsked}
 use Rattle.package_adding.proofs.Asking.{on-map}

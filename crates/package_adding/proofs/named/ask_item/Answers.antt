@@ -1,8 +1,8 @@
 use Rattle.std.proofs.Common.{map, sym, subst}
-use Rattle.wit_syntax.specs.Syntax.{Uses}
-use Rattle.wit_syntax.specs.View.{entry_view, path_view, used_view}
-use Rattle.wit_syntax.specs.declared.ast.InterfaceItem.{InterfaceItem}
-use Rattle.wit_syntax.specs.declared.ast.Use.{Use}
+use Rattle.wit_tokens.specs.Syntax.{Uses}
+use Rattle.wit_tokens.specs.View.{entry_view, path_view, used_view}
+use Rattle.wit_tokens.specs.declared.wit_syntax.ast.InterfaceItem.{InterfaceItem}
+use Rattle.wit_tokens.specs.declared.wit_syntax.ast.Use.{Use}
 use Rattle.package_adding.specs.Named.{entry_names_interface}
 use Rattle.package_adding.specs.Asked.{also, AreAsked}
 use Rattle.package_adding.proofs.Asking.{on-map}

@@ -1,6 +1,6 @@
 use Rattle.std.proofs.Common.{List, map, take}
-use Rattle.wit_syntax.specs.View.{entry_view}
-use Rattle.wit_syntax.specs.declared.ast.InterfaceItem.{InterfaceItem}
+use Rattle.wit_tokens.specs.View.{entry_view}
+use Rattle.wit_tokens.specs.declared.wit_syntax.ast.InterfaceItem.{InterfaceItem}
 use Rattle.package_form.proofs.Meeting.{all-taken}
 use Rattle.package_adding.specs.Named.{entry_names_interface, any_names}
 use Rattle.package_adding.specs.Asked.{also, AreAsked}

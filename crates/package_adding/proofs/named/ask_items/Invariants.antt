@@ -1,6 +1,6 @@
 use Rattle.std.proofs.Common.{Bool, List, ℕ, map, take}
 use Rattle.tables.specs.PackageNames.{PackageParts}
-use Rattle.wit_syntax.specs.View.{entry_view}
+use Rattle.wit_tokens.specs.View.{entry_view}
 use Rattle.package_adding.specs.Named.{entry_names_interface, any_names}
 use Rattle.package_adding.specs.Asked.{also, AreAsked}
 use Rattle.package_adding.proofs.named.ask_items.Given as goal

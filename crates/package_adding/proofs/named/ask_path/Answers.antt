@@ -1,7 +1,7 @@
 use Rattle.std.proofs.Common.{◌∙◌, ◌&&◌, ap, List, slice_get, sym, subst}
 use Rattle.std.specs.Str.{bytes_eq}
-use Rattle.wit_syntax.specs.View.{path_view}
-use Rattle.wit_syntax.specs.declared.ast.Path.{Path}
+use Rattle.wit_tokens.specs.View.{path_view}
+use Rattle.wit_tokens.specs.declared.wit_syntax.ast.Path.{Path}
 use Rattle.package_form.specs.Closed.{is_same_package}
 use Rattle.package_names.specs.Indexed.{key_parts}
 use Rattle.tables.specs.PackageNames.{PackageParts}

@@ -1,7 +1,7 @@
 use Rattle.std.proofs.Common.{◌≡◌, ◌==◌, not, true, length, map, arith}
 use Rattle.std.proofs.lemmas.Bool.Decides.{nat_tests}
 use Rattle.std.proofs.lemmas.List.{length-map}
-use Rattle.wit_syntax.specs.View.{path_view, used_view}
+use Rattle.wit_tokens.specs.View.{path_view, used_view}
 use Rattle.package_adding.specs.Named.{path_names}
 use Rattle.package_adding.proofs.Asking.{asked-then, on-map}
 use Rattle.package_adding.proofs.named.ask_use.Goals as goal

@@ -1,6 +1,6 @@
 use Rattle.std.proofs.Common.{sym, subst}
-use Rattle.wit_syntax.specs.View.{world_kind_view}
-use Rattle.wit_syntax.specs.declared.ast.WorldItemKind.{WorldItemKind}
+use Rattle.wit_tokens.specs.View.{world_kind_view}
+use Rattle.wit_tokens.specs.declared.wit_syntax.ast.WorldItemKind.{WorldItemKind}
 use Rattle.package_adding.specs.Named.{world_entry_names}
 use Rattle.package_adding.specs.Asked.{also, AreAsked}
 use Rattle.package_adding.proofs.Asking.{on-map}

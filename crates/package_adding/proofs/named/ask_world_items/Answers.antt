@@ -1,6 +1,6 @@
 use Rattle.std.proofs.Common.{List, map, take}
-use Rattle.wit_syntax.specs.View.{world_entry_view}
-use Rattle.wit_syntax.specs.declared.ast.WorldItem.{WorldItem}
+use Rattle.wit_tokens.specs.View.{world_entry_view}
+use Rattle.wit_tokens.specs.declared.wit_syntax.ast.WorldItem.{WorldItem}
 use Rattle.package_form.proofs.Meeting.{all-taken}
 use Rattle.package_adding.specs.Named.{world_entry_names, any_names}
 use Rattle.package_adding.specs.Asked.{also, AreAsked}

@@ -1,6 +1,6 @@
 use Rattle.std.proofs.Common.{◌≡◌, ◌∙◌, ℕ, [], true, List, map, replicate, ap, subst}
-use Rattle.wit_syntax.specs.View.{item_view, file_view}
-use Rattle.wit_syntax.specs.declared.ast.Item.{Item}
+use Rattle.wit_tokens.specs.View.{item_view, file_view}
+use Rattle.wit_tokens.specs.declared.wit_syntax.ast.Item.{Item}
 use Rattle.tree_meaning.proofs.Trees.{ok-map}
 use Rattle.package_adding.specs.Named.{NamesInterface, file_entry_names, any_names}
 use Rattle.package_adding.proofs.Asking.{nothing-asked}

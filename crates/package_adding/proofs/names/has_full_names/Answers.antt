@@ -2,8 +2,8 @@ use Rattle.std.proofs.Common.{◌≡◌, true, refl, ap, sym, ◌∙◌, rules}
 use Rattle.std.specs.List.{list_all}
 use Rattle.std.proofs.lemmas.List.Folds.{list_all-map}
 use Rattle.atoms.specs.FullName.{is_package_label, is_version_or_none}
-use Rattle.wit_syntax.specs.FullNames.{has_label}
-use Rattle.wit_syntax.specs.View.{item_view, version_view}
+use Rattle.wit_tokens.specs.FullNames.{has_label}
+use Rattle.wit_tokens.specs.View.{item_view, version_view}
 use Rattle.package_adding.proofs.names.has_full_names.Goals as goal
 
 pub returns-then-branch : goal.returns-then-branch

@@ -5,7 +5,7 @@ use Rattle.std.proofs.lemmas.Result.{err_from_is_err_and}
 use Rattle.package_form.specs.Laws.{IsLabelled}
 use Rattle.package_sets.proofs.SameTables.{same-is-prop}
 use Rattle.tables.specs.declared.tables.Interface.{Interface}
-use Rattle.wit_syntax.specs.View.{file_view}
+use Rattle.wit_tokens.specs.View.{file_view}
 use Rattle.package_adding.proofs.Adding.{cause-stands, in-form, distinct-scopes}
 use Rattle.package_adding.proofs.ImportTables.{tree-is-behind}
 use Rattle.package_adding.proofs.Importing.{are-imports}

@@ -1,4 +1,4 @@
-use Rattle.wit_syntax.specs.View.{ty_view}
+use Rattle.wit_tokens.specs.View.{ty_view}
 use Rattle.package_text.proofs.References.{alias-written}
 use Rattle.package_text.proofs.definition.alias.Goals as goal
 

@@ -1,5 +1,5 @@
 use Rattle.std.proofs.Common.{◌≡◌, map, take}
-use Rattle.wit_syntax.specs.View.{case_view}
+use Rattle.wit_tokens.specs.View.{case_view}
 use Rattle.package_text.specs.Tree.{own_trees}
 use Rattle.package_text.specs.Pieces.{case_by}
 use Rattle.package_text.proofs.definition.cases.Given as goal

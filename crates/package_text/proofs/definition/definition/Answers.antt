@@ -1,5 +1,5 @@
 use Rattle.std.proofs.Common.{map, ap, sym, ◌∙◌}
-use Rattle.wit_syntax.specs.Syntax.{Record, Variant, Enumeration}
+use Rattle.wit_tokens.specs.Syntax.{Record, Variant, Enumeration}
 use Rattle.package_text.specs.Tree.{own_trees}
 use Rattle.package_text.specs.Pieces.{field_by, case_by}
 use Rattle.package_text.proofs.Expressions.{record-written, variant-written, enum-written}

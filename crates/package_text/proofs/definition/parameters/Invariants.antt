@@ -1,5 +1,5 @@
 use Rattle.std.proofs.Common.{◌≡◌, map, take}
-use Rattle.wit_syntax.specs.View.{field_view}
+use Rattle.wit_tokens.specs.View.{field_view}
 use Rattle.package_text.specs.Tree.{own_trees}
 use Rattle.package_text.specs.Pieces.{parameter_by}
 use Rattle.package_text.proofs.definition.parameters.Given as goal

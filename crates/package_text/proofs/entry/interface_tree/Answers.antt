@@ -1,6 +1,6 @@
 use Rattle.std.proofs.Common.{map, ap}
-use Rattle.wit_syntax.specs.Syntax.{AnInterface}
-use Rattle.wit_syntax.specs.View.{entry_view}
+use Rattle.wit_tokens.specs.Syntax.{AnInterface}
+use Rattle.wit_tokens.specs.View.{entry_view}
 use Rattle.package_text.proofs.Entries.{interface-pushed}
 use Rattle.package_text.proofs.entry.interface_tree.Goals as goal
 

@@ -1,5 +1,5 @@
 use Rattle.std.proofs.Common.{◌≡◌, ◌++◌, map, flat_map, take}
-use Rattle.wit_syntax.specs.View.{entry_view}
+use Rattle.wit_tokens.specs.View.{entry_view}
 use Rattle.package_text.specs.Tree.{written_at}
 use Rattle.package_text.proofs.entry.push_types.Given as goal
 

@@ -1,7 +1,7 @@
 use Rattle.std.proofs.Common.{◌≡◌, [], ◌∷◌, map, ap, sym, ◌∙◌}
-use Rattle.wit_syntax.specs.Syntax.{Uses}
-use Rattle.wit_syntax.specs.View.{path_view, used_view}
-use Rattle.wit_syntax.specs.declared.ast.Use.{Use}
+use Rattle.wit_tokens.specs.Syntax.{Uses}
+use Rattle.wit_tokens.specs.View.{path_view, used_view}
+use Rattle.wit_tokens.specs.declared.wit_syntax.ast.Use.{Use}
 use Rattle.wit_print.specs.Unplaced.{nowhere}
 use Rattle.package_text.specs.Tree.{path_at, local_of}
 use Rattle.package_text.proofs.Entries.{use-written}

@@ -1,6 +1,6 @@
 use Rattle.std.proofs.Common.{◌≡◌, map, IfOk, ap, sym, subst, ◌∙◌, rules}
-use Rattle.wit_syntax.specs.View.{ty_view}
-use Rattle.wit_syntax.specs.declared.ast.TypeExpression.{Named as Name}
+use Rattle.wit_tokens.specs.View.{ty_view}
+use Rattle.wit_tokens.specs.declared.wit_syntax.ast.TypeExpression.{Named as Name}
 use Rattle.tables.specs.Package.{Tree}
 use Rattle.tables.specs.declared.tables.Definition.TheVariants as row
 use Rattle.std.specs.Prelude.{None}

@@ -1,6 +1,6 @@
 use Rattle.std.proofs.Common.{◌≡◌, ◌++◌, map, take}
 use Rattle.std.specs.List.{filter}
-use Rattle.wit_syntax.specs.View.{item_view}
+use Rattle.wit_tokens.specs.View.{item_view}
 use Rattle.package_form.specs.Reached.{is_interface_of}
 use Rattle.package_text.specs.Tree.{interface_entry}
 use Rattle.package_text.proofs.file.push_interfaces.Given as goal

@@ -1,5 +1,5 @@
 use Rattle.std.proofs.Common.{◌≡◌, ◌++◌, map, take}
-use Rattle.wit_syntax.specs.View.{item_view}
+use Rattle.wit_tokens.specs.View.{item_view}
 use Rattle.package_text.specs.Tree.{world_written}
 use Rattle.package_text.proofs.file.push_worlds.Given as goal
 

@@ -1,5 +1,5 @@
 use Rattle.std.proofs.Common.{◌≡◌, map, take}
-use Rattle.wit_syntax.specs.View.{world_entry_view}
+use Rattle.wit_tokens.specs.View.{world_entry_view}
 use Rattle.package_text.specs.Tree.{item_written}
 use Rattle.package_text.proofs.world.world_tree.Given as goal
 

@@ -1,7 +1,7 @@
 use Rattle.std.proofs.Common.{List, ℕ, map, subst, sym, arith}
 use Rattle.std.proofs.lemmas.Result.{err_from_is_err_and}
-use Rattle.wit_syntax.specs.View.{case_view}
-use Rattle.wit_syntax.specs.declared.ast.Case.{Case}
+use Rattle.wit_tokens.specs.View.{case_view}
+use Rattle.wit_tokens.specs.declared.wit_syntax.ast.Case.{Case}
 use Rattle.tree_meaning.specs.Declarations.{tree_case_name}
 use Rattle.package_form.specs.Scope.{AreDistinct}
 use Rattle.package_form.specs.Distinct.{AreMet}

@@ -1,7 +1,7 @@
 use Rattle.std.proofs.Common.{List, ℕ, map, subst, sym, arith}
 use Rattle.std.proofs.lemmas.Result.{err_from_is_err_and}
-use Rattle.wit_syntax.specs.View.{field_view}
-use Rattle.wit_syntax.specs.declared.ast.Field.{Field}
+use Rattle.wit_tokens.specs.View.{field_view}
+use Rattle.wit_tokens.specs.declared.wit_syntax.ast.Field.{Field}
 use Rattle.tree_meaning.specs.Declarations.{member_name}
 use Rattle.package_form.specs.Scope.{AreDistinct}
 use Rattle.package_form.specs.Distinct.{AreMet}

@@ -1,5 +1,5 @@
 use Rattle.std.proofs.Common.{map, take}
-use Rattle.wit_syntax.specs.View.{field_view}
+use Rattle.wit_tokens.specs.View.{field_view}
 use Rattle.tree_meaning.specs.Declarations.{member_name}
 use Rattle.package_form.specs.Distinct.{AreMet}
 use Rattle.tree_names.proofs.duplicates.distinct_fields.Given as goal

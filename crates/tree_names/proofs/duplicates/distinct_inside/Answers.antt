@@ -1,8 +1,8 @@
 use Rattle.std.proofs.Common.{List, ℕ, All, OnOk, IfErr, map, sym, subst}
-use Rattle.wit_syntax.specs.View.{item_view, entry_view}
-use Rattle.wit_syntax.specs.declared.ast.Item.{Item}
-use Rattle.wit_syntax.specs.declared.ast.WorldItem.{WorldItem}
-use Rattle.wit_syntax.specs.declared.ast.InterfaceItem.{InterfaceItem}
+use Rattle.wit_tokens.specs.View.{item_view, entry_view}
+use Rattle.wit_tokens.specs.declared.wit_syntax.ast.Item.{Item}
+use Rattle.wit_tokens.specs.declared.wit_syntax.ast.WorldItem.{WorldItem}
+use Rattle.wit_tokens.specs.declared.wit_syntax.ast.InterfaceItem.{InterfaceItem}
 use Rattle.package_form.specs.Scope.{AreDistinct}
 use Rattle.package_form.specs.Distinct.{RefusesScopes}
 use Rattle.package_form.specs.Naming.{world_scopes}

@@ -1,7 +1,7 @@
 use Rattle.std.proofs.Common.{List, ℕ, OnOk, IfErr, map, sym, subst}
-use Rattle.wit_syntax.specs.View.{field_view}
-use Rattle.wit_syntax.specs.declared.ast.Field.{Field}
-use Rattle.wit_syntax.specs.declared.ast.WorldItemKind.{WorldItemKind}
+use Rattle.wit_tokens.specs.View.{field_view}
+use Rattle.wit_tokens.specs.declared.wit_syntax.ast.Field.{Field}
+use Rattle.wit_tokens.specs.declared.wit_syntax.ast.WorldItemKind.{WorldItemKind}
 use Rattle.package_form.specs.Scope.{AreDistinct}
 use Rattle.package_form.specs.Distinct.{RefusesNames}
 use Rattle.package_form.specs.Naming.{item_parameters}

@@ -1,7 +1,7 @@
 use Rattle.std.proofs.Common.{List, ℕ, All, map, flat_map, take, subst, sym, arith}
 use Rattle.std.proofs.lemmas.Result.{err_from_is_err_and}
-use Rattle.wit_syntax.specs.View.{entry_view}
-use Rattle.wit_syntax.specs.declared.ast.InterfaceItem.{InterfaceItem}
+use Rattle.wit_tokens.specs.View.{entry_view}
+use Rattle.wit_tokens.specs.declared.wit_syntax.ast.InterfaceItem.{InterfaceItem}
 use Rattle.tree_meaning.specs.Declarations.{entry_names, entry_scopes, item_scopes}
 use Rattle.package_form.specs.Scope.{AreDistinct}
 use Rattle.package_form.specs.Distinct.{AreMet}

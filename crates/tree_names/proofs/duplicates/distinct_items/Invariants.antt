@@ -1,5 +1,5 @@
 use Rattle.std.proofs.Common.{map, flat_map, take, All}
-use Rattle.wit_syntax.specs.View.{entry_view}
+use Rattle.wit_tokens.specs.View.{entry_view}
 use Rattle.tree_meaning.specs.Declarations.{entry_names, entry_scopes}
 use Rattle.package_form.specs.Scope.{AreDistinct}
 use Rattle.package_form.specs.Distinct.{AreMet}

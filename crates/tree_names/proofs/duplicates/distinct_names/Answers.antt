@@ -1,7 +1,7 @@
 use Rattle.std.proofs.Common.{◌≡◌, ◌⊎◌, ◌++◌, ◌∷◌, [], List, ℕ, All, Contains, map, flat_map, take, subst, sym, arith}
 use Rattle.std.proofs.lemmas.Result.{err_from_is_err_and}
-use Rattle.wit_syntax.specs.View.{item_view}
-use Rattle.wit_syntax.specs.declared.ast.Item.{Item}
+use Rattle.wit_tokens.specs.View.{item_view}
+use Rattle.wit_tokens.specs.declared.wit_syntax.ast.Item.{Item}
 use Rattle.tables.specs.declared.error.ResolveError.TheVariants as error
 use Rattle.tree_meaning.specs.Scopes.{file_name, interface_scopes, scopes_in}
 use Rattle.package_form.specs.Scope.{lowered, AreDistinct}

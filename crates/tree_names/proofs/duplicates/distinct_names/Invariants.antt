@@ -1,5 +1,5 @@
 use Rattle.std.proofs.Common.{map, flat_map, take, All}
-use Rattle.wit_syntax.specs.View.{item_view}
+use Rattle.wit_tokens.specs.View.{item_view}
 use Rattle.tree_meaning.specs.Scopes.{file_name, interface_scopes}
 use Rattle.package_form.specs.Scope.{AreDistinct}
 use Rattle.package_form.specs.Distinct.{AreMet}

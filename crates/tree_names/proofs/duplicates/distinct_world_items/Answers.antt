@@ -1,6 +1,6 @@
 use Rattle.std.proofs.Common.{◌++◌, ◌∷◌, [], map, take, refl, subst, arith}
 use Rattle.std.proofs.lemmas.Result.{err_from_is_err_and}
-use Rattle.wit_syntax.specs.declared.ast.WorldItem.{WorldItem}
+use Rattle.wit_tokens.specs.declared.wit_syntax.ast.WorldItem.{WorldItem}
 use Rattle.tree_scopes.specs.Sources.{item_in}
 use Rattle.package_form.specs.Scope.{AreDistinct}
 use Rattle.package_names.specs.Sides.{AreMetOnSides}

@@ -1,6 +1,6 @@
 use Rattle.std.proofs.Common.{◌≡◌, ◌+◌, ◌++◌, ◌∷◌, ◌∙◌, List, ℕ, [], map, take, ap, subst, sym, arith, append_assoc}
 use Rattle.std.proofs.lemmas.Result.{err_from_is_err_and}
-use Rattle.wit_syntax.specs.View.{used_view}
+use Rattle.wit_tokens.specs.View.{used_view}
 use Rattle.tree_meaning.specs.Declarations.{local_name}
 use Rattle.package_form.specs.Distinct.{AreMet}
 use Rattle.package_form.proofs.Lists.{map_map-more}

@@ -1,5 +1,5 @@
 use Rattle.std.proofs.Common.{◌++◌, List, ℕ, map, take}
-use Rattle.wit_syntax.specs.View.{used_view}
+use Rattle.wit_tokens.specs.View.{used_view}
 use Rattle.tree_meaning.specs.Declarations.{local_name}
 use Rattle.package_form.specs.Distinct.{AreMet}
 use Rattle.tree_names.proofs.duplicates.meet_used.Given as goal

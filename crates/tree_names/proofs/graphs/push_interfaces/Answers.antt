@@ -1,8 +1,8 @@
 use Rattle.std.proofs.Common.{◌≡◌, ◌++◌, ◌∷◌, [], List, ℕ, Option, None, Some, map, take, ap, sym, ◌∙◌, arith, append_assoc, append-nil}
 use Rattle.std.specs.List.{cons_option, filter_map}
 use Rattle.std.proofs.lemmas.List.{map-append}
-use Rattle.wit_syntax.specs.View.{path_view}
-use Rattle.wit_syntax.specs.declared.ast.Path.{Path}
+use Rattle.wit_tokens.specs.View.{path_view}
+use Rattle.wit_tokens.specs.declared.wit_syntax.ast.Path.{Path}
 use Rattle.tree_meaning.specs.Declarations.{own_use, own_interface, path_package, path_interface}
 use Rattle.tree_scopes.specs.Lent.{lent_names, lent_name, used_item_of}
 use Rattle.tree_meaning.proofs.FileEntries.{given-next}

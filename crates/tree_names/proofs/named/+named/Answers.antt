@@ -1,6 +1,6 @@
 use Rattle.std.proofs.Common.{◌++◌, List, ℕ, map, take, ap, sym, ◌∙◌, arith, append_assoc}
-use Rattle.wit_syntax.specs.Syntax.{tys_of}
-use Rattle.wit_syntax.specs.View.{ty_view}
+use Rattle.wit_tokens.specs.Syntax.{tys_of}
+use Rattle.wit_tokens.specs.View.{ty_view}
 use Rattle.tree_meaning.specs.Declarations.{named, named_all}
 use Rattle.tree_scopes.specs.Lent.{lent_names}
 use Rattle.tree_names.proofs.Nesting.{named_all-more}

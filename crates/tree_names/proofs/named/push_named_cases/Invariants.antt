@@ -1,5 +1,5 @@
 use Rattle.std.proofs.Common.{◌≡◌, ◌++◌, map, flat_map, take}
-use Rattle.wit_syntax.specs.View.{case_view}
+use Rattle.wit_tokens.specs.View.{case_view}
 use Rattle.tree_meaning.specs.Declarations.{named_case}
 use Rattle.tree_scopes.specs.Lent.{lent_names}
 use Rattle.tree_names.proofs.named.push_named_cases.Given as goal

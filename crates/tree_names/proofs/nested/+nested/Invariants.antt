@@ -1,6 +1,6 @@
 use Rattle.std.proofs.Common.{◌≡◌, true, nat_le, map, take}
-use Rattle.wit_syntax.specs.Syntax.{depth_all, tys_of}
-use Rattle.wit_syntax.specs.View.{ty_view}
+use Rattle.wit_tokens.specs.Syntax.{depth_all, tys_of}
+use Rattle.wit_tokens.specs.View.{ty_view}
 use Rattle.tree_names.proofs.nested.+nested.Given as goal
 
 abbrev pub invariant-are_within-loop-ty : goal.invariant-are_within-loop-ty

@@ -1,6 +1,6 @@
 use Rattle.std.proofs.Common.{◌≡◌, true, map, take}
 use Rattle.std.specs.List.{list_all}
-use Rattle.wit_syntax.specs.View.{case_view}
+use Rattle.wit_tokens.specs.View.{case_view}
 use Rattle.tree_meaning.specs.Resolves.{case_fits}
 use Rattle.tree_names.proofs.nested.are_cases_nested.Given as goal
 

@@ -1,6 +1,6 @@
 use Rattle.std.proofs.Common.{◌≡◌, true, map, take}
 use Rattle.std.specs.List.{list_all}
-use Rattle.wit_syntax.specs.View.{field_view}
+use Rattle.wit_tokens.specs.View.{field_view}
 use Rattle.tree_meaning.specs.Resolves.{member_fits}
 use Rattle.tree_names.proofs.nested.are_fields_nested.Given as goal
 

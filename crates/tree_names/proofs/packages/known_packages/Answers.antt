@@ -1,6 +1,6 @@
 use Rattle.std.proofs.Common.{List, All, Contains, map, flat_map, sym, subst, arith}
-use Rattle.wit_syntax.specs.View.{item_view}
-use Rattle.wit_syntax.specs.declared.ast.Item.{Item}
+use Rattle.wit_tokens.specs.View.{item_view}
+use Rattle.wit_tokens.specs.declared.wit_syntax.ast.Item.{Item}
 use Rattle.tree_meaning.specs.Declarations.{file_entry_packages}
 use Rattle.tree_meaning.specs.Knowing.{RefusesPackage}
 use Rattle.tables.specs.PackageNames.{PackageParts}

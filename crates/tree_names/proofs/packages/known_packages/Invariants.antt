@@ -1,5 +1,5 @@
 use Rattle.std.proofs.Common.{All, Contains, map, flat_map, take}
-use Rattle.wit_syntax.specs.View.{item_view}
+use Rattle.wit_tokens.specs.View.{item_view}
 use Rattle.tree_meaning.specs.Declarations.{file_entry_packages}
 use Rattle.tree_names.proofs.packages.known_packages.Given as goal
 

@@ -1,8 +1,8 @@
 use Rattle.std.proofs.Common.{List, All, Contains, IfNone, IfSome, map, flat_map, sym, subst}
-use Rattle.wit_syntax.specs.View.{entry_view, world_entry_view, item_view}
-use Rattle.wit_syntax.specs.declared.ast.Item.{Item}
-use Rattle.wit_syntax.specs.declared.ast.InterfaceItem.{InterfaceItem}
-use Rattle.wit_syntax.specs.declared.ast.WorldItem.{WorldItem}
+use Rattle.wit_tokens.specs.View.{entry_view, world_entry_view, item_view}
+use Rattle.wit_tokens.specs.declared.wit_syntax.ast.Item.{Item}
+use Rattle.wit_tokens.specs.declared.wit_syntax.ast.InterfaceItem.{InterfaceItem}
+use Rattle.wit_tokens.specs.declared.wit_syntax.ast.WorldItem.{WorldItem}
 use Rattle.tree_meaning.specs.Declarations.{entry_packages, world_entry_packages, file_entry_packages}
 use Rattle.tree_meaning.specs.Finished.{header_name}
 use Rattle.tree_meaning.specs.Knowing.{IsLacking}

@@ -1,7 +1,7 @@
 use Rattle.std.proofs.Common.{IfSome, IfNone, All, Contains, sym, subst}
-use Rattle.wit_syntax.specs.View.{entry_view, path_view}
-use Rattle.wit_syntax.specs.declared.ast.InterfaceItem.{InterfaceItem}
-use Rattle.wit_syntax.specs.declared.ast.Use.{Use}
+use Rattle.wit_tokens.specs.View.{entry_view, path_view}
+use Rattle.wit_tokens.specs.declared.wit_syntax.ast.InterfaceItem.{InterfaceItem}
+use Rattle.wit_tokens.specs.declared.wit_syntax.ast.Use.{Use}
 use Rattle.tree_meaning.specs.Declarations.{entry_packages, path_packages}
 use Rattle.tree_meaning.specs.Finished.{header_name}
 use Rattle.tree_meaning.specs.Knowing.{IsLacking}

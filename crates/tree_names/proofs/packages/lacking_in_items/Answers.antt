@@ -1,6 +1,6 @@
 use Rattle.std.proofs.Common.{List, All, Contains, map, flat_map, arith}
-use Rattle.wit_syntax.specs.View.{entry_view}
-use Rattle.wit_syntax.specs.declared.ast.InterfaceItem.{InterfaceItem}
+use Rattle.wit_tokens.specs.View.{entry_view}
+use Rattle.wit_tokens.specs.declared.wit_syntax.ast.InterfaceItem.{InterfaceItem}
 use Rattle.tree_meaning.specs.Declarations.{entry_packages}
 use Rattle.package_form.proofs.Lists.{contains-flat, contains-map, contains-at}
 use Rattle.package_form.proofs.Meeting.{all-taken}

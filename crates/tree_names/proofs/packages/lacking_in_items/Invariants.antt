@@ -1,5 +1,5 @@
 use Rattle.std.proofs.Common.{All, Contains, map, flat_map, take}
-use Rattle.wit_syntax.specs.View.{entry_view}
+use Rattle.wit_tokens.specs.View.{entry_view}
 use Rattle.tree_meaning.specs.Declarations.{entry_packages}
 use Rattle.tree_names.proofs.packages.lacking_in_items.Given as goal
 

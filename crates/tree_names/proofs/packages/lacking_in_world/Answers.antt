@@ -1,6 +1,6 @@
 use Rattle.std.proofs.Common.{List, All, Contains, map, flat_map, arith}
-use Rattle.wit_syntax.specs.View.{world_entry_view}
-use Rattle.wit_syntax.specs.declared.ast.WorldItem.{WorldItem}
+use Rattle.wit_tokens.specs.View.{world_entry_view}
+use Rattle.wit_tokens.specs.declared.wit_syntax.ast.WorldItem.{WorldItem}
 use Rattle.tree_meaning.specs.Declarations.{world_entry_packages}
 use Rattle.package_form.proofs.Lists.{contains-flat, contains-map, contains-at}
 use Rattle.package_form.proofs.Meeting.{all-taken}

@@ -1,7 +1,7 @@
 use Rattle.std.proofs.Common.{◌++◌, [], Vec, Global, map, take, ap, sym, ◌∙◌, arith, append-nil}
 use Rattle.std.specs.List.{cons_option, filter_map}
-use Rattle.wit_syntax.specs.View.{item_view}
-use Rattle.wit_syntax.specs.declared.ast.Item.{Item}
+use Rattle.wit_tokens.specs.View.{item_view}
+use Rattle.wit_tokens.specs.declared.wit_syntax.ast.Item.{Item}
 use Rattle.tree_meaning.specs.Declarations.{interface_of}
 use Rattle.tree_scopes.specs.Sources.{declared_tree}
 use Rattle.tree_scopes.specs.declared.declared.Declarations.{Declarations}

@@ -5,8 +5,8 @@ use Rattle.std.proofs.lemmas.Bool.Decides.{nat_tests}
 use Rattle.atoms.specs.Label.{IsLabel}
 use Rattle.tables.specs.PackageNames.{PackageParts}
 use Rattle.tables.specs.declared.tables.Resolve.{Resolve}
-use Rattle.wit_syntax.specs.View.{item_view, file_view}
-use Rattle.wit_syntax.specs.declared.ast.Item.{Item}
+use Rattle.wit_tokens.specs.View.{item_view, file_view}
+use Rattle.wit_tokens.specs.declared.wit_syntax.ast.Item.{Item}
 use Rattle.package_form.specs.Scope.{AreDistinct}
 use Rattle.package_form.specs.Distinct.{RefusesScopes}
 use Rattle.tree_meaning.specs.Declarations.{InterfaceTree, WorldTree, file_entry_packages, interface_of, world_of, interfaces, file_worlds, names_of_trees, package_named}

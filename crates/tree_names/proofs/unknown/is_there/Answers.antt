@@ -1,5 +1,5 @@
 use Rattle.std.proofs.Common.{◌↔◌, IsTrue, Bool, sym, subst}
-use Rattle.wit_syntax.specs.View.{path_view}
+use Rattle.wit_tokens.specs.View.{path_view}
 use Rattle.tree_meaning.specs.Imports.{imports_of}
 use Rattle.tree_meaning.specs.Knowing.{IsThere}
 use Rattle.tree_meaning.proofs.PathNames.{local-there, foreign-there}

@@ -2,8 +2,8 @@ use Rattle.std.proofs.Common.{◌≡◌, ◌+◌, ◌<◌, ◌∙◌, [], List, 
 use Rattle.std.specs.declared.option.Option.{Option}
 use Rattle.std.specs.List.{cons_option, filter_map}
 use Rattle.std.proofs.lemmas.List.{length-map}
-use Rattle.wit_syntax.specs.View.{item_view}
-use Rattle.wit_syntax.specs.declared.ast.Item.{Item}
+use Rattle.wit_tokens.specs.View.{item_view}
+use Rattle.wit_tokens.specs.declared.wit_syntax.ast.Item.{Item}
 use Rattle.tables.specs.declared.error.ResolveError.TheVariants as error
 use Rattle.tree_meaning.specs.Imports.{imports_of}
 use Rattle.tree_meaning.specs.Declarations.{InterfaceTree, no_interface, interface_of, world_of}

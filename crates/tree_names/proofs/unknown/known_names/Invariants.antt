@@ -1,6 +1,6 @@
 use Rattle.std.proofs.Common.{◌≡◌, All, map, take, length}
 use Rattle.std.specs.List.{filter_map}
-use Rattle.wit_syntax.specs.View.{item_view}
+use Rattle.wit_tokens.specs.View.{item_view}
 use Rattle.tree_meaning.specs.Imports.{imports_of}
 use Rattle.tree_meaning.specs.Declarations.{interface_of}
 use Rattle.tree_meaning.specs.Knowing.{KnowsFileEntry}

@@ -1,9 +1,9 @@
 use Rattle.std.proofs.Common.{◌≡◌, List, ℕ, Bor, All, IfOk, IfNone, IfSome, map, get_or, ap, sym, subst, ◌∙◌, arith}
 use Rattle.std.proofs.lemmas.List.{get_or_default}
-use Rattle.wit_syntax.specs.View.{item_view, entry_view, world_entry_view}
-use Rattle.wit_syntax.specs.declared.ast.Item.{Item}
-use Rattle.wit_syntax.specs.declared.ast.InterfaceItem.{InterfaceItem}
-use Rattle.wit_syntax.specs.declared.ast.WorldItem.{WorldItem}
+use Rattle.wit_tokens.specs.View.{item_view, entry_view, world_entry_view}
+use Rattle.wit_tokens.specs.declared.wit_syntax.ast.Item.{Item}
+use Rattle.wit_tokens.specs.declared.wit_syntax.ast.InterfaceItem.{InterfaceItem}
+use Rattle.wit_tokens.specs.declared.wit_syntax.ast.WorldItem.{WorldItem}
 use Rattle.tree_meaning.specs.Imports.{imports_of}
 use Rattle.tree_meaning.specs.Declarations.{InterfaceTree, interface_of, interface_tree, item_tree}
 use Rattle.tree_meaning.specs.Resolves.{HasKnownNamesOf, IsUnknownIn, IsKnownItemOf}

@@ -1,6 +1,6 @@
 use Rattle.std.proofs.Common.{List, ℕ, Bor, ap, sym, subst, ◌∙◌, IfNone, IfSome, map}
-use Rattle.wit_syntax.specs.View.{entry_view}
-use Rattle.wit_syntax.specs.declared.ast.InterfaceItem.{InterfaceItem}
+use Rattle.wit_tokens.specs.View.{entry_view}
+use Rattle.wit_tokens.specs.declared.wit_syntax.ast.InterfaceItem.{InterfaceItem}
 use Rattle.tree_meaning.specs.Imports.{imports_of}
 use Rattle.tree_scopes.specs.Lent.{lent_names}
 use Rattle.tree_scopes.specs.Sources.{declared_tree}

@@ -1,5 +1,5 @@
 use Rattle.std.proofs.Common.{All, map, take}
-use Rattle.wit_syntax.specs.View.{entry_view}
+use Rattle.wit_tokens.specs.View.{entry_view}
 use Rattle.tree_meaning.specs.Imports.{imports_of}
 use Rattle.tree_scopes.specs.Sources.{declared_tree}
 use Rattle.tree_meaning.specs.Knowing.{KnowsEntry}

@@ -1,6 +1,6 @@
 use Rattle.std.proofs.Common.{List, [], All, map, sym, subst, arith}
-use Rattle.wit_syntax.specs.View.{path_view, used_view}
-use Rattle.wit_syntax.specs.declared.ast.UsedName.{UsedName}
+use Rattle.wit_tokens.specs.View.{path_view, used_view}
+use Rattle.wit_tokens.specs.declared.wit_syntax.ast.UsedName.{UsedName}
 use Rattle.tree_meaning.specs.Imports.{imports_of}
 use Rattle.tree_meaning.specs.Declarations.{used_item}
 use Rattle.tree_meaning.specs.Resolves.{IsKnownUseOf}

@@ -1,5 +1,5 @@
 use Rattle.std.proofs.Common.{All, map, take}
-use Rattle.wit_syntax.specs.View.{path_view, used_view}
+use Rattle.wit_tokens.specs.View.{path_view, used_view}
 use Rattle.tree_meaning.specs.Imports.{imports_of}
 use Rattle.tree_meaning.specs.Declarations.{used_item}
 use Rattle.tree_meaning.specs.Resolves.{IsKnownUseOf}

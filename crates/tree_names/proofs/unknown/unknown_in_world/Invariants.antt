@@ -1,5 +1,5 @@
 use Rattle.std.proofs.Common.{All, map, take}
-use Rattle.wit_syntax.specs.View.{world_entry_view}
+use Rattle.wit_tokens.specs.View.{world_entry_view}
 use Rattle.tree_meaning.specs.Imports.{imports_of}
 use Rattle.tree_meaning.specs.Declarations.{item_tree}
 use Rattle.tree_meaning.specs.Resolves.{IsKnownItemOf}

@@ -1,7 +1,7 @@
 use Rattle.std.proofs.Common.{ℕ, List, sym, subst}
-use Rattle.wit_syntax.specs.View.{path_view, world_entry_view}
-use Rattle.wit_syntax.specs.declared.ast.WorldItemKind.{WorldItemKind}
-use Rattle.wit_syntax.specs.declared.ast.WorldItemKind.TheVariants as world
+use Rattle.wit_tokens.specs.View.{path_view, world_entry_view}
+use Rattle.wit_tokens.specs.declared.wit_syntax.ast.WorldItemKind.{WorldItemKind}
+use Rattle.wit_tokens.specs.declared.wit_syntax.ast.WorldItemKind.TheVariants as world
 use Rattle.tree_meaning.specs.Imports.{imports_of}
 use Rattle.tree_meaning.specs.Declarations.{item_tree}
 use Rattle.tree_meaning.specs.Resolves.{IsKnownItemOf, IsUnknownItem}

@@ -1,5 +1,5 @@
 use Rattle.std.proofs.Common.{List, ℕ, subst, arith, Contains}
-use Rattle.wit_syntax.specs.View.{optional_view, case_view}
+use Rattle.wit_tokens.specs.View.{optional_view, case_view}
 use Rattle.package_form.specs.Postfix.{unnamed_case}
 use Rattle.tree_meaning.specs.Declarations.{named_case}
 use Rattle.tree_meaning.specs.Resolved.{resolved_if, case_meaning}

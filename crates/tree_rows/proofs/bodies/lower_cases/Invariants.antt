@@ -1,5 +1,5 @@
 use Rattle.std.proofs.Common.{map, take}
-use Rattle.wit_syntax.specs.View.{case_view}
+use Rattle.wit_tokens.specs.View.{case_view}
 use Rattle.tree_meaning.specs.Resolved.{case_meaning}
 use Rattle.tree_meaning.specs.Building.{LowersCases}
 use Rattle.tree_scopes.specs.KnownScopes.{scope_name}

@@ -1,8 +1,8 @@
 use Rattle.std.proofs.Common.{◌∙◌, List, map, ap, sym, subst}
-use Rattle.wit_syntax.specs.Syntax.{Record, Variant, TypeBody}
-use Rattle.wit_syntax.specs.View.{field_view, case_view, definition_view}
-use Rattle.wit_syntax.specs.declared.ast.Field.{Field}
-use Rattle.wit_syntax.specs.declared.ast.Case.{Case}
+use Rattle.wit_tokens.specs.Syntax.{Record, Variant, TypeBody}
+use Rattle.wit_tokens.specs.View.{field_view, case_view, definition_view}
+use Rattle.wit_tokens.specs.declared.wit_syntax.ast.Field.{Field}
+use Rattle.wit_tokens.specs.declared.wit_syntax.ast.Case.{Case}
 use Rattle.tables.specs.Package.{IsType}
 use Rattle.tree_meaning.specs.Declarations.{named_definition}
 use Rattle.tree_meaning.specs.Resolved.{definition_meaning}

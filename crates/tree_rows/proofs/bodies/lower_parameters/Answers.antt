@@ -1,5 +1,5 @@
 use Rattle.std.proofs.Common.{List, ℕ, subst, arith, Contains}
-use Rattle.wit_syntax.specs.View.{ty_view, field_view}
+use Rattle.wit_tokens.specs.View.{ty_view, field_view}
 use Rattle.package_form.specs.Postfix.{unnamed_parameter}
 use Rattle.tree_meaning.specs.Declarations.{named_member}
 use Rattle.tree_meaning.specs.Resolved.{resolved, member_meaning}

@@ -1,5 +1,5 @@
 use Rattle.std.proofs.Common.{map, take}
-use Rattle.wit_syntax.specs.View.{field_view}
+use Rattle.wit_tokens.specs.View.{field_view}
 use Rattle.tree_meaning.specs.Resolved.{member_meaning}
 use Rattle.tree_meaning.specs.Building.{LowersParameters}
 use Rattle.tree_scopes.specs.KnownScopes.{scope_name}

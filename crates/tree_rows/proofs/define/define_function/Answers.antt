@@ -1,6 +1,6 @@
 use Rattle.std.proofs.Common.{List, ℕ, map, flat_map, subst, sym, Contains}
-use Rattle.wit_syntax.specs.View.{field_view, optional_view}
-use Rattle.wit_syntax.specs.declared.ast.Field.{Field}
+use Rattle.wit_tokens.specs.View.{field_view, optional_view}
+use Rattle.wit_tokens.specs.declared.wit_syntax.ast.Field.{Field}
 use Rattle.tree_meaning.specs.Declarations.{named_member, named_if}
 use Rattle.tree_meaning.specs.Resolved.{member_meaning, resolved_if}
 use Rattle.tree_meaning.specs.Building.{LowersParameters, LowersIf}

@@ -1,6 +1,6 @@
 use Rattle.std.proofs.Common.{◌≡◌, ◌++◌, List, ℕ, All, Contains, Bor, map, ap, sym, subst, refl}
-use Rattle.wit_syntax.specs.declared.ast.TypeDef.{TypeDef}
-use Rattle.wit_syntax.specs.declared.ast.Func.{Func}
+use Rattle.wit_tokens.specs.declared.wit_syntax.ast.TypeDef.{TypeDef}
+use Rattle.wit_tokens.specs.declared.wit_syntax.ast.Func.{Func}
 use Rattle.tree_meaning.specs.Declarations.{FunctionItem, used_names, names_in_function}
 use Rattle.tree_scopes.specs.Lent.{used_item_of, declared_type}
 use Rattle.tree_scopes.specs.Sources.{declared_tree, declared_function}

@@ -1,6 +1,6 @@
 use Rattle.std.proofs.Common.{◌≡◌, ◌++◌, ◌∙◌, ◌<◌, List, ℕ, All, Contains, map, take, get_or, length, ap, sym, subst, arith, Bor}
 use Rattle.std.proofs.lemmas.List.{get_or-map, length-map}
-use Rattle.wit_syntax.specs.declared.ast.TypeDef.{TypeDef}
+use Rattle.wit_tokens.specs.declared.wit_syntax.ast.TypeDef.{TypeDef}
 use Rattle.tree_meaning.specs.Declarations.{TypeItem, named_definition}
 use Rattle.tree_meaning.specs.Resolved.{no_type}
 use Rattle.tree_scopes.specs.Lent.{declared_type}

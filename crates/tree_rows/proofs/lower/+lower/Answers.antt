@@ -1,7 +1,7 @@
-use Rattle.wit_syntax.specs.declared.ast.TypeExpression.{TypeExpression, the_lemmas}
+use Rattle.wit_tokens.specs.declared.wit_syntax.ast.TypeExpression.{TypeExpression, the_lemmas}
 use Rattle.std.proofs.Common.{List, ℕ, [], Some, subst, ap, ◌∙◌, sym, arith, rules, Contains}
-use Rattle.wit_syntax.specs.Syntax.{MaybeTy, Named, ListOf, OptionOf, TupleOf, ResultOf, Present}
-use Rattle.wit_syntax.specs.View.{ty_view, boxed_view}
+use Rattle.wit_tokens.specs.Syntax.{MaybeTy, Named, ListOf, OptionOf, TupleOf, ResultOf, Present}
+use Rattle.wit_tokens.specs.View.{ty_view, boxed_view}
 use Rattle.tables.specs.Package.{read_val}
 use Rattle.tables.specs.Tables.{is_type}
 use Rattle.package_form.specs.Postfix.{unnamed}
@@ -10,7 +10,7 @@ use Rattle.tree_meaning.specs.Resolved.{resolved, resolved_maybe}
 use Rattle.tree_meaning.specs.Building.{LowersIf, LowersInner}
 use Rattle.tree_scopes.specs.KnownScopes.{KnowsNames, scope_name, scope_names}
 use Rattle.package_form.proofs.Lists.{all-head, all-left, all-right}
-use Rattle.wit_syntax.proofs.Views.{view-Named, view-List, view-Option, view-Tuple, view-Result}
+use Rattle.wit_tokens.proofs.wit_syntax.Views.{view-Named, view-List, view-Option, view-Tuple, view-Result}
 use Rattle.tree_rows.proofs.Lowering.{known-by, inner-by, scope-later, same_name, lowers-list, lowers-option, lowers-tuple, lowers-result, lowers-some, resolved_all-more, all_named-at}
 use Rattle.tree_meaning.proofs.Staying.{lowers_each-more, val-stays}
 use Rattle.tree_rows.proofs.lower.+lower.Goals as goal

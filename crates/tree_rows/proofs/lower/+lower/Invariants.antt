@@ -1,6 +1,6 @@
 use Rattle.std.proofs.Common.{map, take}
-use Rattle.wit_syntax.specs.Syntax.{tys_of}
-use Rattle.wit_syntax.specs.View.{ty_view}
+use Rattle.wit_tokens.specs.Syntax.{tys_of}
+use Rattle.wit_tokens.specs.View.{ty_view}
 use Rattle.tree_meaning.specs.Resolved.{resolved_all}
 use Rattle.tree_meaning.specs.Building.{LowersAll}
 use Rattle.tree_scopes.specs.KnownScopes.{scope_name}

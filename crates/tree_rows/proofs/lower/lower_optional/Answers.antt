@@ -1,7 +1,7 @@
 use Rattle.std.proofs.Common.{subst}
 use Rattle.std.specs.declared.option.Option.{Option}
-use Rattle.wit_syntax.specs.View.{optional_view}
-use Rattle.wit_syntax.specs.declared.ast.TypeExpression.{TypeExpression}
+use Rattle.wit_tokens.specs.View.{optional_view}
+use Rattle.wit_tokens.specs.declared.wit_syntax.ast.TypeExpression.{TypeExpression}
 use Rattle.tree_meaning.specs.Declarations.{named_if}
 use Rattle.tree_scopes.specs.KnownScopes.{KnowsNames}
 use Rattle.tree_rows.proofs.lower.lower_optional.Goals as goal

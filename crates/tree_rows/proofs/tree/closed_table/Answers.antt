@@ -1,6 +1,6 @@
 use Rattle.std.proofs.Common.{subst, Err, IfOk, IfErr}
 use Rattle.std.proofs.lemmas.Result.{err_from_is_err_and}
-use Rattle.wit_syntax.specs.View.{file_view}
+use Rattle.wit_tokens.specs.View.{file_view}
 use Rattle.tables.specs.declared.tables.Resolve.{Resolve}
 use Rattle.tree_meaning.specs.Imports.{imports_of}
 use Rattle.tree_meaning.specs.Resolves.{IsClosedPackageOf, HasNoFaultsOf, ResolveRefusesOf}

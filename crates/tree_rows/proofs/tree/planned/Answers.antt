@@ -1,7 +1,7 @@
 use Rattle.std.proofs.Common.{◌∙◌, List, All, map, length, refl, sym, subst}
 use Rattle.std.specs.List.{filter_map}
-use Rattle.wit_syntax.specs.View.{item_view}
-use Rattle.wit_syntax.specs.declared.ast.Item.{Item}
+use Rattle.wit_tokens.specs.View.{item_view}
+use Rattle.wit_tokens.specs.declared.wit_syntax.ast.Item.{Item}
 use Rattle.tree_meaning.specs.Declarations.{InterfaceTree, world_of, package_named}
 use Rattle.tree_meaning.specs.Imports.{imports_of}
 use Rattle.tree_meaning.specs.Resolved.{meaning_of_world}

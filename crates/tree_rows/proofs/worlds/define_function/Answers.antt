@@ -1,6 +1,6 @@
 use Rattle.std.proofs.Common.{List, [], map, subst}
-use Rattle.wit_syntax.specs.View.{field_view, optional_view}
-use Rattle.wit_syntax.specs.declared.ast.Field.{Field}
+use Rattle.wit_tokens.specs.View.{field_view, optional_view}
+use Rattle.wit_tokens.specs.declared.wit_syntax.ast.Field.{Field}
 use Rattle.tree_meaning.specs.Resolved.{member_meaning, direction_meaning}
 use Rattle.tree_meaning.specs.Building.{LowersParameters, LowersIf, label_at}
 use Rattle.tree_rows.proofs.DefinedWorlds.{function-defined}

@@ -1,6 +1,6 @@
 use Rattle.std.proofs.Common.{◌≡◌, ◌∙◌, Some, sym, subst}
-use Rattle.wit_syntax.specs.View.{path_view, world_kind_view}
-use Rattle.wit_syntax.specs.declared.ast.WorldItemKind.{WorldItemKind}
+use Rattle.wit_tokens.specs.View.{path_view, world_kind_view}
+use Rattle.wit_tokens.specs.declared.wit_syntax.ast.WorldItemKind.{WorldItemKind}
 use Rattle.tables.specs.declared.tables.WorldItemKind.TheVariants as table
 use Rattle.tree_meaning.specs.Declarations.{item_tree}
 use Rattle.tree_meaning.specs.Resolved.{tree_item_meaning}

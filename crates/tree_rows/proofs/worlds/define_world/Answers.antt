@@ -1,7 +1,7 @@
 use Rattle.std.proofs.Common.{◌∙◌, ℕ, List, map, ap, sym, subst}
 use Rattle.std.proofs.lemmas.Simd.{map-map}
 use Rattle.std.specs.Prelude.{All}
-use Rattle.wit_syntax.specs.View.{world_entry_view}
+use Rattle.wit_tokens.specs.View.{world_entry_view}
 use Rattle.tree_meaning.specs.Declarations.{ItemTree, item_tree}
 use Rattle.tree_meaning.specs.Resolved.{tree_item_meaning, meaning_of_world}
 use Rattle.tree_meaning.specs.Resolves.{IsKnownItemOf}

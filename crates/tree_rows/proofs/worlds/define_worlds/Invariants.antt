@@ -1,6 +1,6 @@
 use Rattle.std.proofs.Common.{map, take, length}
 use Rattle.std.specs.List.{filter_map}
-use Rattle.wit_syntax.specs.View.{item_view}
+use Rattle.wit_tokens.specs.View.{item_view}
 use Rattle.tree_meaning.specs.Declarations.{world_of}
 use Rattle.tree_meaning.specs.Resolved.{meaning_of_world}
 use Rattle.tree_meaning.specs.WorldRows.{DefinesWorlds}

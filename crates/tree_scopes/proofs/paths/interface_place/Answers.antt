@@ -1,7 +1,7 @@
 use Rattle.std.proofs.Common.{◌+◌, ℕ, Option, Some, Result, Ok, Err, IfErr, length, ap, sym, ◌∙◌}
 use Rattle.std.specs.Option.{option_map}
-use Rattle.wit_syntax.specs.View.{path_view}
-use Rattle.wit_syntax.specs.declared.ast.Path.{Path}
+use Rattle.wit_tokens.specs.View.{path_view}
+use Rattle.wit_tokens.specs.declared.wit_syntax.ast.Path.{Path}
 use Rattle.tree_meaning.specs.Imports.{interfaces_of}
 use Rattle.tree_meaning.specs.Resolves.{path_place}
 use Rattle.tree_meaning.proofs.Imported.{imports-length}

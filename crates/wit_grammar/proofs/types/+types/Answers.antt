@@ -4,7 +4,7 @@ use Rattle.std.proofs.lemmas.List.{map_push, length-append}
 use Rattle.productions.proofs.Lists.{goes_on, is_done, item_fails, separator_fails}
 use Rattle.wit_tokens.specs.Lexing.{limit}
 use Rattle.wit_tokens.specs.Tokens.{lexemes}
-use Rattle.wit_syntax.specs.View.{ty_view}
+use Rattle.wit_tokens.specs.View.{ty_view}
 use Rattle.wit_grammar.specs.Grammar.{ty, comma, greater, comma_wanted}
 use Rattle.wit_grammar.specs.Faults.{is}
 use Rattle.wit_grammar.proofs.Handed.{Fails-on}

@@ -2,7 +2,7 @@ use Rattle.std.proofs.Common.{◌≡◌, ◌≤◌, ◌+◌, ◌*◌, ◌-◌, l
 use Rattle.productions.proofs.Lists.{with_front}
 use Rattle.wit_tokens.specs.Lexing.{limit}
 use Rattle.wit_tokens.specs.Tokens.{lexemes}
-use Rattle.wit_syntax.specs.View.{ty_view}
+use Rattle.wit_tokens.specs.View.{ty_view}
 use Rattle.wit_grammar.specs.Grammar.{ty, members}
 use Rattle.wit_grammar.proofs.types.+types.Given as goal
 

@@ -1,6 +1,6 @@
 use Rattle.std.proofs.Common.{List, map, arith}
-use Rattle.wit_syntax.specs.declared.ast.InterfaceItem.{InterfaceItem}
-use Rattle.wit_syntax.specs.View.{entry_view}
+use Rattle.wit_tokens.specs.declared.wit_syntax.ast.InterfaceItem.{InterfaceItem}
+use Rattle.wit_tokens.specs.View.{entry_view}
 use Rattle.wit_print.specs.Canonical.{braced_words, entry_words}
 use Rattle.wit_print.proofs.Texts.{leaves_then}
 use Rattle.wit_print.proofs.Lists.{left-next}

@@ -1,5 +1,5 @@
 use Rattle.std.proofs.Common.{[], drop, map}
-use Rattle.wit_syntax.specs.View.{used_view}
+use Rattle.wit_tokens.specs.View.{used_view}
 use Rattle.wit_tokens.specs.declared.token.Punctuation.TheVariants as mark
 use Rattle.wit_print.specs.Words.{mark_word}
 use Rattle.wit_print.specs.Canonical.{listed_words, used_words}

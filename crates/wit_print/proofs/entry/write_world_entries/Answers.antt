@@ -1,6 +1,6 @@
 use Rattle.std.proofs.Common.{List, map, arith}
-use Rattle.wit_syntax.specs.declared.ast.WorldItem.{WorldItem}
-use Rattle.wit_syntax.specs.View.{world_entry_view}
+use Rattle.wit_tokens.specs.declared.wit_syntax.ast.WorldItem.{WorldItem}
+use Rattle.wit_tokens.specs.View.{world_entry_view}
 use Rattle.wit_print.specs.Canonical.{braced_words, world_entry_words}
 use Rattle.wit_print.proofs.Texts.{leaves_then}
 use Rattle.wit_print.proofs.Lists.{left-next}

@@ -1,8 +1,8 @@
 use Rattle.std.proofs.Common.{List, ap, map, sym}
 use Rattle.std.proofs.lemmas.Result.{on_ok_weaker}
-use Rattle.wit_syntax.specs.declared.ast.Item.{Item}
-use Rattle.wit_syntax.specs.declared.ast.InterfaceItem.{InterfaceItem}
-use Rattle.wit_syntax.specs.View.{item_view, entry_view}
+use Rattle.wit_tokens.specs.declared.wit_syntax.ast.Item.{Item}
+use Rattle.wit_tokens.specs.declared.wit_syntax.ast.InterfaceItem.{InterfaceItem}
+use Rattle.wit_tokens.specs.View.{item_view, entry_view}
 use Rattle.wit_print.specs.Canonical.{file_entry_words, braced_words, entry_words}
 use Rattle.wit_print.proofs.Texts.{adds_then, adds_same}
 use Rattle.wit_print.proofs.file.write_item.Goals as goal

@@ -1,5 +1,5 @@
 use Rattle.std.proofs.Common.{drop, map}
-use Rattle.wit_syntax.specs.View.{item_view}
+use Rattle.wit_tokens.specs.View.{item_view}
 use Rattle.wit_print.specs.Canonical.{items_words}
 use Rattle.wit_print.proofs.Leaving.{LeavesWords}
 use Rattle.wit_print.proofs.file.write_items.Given as goal

@@ -1,5 +1,5 @@
 use Rattle.std.proofs.Common.{[], drop, map}
-use Rattle.wit_syntax.specs.View.{field_view}
+use Rattle.wit_tokens.specs.View.{field_view}
 use Rattle.wit_tokens.specs.declared.token.Punctuation.TheVariants as mark
 use Rattle.wit_print.specs.Words.{mark_word}
 use Rattle.wit_print.specs.Canonical.{listed_words, member_words}

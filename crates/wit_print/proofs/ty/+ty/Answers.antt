@@ -1,7 +1,7 @@
 use Rattle.std.proofs.Common.{[], map, ap, sym, ◌∙◌, arith, List}
 use Rattle.std.proofs.lemmas.Result.{on_ok_weaker}
-use Rattle.wit_syntax.specs.View.{ty_view}
-use Rattle.wit_syntax.specs.declared.ast.TypeExpression.{TypeExpression}
+use Rattle.wit_tokens.specs.View.{ty_view}
+use Rattle.wit_tokens.specs.declared.wit_syntax.ast.TypeExpression.{TypeExpression}
 use Rattle.wit_tokens.specs.declared.token.Punctuation.TheVariants as mark
 use Rattle.wit_print.specs.Words.{mark_word}
 use Rattle.wit_print.specs.Canonical.{ty_words, listed_words}

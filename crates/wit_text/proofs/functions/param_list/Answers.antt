@@ -6,8 +6,8 @@ use Rattle.productions.proofs.Lists.{entry_goes_on, entry_is_last, entry_fails, 
 use Rattle.wit_tokens.specs.declared.error.Expected.TheVariants as want
 use Rattle.wit_tokens.specs.Lexing.{limit}
 use Rattle.wit_tokens.specs.Tokens.{lexemes}
-use Rattle.wit_syntax.specs.View.{field_view}
-use Rattle.wit_syntax.specs.Syntax.{Member}
+use Rattle.wit_tokens.specs.View.{field_view}
+use Rattle.wit_tokens.specs.Syntax.{Member}
 use Rattle.wit_grammar.specs.Lookahead.{Phrase}
 use Rattle.wit_grammar.specs.Faults.{wanted}
 use Rattle.wit_grammar.specs.Grammar.{nesting, member, after_member}

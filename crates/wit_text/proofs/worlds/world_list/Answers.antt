@@ -4,7 +4,7 @@ use Rattle.std.proofs.lemmas.List.{map_push, length-append}
 use Rattle.productions.proofs.Lists.{many_goes_on, many_fails, many_closes}
 use Rattle.wit_tokens.specs.Lexing.{limit}
 use Rattle.wit_tokens.specs.Tokens.{Lexeme, lexeme, lexemes}
-use Rattle.wit_syntax.specs.View.{world_entry_view}
+use Rattle.wit_tokens.specs.View.{world_entry_view}
 use Rattle.wit_grammar.specs.Faults.{is, wanted}
 use Rattle.wit_grammar.specs.Grammar.{world_entry, nesting, close_brace}
 use Rattle.wit_tokens.specs.declared.error.TextError.{TextError}

@@ -1,7 +1,7 @@
 -- A tree's package is not put behind the set where memory is wanting alone, and makes one set.
 use Rattle.std.proofs.Math.Logic.{∥∥₁_map, ∥∥₁_map₂}
 use Rattle.std.proofs.lemmas.Result.{err_from_is_err_and}
-use Rattle.wit_syntax.specs.View.{file_view}
+use Rattle.wit_tokens.specs.View.{file_view}
 use Rattle.package_adding.proofs.Adding.{not-put}
 use Rattle.package_adding.proofs.Only.{want, refused-for-memory, makes-one, is-known}
 use Rattle.package_adding.proofs.set.PackageSet.add_ast.Goals as goal

@@ -1,5 +1,5 @@
 use Rattle.std.proofs.Common.{◌≡◌, map, flat_map, take}
-use Rattle.wit_syntax.specs.View.{entry_view}
+use Rattle.wit_tokens.specs.View.{entry_view}
 use Rattle.tree_meaning.specs.Declarations.{entry_uses, entry_types, entry_functions}
 use Rattle.tree_scopes.specs.Lent.{used_item_of, declared_type}
 use Rattle.tree_scopes.specs.Sources.{declared_function}

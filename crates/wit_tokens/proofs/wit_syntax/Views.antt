@@ -1,8 +1,8 @@
 -- The tree that each form of a type's expression stands for.
 use Rattle.std.proofs.Common.{◌≡◌, ℕ, List, Option, None, Some, map, rules, Box, Global, Vec}
-use Rattle.wit_syntax.specs.Syntax.{Named, ListOf, OptionOf, TupleOf, ResultOf, tys_of}
-use Rattle.wit_syntax.specs.View.{ty_view, boxed_view}
-use Rattle.wit_syntax.specs.declared.ast.TypeExpression.{TypeExpression, Named as Name, List as Listed, Option as Optional, Tuple, Result as Either, the_lemmas}
+use Rattle.wit_tokens.specs.Syntax.{Named, ListOf, OptionOf, TupleOf, ResultOf, tys_of}
+use Rattle.wit_tokens.specs.View.{ty_view, boxed_view}
+use Rattle.wit_tokens.specs.declared.wit_syntax.ast.TypeExpression.{TypeExpression, Named as Name, List as Listed, Option as Optional, Tuple, Result as Either, the_lemmas}
 
 pub view-Named : (n : List ℕ) → ty_view (Name n) ≡ Named n
 view-Named n = search (rules, the_lemmas)

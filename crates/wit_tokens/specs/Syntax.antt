@@ -1,8 +1,8 @@
 -- The syntax of a text, as plain trees: what a value of the crate's types stands for.
 use Rattle.std.specs.Prelude.{ℕ, ◌+◌, max, List, [], ◌∷◌, Option}
 use Rattle.wit_tokens.specs.declared.token.Span.{Span}
-use Rattle.wit_syntax.specs.declared.ast.Primitive.{Primitive}
-use Rattle.wit_syntax.specs.declared.ast.Direction.{Direction}
+use Rattle.wit_tokens.specs.declared.wit_syntax.ast.Primitive.{Primitive}
+use Rattle.wit_tokens.specs.declared.wit_syntax.ast.Direction.{Direction}
 
 mutual
   -- `ty` of WIT.md: a type expression; a name is that of a type in its interface

@@ -3,7 +3,7 @@ use Rattle.std.specs.Prelude.{Bool, true, ◌&&◌}
 use Rattle.std.specs.List.{list_all}
 use Rattle.atoms.specs.Label.{is_label}
 use Rattle.atoms.specs.FullName.{is_package_label, is_version_or_none}
-use Rattle.wit_syntax.specs.Syntax.{FileEntry, AnInterface, AWorld, File}
+use Rattle.wit_tokens.specs.Syntax.{FileEntry, AnInterface, AWorld, File}
 
 -- the name of an interface is a label; a world's may be any
 abbrev pub has_label : FileEntry → Bool

@@ -4,28 +4,28 @@ use Rattle.std.specs.declared.boxed.Box.{Box}
 use Rattle.std.specs.declared.alloc.Global.{Global}
 use Rattle.std.specs.String.{string_bytes}
 use Rattle.std.specs.declared.string.String.{String}
-use Rattle.wit_syntax.specs.Syntax.{Ty, MaybeTy, Prim, Named, ListOf, OptionOf, TupleOf, ResultOf, Absent, Present, tys_of, Member, CaseOf, UsedAs, Alias, Record, Variant, Enumeration, FlagSet, Function, PathTo, Local, Foreign, Entry, Uses, Defines, Declares, WorldEntry, Whole, Single, FileEntry, AnInterface, AWorld, HeaderNames, File, TypeBody}
-use Rattle.wit_syntax.specs.declared.ast.Ast.{Ast}
-use Rattle.wit_syntax.specs.declared.ast.PackageId.{PackageId}
-use Rattle.wit_syntax.specs.declared.ast.Item.{Item}
-use Rattle.wit_syntax.specs.declared.ast.Item.TheVariants as item
-use Rattle.wit_syntax.specs.declared.ast.InterfaceItem.{InterfaceItem}
-use Rattle.wit_syntax.specs.declared.ast.InterfaceItem.TheVariants as entry
-use Rattle.wit_syntax.specs.declared.ast.Path.{Path}
-use Rattle.wit_syntax.specs.declared.ast.Path.TheVariants as path
-use Rattle.wit_syntax.specs.declared.ast.UsedName.{UsedName}
-use Rattle.wit_syntax.specs.declared.ast.TypeDefKind.{TypeDefKind}
-use Rattle.wit_syntax.specs.declared.ast.TypeDefKind.TheVariants as definition
-use Rattle.wit_syntax.specs.declared.ast.Field.{Field}
-use Rattle.wit_syntax.specs.declared.ast.Case.{Case}
-use Rattle.wit_syntax.specs.declared.ast.FuncType.{FuncType}
-use Rattle.wit_syntax.specs.declared.ast.WorldItem.{WorldItem}
-use Rattle.wit_syntax.specs.declared.ast.WorldItemKind.{WorldItemKind}
-use Rattle.wit_syntax.specs.declared.ast.WorldItemKind.TheVariants as world
-use Rattle.wit_syntax.specs.declared.ast.Direction.{Direction}
-use Rattle.wit_syntax.specs.declared.ast.TypeExpression.{TypeExpression}
-use Rattle.wit_syntax.specs.declared.ast.TypeExpression.TheOpen as one
-use Rattle.wit_syntax.specs.declared.ast.TypeExpression.TheFolds.{fold-TypeExpression}
+use Rattle.wit_tokens.specs.Syntax.{Ty, MaybeTy, Prim, Named, ListOf, OptionOf, TupleOf, ResultOf, Absent, Present, tys_of, Member, CaseOf, UsedAs, Alias, Record, Variant, Enumeration, FlagSet, Function, PathTo, Local, Foreign, Entry, Uses, Defines, Declares, WorldEntry, Whole, Single, FileEntry, AnInterface, AWorld, HeaderNames, File, TypeBody}
+use Rattle.wit_tokens.specs.declared.wit_syntax.ast.Ast.{Ast}
+use Rattle.wit_tokens.specs.declared.wit_syntax.ast.PackageId.{PackageId}
+use Rattle.wit_tokens.specs.declared.wit_syntax.ast.Item.{Item}
+use Rattle.wit_tokens.specs.declared.wit_syntax.ast.Item.TheVariants as item
+use Rattle.wit_tokens.specs.declared.wit_syntax.ast.InterfaceItem.{InterfaceItem}
+use Rattle.wit_tokens.specs.declared.wit_syntax.ast.InterfaceItem.TheVariants as entry
+use Rattle.wit_tokens.specs.declared.wit_syntax.ast.Path.{Path}
+use Rattle.wit_tokens.specs.declared.wit_syntax.ast.Path.TheVariants as path
+use Rattle.wit_tokens.specs.declared.wit_syntax.ast.UsedName.{UsedName}
+use Rattle.wit_tokens.specs.declared.wit_syntax.ast.TypeDefKind.{TypeDefKind}
+use Rattle.wit_tokens.specs.declared.wit_syntax.ast.TypeDefKind.TheVariants as definition
+use Rattle.wit_tokens.specs.declared.wit_syntax.ast.Field.{Field}
+use Rattle.wit_tokens.specs.declared.wit_syntax.ast.Case.{Case}
+use Rattle.wit_tokens.specs.declared.wit_syntax.ast.FuncType.{FuncType}
+use Rattle.wit_tokens.specs.declared.wit_syntax.ast.WorldItem.{WorldItem}
+use Rattle.wit_tokens.specs.declared.wit_syntax.ast.WorldItemKind.{WorldItemKind}
+use Rattle.wit_tokens.specs.declared.wit_syntax.ast.WorldItemKind.TheVariants as world
+use Rattle.wit_tokens.specs.declared.wit_syntax.ast.Direction.{Direction}
+use Rattle.wit_tokens.specs.declared.wit_syntax.ast.TypeExpression.{TypeExpression}
+use Rattle.wit_tokens.specs.declared.wit_syntax.ast.TypeExpression.TheOpen as one
+use Rattle.wit_tokens.specs.declared.wit_syntax.ast.TypeExpression.TheFolds.{fold-TypeExpression}
 
 -- a type of a `result`, of which the trees of the types in it are known
 abbrev pub maybe_ty : Option (Box Ty Global) → MaybeTy

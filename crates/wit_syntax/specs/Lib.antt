@@ -1,3 +1,0 @@
-pub mod Syntax
-pub mod View
-pub mod FullNames
