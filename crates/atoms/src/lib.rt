@@ -6,6 +6,7 @@ mod full_name;
 mod key;
 mod label;
 mod leb128;
+pub mod productions;
 mod reading;
 mod stream;
 mod watched;

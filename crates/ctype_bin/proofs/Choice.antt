@@ -3,11 +3,11 @@ use Rattle.std.proofs.Common.{◌≡◌, ℕ, Bool, true, false, cond, List, [],
 use Rattle.std.specs.Prelude.{MatchBool}
 use Rattle.ctype_format.specs.declared.error.Stuck.{Stuck}
 use Rattle.ctype_format.specs.declared.error.Stuck.TheVariants.{End}
-use Rattle.productions.specs.Production.{next}
-use Rattle.productions.specs.Exactness.{Took}
+use Rattle.atoms.specs.Production.{next}
+use Rattle.atoms.specs.Exactness.{Took}
 use Rattle.ctype_bin.specs.Exactness.{IsBytes, Inside, ExactBytes}
 use Rattle.ctype_format.specs.Bytes.{Bytes, choose, spells_by, stops_by, fails_by, read_by}
-use Rattle.productions.proofs.Exact.{no_ok}
+use Rattle.atoms.proofs.productions.Exact.{no_ok}
 use Rattle.ctype_bin.proofs.Exact.{stopped, took}
 
 abbrev pub NeverEmpty : {X : Type 0} → Bytes X → Type 0

@@ -3,8 +3,8 @@ use Rattle.std.proofs.Common.{◌≡◌, inl, inr, ℕ, zero, suc, ◌<◌, ◌�
 use Rattle.std.specs.Prelude.{IfOk, IfErr, MatchResult}
 use Rattle.std.proofs.lemmas.Bool.{cases_lt, lt-ltb, le-ltb}
 use Rattle.std.proofs.lemmas.List.{append-nil}
-use Rattle.productions.specs.Production.{at_end, read_end, unless_some}
-use Rattle.productions.proofs.Exact.{after_ok, no_ok, no_err, one-fault}
+use Rattle.atoms.specs.Production.{at_end, read_end, unless_some}
+use Rattle.atoms.proofs.productions.Exact.{after_ok, no_ok, no_err, one-fault}
 use Rattle.ctype_format.specs.declared.error.Fault.{Fault}
 use Rattle.ctype_format.specs.declared.error.Fault.TheVariants.{Limit}
 use Rattle.ctype_format.specs.declared.error.Stuck.{Stuck}

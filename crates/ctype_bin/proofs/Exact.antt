@@ -5,10 +5,10 @@ use Rattle.std.proofs.lemmas.List.{take_at, drop_at, take-append-drop, length-ap
 use Rattle.ctype_format.specs.declared.error.Fault.{Fault}
 use Rattle.ctype_format.specs.declared.error.Stuck.{Stuck}
 use Rattle.ctype_format.specs.declared.error.Stuck.TheVariants.{End, At, Past}
-use Rattle.productions.specs.Production.{next}
-use Rattle.productions.specs.Exactness.{Took}
-use Rattle.productions.proofs.Exact as general
-use Rattle.productions.proofs.Exact.{no_err, no_ok}
+use Rattle.atoms.specs.Production.{next}
+use Rattle.atoms.specs.Exactness.{Took}
+use Rattle.atoms.proofs.productions.Exact as general
+use Rattle.atoms.proofs.productions.Exact.{no_err, no_ok}
 use Rattle.ctype_bin.specs.Exactness.{IsBytes, Inside, ExactBytes, ExactToEnd, within}
 use Rattle.ctype_format.specs.Bytes.{Bytes, ended, at, stuck_if, byte, several, remaining, only_bytes, StaysSmall}
 

@@ -1,10 +1,10 @@
 -- Sections and the file are read exactly.
 use Rattle.std.proofs.Common.{◌≡◌, ℕ, zero, suc, false, List, [], ◌∷◌, ◌++◌, Option, Some, None, refl, subst, arith}
 use Rattle.std.specs.Prelude.{◌||◌, ◌==◌}
-use Rattle.productions.specs.Production.{give, by_option, unless_some, at_end, next, passes}
-use Rattle.productions.specs.Exactness.{Anything, Unless}
-use Rattle.productions.proofs.Exact as laws
-use Rattle.productions.proofs.Exact.{exact-then, exact-bind, exact-last, exact-give, exact-never, exact-when, exact-times, exact-run, exact-end}
+use Rattle.atoms.specs.Production.{give, by_option, unless_some, at_end, next, passes}
+use Rattle.atoms.specs.Exactness.{Anything, Unless}
+use Rattle.atoms.proofs.productions.Exact as laws
+use Rattle.atoms.proofs.productions.Exact.{exact-then, exact-bind, exact-last, exact-give, exact-never, exact-when, exact-times, exact-run, exact-end}
 use Rattle.ctype_format.specs.declared.error.Fault.TheVariants.{UnknownOpcode, BadSection, NotComponent}
 use Rattle.ctype_format.specs.declared.error.Stuck.TheVariants.{End, Past}
 use Rattle.ctype_format.specs.declared.scope.Scope.{Scope}

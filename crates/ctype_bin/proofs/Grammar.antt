@@ -2,8 +2,8 @@
 use Rattle.std.proofs.Common.{◌≡◌, ℕ, zero, suc, ◌+◌, Bool, List, [], ◌∷◌, ◌++◌, length, None}
 use Rattle.std.specs.Prelude.{◌||◌, nat_lt, nat_le, ◌==◌}
 use Rattle.atoms.specs.Leb128.{SpellsS33}
-use Rattle.productions.specs.Production.{give, ◌>>=◌, times, run, when}
-use Rattle.productions.proofs.Exact.{exact-then, exact-give, exact-never, exact-when, exact-times, exact-run}
+use Rattle.atoms.specs.Production.{give, ◌>>=◌, times, run, when}
+use Rattle.atoms.proofs.productions.Exact.{exact-then, exact-give, exact-never, exact-when, exact-times, exact-run}
 use Rattle.ctype_format.specs.declared.error.Fault.TheVariants.{UnknownOpcode, BadIndex}
 use Rattle.ctype_format.specs.declared.opcode.Opcode.{Opcode}
 use Rattle.ctype_format.specs.declared.opcode.Opcode.TheVariants as op

@@ -1,6 +1,6 @@
 -- Custom sections before a section, and to the end.
 use Rattle.std.proofs.Common.{◌≡◌, ℕ, suc, ◌+◌, ◌-◌, ◌<◌, ◌≤◌, List, Some, None, Result, Ok, Err, refl, sym, ◌∙◌, arith}
-use Rattle.productions.specs.Production.{at_end}
+use Rattle.atoms.specs.Production.{at_end}
 use Rattle.ctype_format.specs.declared.error.Stuck.{Stuck}
 use Rattle.ctype_format.specs.declared.error.Stuck.TheVariants.{End}
 use Rattle.ctype_format.specs.declared.error.ItemError.{ItemError}

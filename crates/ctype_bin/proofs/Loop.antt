@@ -4,7 +4,7 @@ use Rattle.std.proofs.lemmas.List.{append-nil}
 use Rattle.ctype_format.specs.declared.error.Stuck.{Stuck}
 use Rattle.ctype_format.specs.declared.error.ItemError.{ItemError}
 use Rattle.ctype_format.specs.declared.error.ItemError.TheVariants as errors
-use Rattle.productions.specs.Production.{after, times}
+use Rattle.atoms.specs.Production.{after, times}
 use Rattle.ctype_format.specs.Bytes.{Bytes, Stops}
 
 -- what was read before, and then what is read

@@ -11,8 +11,8 @@ use Rattle.ctype_format.specs.declared.error.Fault.{Fault}
 use Rattle.ctype_format.specs.declared.error.Fault.TheVariants.{Overlong}
 use Rattle.ctype_format.specs.declared.error.Stuck.{Stuck}
 use Rattle.ctype_format.specs.declared.error.Stuck.TheVariants.{End, At}
-use Rattle.productions.specs.Exactness.{Took}
-use Rattle.productions.proofs.Exact.{no_err}
+use Rattle.atoms.specs.Exactness.{Took}
+use Rattle.atoms.proofs.productions.Exact.{no_err}
 use Rattle.ctype_bin.specs.Exactness.{IsBytes, Inside, ExactBytes}
 use Rattle.ctype_format.specs.Bytes.{Bytes, NoNumber, number, number_from, u32, s33, signed_fault}
 use Rattle.ctype_bin.proofs.Exact.{ok_is, took}

@@ -3,7 +3,7 @@
 use Rattle.std.proofs.Common.{◌≡◌, ℕ, zero, suc, ◌+◌, ◌*◌, ◌/◌, ◌%◌, ◌^◌, ◌≤◌, Bool, true, false, List, [], ◌∷◌, ◌++◌, length, Option, Some, None, Result, Ok, Err, refl, sym, ap, subst, append_assoc, arith, inl, inr}
 use Rattle.std.proofs.Math.Nat.{pow-suc, mod-add-div}
 use Rattle.std.proofs.lemmas.Bool.{cases_lt, le-ltb}
-use Rattle.productions.specs.Production.{give, ◌>>=◌, times, run, after, passed_unless}
+use Rattle.atoms.specs.Production.{give, ◌>>=◌, times, run, after, passed_unless}
 use Rattle.atoms.specs.declared.error.AtomError.{AtomError}
 use Rattle.atoms.specs.declared.error.AtomError.TheVariants as atoms
 use Rattle.atoms.specs.Leb128.{Spells, groups_at}

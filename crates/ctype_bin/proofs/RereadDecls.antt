@@ -1,7 +1,7 @@
 -- What is written of a type is read as that type, or a fault of it is met: imports, exports, declarations and scopes.
 use Rattle.std.proofs.Common.{◌≡◌, ℕ, zero, suc, ◌+◌, Bool, true, false, List, [], ◌∷◌, ◌++◌, length, Option, None, refl, sym, ap, subst, ◌∙◌}
 use Rattle.std.specs.Prelude.{◌||◌, ◌&&◌, not, ◌==◌, nat_le, if◌then◌else◌}
-use Rattle.productions.specs.Production.{give, ◌>>=◌, when, run}
+use Rattle.atoms.specs.Production.{give, ◌>>=◌, when, run}
 use Rattle.ctype_format.specs.declared.error.Fault.{Fault}
 use Rattle.ctype_format.specs.declared.error.Fault.TheVariants.{UnknownOpcode, BadIndex, Limit}
 use Rattle.ctype_format.specs.declared.raw.RawAlias.{RawAlias}

@@ -4,7 +4,7 @@ use Rattle.std.specs.Prelude.{◌||◌, ◌==◌, nat_le}
 use Rattle.std.proofs.Math.Seq.{take-append_seam, drop-append_seam}
 use Rattle.std.proofs.lemmas.Bool.{eq-eqb, le-leb}
 use Rattle.std.proofs.lemmas.List.{append-nil, length-append}
-use Rattle.productions.specs.Production.{give, ◌>>=◌, when, times, run, by_option}
+use Rattle.atoms.specs.Production.{give, ◌>>=◌, when, times, run, by_option}
 use Rattle.ctype_format.specs.declared.error.Fault.TheVariants.{UnknownOpcode, BadSection}
 use Rattle.ctype_format.specs.declared.error.Stuck.{Stuck}
 use Rattle.ctype_format.specs.declared.error.Stuck.TheVariants.{End, At, Past}

@@ -2,7 +2,7 @@
 use Rattle.std.proofs.Common.{◌≡◌, ℕ, zero, suc, Bool, true, false, List, [], ◌∷◌, ◌++◌, length, Option, Some, None, refl, ap, append_assoc}
 use Rattle.std.specs.Prelude.{◌||◌, ◌==◌, nat_lt}
 use Rattle.atoms.specs.Label.{is_label}
-use Rattle.productions.specs.Production.{times}
+use Rattle.atoms.specs.Production.{times}
 use Rattle.ctype_format.specs.declared.error.Fault.TheVariants.{UnknownOpcode, BadIndex, EmptyType, BadName, Limit}
 use Rattle.ctype_format.specs.declared.raw.RawValType.{RawValType}
 use Rattle.ctype_format.specs.declared.raw.RawValType.TheVariants as valtypes

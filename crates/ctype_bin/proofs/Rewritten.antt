@@ -3,7 +3,7 @@ use Rattle.std.proofs.Common.{◌≡◌, ℕ, ◌+◌, ◌%◌, ◌/◌, ◌≤�
 use Rattle.std.specs.Prelude.{MatchBool, ◌||◌, ◌==◌, nat_le, nat_lt}
 use Rattle.std.proofs.lemmas.Bool.{cases_lt, lt-leb, le-leb, le-ltb, eqb-true}
 use Rattle.std.proofs.lemmas.List.{length-append}
-use Rattle.productions.specs.Production.{give, ◌>>=◌, when}
+use Rattle.atoms.specs.Production.{give, ◌>>=◌, when}
 use Rattle.ctype_format.specs.declared.error.Fault.{Fault}
 use Rattle.ctype_format.specs.declared.error.Fault.TheVariants.{UnknownOpcode, BadIndex}
 use Rattle.ctype_format.specs.declared.raw.Primitive.{Primitive}

@@ -3,7 +3,7 @@ use Rattle.std.proofs.Common.{◌≡◌, ℕ, zero, suc, ◌+◌, Bool, true, fa
 use Rattle.std.specs.Prelude.{◌||◌, ◌&&◌, ◌==◌, if◌then◌else◌}
 use Rattle.std.proofs.lemmas.Bool.{eqb-true}
 use Rattle.std.proofs.lemmas.List.{length-append, append-nil}
-use Rattle.productions.specs.Production.{give, ◌>>=◌, when, run}
+use Rattle.atoms.specs.Production.{give, ◌>>=◌, when, run}
 use Rattle.ctype_format.specs.declared.error.Fault.TheVariants.{UnknownOpcode}
 use Rattle.ctype_format.specs.declared.raw.RawDescription.{RawDescription}
 use Rattle.ctype_format.specs.declared.raw.RawDescription.TheVariants as descriptions

@@ -3,7 +3,7 @@ use Rattle.std.proofs.Common.{◌≡◌, ℕ, ◌+◌, Bool, true, false, List, 
 use Rattle.std.specs.Prelude.{◌||◌, ◌&&◌, ◌==◌, nat_le, not, unwrap_or}
 use Rattle.std.proofs.lemmas.Bool.{eqb-true}
 use Rattle.std.proofs.lemmas.List.{length-append, append-nil, drop_at}
-use Rattle.productions.specs.Production.{give, ◌>>=◌, when, times}
+use Rattle.atoms.specs.Production.{give, ◌>>=◌, when, times}
 use Rattle.ctype_format.specs.declared.error.Fault.TheVariants.{UnknownOpcode, BadIndex, Limit}
 use Rattle.ctype_format.specs.declared.raw.Primitive.TheVariants as prim
 use Rattle.ctype_format.specs.declared.raw.RawValType.{RawValType}

@@ -3,10 +3,10 @@ use Rattle.std.proofs.Common.{◌≡◌, ℕ, ◌+◌, ◌-◌, ◌<◌, ◌≤�
 use Rattle.std.specs.Prelude.{◌⊎◌}
 use Rattle.std.proofs.lemmas.Bool.{cases_lt, le-leb, lt-leb, ne_eqb}
 use Rattle.std.proofs.lemmas.List.{take_at, drop_at, take-append-drop, length-append, length-take, append-nil}
-use Rattle.productions.specs.Production.{next}
-use Rattle.productions.specs.Exactness as general
-use Rattle.productions.specs.Exactness.{Took}
-use Rattle.productions.proofs.Exact.{no_err, no_ok}
+use Rattle.atoms.specs.Production.{next}
+use Rattle.atoms.specs.Exactness as general
+use Rattle.atoms.specs.Exactness.{Took}
+use Rattle.atoms.proofs.productions.Exact.{no_err, no_ok}
 use Rattle.ctype_format.specs.declared.error.Fault.TheVariants.{SizeMismatch}
 use Rattle.ctype_format.specs.declared.error.Stuck.{Stuck}
 use Rattle.ctype_format.specs.declared.error.Stuck.TheVariants.{End, At, Past}

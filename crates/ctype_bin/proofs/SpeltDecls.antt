@@ -2,7 +2,7 @@
 use Rattle.std.proofs.Common.{◌≡◌, ℕ, zero, suc, ◌+◌, ◌<◌, ◌≤◌, Bool, true, false, List, [], ◌∷◌, ◌++◌, length, None, refl, sym, ap, subst, arith}
 use Rattle.std.specs.Prelude.{◌||◌, ◌==◌, nat_le, if◌then◌else◌}
 use Rattle.std.proofs.lemmas.Bool.{le-leb, lt-leb, ne_eqb}
-use Rattle.productions.specs.Production.{give, ◌>>=◌, when, run}
+use Rattle.atoms.specs.Production.{give, ◌>>=◌, when, run}
 use Rattle.ctype_format.specs.declared.error.Fault.TheVariants.{UnknownOpcode, BadIndex}
 use Rattle.ctype_format.specs.declared.raw.RawAlias.{RawAlias}
 use Rattle.ctype_format.specs.declared.raw.RawAlias.TheVariants as aliases

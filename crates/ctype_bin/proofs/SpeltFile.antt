@@ -2,7 +2,7 @@
 use Rattle.std.proofs.Common.{◌≡◌, ℕ, ◌+◌, ◌<◌, ◌≤◌, List, [], ◌∷◌, ◌++◌, length, map, refl, subst, arith}
 use Rattle.std.specs.Prelude.{◌==◌, sum}
 use Rattle.std.proofs.lemmas.List.Sums.{sum_by-cons}
-use Rattle.productions.specs.Production.{give, ◌>>=◌, times, run}
+use Rattle.atoms.specs.Production.{give, ◌>>=◌, times, run}
 use Rattle.ctype_format.specs.declared.error.Fault.TheVariants.{UnknownOpcode}
 use Rattle.ctype_format.specs.declared.scope.Scope.{Scope}
 use Rattle.ctype_format.specs.Bytes.{byte, only_bytes, unless, u32}

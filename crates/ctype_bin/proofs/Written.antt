@@ -1,7 +1,7 @@
 -- What is written of a value spells it, where anything does: combinators.
 use Rattle.std.proofs.Common.{◌≡◌, ℕ, zero, suc, ◌+◌, Bool, true, false, List, [], ◌∷◌, ◌++◌, length, drop, Option, refl, sym, ap, ◌∙◌, arith}
 use Rattle.std.proofs.lemmas.List.{length-append, append-nil}
-use Rattle.productions.specs.Production.{give, ◌>>=◌, when, times, run}
+use Rattle.atoms.specs.Production.{give, ◌>>=◌, when, times, run}
 use Rattle.ctype_format.specs.declared.error.Fault.{Fault}
 use Rattle.ctype_bin.specs.Exactness.{Written}
 use Rattle.ctype_format.specs.Bytes.{Bytes, byte, several, only_bytes}

@@ -2,8 +2,8 @@
 use Rattle.std.specs.Prelude.{ℕ, suc, ◌<◌, ◌≤◌, List, [], ◌∷◌, ◌++◌, length, slice_index}
 use Rattle.std.proofs.Common.{arith}
 use Rattle.std.proofs.lemmas.List.{length-append}
-use Rattle.productions.specs.Exactness as general
-use Rattle.productions.specs.Exactness.{Rules, Anything, AtEnd}
+use Rattle.atoms.specs.Exactness as general
+use Rattle.atoms.specs.Exactness.{Rules, Anything, AtEnd}
 use Rattle.ctype_format.specs.declared.error.Stuck.{Stuck}
 use Rattle.ctype_format.specs.declared.error.Stuck.TheVariants.{End, At, Past}
 use Rattle.ctype_format.specs.Bytes.{Bytes}

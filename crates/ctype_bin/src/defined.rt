@@ -1,6 +1,6 @@
 //! Reading types without scopes of their own. A stated count requests no memory: each list grows as its items are read.
 ghost use Rattle.std.specs.Prelude.{◌≡◌, false};
-ghost use Rattle.productions.specs.Production.{times};
+ghost use Rattle.atoms.specs.Production.{times};
 ghost use Rattle.ctype_format.specs.Bytes.{AnswersBytes};
 ghost use Rattle.ctype_format.specs.Grammar.{valtype, label, field, case, record_type, variant_type, list_type, tuple_type, flags_type, enum_type, option_type, result_entry, outcome, function_entry, plain_entry, is_nested};
 ghost use Rattle.ctype_format.specs.View.{type_view};

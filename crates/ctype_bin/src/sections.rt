@@ -1,6 +1,6 @@
 //! Reading sections and the file.
 ghost use Rattle.std.specs.Prelude.{◌≡◌, ◌≤◌, ◌∷◌, [], map, IfOk, Some, None, if◌then◌else◌};
-ghost use Rattle.productions.specs.Production.{run, times, at_end};
+ghost use Rattle.atoms.specs.Production.{run, times, at_end};
 ghost use Rattle.ctype_format.specs.declared.error.Stuck.TheVariants.{Past, End};
 ghost use Rattle.ctype_format.specs.Bytes.{AnswersBytes, sized, in_section, StaysSmall};
 ghost use Rattle.ctype_format.specs.Grammar.{new_scope, IsScopeWithin};

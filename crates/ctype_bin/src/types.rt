@@ -1,6 +1,6 @@
 //! Reading types with scopes of their own, and the declarations in them. They nest at most four deep.
 ghost use Rattle.std.specs.Prelude.{◌≡◌, ◌<◌, ◌≤◌, ◌+◌, map, IfOk, OnOk, IsTrue};
-ghost use Rattle.productions.specs.Production.{run};
+ghost use Rattle.atoms.specs.Production.{run};
 ghost use Rattle.ctype_format.specs.Bytes.{AnswersBytes};
 ghost use Rattle.ctype_format.specs.Raw.{Alias};
 ghost use Rattle.ctype_format.specs.Grammar.{IsScopeWithin, is_nested, left_out, opcode, new_scope, opcode_entry_fault, instance_alias, outer_type, alias_entry, description, external, is_decl, decl, nested, scope_of, type};

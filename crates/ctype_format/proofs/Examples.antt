@@ -9,7 +9,7 @@ use Rattle.std.specs.Char.{encode_utf8}
 use Rattle.atoms.specs.Leb128.{groups_at, SpellsU32}
 use Rattle.atoms.specs.Label.{is_label}
 use Rattle.atoms.specs.FullName.{is_package_label, is_version, full_name_text}
-use Rattle.productions.specs.Production.{give, times, run}
+use Rattle.atoms.specs.Production.{give, times, run}
 use Rattle.ctype_format.specs.declared.error.Feature.TheVariants.{Float, Resource}
 use Rattle.ctype_format.specs.declared.error.Fault.TheVariants.{NotComponent, Truncated, BadSection, UnknownOpcode, Unsupported, BadIndex, EmptyType, Limit, SizeMismatch, Trailing, BadName, Overlong}
 use Rattle.ctype_format.specs.declared.error.Stuck.{Stuck}

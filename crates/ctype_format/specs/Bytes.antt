@@ -6,8 +6,8 @@ use Rattle.ctype_format.specs.declared.error.Stuck.{Stuck}
 use Rattle.ctype_format.specs.declared.error.Stuck.TheVariants.{End, At, Past}
 use Rattle.ctype_format.specs.declared.error.ItemError.{ItemError}
 use Rattle.ctype_format.specs.declared.error.ItemError.TheVariants as errors
-use Rattle.productions.specs.Production.{Production, next, one}
-use Rattle.productions.specs.Production as general
+use Rattle.atoms.specs.Production.{Production, next, one}
+use Rattle.atoms.specs.Production as general
 use Rattle.atoms.specs.declared.error.AtomError.{AtomError}
 use Rattle.atoms.specs.declared.error.AtomError.TheVariants as atoms
 use Rattle.atoms.specs.Leb128.{SpellsU32, SpellsS33, EndsEarly, groups_at}

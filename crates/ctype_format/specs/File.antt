@@ -1,7 +1,7 @@
 -- Binary.md: a file of a type section and an export section, with custom sections among them.
 use Rattle.std.specs.Prelude.{◌≡◌, ◌⊎◌, ◌<◌, ◌≤◌, ℕ, zero, suc, ◌+◌, ◌-◌, List, [], ◌∷◌, length, ◌||◌, Option, Some, None, Result, Ok, Err, nat_lt, ◌==◌, if◌then◌else◌}
-use Rattle.productions.specs.Production.{give, never, ◌>>=◌, times, run, when, by_option, unless_some, at_end}
-use Rattle.productions.specs.Production as general
+use Rattle.atoms.specs.Production.{give, never, ◌>>=◌, times, run, when, by_option, unless_some, at_end}
+use Rattle.atoms.specs.Production as general
 use Rattle.ctype_format.specs.declared.error.Fault.{Fault}
 use Rattle.ctype_format.specs.declared.error.Fault.TheVariants.{NotComponent, BadSection, UnknownOpcode, Limit, Truncated, SizeMismatch, Trailing}
 use Rattle.ctype_format.specs.declared.error.Stuck.{Stuck}

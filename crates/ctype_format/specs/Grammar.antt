@@ -2,7 +2,7 @@
 use Rattle.std.specs.Prelude.{◌≤◌, ℕ, zero, suc, ◌+◌, ◌-◌, List, [], ◌∷◌, ◌++◌, length, slice_index, Bool, true, false, ◌&&◌, ◌||◌, not, Option, Some, None, nat_le, nat_lt, ◌==◌, is_some, unwrap_or, if◌then◌else◌}
 use Rattle.std.specs.Str.{is_utf8}
 use Rattle.atoms.specs.Label.{is_label}
-use Rattle.productions.specs.Production.{give, never, ◌>>=◌, times, run, when}
+use Rattle.atoms.specs.Production.{give, never, ◌>>=◌, times, run, when}
 use Rattle.ctype_format.specs.declared.error.Feature.TheVariants.{Float, Resource}
 use Rattle.ctype_format.specs.declared.error.Fault.{Fault}
 use Rattle.ctype_format.specs.declared.error.Fault.TheVariants.{UnknownOpcode, Unsupported, BadIndex, EmptyType, Limit, BadName}

@@ -4,7 +4,7 @@ use Rattle.std.specs.Prelude.{ℕ, zero, suc, Bool, true, false, ◌&&◌, ◌||
 use Rattle.std.specs.Str.{is_utf8}
 use Rattle.atoms.specs.Label.{is_label}
 use Rattle.atoms.specs.FullName.{is_package_label, is_version}
-use Rattle.productions.specs.Production.{give, never, ◌>>=◌, one, when, optional, unless_some, many, listed, comma_or, entries, all}
+use Rattle.atoms.specs.Production.{give, never, ◌>>=◌, one, when, optional, unless_some, many, listed, comma_or, entries, all}
 use Rattle.wit_tokens.specs.declared.token.Keyword.{Keyword}
 use Rattle.wit_tokens.specs.declared.token.Keyword.TheVariants as kw
 use Rattle.wit_tokens.specs.declared.token.Punctuation.{Punctuation}

@@ -2,8 +2,8 @@
 -- text.
 use Rattle.std.specs.Prelude.{◌≡◌, ℕ, List, [], ◌∷◌, ◌++◌}
 use Rattle.std.proofs.Common.{refl, ap, sym, subst, ◌∙◌, append_assoc}
-use Rattle.productions.specs.Production.{Production, next}
-use Rattle.productions.specs.Exactness.{Rules}
+use Rattle.atoms.specs.Production.{Production, next}
+use Rattle.atoms.specs.Exactness.{Rules}
 use Rattle.wit_tokens.specs.declared.error.TextError.{TextError}
 use Rattle.wit_tokens.specs.Tokens.{Lexeme}
 use Rattle.wit_grammar.specs.Faults.{StandsAt}

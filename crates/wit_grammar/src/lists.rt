@@ -1,6 +1,6 @@
 //! Lists with commas in braces.
 ghost use Rattle.std.specs.Prelude.{◌≡◌, ◌<◌, ◌≤◌, length, map, IfOk};
-ghost use Rattle.productions.specs.Production.{listed};
+ghost use Rattle.atoms.specs.Production.{listed};
 ghost use Rattle.wit_tokens.specs.Lexing.{limit};
 ghost use Rattle.wit_tokens.specs.Tokens.{lexemes};
 ghost use Rattle.wit_grammar.specs.Faults.{AnswersRead, is, wanted};

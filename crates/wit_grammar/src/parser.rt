@@ -5,7 +5,7 @@ ghost use Rattle.wit_grammar.specs.Faults.{AnswersRead, feature_or, met, is, wan
 ghost use Rattle.wit_tokens.specs.declared.token.TokenKind.TheVariants as kind;
 ghost use Rattle.wit_tokens.specs.declared.error.Expected.TheVariants as want;
 ghost use Rattle.wit_tokens.specs.declared.token.Punctuation.TheVariants.{Comma};
-ghost use Rattle.productions.specs.Production.{comma_or, separator};
+ghost use Rattle.atoms.specs.Production.{comma_or, separator};
 ghost use Rattle.wit_grammar.specs.Grammar.{comma, peek, token_of_kind, punctuation, is_name, id};
 
 use atoms::{Label, is_label};
@@ -155,7 +155,7 @@ pub fn identifier<'a>(
 }
 
 /// Takes a comma or this mark: whether more entries follow.
-#[tactic(auto, unfolding(productions::specs::Production::comma_or))]
+#[tactic(auto, unfolding(atoms::productions::specs::Production::comma_or))]
 pub fn comma_or<'a>(
     source: &[u8],
     tokens: &'a [Token],
@@ -177,7 +177,7 @@ pub fn comma_or<'a>(
 }
 
 /// Takes what stands behind an entry of a list, a comma or this mark or both: whether more entries follow.
-#[tactic(auto, unfolding(productions::specs::Production::separator))]
+#[tactic(auto, unfolding(atoms::productions::specs::Production::separator))]
 pub fn separator<'a>(
     source: &[u8],
     tokens: &'a [Token],

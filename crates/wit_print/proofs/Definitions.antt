@@ -2,7 +2,7 @@
 use Rattle.std.proofs.Common.{◌≡◌, ◌≤◌, ℕ, zero, suc, List, [], ◌∷◌, ◌++◌, length, refl, ap, ◌∙◌, arith}
 use Rattle.std.specs.Prelude.{true, false, Option, Some, None}
 use Rattle.std.specs.List.{AllByRecursion}
-use Rattle.productions.specs.Production.{listed}
+use Rattle.atoms.specs.Production.{listed}
 use Rattle.wit_tokens.specs.declared.token.Keyword.{Keyword}
 use Rattle.wit_tokens.specs.declared.token.Keyword.TheVariants as kw
 use Rattle.wit_tokens.specs.declared.token.Punctuation.TheVariants as mark

@@ -1,7 +1,7 @@
 -- Versions and paths: they are spelled by their words, and these stand.
 use Rattle.std.proofs.Common.{◌≡◌, ℕ, List, [], ◌∷◌, ◌++◌, refl, sym, ap, subst, ◌∙◌}
 use Rattle.std.specs.Prelude.{true, Option, Some, None}
-use Rattle.productions.specs.Production.{give}
+use Rattle.atoms.specs.Production.{give}
 use Rattle.wit_tokens.specs.declared.token.Punctuation.TheVariants as mark
 use Rattle.wit_tokens.specs.Lexing.{version_run}
 use Rattle.wit_tokens.specs.Syntax.{PathTo, Local, Foreign}

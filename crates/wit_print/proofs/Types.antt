@@ -16,7 +16,7 @@ use Rattle.wit_grammar.specs.declared.types.Start.TheVariants as start
 use Rattle.wit_grammar.specs.Faults.{is}
 use Rattle.wit_grammar.specs.Lookahead.{Phrase}
 use Rattle.wit_grammar.specs.Grammar.{punctuation, is_name, kind_start, is_start, begins_type, type_behind, type_phrase, ty, begun, list, option, close_list, close_angle, greater, less, comma, underscore, tuple, members, comma_wanted, error_type, result_error, result_rest, result_ok, result_parts, result_type, or_bare}
-use Rattle.productions.specs.Production.{give}
+use Rattle.atoms.specs.Production.{give}
 use Rattle.wit_print.specs.Words.{Word, mark_word, keyword_word, name_word}
 use Rattle.wit_print.specs.Canonical.{blank, primitive_keyword, ty_words, tys_words}
 use Rattle.wit_print.specs.Printable.{types_count, is_spelt, are_spelt}

@@ -2,7 +2,7 @@
 use Rattle.std.proofs.Common.{append-nil, ◌≡◌, ℕ, zero, suc, subst, sym, List, [], ◌∷◌, ◌++◌, map, refl, ap, ◌∙◌}
 use Rattle.std.specs.Prelude.{◌||◌, Bool, true, false, MatchBool, Option, Some, None}
 use Rattle.std.proofs.lemmas.Bool.{or_left}
-use Rattle.productions.specs.Production.{give, optional, unless_some, by_option, separator, comma_or, entries, listed, many, all, at_end}
+use Rattle.atoms.specs.Production.{give, optional, unless_some, by_option, separator, comma_or, entries, listed, many, all, at_end}
 use Rattle.wit_tokens.specs.declared.token.TokenKind.{TokenKind}
 use Rattle.wit_tokens.specs.declared.error.TextError.{TextError}
 use Rattle.wit_tokens.specs.Tokens.{Lexeme, word_of}

@@ -1,9 +1,9 @@
 -- Each production is read exactly.
 use Rattle.std.proofs.Common.{◌≡◌, ℕ, zero, suc, Bool, true, false, List, [], ◌∷◌, Option, Some, None, refl, sym, ◌∙◌}
 use Rattle.std.specs.Prelude.{◌||◌}
-use Rattle.productions.specs.Production.{passes, give, never, ◌>>=◌, one, when, optional, entries}
-use Rattle.productions.specs.Exactness.{Exact, Anything, Unless, AtEnd}
-use Rattle.productions.proofs.Exact.{Opens, exact-give, exact-then, exact-last, exact-before, exact-when, exact-optional, exact-peek, exact-many, exact-listed, exact-comma_or, exact-entries, exact-all, leads-comma_or, opens-bind, opens-one}
+use Rattle.atoms.specs.Production.{passes, give, never, ◌>>=◌, one, when, optional, entries}
+use Rattle.atoms.specs.Exactness.{Exact, Anything, Unless, AtEnd}
+use Rattle.atoms.proofs.productions.Exact.{Opens, exact-give, exact-then, exact-last, exact-before, exact-when, exact-optional, exact-peek, exact-many, exact-listed, exact-comma_or, exact-entries, exact-all, leads-comma_or, opens-bind, opens-one}
 use Rattle.wit_tokens.specs.declared.token.Keyword.TheVariants as kw
 use Rattle.wit_tokens.specs.declared.token.Punctuation.{Punctuation}
 use Rattle.wit_tokens.specs.declared.token.Punctuation.TheVariants as mark

@@ -5,8 +5,8 @@ use Rattle.std.specs.List.{concat}
 use Rattle.std.specs.Str.{is_utf8, chars}
 use lib.Utf8.{encode}
 use Rattle.atoms.proofs.Examples.{names_on_literals}
-use Rattle.productions.specs.Production.{many, separator, listed, comma_or, entries, all}
-use Rattle.productions.proofs.Exact.{ok_is, no_err, err_is}
+use Rattle.atoms.specs.Production.{many, separator, listed, comma_or, entries, all}
+use Rattle.atoms.proofs.productions.Exact.{ok_is, no_err, err_is}
 use Rattle.wit_tokens.specs.declared.token.Keyword.TheVariants as kw
 use Rattle.wit_tokens.specs.declared.token.Punctuation.TheVariants as mark
 use Rattle.wit_tokens.specs.declared.token.Span.{Span}

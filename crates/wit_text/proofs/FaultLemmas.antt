@@ -1,9 +1,9 @@
 -- What is answered where a token isn't allowed depends on that token alone, and stands there.
 use Rattle.std.proofs.Common.{◌≡◌, ℕ, Bool, false, List, [], ◌∷◌, ◌++◌, Option, Some, None, Err, refl, sym, ap, subst, ◌∙◌}
 use Rattle.std.proofs.lemmas.List.{append-nil}
-use Rattle.productions.specs.Production.{next, passes, one_of, never, one, read_end}
-use Rattle.productions.specs.Exactness.{Exact}
-use Rattle.productions.proofs.Exact.{Owed, no_ok, stopped, exact-one, exact-never}
+use Rattle.atoms.specs.Production.{next, passes, one_of, never, one, read_end}
+use Rattle.atoms.specs.Exactness.{Exact}
+use Rattle.atoms.proofs.productions.Exact.{Owed, no_ok, stopped, exact-one, exact-never}
 use Rattle.wit_tokens.specs.declared.error.Expected.{Expected}
 use Rattle.wit_tokens.specs.declared.error.Feature.{Feature}
 use Rattle.wit_tokens.specs.declared.error.TextError.{TextError}

@@ -7,7 +7,7 @@ use Rattle.atoms.specs.FullName.{is_package_label, is_version, is_version_or_non
 use Rattle.atoms.proofs.FullNames.{first, second}
 use Rattle.wit_tokens.specs.declared.token.TokenKind.TheVariants as kind
 use Rattle.wit_tokens.specs.Tokens.{Lexeme, lexemes, span_of}
-use Rattle.productions.specs.Production.{give, ◌>>=◌, when, all, at_end, by_option}
+use Rattle.atoms.specs.Production.{give, ◌>>=◌, when, all, at_end, by_option}
 use Rattle.wit_tokens.specs.declared.token.Span.{Span}
 use Rattle.wit_tokens.specs.Lexing.{limit}
 use Rattle.wit_tokens.specs.Syntax.{FileEntry, HeaderNames, File}

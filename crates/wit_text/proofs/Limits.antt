@@ -2,9 +2,9 @@
 use Rattle.std.proofs.Common.{◌≡◌, ◌∙◌, ◌+◌, sym, ap, subst, ℕ, zero, suc, Bool, true, false, List, [], ◌∷◌, ◌++◌, Ok, Err, refl, inl, inr, arith}
 use Rattle.std.specs.Prelude.{◌⊎◌, Option, Some, None}
 use Rattle.std.proofs.lemmas.List.{append-nil}
-use Rattle.productions.specs.Production.{one, optional}
-use Rattle.productions.proofs.Exact.{no_err, err_is, ok_is}
-use Rattle.productions.proofs.Agrees.{Agrees, agrees-same, agrees-bind, agrees-when, agrees-unless, agrees-optional, agrees-listed, agrees-entries, agrees-many, agrees-all}
+use Rattle.atoms.specs.Production.{one, optional}
+use Rattle.atoms.proofs.productions.Exact.{no_err, err_is, ok_is}
+use Rattle.atoms.proofs.productions.Agrees.{Agrees, agrees-same, agrees-bind, agrees-when, agrees-unless, agrees-optional, agrees-listed, agrees-entries, agrees-many, agrees-all}
 use Rattle.wit_tokens.specs.declared.token.Span.{Span}
 use Rattle.wit_tokens.specs.declared.token.Punctuation.TheVariants as mark
 use Rattle.wit_tokens.specs.declared.error.TextError.{TextError}

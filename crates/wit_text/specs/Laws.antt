@@ -1,6 +1,6 @@
 -- What holds of the definitions, whatever the text.
 use Rattle.std.specs.Prelude.{◌≡◌, IsTrue, ℕ, List, Err}
-use Rattle.productions.specs.Exactness.{Exact, AtEnd}
+use Rattle.atoms.specs.Exactness.{Exact, AtEnd}
 use Rattle.wit_tokens.specs.declared.error.TextError.{TextError}
 use Rattle.wit_tokens.specs.Tokens.{Lexeme}
 use Rattle.wit_tokens.specs.Syntax.{File}

@@ -1,5 +1,5 @@
 use Rattle.std.proofs.Common.{◌≡◌, ◌-◌}
-use Rattle.productions.specs.Production.{times}
+use Rattle.atoms.specs.Production.{times}
 use Rattle.ctype_format.specs.Grammar.{valtype}
 use Rattle.ctype_bin.proofs.Loop.{with_front}
 use Rattle.ctype_bin.proofs.defined.members_of.Given as goal

@@ -1,5 +1,5 @@
 use Rattle.std.proofs.Common.{◌≡◌, ◌-◌, map}
-use Rattle.productions.specs.Production.{run}
+use Rattle.atoms.specs.Production.{run}
 use Rattle.ctype_format.specs.Grammar.{IsScopeWithin, new_scope}
 use Rattle.ctype_format.specs.File.{entry_of_type}
 use Rattle.ctype_format.specs.View.{type_view}

@@ -1,5 +1,5 @@
 use Rattle.std.proofs.Common.{◌≡◌, ◌-◌, map}
-use Rattle.productions.specs.Production.{times}
+use Rattle.atoms.specs.Production.{times}
 use Rattle.ctype_format.specs.File.{exported}
 use Rattle.ctype_format.specs.View.{export_view}
 use Rattle.ctype_bin.proofs.Loop.{with_front}

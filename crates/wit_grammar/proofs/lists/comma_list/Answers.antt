@@ -1,7 +1,7 @@
 use Rattle.std.proofs.Common.{◌≡◌, ◌<◌, ℕ, suc, ◌-◌, length, map, [], ◌∷◌, ◌++◌, arith}
 use Rattle.std.proofs.lemmas.Result.{err_from_is_err_and}
 use Rattle.std.proofs.lemmas.List.{map_push, length-append}
-use Rattle.productions.proofs.Lists.{goes_on, is_done, item_fails, separator_fails}
+use Rattle.atoms.proofs.productions.Lists.{goes_on, is_done, item_fails, separator_fails}
 use Rattle.wit_tokens.specs.Lexing.{limit}
 use Rattle.wit_tokens.specs.Tokens.{lexemes}
 use Rattle.wit_grammar.specs.Faults.{is, wanted}

@@ -1,8 +1,8 @@
 use Rattle.std.proofs.Common.{◌≡◌, ◌≤◌, ◌<◌, ◌+◌, ℕ, suc, ◌-◌, length, map, List, [], ◌∷◌, ◌++◌, arith}
 use Rattle.std.proofs.lemmas.Result.{err_from_is_err_and}
 use Rattle.std.proofs.lemmas.List.{map_push, length-append}
-use Rattle.productions.specs.Production.{never}
-use Rattle.productions.proofs.Lists.{entry_goes_on, entry_is_last, entry_fails, more_fails}
+use Rattle.atoms.specs.Production.{never}
+use Rattle.atoms.proofs.productions.Lists.{entry_goes_on, entry_is_last, entry_fails, more_fails}
 use Rattle.wit_tokens.specs.declared.error.Expected.TheVariants as want
 use Rattle.wit_tokens.specs.Lexing.{limit}
 use Rattle.wit_tokens.specs.Tokens.{lexemes}

@@ -1,7 +1,7 @@
 use Rattle.std.proofs.Common.{◌≡◌, ◌<◌, ℕ, suc, ◌-◌, length, map, List, [], ◌∷◌, ◌++◌, arith}
 use Rattle.std.proofs.lemmas.Result.{err_from_is_err_and}
 use Rattle.std.proofs.lemmas.List.{map_push, length-append}
-use Rattle.productions.proofs.Lists.{many_goes_on, many_fails, many_closes}
+use Rattle.atoms.proofs.productions.Lists.{many_goes_on, many_fails, many_closes}
 use Rattle.wit_tokens.specs.Lexing.{limit}
 use Rattle.wit_tokens.specs.Tokens.{Lexeme, lexeme, lexemes}
 use Rattle.wit_tokens.specs.View.{world_entry_view}

@@ -1,5 +1,5 @@
 use Rattle.std.proofs.Common.{◌≡◌, ◌≤◌, ◌+◌, ◌-◌, ◌*◌, map}
-use Rattle.productions.specs.Production.{run}
+use Rattle.atoms.specs.Production.{run}
 use Rattle.ctype_format.specs.Grammar.{decl, type, IsScopeWithin, new_scope}
 use Rattle.ctype_format.specs.View.{decl_view}
 use Rattle.ctype_bin.proofs.Runs.{with_front}

@@ -1,6 +1,6 @@
 -- A small grammar: perhaps a 0, and then a 1. A fault is told as the items from the one met on.
 use Rattle.std.specs.Prelude.{ℕ, List, ◌==◌}
-use Rattle.productions.specs.Production.{Production, give, one, optional, ◌>>=◌}
+use Rattle.atoms.specs.Production.{Production, give, one, optional, ◌>>=◌}
 
 -- perhaps a 0, and then a 1; the value is the 1
 abbrev pub zero_one : Production ℕ (List ℕ) ℕ

@@ -1,5 +1,5 @@
-use Rattle.productions.proofs.Example.{example_alone, example_met, example_spelled}
-use Rattle.productions.proofs.laws.faults_are_first.Goals as goal
+use Rattle.atoms.proofs.productions.Example.{example_alone, example_met, example_spelled}
+use Rattle.atoms.proofs.productions.laws.faults_are_first.Goals as goal
 
 pub returns-clause-alone : goal.returns-clause-alone
 returns-clause-alone c = example_alone

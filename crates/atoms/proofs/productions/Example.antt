@@ -2,10 +2,10 @@
 use Rattle.std.proofs.Common.{◌≡◌, ℕ, List, [], ◌∷◌, Option, Some, None, true, refl, inr}
 use Rattle.std.specs.Prelude.{◌==◌, ◌++◌}
 use Rattle.std.proofs.lemmas.Bool.{eqb-true}
-use Rattle.productions.specs.Production.{next, one, optional, give}
-use Rattle.productions.specs.Exactness.{Exact, Anything, Unless, plain}
-use Rattle.productions.specs.Example.{zero_one}
-use Rattle.productions.proofs.Exact.{exact-bind, exact-one, exact-optional, exact-give, one-fault, spelt-has-none}
+use Rattle.atoms.specs.Production.{next, one, optional, give}
+use Rattle.atoms.specs.Exactness.{Exact, Anything, Unless, plain}
+use Rattle.atoms.specs.Example.{zero_one}
+use Rattle.atoms.proofs.productions.Exact.{exact-bind, exact-one, exact-optional, exact-give, one-fault, spelt-has-none}
 
 pub exact-example : Exact plain Anything zero_one
 exact-example = exact-bind plain (optional (λ n. n == 0) give) (λ o. one (λ n. n == 1) (λ ts. ts)) (exact-optional plain (λ n. n == 0) give (λ t. exact-give plain {stops = Anything} t)) (λ o. exact-one plain (λ n. n == 1) (λ ts. ts) (λ ts out. tt)) ends

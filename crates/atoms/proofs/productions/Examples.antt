@@ -1,7 +1,7 @@
 -- Worked examples: productions over numbers. A fault is the items from the one that is not allowed.
 use Rattle.std.proofs.Common.{◌≡◌, ℕ, Bool, true, false, List, [], ◌∷◌, length, Option, Some, None, Ok, Err, refl, ap, inr, arith}
 use Rattle.std.specs.Prelude.{◌==◌, ◌+◌, ⊤, if◌then◌else◌}
-use Rattle.productions.specs.Production.{Production, give, never, ◌>>=◌, one, only, when, times, run, optional, unless_some, many, separator, listed, comma_or, entries, at_end, by_option, all}
+use Rattle.atoms.specs.Production.{Production, give, never, ◌>>=◌, one, only, when, times, run, optional, unless_some, many, separator, listed, comma_or, entries, at_end, by_option, all}
 
 -- what an example unfolds to compute what a production reads
 unfoldable pub productions_on_literals : ⊤
