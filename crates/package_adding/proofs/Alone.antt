@@ -25,7 +25,7 @@ use Rattle.tables.specs.declared.error.ResolveError.TheVariants as cause
 use Rattle.tables.specs.declared.tables.Resolve.{Resolve}
 use Rattle.tree_meaning.specs.Resolves.{IsPackageOf, ResolveRefuses, file_fits}
 use Rattle.tree_meaning.proofs.Alone.{no-faults, is-package, without-faults, closed-package, refuses}
-use Rattle.tree_forms.proofs.AloneForms.{has-form, has-distinct-names}
+use Rattle.tree_meaning.proofs.tree_forms.AloneForms.{has-form, has-distinct-names}
 use Rattle.wit_tokens.specs.Syntax.{File}
 use Rattle.wit_tokens.specs.FullNames.{file_has_full_names}
 use Rattle.package_adding.specs.Added.{IsOfComponent, AddsComponent, ComponentNotAdded, AreImportsFrom, AddsTree, IsRefusedTree, TreeNotAdded}

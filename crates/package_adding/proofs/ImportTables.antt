@@ -27,7 +27,7 @@ use Rattle.package_text.specs.Writable.{package_labels}
 use Rattle.package_text.proofs.Begins.{begins}
 use Rattle.tree_meaning.specs.Imports.{nameless}
 use Rattle.tree_meaning.specs.Resolves.{IsClosedPackageOf}
-use Rattle.tree_forms.proofs.ClosedForms.{last-end}
+use Rattle.tree_meaning.proofs.tree_forms.ClosedForms.{last-end}
 use Rattle.package_adding.proofs.TreeBeginning.{begins-with}
 use Rattle.tables.specs.PackageNames.{PackageParts}
 use Rattle.tables.specs.declared.tables.Definition.{Definition}

@@ -10,9 +10,9 @@ use Rattle.package_form.proofs.Meeting.{split-at}
 use Rattle.tree_meaning.proofs.AllDefinitions.{all_of, all_from, any_function, owner_name}
 use Rattle.tree_meaning.proofs.Apart.{only}
 use Rattle.tree_meaning.proofs.TableRows.{below-at, at-true}
-use Rattle.tree_forms.proofs.Forming.{IsTable}
-use Rattle.tree_forms.proofs.Homes.{IsPlace, use-kind, tree-at}
-use Rattle.tree_forms.proofs.Locals.{name-there}
+use Rattle.tree_meaning.proofs.tree_forms.Forming.{IsTable}
+use Rattle.tree_meaning.proofs.tree_forms.Homes.{IsPlace, use-kind, tree-at}
+use Rattle.tree_meaning.proofs.tree_forms.Locals.{name-there}
 use Rattle.tree_meaning.proofs.Owning.{is_inner_row}
 use Rattle.tables.specs.Package.{Tree, TextTree, Reference, Key, IsUse, NamedDefinition, key_of, read_kind, meaning_of, named_by, named_function, function_meaning, definition_of, definitions_from, reference, reference_by, references}
 use Rattle.tables.specs.Tables.{type_of, is_type, definition_all, definition_below, are_earlier}

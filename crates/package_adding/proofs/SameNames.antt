@@ -34,15 +34,15 @@ use Rattle.tree_meaning.proofs.AllDefinitions.{all_of}
 use Rattle.tree_meaning.proofs.Apart.{only}
 use Rattle.tree_meaning.proofs.TableRows.{references-append}
 use Rattle.tree_meaning.proofs.Owning.{used-inner}
-use Rattle.tree_forms.proofs.ClosedForms.{last-end}
-use Rattle.tree_forms.proofs.Forming.{IsTable}
+use Rattle.tree_meaning.proofs.tree_forms.ClosedForms.{last-end}
+use Rattle.tree_meaning.proofs.tree_forms.Forming.{IsTable}
 use Rattle.tree_meaning.proofs.FullNames.{interface-full}
-use Rattle.tree_forms.proofs.Homes.{IsPlace}
+use Rattle.tree_meaning.proofs.tree_forms.Homes.{IsPlace}
 use Rattle.tree_meaning.proofs.Imported.{nowhere, get_or-append-right, imports-length, imports-at, import-within}
-use Rattle.tree_forms.proofs.NamePlaces.{own-some}
+use Rattle.tree_meaning.proofs.tree_forms.NamePlaces.{own-some}
 use Rattle.tree_meaning.proofs.OrderedNames.{ordered-has}
 use Rattle.tree_meaning.proofs.Placing.{among-at}
-use Rattle.tree_forms.proofs.Reaching.{defined-by, item-reaches}
+use Rattle.tree_meaning.proofs.tree_forms.Reaching.{defined-by, item-reaches}
 use Rattle.tree_meaning.proofs.Trees.{definitions-within}
 use Rattle.tables.specs.Names.{full_name, full_name_in, world_name}
 use Rattle.tables.specs.Package.{Tree, Reference, Key, IsUse, NamedDefinition, WithInterface, WorldMeaning, interface_names as names_in, trees as trees_in, worlds as worlds_in, definitions, definition_of, definitions_from, references, reference, item_meaning as meaning_of_item, world_meaning as meaning_in}

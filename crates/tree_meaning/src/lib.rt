@@ -4,3 +4,5 @@
 //! its interfaces and worlds declare, `specs/Resolved.antt` what each definition means, `specs/Building.antt` what a
 //! table keeps while it is made. Nothing here runs. It stands on `wit_syntax` and `package_form`.
 #![tactic(auto)]
+
+pub mod tree_forms;

@@ -9,8 +9,8 @@ use Rattle.tree_meaning.specs.Resolves.{interface_uses, type_uses, names_in_orde
 use Rattle.tree_scopes.specs.Sources.{declared_tree}
 use Rattle.tree_scopes.specs.declared.declared.Declarations.{Declarations}
 use Rattle.tree_scopes.proofs.DeclaredTrees.{order-below, tree-at}
-use Rattle.tree_forms.proofs.FinishedTrees.{distinct-interfaces}
-use Rattle.tree_forms.proofs.WorldTables.{worlds-known}
+use Rattle.tree_meaning.proofs.tree_forms.FinishedTrees.{distinct-interfaces}
+use Rattle.tree_meaning.proofs.tree_forms.WorldTables.{worlds-known}
 use Rattle.tree_rows.specs.Planning.{IsPlan, imported, planned_file, planned_trees}
 use Rattle.tree_rows.specs.declared.plan.Plan.{Plan}
 

@@ -15,7 +15,7 @@ use Rattle.tree_meaning.specs.Imports.{imports_of}
 use Rattle.tree_meaning.specs.Resolves.{HasKnownNamesOf, IsKnownWorldOf, interface_fits}
 use Rattle.tree_meaning.specs.Scopes.{scopes_in}
 use Rattle.tree_scopes.specs.Sources.{declared_tree}
-use Rattle.tree_forms.proofs.FinishedTrees.{has-entries, refuses-duplicate, refuses-package, refuses-unknown}
+use Rattle.tree_meaning.proofs.tree_forms.FinishedTrees.{has-entries, refuses-duplicate, refuses-package, refuses-unknown}
 use Rattle.tree_names.proofs.tree.declarations.Goals as goal
 
 pub returns-then-not-are_nested-clause-err : goal.returns-then-not-are_nested-clause-err

@@ -5,10 +5,10 @@ use Rattle.tables.specs.declared.tables.Resolve.{Resolve}
 use Rattle.tree_meaning.specs.Imports.{imports_of}
 use Rattle.tree_meaning.specs.Resolves.{IsClosedPackageOf, HasNoFaultsOf, ResolveRefusesOf}
 use Rattle.tree_meaning.proofs.Trees.{ok-map}
-use Rattle.tree_forms.proofs.ClosedTables.{closes}
-use Rattle.tree_forms.proofs.Only.{answers-behind}
-use Rattle.tree_forms.proofs.PackageScopes.{has-distinct-names}
-use Rattle.tree_forms.proofs.TreeForms.{has-form}
+use Rattle.tree_meaning.proofs.tree_forms.ClosedTables.{closes}
+use Rattle.tree_meaning.proofs.tree_forms.Only.{answers-behind}
+use Rattle.tree_meaning.proofs.tree_forms.PackageScopes.{has-distinct-names}
+use Rattle.tree_meaning.proofs.tree_forms.TreeForms.{has-form}
 use Rattle.tree_rows.proofs.tree.closed_table.Goals as goal
 
 pub returns-in_err-all-clause-err : goal.returns-in_err-all-clause-err

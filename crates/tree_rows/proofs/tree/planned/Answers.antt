@@ -9,7 +9,7 @@ use Rattle.tree_meaning.specs.Resolves.{IsKnownWorldOf}
 use Rattle.tree_meaning.specs.Building.{DefinesPackage, start_table}
 use Rattle.tree_meaning.specs.WorldRows.{DefinesWorlds}
 use Rattle.tree_meaning.proofs.Trees.{ok-map, err-map}
-use Rattle.tree_forms.proofs.Defined.{finished, refused}
+use Rattle.tree_meaning.proofs.tree_forms.Defined.{finished, refused}
 use Rattle.tree_rows.specs.Planning.{imported, planned_file}
 use Rattle.tree_rows.proofs.Planned.{known-worlds, placed, types-placed, ordered}
 use Rattle.tree_rows.proofs.tree.planned.Goals as goal

@@ -15,7 +15,7 @@ use Rattle.package_form.proofs.OnePackage.{one-full-name}
 use Rattle.package_form.proofs.OwnPackage.{full-name-parts}
 use Rattle.tree_meaning.specs.Imports.{Import, nameless, no_import, import_at, import_of, interfaces_of, imports_of, AreApart, HasImport}
 use Rattle.tree_meaning.specs.ImportForms.{AreImportsInForm}
-use Rattle.tree_forms.proofs.Homes.{IsPlace}
+use Rattle.tree_meaning.proofs.tree_forms.Homes.{IsPlace}
 use Rattle.tree_meaning.proofs.Imported.{get_or-append-right, imports-length, imports-at, import-named, import-within, nowhere}
 
 pub own-some : (p : PackageParts) (n : List ℕ) → own_name p n ≢ []

@@ -9,10 +9,10 @@ use Rattle.package_form.specs.Ends.{end_of, rows_of}
 use Rattle.package_form.specs.Unused.{are_used}
 use Rattle.package_form.specs.Naming.{row_names, row_members, rows_scopes, interfaces_scopes}
 use Rattle.tree_meaning.proofs.Referring.{Every}
-use Rattle.tree_forms.proofs.Parting.{IsElsewhere}
-use Rattle.tree_forms.proofs.Blocks.{Block, AreBlocks, block_definitions, blocks_definitions, block_names}
-use Rattle.tree_forms.proofs.Forming.{IsTable, end-is, rows-are}
-use Rattle.tree_forms.proofs.Folding.{segment}
+use Rattle.tree_meaning.proofs.tree_forms.Parting.{IsElsewhere}
+use Rattle.tree_meaning.proofs.tree_forms.Blocks.{Block, AreBlocks, block_definitions, blocks_definitions, block_names}
+use Rattle.tree_meaning.proofs.tree_forms.Forming.{IsTable, end-is, rows-are}
+use Rattle.tree_meaning.proofs.tree_forms.Folding.{segment}
 use Rattle.tree_meaning.proofs.RowNames.{key_name}
 use Rattle.std.proofs.lemmas.List.{map-append}
 use Rattle.tree_meaning.proofs.AllDefinitions.{all_from}

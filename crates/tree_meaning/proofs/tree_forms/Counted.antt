@@ -18,7 +18,7 @@ use Rattle.package_form.specs.Postfix.{is_unnamed, is_unnamed_row, one_if, unnam
 use Rattle.package_form.specs.Entries.{entries_under, entries_of}
 use Rattle.package_form.specs.Ids.{is_use}
 use Rattle.package_form.specs.Unused.{is_alias}
-use Rattle.tree_forms.proofs.Weighed.{nodes, nodes_in, nodes_of, nodes_if, total, total-append, params-count, if-count, whole-count, val-count, Weights, sizes, Agree, by-name}
+use Rattle.tree_meaning.proofs.tree_forms.Weighed.{nodes, nodes_in, nodes_of, nodes_if, total, total-append, params-count, if-count, whole-count, val-count, Weights, sizes, Agree, by-name}
 use Rattle.tree_meaning.proofs.TableRows.{name-tree, IsTyped}
 use Rattle.tree_meaning.proofs.AllDefinitions.{all_from, all_of}
 

@@ -13,14 +13,14 @@ use Rattle.package_form.specs.Ends.{end_of, rows_of, interfaces_end, are_worlds_
 use Rattle.package_form.specs.Unused.{are_used}
 use Rattle.package_form.specs.Naming.{row_names}
 use Rattle.tables.proofs.Rows.{both}
-use Rattle.tree_forms.proofs.Segments.{Means, rows-mean, cut}
+use Rattle.tree_meaning.proofs.tree_forms.Segments.{Means, rows-mean, cut}
 use Rattle.tree_meaning.proofs.Referring.{Every, every-append}
-use Rattle.tree_forms.proofs.Homes.{MeansUse, MeansType, MeansFunction}
-use Rattle.tree_forms.proofs.Parting.{IsElsewhere, IsUseRow, IsTypeRow, IsFunctionRow, use-row, type-row, function-row, rows-every}
-use Rattle.tree_forms.proofs.Blocks.{Block, IsBlock, AreBlocks, block_definitions, blocks_definitions, block_names, IsLater, blocks-later, later-elsewhere}
+use Rattle.tree_meaning.proofs.tree_forms.Homes.{MeansUse, MeansType, MeansFunction}
+use Rattle.tree_meaning.proofs.tree_forms.Parting.{IsElsewhere, IsUseRow, IsTypeRow, IsFunctionRow, use-row, type-row, function-row, rows-every}
+use Rattle.tree_meaning.proofs.tree_forms.Blocks.{Block, IsBlock, AreBlocks, block_definitions, blocks_definitions, block_names, IsLater, blocks-later, later-elsewhere}
 use Rattle.tree_meaning.proofs.TableRows.{references-append}
 use Rattle.tree_meaning.proofs.RowNames.{key_name, names-defined, parts-named}
-use Rattle.tree_forms.proofs.Forming.{IsTable, part, at-key, Places, end-is, rows-are, ids-stand}
+use Rattle.tree_meaning.proofs.tree_forms.Forming.{IsTable, part, at-key, Places, end-is, rows-are, ids-stand}
 use Rattle.tree_meaning.proofs.AllDefinitions.{all_from}
 
 module _ (ns : List (List ℕ)) (rows : List Definition) (table : IsTable rows) where

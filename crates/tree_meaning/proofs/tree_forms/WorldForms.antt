@@ -33,13 +33,13 @@ use Rattle.tables.proofs.Rows.{split, both}
 use Rattle.tree_meaning.proofs.WorldRows.{members-same, if-same, none-left, none-right}
 use Rattle.tree_meaning.proofs.WorldMeanings.{item_definitions, world_definitions, worlds_definitions}
 use Rattle.tree_meaning.proofs.TableRows.{ends_named, RowsAre, is-that, behind, get-seam, references-append, references-length, below-at, at-true}
-use Rattle.tree_forms.proofs.Segments.{rows-mono, TypeMeans, Means, heads, tails}
+use Rattle.tree_meaning.proofs.tree_forms.Segments.{rows-mono, TypeMeans, Means, heads, tails}
 use Rattle.tree_meaning.proofs.Referring.{Every, every-append, Refers, FieldsRefer, RefersIf, IdRefers, tree_of, members-refer, if-refers, params-ids, if-ids}
 use Rattle.tree_meaning.proofs.Owning.{RowRefers, NamedRefers, walk-none}
-use Rattle.tree_forms.proofs.Homes.{no-function, tree-at}
-use Rattle.tree_forms.proofs.Parting.{behind-all}
-use Rattle.tree_forms.proofs.Blocks.{nothing-left}
-use Rattle.tree_forms.proofs.Forming.{IsTable, same-bytes}
+use Rattle.tree_meaning.proofs.tree_forms.Homes.{no-function, tree-at}
+use Rattle.tree_meaning.proofs.tree_forms.Parting.{behind-all}
+use Rattle.tree_meaning.proofs.tree_forms.Blocks.{nothing-left}
+use Rattle.tree_meaning.proofs.tree_forms.Forming.{IsTable, same-bytes}
 use Rattle.tree_meaning.proofs.AllDefinitions.{all_from}
 
 -- ---- a function of a world refers to no name

@@ -16,8 +16,8 @@ use Rattle.tree_meaning.specs.Resolves.{interface_uses, type_uses, names_in_orde
 use Rattle.tree_meaning.specs.Building.{DefinesPackage, start_table}
 use Rattle.tree_meaning.specs.Finished.{IsFinished}
 use Rattle.tree_meaning.specs.WorldRows.{with_worlds, DefinesWorlds}
-use Rattle.tree_forms.proofs.FinishedTrees.{refuses-limit, is-package}
-use Rattle.tree_forms.proofs.WorldTables.{interfaces-are, rows-are, is-table}
+use Rattle.tree_meaning.proofs.tree_forms.FinishedTrees.{refuses-limit, is-package}
+use Rattle.tree_meaning.proofs.tree_forms.WorldTables.{interfaces-are, rows-are, is-table}
 
 module _ (imports : Resolve) (a : AreImports imports) (f : File) (order : List ℕ) (orders : List (List ℕ)) (names labels : List (List ℕ)) (old new : Table) (ws : List World) (p : PackageParts)
     (placed : IsPlacement (interface_uses (interfaces f)) order)

@@ -22,9 +22,9 @@ use Rattle.package_form.proofs.Lists.{contains-here, contains-left, contains-rig
 use Rattle.tree_meaning.proofs.Apart.{only}
 use Rattle.tree_meaning.proofs.AllDefinitions.{all_of, all_from, any_function}
 use Rattle.tree_meaning.proofs.TableRows.{below-at, at-true, get-some}
-use Rattle.tree_forms.proofs.Forming.{IsTable}
-use Rattle.tree_forms.proofs.Homes.{IsPlace, use-kind}
-use Rattle.tree_forms.proofs.Locals.{name-there}
+use Rattle.tree_meaning.proofs.tree_forms.Forming.{IsTable}
+use Rattle.tree_meaning.proofs.tree_forms.Homes.{IsPlace, use-kind}
+use Rattle.tree_meaning.proofs.tree_forms.Locals.{name-there}
 use Rattle.tree_meaning.proofs.Referring.{tree_of}
 
 contains-unflat : {A B : Type 0} (f : A → List B) (xs : List A) (y : B) → Contains (flat_map f xs) y → (x : A) × Contains xs x × Contains (f x) y

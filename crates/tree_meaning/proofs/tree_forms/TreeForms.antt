@@ -32,7 +32,7 @@ use Rattle.tree_meaning.proofs.Placing.{all-from, place-found, all-places, among
 use Rattle.tree_meaning.proofs.Placed.{same-map}
 use Rattle.package_form.proofs.OneRow.{same-place}
 use Rattle.tree_meaning.proofs.OrderedNames.{interface-name, name-in-order}
-use Rattle.tree_forms.proofs.FinishedTrees.{distinct-interfaces}
+use Rattle.tree_meaning.proofs.tree_forms.FinishedTrees.{distinct-interfaces}
 use Rattle.tree_meaning.proofs.Trees.{definitions-within}
 use Rattle.tree_meaning.proofs.Uses.{own-name, own-used}
 use Rattle.tree_meaning.proofs.FullNames.{interface-full, known-full, uses-full}
@@ -44,19 +44,19 @@ use Rattle.tree_meaning.proofs.TableRows.{is-that, behind-length}
 use Rattle.package_form.specs.Ends.{interfaces_end, are_worlds_parted, is_parted}
 use Rattle.package_form.specs.Unused.{are_used}
 use Rattle.package_form.specs.Closed.{is_closed}
-use Rattle.tree_forms.proofs.Homes.{IsPlace, MeansUse, MeansType, MeansFunction}
-use Rattle.tree_forms.proofs.Blocks.{Block, IsBlock, AreBlocks, blocks_definitions, block_names}
+use Rattle.tree_meaning.proofs.tree_forms.Homes.{IsPlace, MeansUse, MeansType, MeansFunction}
+use Rattle.tree_meaning.proofs.tree_forms.Blocks.{Block, IsBlock, AreBlocks, blocks_definitions, block_names}
 use Rattle.tree_meaning.proofs.Owning.{used-inner}
-use Rattle.tree_forms.proofs.Forming.{IsTable}
-use Rattle.tree_forms.proofs.Folding.{Formed, formed}
+use Rattle.tree_meaning.proofs.tree_forms.Forming.{IsTable}
+use Rattle.tree_meaning.proofs.tree_forms.Folding.{Formed, formed}
 use Rattle.tree_meaning.proofs.AllDefinitions.{all_from, all-are}
-use Rattle.tree_forms.proofs.Segments.{rows-mean}
-use Rattle.tree_forms.proofs.Parting.{IsElsewhere, places-same}
+use Rattle.tree_meaning.proofs.tree_forms.Segments.{rows-mean}
+use Rattle.tree_meaning.proofs.tree_forms.Parting.{IsElsewhere, places-same}
 use Rattle.tree_meaning.proofs.TypedRows.{earlier-typed}
 use Rattle.tree_meaning.proofs.WorldMeanings.{worlds_definitions, front-told, items-behind, back-told, all-append}
-use Rattle.tree_forms.proofs.WorldForms.{RefersNowhere, worlds-nowhere, worlds-formed}
-use Rattle.tree_forms.proofs.ClosedForms.{behind-end, end-so, ends-postfix, front-behind, interfaces-behind, interfaces-kept, last-end, no-worlds, other-interfaces, parted-behind, parted-so, standing-so, used-behind}
-use Rattle.tree_forms.proofs.NamePlaces.{own-some, own-place, imported-place, import-place}
+use Rattle.tree_meaning.proofs.tree_forms.WorldForms.{RefersNowhere, worlds-nowhere, worlds-formed}
+use Rattle.tree_meaning.proofs.tree_forms.ClosedForms.{behind-end, end-so, ends-postfix, front-behind, interfaces-behind, interfaces-kept, last-end, no-worlds, other-interfaces, parted-behind, parted-so, standing-so, used-behind}
+use Rattle.tree_meaning.proofs.tree_forms.NamePlaces.{own-some, own-place, imported-place, import-place}
 
 -- ---- an order
 

@@ -23,10 +23,10 @@ use Rattle.package_form.specs.Reached.{name_of, name_at}
 use Rattle.tables.proofs.Rows.{split, both}
 use Rattle.package_form.proofs.Fronts.{stands_before, row-all, row-before}
 use Rattle.package_form.proofs.Lists.{get-front, all-get}
-use Rattle.tree_forms.proofs.Segments.{TypeMeans, Means}
+use Rattle.tree_meaning.proofs.tree_forms.Segments.{TypeMeans, Means}
 use Rattle.tree_meaning.proofs.Referring.{Every, Refers, FieldsRefer, RefersIf, IdRefers, tree_of, params-ids, if-ids, kind-ids, every-append}
 use Rattle.tree_meaning.proofs.Owning.{is_inner_row, RowRefers, NamedRefers}
-use Rattle.tree_forms.proofs.Homes.{IsPlace, MeansAny, use-kind, type-kind, no-function, inner-use, inner-reads, not-use, tree-at}
+use Rattle.tree_meaning.proofs.tree_forms.Homes.{IsPlace, MeansAny, use-kind, type-kind, no-function, inner-use, inner-reads, not-use, tree-at}
 use Rattle.tree_meaning.proofs.AllDefinitions.{owner_name}
 use Rattle.tree_meaning.proofs.TableRows.{is-that}
 

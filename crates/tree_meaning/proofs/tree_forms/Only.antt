@@ -20,16 +20,16 @@ use Rattle.tree_meaning.specs.Scopes.{scopes}
 use Rattle.tree_meaning.specs.Imports.{Import, Imports, no_import, import_at, AreApart, interfaces_of, imports_of}
 use Rattle.tree_meaning.specs.Resolves.{IsTooLargeBehind, ResolvesBehind, full_names, package_behind, with_names, interface_uses, type_uses, PassesLimit, HasDuplicate, HasDistinctNames, LacksPackage, KnowsPackagesOf, IsKnownIn, IsKnownUseOf, IsLackingIn, IsUnknownUse, IsUnknownIn, HasUnknown, HasKnownNamesOf, IsKnownItemOf, IsKnownWorldOf, IsUnknownItem, HasCycle, HasWorldsBehind, HasItems, file_fits, IsClosedPackageOf, HasNoFaultsOf, ResolveRefusesOf, AnswersOnlyBehind}
 use Rattle.package_form.specs.Entries.{world_entries, Table, table_of, entries_of, type_entries}
-use Rattle.tree_forms.proofs.FinishedTrees.{distinct-interfaces}
+use Rattle.tree_meaning.proofs.tree_forms.FinishedTrees.{distinct-interfaces}
 use Rattle.package_form.proofs.OneRow.{same-place}
 use Rattle.package_form.proofs.Lists.{contains-map}
 use Rattle.std.proofs.lemmas.List.{get_or-map, length-map, length-append, get_or_default}
 use Rattle.tree_meaning.proofs.Placed.{no-cycle, one-behind}
 use Rattle.tree_meaning.proofs.FullNames.{interface-full, uses-full}
-use Rattle.tree_forms.proofs.Counted.{entries, entries-by-name}
+use Rattle.tree_meaning.proofs.tree_forms.Counted.{entries, entries-by-name}
 use Rattle.tree_meaning.proofs.TableRows.{IsTyped}
-use Rattle.tree_forms.proofs.Weighed.{sizes}
-use Rattle.tree_forms.proofs.StandardRows.{standard-by-name}
+use Rattle.tree_meaning.proofs.tree_forms.Weighed.{sizes}
+use Rattle.tree_meaning.proofs.tree_forms.StandardRows.{standard-by-name}
 use Rattle.tree_meaning.proofs.AllDefinitions.{all_from}
 use Rattle.tree_meaning.proofs.TypedRows.{earlier-typed}
 use Rattle.tree_meaning.proofs.WorldMeanings.{worlds_definitions, world_size, all-told, functions-there, worlds-sized}

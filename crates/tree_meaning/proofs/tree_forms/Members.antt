@@ -22,7 +22,7 @@ use Rattle.package_form.proofs.Lists.{all-head, all-cons, all-none}
 use Rattle.package_form.specs.Naming.{field_name, case_name, parameter_name, kind_members, row_members}
 use Rattle.tables.proofs.Rows.{split}
 use Rattle.tree_meaning.proofs.TableRows.{RowsAre}
-use Rattle.tree_forms.proofs.Segments.{TypeMeans, Means}
+use Rattle.tree_meaning.proofs.tree_forms.Segments.{TypeMeans, Means}
 use Rattle.tree_meaning.proofs.Owning.{is_inner_row}
 use Rattle.tree_meaning.proofs.Apart.{none-distinct}
 

@@ -28,26 +28,26 @@ use Rattle.package_form.proofs.Meeting.{below_or_at}
 use Rattle.package_form.proofs.EachPackage.{each-distinct}
 use Rattle.package_form.proofs.Scopes.{interfaces-distinct as import-scopes-distinct, names-distinct as interface-labels-distinct}
 use Rattle.tree_meaning.proofs.OrderedNames.{interface-name}
-use Rattle.tree_forms.proofs.Parting.{not-that}
-use Rattle.tree_forms.proofs.FinishedTrees.{distinct-interfaces, names-behind}
+use Rattle.tree_meaning.proofs.tree_forms.Parting.{not-that}
+use Rattle.tree_meaning.proofs.tree_forms.FinishedTrees.{distinct-interfaces, names-behind}
 use Rattle.tree_meaning.specs.Resolved.{meaning_of_world}
 use Rattle.tree_meaning.specs.Imports.{imports_of}
 use Rattle.tree_meaning.specs.ImportForms.{IsNamedBehind}
 use Rattle.tree_meaning.proofs.Owning.{is_inner_row}
 use Rattle.tree_meaning.proofs.FullNames.{locals-full, interface-full, uses-full}
 use Rattle.package_form.specs.Naming.{row_members, rows_scopes, interfaces_scopes, label_of, world_scopes, package_scopes, interface_label_of, interface_labels_of, of_each, world_labels_of}
-use Rattle.tree_forms.proofs.Segments.{heads, tails, rows-mean}
+use Rattle.tree_meaning.proofs.tree_forms.Segments.{heads, tails, rows-mean}
 use Rattle.tree_meaning.proofs.Referring.{Every, every-append, every-front, every-back}
 use Rattle.tree_meaning.proofs.Reading.{get-end}
-use Rattle.tree_forms.proofs.Blocks.{Block, block_names, block_definitions, blocks_definitions}
-use Rattle.tree_forms.proofs.TreeForms.{block, trees, order, types, blocks, named, are-all, back, defined, used-parts, elsewhere, table, count, elsewhere-first, first-end, ordered, own, own_names, parts}
-use Rattle.tree_forms.proofs.Members.{HasDistinctMembers, rows-distinct}
+use Rattle.tree_meaning.proofs.tree_forms.Blocks.{Block, block_names, block_definitions, blocks_definitions}
+use Rattle.tree_meaning.proofs.tree_forms.TreeForms.{block, trees, order, types, blocks, named, are-all, back, defined, used-parts, elsewhere, table, count, elsewhere-first, first-end, ordered, own, own_names, parts}
+use Rattle.tree_meaning.proofs.tree_forms.Members.{HasDistinctMembers, rows-distinct}
 use Rattle.tree_meaning.proofs.ItemNames.{HasDistinctParts, function_name, interfaces-distinct}
-use Rattle.tree_forms.proofs.TreeNames.{placed-distinct, names-distinct, members-distinct}
-use Rattle.tree_forms.proofs.TableScopes.{HasDistinctKeys, scoped}
+use Rattle.tree_meaning.proofs.tree_forms.TreeNames.{placed-distinct, names-distinct, members-distinct}
+use Rattle.tree_meaning.proofs.tree_forms.TableScopes.{HasDistinctKeys, scoped}
 use Rattle.tree_meaning.proofs.Apart.{AreOthers, AreApart, every-from, every-contained, apart-distinct, are-apart, apart-insert, apart-between}
 use Rattle.tree_meaning.proofs.TableRows.{is-that}
-use Rattle.tree_forms.proofs.ClosedForms.{rows-kept}
+use Rattle.tree_meaning.proofs.tree_forms.ClosedForms.{rows-kept}
 use Rattle.package_form.specs.Closed.{is_world_of}
 
 every-map : {A B : Type 0} (P : B → Type 0) (f : A → B) (xs : List A) → Every (λ x. P (f x)) xs → Every P (map f xs)

@@ -10,10 +10,10 @@ use Rattle.tree_meaning.specs.Resolved.{no_type, use_meaning, type_meaning, mean
 use Rattle.tree_meaning.specs.Resolves.{type_uses, uses_of_type}
 use Rattle.package_form.proofs.Lists.{all-append, all-contained, contains-unmap}
 use Rattle.tree_meaning.proofs.Referring.{Every}
-use Rattle.tree_forms.proofs.TreeForms.{one-place, each-map}
+use Rattle.tree_meaning.proofs.tree_forms.TreeForms.{one-place, each-map}
 use Rattle.tree_meaning.proofs.Apart.{every-from, every-contained, apart-distinct, are-apart, apart-front, apart-back, apart-between, order-distinct, none-distinct}
 use Rattle.tree_meaning.proofs.RowNames.{key_name}
-use Rattle.tree_forms.proofs.Members.{HasDistinctMembers, type-distinct, function-distinct}
+use Rattle.tree_meaning.proofs.tree_forms.Members.{HasDistinctMembers, type-distinct, function-distinct}
 use Rattle.tree_meaning.proofs.ItemNames.{function_name, HasDistinctParts}
 
 -- names that differ, in the order of what they name

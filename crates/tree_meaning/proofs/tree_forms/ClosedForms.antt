@@ -26,8 +26,8 @@ use Rattle.package_form.specs.Postfix.{IsPostfix, Leaves, begin, inner, whole, i
 use Rattle.package_form.specs.Unused.{are_used}
 use Rattle.tree_meaning.proofs.TableRows.{get-some, ends_named}
 use Rattle.tree_meaning.proofs.Referring.{Every}
-use Rattle.tree_forms.proofs.Parting.{IsElsewhere, not-that, none-and}
-use Rattle.tree_forms.proofs.Segments.{heads, tails}
+use Rattle.tree_meaning.proofs.tree_forms.Parting.{IsElsewhere, not-that, none-and}
+use Rattle.tree_meaning.proofs.tree_forms.Segments.{heads, tails}
 use Rattle.tree_meaning.proofs.Owning.{step}
 use Rattle.tree_meaning.specs.Resolves.{HasNoWorlds, interfaces_behind, is_behind, is_name_of, is_of_interfaces, is_owned_among}
 

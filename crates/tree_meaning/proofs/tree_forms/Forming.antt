@@ -18,13 +18,13 @@ use Rattle.package_form.specs.Ends.{behind_types, behind_functions, end_of, rows
 use Rattle.package_form.specs.Unused.{are_used}
 use Rattle.tables.proofs.Rows.{split, both}
 use Rattle.tree_meaning.proofs.TableRows.{ends_named, RowsAre, places-append, references-append, references-length, below-at, at-true}
-use Rattle.tree_forms.proofs.Segments.{rows-mono, Means, means-mono, rows-mean}
+use Rattle.tree_meaning.proofs.tree_forms.Segments.{rows-mono, Means, means-mono, rows-mean}
 use Rattle.tree_meaning.proofs.Referring.{Every, every-mono}
 use Rattle.tree_meaning.proofs.Owning.{is_inner_row, RowRefers, walk-none}
-use Rattle.tree_forms.proofs.Homes.{MeansAny}
-use Rattle.tree_forms.proofs.Locals.{any-refers, local}
-use Rattle.tree_forms.proofs.Parting.{places-same, places-none, places-all, types-end, functions-end, IsElsewhere, elsewhere, IsUseRow, IsTypeRow, IsFunctionRow, rows-every}
-use Rattle.tree_forms.proofs.Blocks.{Block, IsBlock}
+use Rattle.tree_meaning.proofs.tree_forms.Homes.{MeansAny}
+use Rattle.tree_meaning.proofs.tree_forms.Locals.{any-refers, local}
+use Rattle.tree_meaning.proofs.tree_forms.Parting.{places-same, places-none, places-all, types-end, functions-end, IsElsewhere, elsewhere, IsUseRow, IsTypeRow, IsFunctionRow, rows-every}
+use Rattle.tree_meaning.proofs.tree_forms.Blocks.{Block, IsBlock}
 use Rattle.tree_meaning.proofs.AllDefinitions.{all_from}
 
 -- what is known of the whole table

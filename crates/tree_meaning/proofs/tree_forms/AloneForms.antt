@@ -20,9 +20,9 @@ use Rattle.package_form.proofs.Lists.{all-none}
 use Rattle.tree_meaning.specs.Resolves.{HasNoFaults, IsPackageOf}
 use Rattle.tree_meaning.specs.ImportForms.{IsNamedBehind, AreReachedFrom}
 use Rattle.tree_meaning.proofs.Alone.{empty, are-imports, closed-package, without-faults}
-use Rattle.tree_forms.proofs.TreeForms.{has-form as has-form-behind}
-use Rattle.tree_forms.proofs.PackageScopes.{has-distinct-names as has-names-behind}
-use Rattle.tree_forms.proofs.ClosedTables.{closes}
+use Rattle.tree_meaning.proofs.tree_forms.TreeForms.{has-form as has-form-behind}
+use Rattle.tree_meaning.proofs.tree_forms.PackageScopes.{has-distinct-names as has-names-behind}
+use Rattle.tree_meaning.proofs.tree_forms.ClosedTables.{closes}
 
 module _ (imports : Resolve) (packages : imports.packages ≡ []) (interfaces : imports.interfaces ≡ []) (worlds : imports.worlds ≡ []) (rows : imports.definitions ≡ []) where
   named-behind : (f : File) → IsTrue (file_has_full_names f) → IsNamedBehind imports f

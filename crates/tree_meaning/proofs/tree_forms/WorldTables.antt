@@ -28,7 +28,7 @@ use Rattle.package_form.proofs.Lists.{all-mono}
 use Rattle.tree_meaning.proofs.Reading.{definitions-append, front-trans}
 use Rattle.tree_meaning.proofs.AllDefinitions.{none-there}
 use Rattle.tree_meaning.proofs.OrderedNames.{ordered-has}
-use Rattle.tree_forms.proofs.FinishedTrees.{IsTableOf}
+use Rattle.tree_meaning.proofs.tree_forms.FinishedTrees.{IsTableOf}
 use Rattle.tree_meaning.proofs.Trees.{own_table, table-resolves}
 
 -- ---- what the rows of worlds leave as it was

@@ -12,10 +12,10 @@ use Rattle.package_form.specs.Ids.{is_in, is_use, is_owned_by}
 use Rattle.package_form.proofs.Lists.{all-append, all-mono, all-none}
 use Rattle.package_form.specs.Unused.{are_used}
 use Rattle.package_form.proofs.Postfix.{is-none}
-use Rattle.tree_forms.proofs.Segments.{TypeMeans, Means}
+use Rattle.tree_meaning.proofs.tree_forms.Segments.{TypeMeans, Means}
 use Rattle.tree_meaning.proofs.Owning.{Step, step}
-use Rattle.tree_forms.proofs.Homes.{IsPlace, MeansUse, MeansType, MeansFunction}
-use Rattle.tree_forms.proofs.Parting.{IsElsewhere, not-that, none-and}
+use Rattle.tree_meaning.proofs.tree_forms.Homes.{IsPlace, MeansUse, MeansType, MeansFunction}
+use Rattle.tree_meaning.proofs.tree_forms.Parting.{IsElsewhere, not-that, none-and}
 use Rattle.tree_meaning.proofs.AllDefinitions.{all_from, owner_name}
 
 -- the definitions of an interface

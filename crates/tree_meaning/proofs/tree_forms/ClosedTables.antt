@@ -23,15 +23,15 @@ use Rattle.tree_meaning.specs.Resolved.{use_meaning, direction_meaning, tree_ite
 use Rattle.tree_meaning.specs.Imports.{Import, import_at, interfaces_of, imports_of}
 use Rattle.tree_meaning.specs.ImportForms.{IsNamedBehind, UsesImport, HasImportItem, NamesImport, AreReachedFrom}
 use Rattle.tree_meaning.specs.Resolves.{interface_uses, uses_of_interface, HasNoFaultsOf, AreImports, interfaces_behind, IsClosedPackageOf}
-use Rattle.tree_forms.proofs.Blocks.{block_definitions, blocks_definitions}
+use Rattle.tree_meaning.proofs.tree_forms.Blocks.{block_definitions, blocks_definitions}
 use Rattle.tree_meaning.proofs.TableRows.{references-append, is-that}
 use Rattle.tree_meaning.proofs.FullNames.{interface-full}
-use Rattle.tree_forms.proofs.Homes.{IsPlace}
-use Rattle.tree_forms.proofs.NamePlaces.{own-some}
+use Rattle.tree_meaning.proofs.tree_forms.Homes.{IsPlace}
+use Rattle.tree_meaning.proofs.tree_forms.NamePlaces.{own-some}
 use Rattle.tree_meaning.proofs.Placing.{among-at}
-use Rattle.tree_forms.proofs.Parting.{not-that}
-use Rattle.tree_forms.proofs.Reaching.{defined-by, use-reaches, item-reaches, reached-kept}
-use Rattle.tree_forms.proofs.TreeForms.{block, trees, order, types, blocks, own, back, first, parts, defined, table, count, import-here}
+use Rattle.tree_meaning.proofs.tree_forms.Parting.{not-that}
+use Rattle.tree_meaning.proofs.tree_forms.Reaching.{defined-by, use-reaches, item-reaches, reached-kept}
+use Rattle.tree_meaning.proofs.tree_forms.TreeForms.{block, trees, order, types, blocks, own, back, first, parts, defined, table, count, import-here}
 use Rattle.tree_meaning.proofs.AllDefinitions.{all_of}
 
 some-order : (uses : List (List ℕ)) (order : List ℕ) → IsPlacement uses order → 0 < length uses → 0 < length order

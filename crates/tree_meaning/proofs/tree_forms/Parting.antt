@@ -15,9 +15,9 @@ use Rattle.package_form.specs.Form.{is_named}
 use Rattle.package_form.specs.Ends.{behind_types, behind_functions}
 use Rattle.tables.proofs.Rows.{both}
 use Rattle.tree_meaning.proofs.TableRows.{ends_named, RowsAre, is-that, get-seam, behind}
-use Rattle.tree_forms.proofs.Segments.{TypeMeans, Means}
+use Rattle.tree_meaning.proofs.tree_forms.Segments.{TypeMeans, Means}
 use Rattle.tree_meaning.proofs.Referring.{Every}
-use Rattle.tree_forms.proofs.Homes.{IsPlace, MeansUse, MeansType, MeansFunction, use-kind, type-kind, no-function}
+use Rattle.tree_meaning.proofs.tree_forms.Homes.{IsPlace, MeansUse, MeansType, MeansFunction, use-kind, type-kind, no-function}
 use Rattle.tree_meaning.proofs.AllDefinitions.{owner_name}
 
 -- ---- places
