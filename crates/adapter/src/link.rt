@@ -19,13 +19,13 @@ ghost use Rattle.adapter.specs.Linked.{TellsNodes};
 ghost use Rattle.adapter.specs.Plain.{PassAsTheyAre};
 
 use crate::arguments::pass_arguments;
+use crate::asking::Request;
 use crate::body::Body;
 use crate::fault::trap;
 use crate::invocation::Invocation;
 use crate::plain::{are_plain, is_plain_answer};
 use crate::requests::{Unasked, ask_answer, ask_arguments};
 use crate::results::pass_answer;
-use crate::asking::Request;
 use canonical_abi::{Fault, Flat, Guest, Step, TrapKind};
 use crossing::Walk;
 use layout::Layouts;

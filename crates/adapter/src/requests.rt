@@ -12,8 +12,8 @@ ghost use Rattle.layout.specs.Layout.{AreWithin};
 ghost use Rattle.tables.specs.Closed.{IsFunction, function_type};
 ghost use Rattle.adapter.specs.Asked.{IsUnasked, unasked_in};
 
-use crate::fault::trap;
 use crate::asking::{Request, Untold, Walk};
+use crate::fault::trap;
 use canonical_abi::{Fault, Flat, Guest, Step, TrapKind};
 use lift_lower::{Types, are_kinds};
 use tables::{FunctionId, TypeId, ValType};

@@ -1,7 +1,7 @@
 //! Types without a name: lists, options, results and tuples. Those that are alike are one type in C.
 
-use crate::types::{Form, Part, Types};
 use crate::c_names::short_key;
+use crate::types::{Form, Part, Types};
 use std::alloc::{AllocError, Global};
 use std::fmt::Write;
 use tables::{Definition, Resolve, TypeDef, TypeDefKind, ValType};

@@ -18,8 +18,8 @@ use tables::{
     Definition, Function, FunctionId, Interface, InterfaceId, Owner, PackageName, Resolve,
     TypeDefKind, TypeId, TypeName, copy_version,
 };
-use wit_tokens::wit_syntax::{Func, InterfaceItem, Item, PackageId, Path, TypeDef, Use, UsedName};
 use wit_tokens::Span;
+use wit_tokens::wit_syntax::{Func, InterfaceItem, Item, PackageId, Path, TypeDef, Use, UsedName};
 
 /// The place of what stands in no text.
 pub(crate) fn nowhere() -> Span

@@ -36,7 +36,12 @@ fn item_tree(
         }
         WorldItemKind::Function(id) => {
             let function = resolve.signature(id);
-            wit_tokens::wit_syntax::WorldItemKind::Func(func(alloc, resolve, id.0 as usize, function)?)
+            wit_tokens::wit_syntax::WorldItemKind::Func(func(
+                alloc,
+                resolve,
+                id.0 as usize,
+                function,
+            )?)
         }
     };
     Ok(wit_tokens::wit_syntax::WorldItem {

@@ -1,12 +1,12 @@
 //! What a row is answered.
 
-use atoms::Watched;
-use row_bytes::done;
 use crate::calls::{called, job_of, short_call, streamed};
 use crate::json;
 use crate::opened::{line_of, package, told};
-use row_inputs::{Inputs, Set, inputs_in};
+use atoms::Watched;
+use row_bytes::done;
 use row_inputs::row_layouts::laid_out;
+use row_inputs::{Inputs, Set, inputs_in};
 use row_sets::changes::{changes, cuts, fronts, is_opened_alone};
 use row_sets::{Wanted, parsed, told_of};
 use std::alloc::Global;

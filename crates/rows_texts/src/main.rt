@@ -3,10 +3,10 @@
 //! something else.
 #![tactic(auto)]
 
-pub mod opened;
-pub mod json;
-pub mod calls;
 mod answers;
+pub mod calls;
+pub mod json;
+pub mod opened;
 mod rows;
 
 use rows::{Rows, read};

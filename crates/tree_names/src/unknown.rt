@@ -15,7 +15,9 @@ use atoms::Label;
 use std::alloc::{AllocError, Global};
 use tables::ResolveError;
 use tree_scopes::{Declarations, Imports, Names, import_place, interface_label, interface_names};
-use wit_tokens::wit_syntax::{InterfaceItem, Item, PackageId, Path, UsedName, WorldItem, WorldItemKind};
+use wit_tokens::wit_syntax::{
+    InterfaceItem, Item, PackageId, Path, UsedName, WorldItem, WorldItemKind,
+};
 
 /// What the names of a tree may stand for: its imports, and what its interfaces declare.
 #[derive(Drop)]

@@ -98,7 +98,9 @@ pub fn lower_definition(
     ensures { IfOk result (λ k. LowersKind builder.old builder.new k (IsType (definition_meaning (scope_name builder.old scope.now) (definition_view definition.now)))) }
 {
     match definition {
-        wit_tokens::wit_syntax::TypeDefKind::Alias(target) => lower_kind(alloc, builder, scope, target),
+        wit_tokens::wit_syntax::TypeDefKind::Alias(target) => lower_kind(
+            alloc, builder, scope, target,
+        ),
         wit_tokens::wit_syntax::TypeDefKind::Record(fields) => {
             let fields = lower_fields(alloc, builder, scope, fields)?;
             Ok(TypeDefKind::Record(fields))
@@ -107,7 +109,9 @@ pub fn lower_definition(
             let cases = lower_cases(alloc, builder, scope, cases)?;
             Ok(TypeDefKind::Variant(cases))
         }
-        wit_tokens::wit_syntax::TypeDefKind::Enum(names) => Ok(TypeDefKind::Enum(copy_labels(alloc, names)?)),
+        wit_tokens::wit_syntax::TypeDefKind::Enum(names) => Ok(TypeDefKind::Enum(copy_labels(
+            alloc, names,
+        )?)),
         wit_tokens::wit_syntax::TypeDefKind::Flags(labels) => Ok(TypeDefKind::Flags(copy_labels(
             alloc, labels,
         )?)),

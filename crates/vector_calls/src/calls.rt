@@ -5,16 +5,16 @@ ghost use Rattle.layout.specs.Layout.{AreWithin};
 ghost use Rattle.tables.specs.Closed.{IsFunction};
 
 use crate::functions::{NO_FUNCTION, fault_told};
+use crate::vector_sides::{
+    Acting, Logged, all_given, body, field, first_given, flats, flats_told, guest, list, object_of,
+    push_memories, text,
+};
 use adapter::Link;
 use canonical_abi::{Fault, Flat};
 use lift_lower::{FlatResults, Types};
 use serde_json::Value;
 use std::alloc::Global;
 use tables::FunctionId;
-use crate::vector_sides::{
-    Acting, Logged, all_given, body, field, first_given, flats, flats_told, guest, list, object_of,
-    push_memories, text,
-};
 
 /// The caller, the callee and the body of a row.
 #[derive(Drop)]

@@ -8,13 +8,15 @@ ghost use Rattle.value_json.specs.Apart.{HasApartLabels};
 ghost use Rattle.values.specs.Members.{fields_of_types};
 
 use crate::functions::{fault_told, function, parameter};
+use crate::vector_sides::{
+    Logged, field, flats, flats_told, guest, list, object_of, push_memories, text,
+};
 use canonical_abi::{Fault, Flat};
 use lift_lower::{Flats, Types, Val, has_type, lift, lower};
 use serde_json::Value;
 use std::alloc::Global;
 use tables::ValType;
 use value_json::{JsonError, json_of_value, value_of_json};
-use crate::vector_sides::{Logged, field, flats, flats_told, guest, list, object_of, push_memories, text};
 
 /// The type of the first parameter of the row's function, which is small.
 fn type_of(types: &Types<'_>, row: &Value) -> anyhow::Result<ValType>

@@ -6,8 +6,8 @@ mod sessions;
 
 use serde_json::Value;
 use std::alloc::Global;
-use vector_calls::{Calls, conversion_told};
 use vector_calls::vector_sides::package_bytes;
+use vector_calls::{Calls, conversion_told};
 use witcall::laws::has_labels_apart;
 use witcall::open;
 

@@ -8,11 +8,11 @@ use lift_lower::Val;
 use serde_json::Value;
 use std::alloc::Global;
 use tables::{FunctionId, ValType};
-use vector_calls::{fault_told, function, parameter};
 use vector_calls::vector_sides::{
     Acting, Logged, body, field, guest, list, list_of, number, object_of, package_bytes,
     push_memories, text,
 };
+use vector_calls::{fault_told, function, parameter};
 use witcall::{Answer, Package, Session, Step, from_json, open, takes_steps, to_json};
 
 /// The value of a type that a row says.

@@ -1,10 +1,10 @@
 //! A line of a text, with carets under a part of it.
 
 use crate::paint::{Paint, Part};
-use wit_hints::source_lines::{Place, place_at};
 use std::alloc::{AllocError, Global};
 use std::fmt::Write;
 use unicode_width::UnicodeWidthChar;
+use wit_hints::source_lines::{Place, place_at};
 use wit_places::Lexed;
 use wit_text::Span;
 

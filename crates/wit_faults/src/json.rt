@@ -1,9 +1,9 @@
 //! Faults as JSON, for editors.
 
 use crate::drawing::Fault;
-use wit_hints::source_lines::place_at;
 use std::alloc::AllocError;
 use std::fmt::Write;
+use wit_hints::source_lines::place_at;
 use wit_text::Span;
 
 /// Appends a text as a JSON string.

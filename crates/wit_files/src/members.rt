@@ -10,8 +10,8 @@ use package_adding::has_full_names;
 use std::alloc::{AllocError, Global};
 use tables::ResolveError;
 use wit_faults::{Around, Cause, Lexed, PackageRef, Report};
-use wit_tokens::wit_syntax::Item;
 use wit_text::Ast;
+use wit_tokens::wit_syntax::Item;
 
 /// A package whose files were read, as one tree.
 #[derive(Drop)]

@@ -1,7 +1,7 @@
 //! Names that are twice in one scope.
 
-use crate::spot::{Bracket, bracket_of, keyword_at, mark_at, opener};
 use crate::source_lines::place_at;
+use crate::spot::{Bracket, bracket_of, keyword_at, mark_at, opener};
 use std::alloc::{AllocError, Global};
 use wit_places::Lexed;
 use wit_text::{Keyword, Punctuation, Span};

@@ -11,7 +11,9 @@ use crate::list::write_comma;
 use crate::word::{write_keyword, write_mark, write_name, write_version};
 use atoms::Label;
 use std::alloc::AllocError;
-use wit_tokens::wit_syntax::{Direction, InterfaceItem, Path, Use, UsedName, WorldItem, WorldItemKind};
+use wit_tokens::wit_syntax::{
+    Direction, InterfaceItem, Path, Use, UsedName, WorldItem, WorldItemKind,
+};
 use wit_tokens::{Keyword, Punctuation};
 
 fn write_local(out: &mut String, local: &Option<Label>) -> Result<(), AllocError>

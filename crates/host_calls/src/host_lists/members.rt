@@ -6,8 +6,8 @@ ghost use Rattle.host_calls.specs.Contents.{member_types_in, types_of_members};
 ghost use Rattle.host_calls.specs.Members.{member_offset, member_at};
 ghost use Rattle.host_calls.specs.Told.{TellsOfTable};
 
-use crate::host_lists::rows::{TypeInfo, type_info};
 use crate::CallError;
+use crate::host_lists::rows::{TypeInfo, type_info};
 use tables::{Choice, Definition, Member, TypeDefKind, TypeId, ValType};
 use values::Types;
 

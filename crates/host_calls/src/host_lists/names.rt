@@ -3,9 +3,9 @@ ghost use Rattle.std.specs.Prelude.{◌≡◌, ◌∷◌, [], option_map, slice_
 ghost use Rattle.host_calls.specs.Names.{definition_name, member_labels, definition_labels, row_name_at, member_name_at};
 ghost use Rattle.host_calls.specs.Told.{TellsName};
 
+use crate::CallError;
 use crate::host_lists::bytes::tell_bytes;
 use atoms::Label;
-use crate::CallError;
 use tables::{Definition, TypeDefKind};
 use values::Types;
 

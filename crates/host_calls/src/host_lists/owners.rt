@@ -4,9 +4,9 @@ ghost use Rattle.tables.specs.Names.{full_name_in};
 ghost use Rattle.host_calls.specs.Owners.{stated_owner, owner_kind, owner_number, numbered_owner, owner_name, owner_name_at};
 ghost use Rattle.host_calls.specs.Told.{TellsNewName};
 
+use crate::CallError;
 use crate::host_lists::bytes::tell_bytes;
 use atoms::Label;
-use crate::CallError;
 use std::alloc::{AllocError, Global};
 use tables::{Definition, InterfaceId, Name, Owner, PackageId, Resolve, WorldId};
 use values::Types;

@@ -1,9 +1,9 @@
 //! What the definitions of a package take.
 
+use crate::expanded;
 use crate::row_layouts::shapes::{flat, shape_and_size, signature};
 use layout::Layouts;
 use opening::{Package, open};
-use crate::expanded;
 use std::alloc::Global;
 use tables::{
     Definition, Function, FunctionId, InterfaceId, Owner, Resolve, TypeDef, TypeId, ValType,

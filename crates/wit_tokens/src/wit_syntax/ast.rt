@@ -1,6 +1,6 @@
 //! The syntax of a WIT text. Names stand as they were written, without the `%` of an escaped word.
-use atoms::Label;
 use crate::Span;
+use atoms::Label;
 
 /// A whole text.
 #[derive(Debug, Drop)]
