@@ -155,7 +155,7 @@ pub fn identifier<'a>(
 }
 
 /// Takes a comma or this mark: whether more entries follow.
-#[tactic(auto, unfolding(atoms::productions::specs::Production::comma_or))]
+#[tactic(auto, unfolding(atoms::specs::Production::comma_or))]
 pub fn comma_or<'a>(
     source: &[u8],
     tokens: &'a [Token],
@@ -177,7 +177,7 @@ pub fn comma_or<'a>(
 }
 
 /// Takes what stands behind an entry of a list, a comma or this mark or both: whether more entries follow.
-#[tactic(auto, unfolding(atoms::productions::specs::Production::separator))]
+#[tactic(auto, unfolding(atoms::specs::Production::separator))]
 pub fn separator<'a>(
     source: &[u8],
     tokens: &'a [Token],
