@@ -4,8 +4,8 @@
 usage: tools/check_conditions.py [--list]
 
 A function with conditions is one with a `requires` that a crate exports: by a `pub use` or a `pub mod` of its lib.rt,
-as a `pub` method of a type or a method of a trait that is exported so, or to C. Modules in folders or in blocks are not
-read, and the check fails if there are such.
+as a `pub` method of a type or a method of a trait that is exported so, or to C. Modules in blocks are not read, and the
+check fails if there are such.
 
 The column `call` of the page's tables has to name each of them, as `name` or as `Type::name`, and nothing else, and
 none more often than it has conditions. A cell has parts with a `;` between them. In a part that says of what its names
@@ -80,21 +80,27 @@ def used(text):
         yield from (("::".join(path[:-1]), path[-1], name) for path, name in leaves(tree))
 
 
-def exported(src):
+def modules(src):
+    """The files of a crate by the names of their modules, as `asking::walk`."""
+    return {"::".join(path.relative_to(src).with_suffix("").parts): path for path in sorted(src.rglob("*.rt"))}
+
+
+def exported(files):
     """The modules of a crate with the names that it exports of each, or None for all; and which modules export each, as
     which names."""
-    there = {"lib": None, **{module: None for module in MODULE.findall(code(src / "lib.rt"))}}
+    there = {"lib": None, **{module: None for module in MODULE.findall(code(files["lib"]))}}
     by, left = collections.defaultdict(set), list(there)
     while left:
         public = left.pop()
-        for module, name, given in used(code(src / f"{public}.rt")):
+        for module, name, given in used(code(files[public])):
             inner = name if not module else module if name == "*" else None
-            if inner and (src / f"{inner}.rt").is_file() and there.get(inner, ()) is not None:
+            if inner and inner in files and there.get(inner, ()) is not None:
                 there[inner] = None
                 left.append(inner)
-            elif not inner and there.setdefault(module, set()) is not None:
-                there[module].add(name)
-            if not inner:
+            elif not inner:
+                module = next((it for it in (f"{public}::{module}",) if it in files), module)
+                if there.setdefault(module, set()) is not None:
+                    there[module].add(name)
                 by[module, name].add((public, given))
     return there, by
 
@@ -149,9 +155,9 @@ def types_of(files, there):
 def functions():
     """The exported functions with conditions."""
     for lib in sorted((ROOT / "crates").glob("*/src/lib.rt")):
-        there, by = exported(lib.parent)
+        files = modules(lib.parent)
+        there, by = exported(files)
         crate = lib.parent.parent.name
-        files = {path.stem: path for path in sorted(lib.parent.glob("*.rt"))}
         types = types_of(files, there)
         for module, path in files.items():
             names = there.get(module, ())
@@ -167,8 +173,8 @@ def functions():
 def unread():
     """The modules that the check doesn't read."""
     for path in sorted((ROOT / "crates").glob("*/src/**/*.rt")):
-        if path.parent.name != "src" or INNER.search(code(path)):
-            yield f"{path.relative_to(ROOT)}: a module in a folder or in a block is not read"
+        if INNER.search(code(path)):
+            yield f"{path.relative_to(ROOT)}: a module in a block is not read"
 
 
 def called(cell):

@@ -98,7 +98,7 @@ def contracts():
     found, traits = {}, {}
     for path in sources(".rt"):
         for function in functions(path):
-            owners = {path.relative_to(ROOT).parts[1], path.stem, *WORD.findall(function.block)}
+            owners = {*path.relative_to(ROOT / "crates").with_suffix("").parts, *WORD.findall(function.block)}
             found.setdefault(function.name, []).append((owners, function.clauses, function.conditions))
             if function.is_of_trait:
                 traits.setdefault(function.name, []).append((owners, function.clauses))

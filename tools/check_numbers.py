@@ -8,7 +8,7 @@ usage: tools/check_numbers.py
   in the test's file. PHRASES has the parts of answers that no row has as they are. Each word in backquotes in the
   column `example` is in the input of such a row, unless it is one of OTHERWISE.
 - Blocks of bytes of docs/EXAMPLES.md and docs/FORMATS.md, the first words of their lines: these are in a stored answer.
-- docs/WORKED_EXAMPLES.md: what stands in the columns of examples is a theorem of proofs/Examples.antt of the section's
+- docs/WORKED_EXAMPLES.md: what stands in the columns of examples is a theorem of an Examples.antt below proofs/ of the section's
   crates, or of the crate that follows it in parentheses. The numbers in the column `examples` are those of theorems.
 - docs/DEFINITIONS.md: what stands in the columns `tested by` and `refused by` is a theorem of the crate canonical_abi,
   or one of its laws or must-fail edits.
@@ -171,8 +171,10 @@ def wrong_bytes(text, counts):
 
 def found_in_examples(pattern):
     """What a pattern finds in the examples of each crate."""
-    return {path.parent.parent.name: pattern.findall(path.read_text())
-            for path in sorted(ROOT.glob("crates/*/proofs/Examples.antt"))}
+    found = collections.defaultdict(list)
+    for path in sorted(ROOT.glob("crates/*/proofs/**/Examples.antt")):
+        found[path.relative_to(ROOT).parts[1]] += pattern.findall(path.read_text())
+    return found
 
 
 def section_crates(text):

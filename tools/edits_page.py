@@ -20,9 +20,9 @@ HEAD = """\
 This page names every must-fail edit, and what it leaves open in a proof. It is for people who check that a contract
 refuses a wrong body. `tools/edits_page.py` makes the page of the first lines of the edits: change these, and run it.
 
-An edit turns the meaning of a crate's code. In `productions`, which has no code, edits are of definitions. The prover
-has to refuse each. The gate tries those of `crates/NAME/must-fail`, one of each kind of wrong body. The others are in
-`edits/NAME` ([GATE.md](../GATE.md#must-fail-edits)).
+An edit turns the meaning of a crate's code. Those of `productions` in `atoms`, which has no code, are of definitions.
+The prover has to refuse each. The gate tries those of `crates/NAME/must-fail`, one of each kind of wrong body. The
+others are in `edits/NAME` ([GATE.md](../GATE.md#must-fail-edits)).
 
 An edit is named for what it would let through. Examples are `spills_at_sixteen` in `layout`, `no_post_return` in
 `adapter` and `reply_always_stops` in `witcall`. `tools/try_edits.py` tries them all, or those of the crates named, and

@@ -12,7 +12,7 @@ import pathlib
 import re
 import sys
 
-from check_conditions import code, leaves, parts
+from check_conditions import code, leaves, modules, parts
 
 ROOT = pathlib.Path(__file__).resolve().parent.parent
 USE = re.compile(r"^(pub )?use ([^;]+);", re.M)
@@ -94,7 +94,7 @@ def head_of(kind, lines):
 @functools.lru_cache(None)
 def items(path):
     """The items of a file, with what belongs to them."""
-    crate, lines, found = path.parent.parent.name, code(path).splitlines(), []
+    crate, lines, found = path.relative_to(ROOT).parts[1], code(path).splitlines(), []
     for number, line in enumerate(lines):
         if item := ITEM.match(line):
             kind = item[2]
@@ -112,8 +112,8 @@ def items(path):
 
 @functools.lru_cache(None)
 def files(crate):
-    """The files of a crate by the names of their modules."""
-    return {path.stem: path for path in sorted((ROOT / "crates" / crate / "src").glob("*.rt"))}
+    """The files of a crate by the names of their modules, as `asking::walk`."""
+    return modules(ROOT / "crates" / crate / "src")
 
 
 @functools.lru_cache(None)
@@ -133,18 +133,20 @@ def find(crate, module, name):
         if not it.owner and it.name == name:
             return it
     names, _ = uses(path).get(name, ((), False))
-    return at_path(crate, names) if names else None
+    return at_path(crate, names, module) if names else None
 
 
-def at_path(crate, names):
-    """The item that a path names, seen from a crate, or None."""
-    first, *rest = names
-    if not rest:
-        return find(crate, "lib", first)
-    if first in files(crate) and (item := find(crate, first, rest[-1])):
-        return item
+def at_path(crate, names, module="lib"):
+    """The item that a path names, seen from a module of a crate, or None."""
+    *owners, name = names
+    if not owners:
+        return find(crate, "lib", name)
+    for there in (f"{module}::{'::'.join(owners)}", "::".join(owners), owners[0]):
+        if there in files(crate) and (item := find(crate, there, name)):
+            return item
+    first, *inner = owners
     if first != crate and files(first):
-        return find(first, rest[0] if rest[0] in files(first) and len(rest) > 1 else "lib", rest[-1])
+        return find(first, next((it for it in ("::".join(inner), *inner[:1]) if it in files(first)), "lib"), name)
     return None
 
 
@@ -160,7 +162,7 @@ def given(crate):
         if public and module in files(crate):
             here = files(crate)[module]
             found.update({f"{module}::{it.name}": it for it in items(here) if it.public and not it.owner})
-            more = ((name, at_path(crate, names)) for name, (names, public) in uses(here).items() if public)
+            more = ((name, at_path(crate, names, module)) for name, (names, public) in uses(here).items() if public)
             found.update({f"{module}::{name}": it for name, it in more if it})
     return found
 
