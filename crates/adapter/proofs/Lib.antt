@@ -1,7 +1,7 @@
-pub mod Functions
-pub mod Signatures
-pub mod Crossings
-pub mod OwnValues
-mod Promised
-pub mod Within
-pub mod Reasons
+pub mod ParametersAsTableTypes
+pub mod FunctionsInLayouts
+pub mod CallFromItsWays
+pub mod PlainValuesCrossAsTheyAre
+mod LinkCallsKeepPromise
+pub mod PackageTypesWithinLimits
+pub mod WhyNothingIsAsked

@@ -1,3 +1,3 @@
-pub mod Told
-pub mod Whole
-pub mod Few
+pub mod RequestsOfParts
+pub mod RequestsOfWholeWays
+pub mod VisitedNodesAreFew

@@ -31,7 +31,7 @@ fn behind_lower(text: &[u8]) -> &[u8]
 }
 
 /// Whether the bytes are words joined by single hyphens, by one way over them.
-#[tactic(auto, using(crate::proofs::LabelWords::behind_lower_le))]
+#[tactic(auto, using(crate::proofs::LabelsInOnePass::behind_lower_le))]
 fn is_words(text: &[u8]) -> bool
     ensures { result ≡ are_words text.now }
 {

@@ -11,8 +11,8 @@ use Rattle.canonical_abi.specs.declared.trap.Fault.TheVariants.{Trap, NoMemory}
 use Rattle.canonical_abi.specs.declared.trap.TrapKind.{TrapKind}
 use Rattle.canonical_abi.specs.declared.trap.Step.TheVariants as step
 use Rattle.canonical_abi.proofs.CallExamples.{answering, f, empty, f-of-7, f-typed}
-use Rattle.canonical_abi.proofs.Linked.{link-keeps-promise}
-use Rattle.canonical_abi.proofs.Promise.{keeps-promise}
+use Rattle.canonical_abi.proofs.Calls.LinkKeepsPromise.{link-keeps-promise}
+use Rattle.canonical_abi.proofs.Calls.CallKeepsPromise.{keeps-promise}
 
 abbrev parties : Parties
 parties = answering (I32 7 ∷ []) (I32 8 ∷ [])

@@ -1,4 +1,4 @@
-pub mod Found
-pub mod Instances
-pub mod Cutting
-pub mod ExportNames
+pub mod EachElementIsReadOrNone
+pub mod DeclarationsReadInOrder
+pub mod CutPartsAreNameParts
+pub mod FullNamesAreNoLabels

@@ -145,7 +145,7 @@ impl ComponentReader {
         Ok(())
     }
 
-    #[tactic(auto, using(ctype_format::proofs::Views::views), unfolding(ctype_format::specs::View::type_view))]
+    #[tactic(auto, using(ctype_format::proofs::ScopedTypeViews::views), unfolding(ctype_format::specs::View::type_view))]
     fn define(&mut self, alloc: Global, ty: &RawType) -> Result<(), Unread>
         ensures { Becomes (type_read (type_view ty.now) (component_view self.old)) (component_view self.new) result }
     {
@@ -328,7 +328,7 @@ fn candidate_of_decls(alloc: Global, decls: &[RawDecl]) -> Result<Resolve, Unrea
     reader.finish()
 }
 
-#[tactic(auto, using(ctype_format::proofs::Views::views), unfolding(ctype_format::specs::View::type_view))]
+#[tactic(auto, using(ctype_format::proofs::ScopedTypeViews::views), unfolding(ctype_format::specs::View::type_view))]
 fn candidate_of_type(alloc: Global, ty: &RawType) -> Result<Resolve, Unread>
     ensures { Makes (candidate_of_type (type_view ty.now)) result }
 {

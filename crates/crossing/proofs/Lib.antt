@@ -1,7 +1,7 @@
-pub mod Parts
-pub mod ByShape
-pub mod Nodes
-pub mod Flats
-pub mod Passing
-pub mod Ahead
-mod Stepping
+pub mod PartsOfWaysInOrder
+pub mod ScriptsOfTypes
+pub mod OneNodeOfAWay
+pub mod ScriptsOfFlatValues
+pub mod ScriptsOfWholeWays
+pub mod ElementsCrossedTogether
+mod RecordMembersByStep

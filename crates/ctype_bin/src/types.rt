@@ -184,7 +184,7 @@ fn is_decl(component: bool, byte: u8) -> bool
 }
 
 /// A component type, or an instance type.
-#[tactic(auto, using(ctype_format::proofs::Views::views))]
+#[tactic(auto, using(ctype_format::proofs::ScopedTypeViews::views))]
 fn nested(opcode: Opcode, decls: Vec<RawDecl>) -> RawType
     ensures { type_view result ≡ nested opcode (map decl_view decls.items) }
 {

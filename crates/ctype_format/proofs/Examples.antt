@@ -41,7 +41,7 @@ use Rattle.ctype_format.specs.declared.raw.RawDecl as d
 use Rattle.atoms.specs.FullNameView.{name_parts_of}
 use Rattle.atoms.specs.declared.full_name.FullName.{FullName}
 use Rattle.ctype_format.specs.View.{decls_of, type_view, decl_view, parts_file}
-use Rattle.ctype_format.proofs.Views.{view-Component, view-Instance}
+use Rattle.ctype_format.proofs.ScopedTypeViews.{view-Component, view-Instance}
 use Rattle.ctype_format.specs.Shortest.{groups}
 use Rattle.ctype_format.specs.Writing.{file_bytes, type_bytes, decl_bytes}
 

@@ -1,5 +1,5 @@
-pub mod FullNames
-pub mod Views
-pub mod Least
-pub mod Rows
+pub mod FullNamesAreTested
+pub mod ScopedTypeViews
+pub mod ShortestSpellings
+pub mod WrittenDeclarationsAsLists
 pub mod Examples

@@ -1,1 +1,1 @@
-mod Orders
+mod PromiseOfAnOrder

@@ -1,1 +1,1 @@
-mod Promises
+mod HostStepsKeepPromise

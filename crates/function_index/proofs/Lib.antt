@@ -1,2 +1,2 @@
-mod Candidates
-mod Putting
+mod RowsUnderFullNames
+mod FunctionsPutUnderNames

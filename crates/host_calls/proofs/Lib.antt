@@ -1,4 +1,4 @@
-pub mod Areas
-mod Fields
-mod Halves
-mod Names
+pub mod ReturnAreaIsLive
+mod FieldsAsLists
+mod BrokenHalvesAreRefused
+mod LentMemoriesKeepNames

@@ -1,1 +1,1 @@
-mod Inside
+mod RowTypesAreInTheTable

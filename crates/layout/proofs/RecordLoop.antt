@@ -6,14 +6,14 @@ use Rattle.std.proofs.lemmas.List.{map-append}
 use Rattle.std.proofs.lemmas.List.Sums.{fold-append}
 use Rattle.std.proofs.lemmas.Grind.{take_at_read}
 use Rattle.canonical_abi.specs.Layout.{Extent, places_from, end_from, greatest_align}
-use Rattle.canonical_abi.proofs.Places.{le-next_multiple_of}
+use Rattle.canonical_abi.proofs.Layouts.LeastPlaces.{le-next_multiple_of}
 use Rattle.tables.specs.declared.tables.ValType.{ValType}
 use Rattle.layout.specs.Kinds.{kinds_of, passed, append_kinds}
 use Rattle.layout.specs.Layout.{IsSound}
 use Rattle.layout.specs.Rows.{row_in, rows_at, extent_in, extents, deepest}
 use Rattle.layout.specs.declared.rows.Row.{Row}
 use Rattle.layout.specs.declared.kinds.Kinds.{Kinds}
-use Rattle.layout.proofs.Cuts.{fits-append}
+use Rattle.layout.proofs.FlatKindsCutAtSixteen.{fits-append}
 
 -- the end stays one above the greatest size where the fields are larger, and the places are then of no use
 pub record RecordSoFar (rows : List Row) (depth end align : ℕ) (kinds : Kinds) (offsets : List ℕ) : Type 0 where

@@ -1,1 +1,1 @@
-mod Maxima
+mod MaximaTellTheRow

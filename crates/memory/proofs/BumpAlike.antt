@@ -6,7 +6,7 @@ use Rattle.memory.specs.Alike.{AreAlike, AnswersAlike, ReleasesAlike}
 use Rattle.memory.specs.Bump.{bump, IsRoundedUp, BumpAllocates, BumpReleases}
 use Rattle.memory.specs.Growth.{ReachesEnd, most_bytes}
 use Rattle.memory.specs.GrowthLaws.{length-with_pages}
-use Rattle.memory.proofs.Growths.{one_growth, no_growth, one_most, unchanged}
+use Rattle.memory.proofs.AlikeMemoriesGrowAlike.{one_growth, no_growth, one_most, unchanged}
 
 -- the same addresses lie below two tops: they are one
 same_top : (s t : ℕ) → ((a : ℕ) → nat_lt a s ≡ nat_lt a t) → s ≡ t

@@ -6,7 +6,7 @@ use Rattle.memory.specs.Alike.{AreAlike, AnswersAlike, ReleasesAlike}
 use Rattle.memory.specs.FirstFit.{IsHole, IsFirstWith, HasRoomGrown, CanBeFreed, is_address_within, FirstFitAllocates, FirstFitReleases}
 use Rattle.memory.specs.Growth.{grown, most_bytes}
 use Rattle.memory.specs.GrowthLaws.{length-with_pages}
-use Rattle.memory.proofs.Growths.{one_growth, no_growth, one_most, grown_alike, unchanged}
+use Rattle.memory.proofs.AlikeMemoriesGrowAlike.{one_growth, no_growth, one_most, grown_alike, unchanged}
 
 -- a hole of one memory is a hole of one that is alike
 same_hole : (m n : Memory) → AreAlike most_bytes m n → (s e : ℕ) → IsHole m s e → IsHole n s e

@@ -5,7 +5,7 @@ use Rattle.std.proofs.lemmas.List.{length-set, set-get_or}
 use Rattle.std.proofs.lemmas.Bool.{cases_lt}
 use Rattle.memory.specs.Holes.{Hole, in_holes, AreHolesApart, AreShort, start_of, hole_end, TakesFront, holes_of, opened}
 use Rattle.memory.proofs.HoleLists.{end_above, ends_rise, take_front, take_whole, apart_front, apart_without}
-use Rattle.memory.proofs.HoleGifts.{IsGiven, meets, given_alone, given_left, given_right, given_both}
+use Rattle.memory.proofs.HolesGivenBack.{IsGiven, meets, given_alone, given_left, given_right, given_both}
 use Rattle.memory.proofs.HoleRows.{rank, rank_all, rank_within, rank_same, rank_past, begins, starts_from, are_short, none_inside, ends_inside, cleared, filled, changed, front_taken, front_given, joined}
 
 -- ---- taking

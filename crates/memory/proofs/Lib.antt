@@ -4,14 +4,14 @@ mod BumpAlike
 mod FirstFitAlike
 mod FirstFitGrowth
 mod FirstFitSteps
-mod Growths
-mod HoleGifts
+mod AlikeMemoriesGrowAlike
+mod HolesGivenBack
 mod HoleLists
 mod HoleRows
 mod HoleSteps
 mod HoleTails
-pub mod LentNames
-pub mod LentOneWay
-mod OneWay
+pub mod LentNamesStay
+pub mod LentAllocatesInOneWay
+mod AllocatesInOneWay
 mod PageSteps
 mod SpaceAlike

@@ -22,9 +22,9 @@ use Rattle.package_form.specs.Closed.{is_same_package, are_apart, are_of_a_set, 
 use Rattle.package_form.specs.Form.{is_package_name, ids_of, has_ids, functions_of, has_items, have_items, are_interfaces, is_local, is_world_row, IsInPackageForm}
 use Rattle.package_form.specs.Naming.{package_scopes, Repeats}
 use Rattle.tables.proofs.Examples.{id, named_row, unnamed_row, field_of, parameter_of, function_in, function_of_world, interface_of, imports_interface, imports_function, world_of, u8, u32, texts, item_row, pay_row, put_row, shop_rows, host_rows, rows, types, shop, host, a_b, p, types_name, shop_name, c_d, used_rows, money, till, q}
-use Rattle.tables.proofs.Rows.{split}
-use Rattle.package_form.proofs.Meeting.{below_or_at}
-use Rattle.package_form.proofs.Postfix.{used-postfix, postfix-used}
+use Rattle.tables.proofs.ClosedTypesRowByRow.{split}
+use Rattle.package_form.proofs.NamesMetOneByOne.{below_or_at}
+use Rattle.package_form.proofs.PostfixIsDecided.{used-postfix, postfix-used}
 
 -- ---- its form
 

@@ -1,5 +1,5 @@
-mod MetNames
-mod Naming
-pub mod WorldItems
-mod Indexing
-mod Asking
+mod NamesMetBefore
+mod NamesOfOneScope
+pub mod WorldItemNamesAreMet
+mod InterfacesIndexedByName
+mod NamesAskedOfPackages

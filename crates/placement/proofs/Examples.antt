@@ -1,7 +1,7 @@
 -- Worked examples: in which order definitions are placed, and which of them use each other.
 use Rattle.std.proofs.lemmas.Bool.Decides.{nat_tests}
 use Rattle.std.proofs.Common.{take, length, nat_lt, not, ◌&&◌, ◌⊎◌, inl, inr, slice_index_or, ◌≡◌, ◌<◌, ℕ, zero, suc, Bool, true, false, List, [], ◌∷◌, Contains, refl, sym, subst, arith, true≢false}
-use Rattle.tables.proofs.Rows.{split}
+use Rattle.tables.proofs.ClosedTypesRowByRow.{split}
 use Rattle.placement.specs.Order.{has_placed, is_ready, IsNext, IsPlacement, IsCycle}
 
 -- the first uses the second

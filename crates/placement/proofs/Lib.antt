@@ -1,4 +1,4 @@
-pub mod OrderSteps
-pub mod Settling
+pub mod PlacedSoFar
+pub mod NodesAreSettled
 pub mod Examples
 mod StraightOrder

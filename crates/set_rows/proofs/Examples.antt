@@ -11,7 +11,7 @@ use Rattle.tables.specs.declared.tables.Interface.{Interface}
 use Rattle.tables.specs.declared.tables.World.{World}
 use Rattle.tables.specs.declared.tables.Resolve.{Resolve}
 use Rattle.tables.specs.PackageNames.{PackageParts}
-use Rattle.tables.proofs.Rows.{split}
+use Rattle.tables.proofs.ClosedTypesRowByRow.{split}
 use Rattle.tables.proofs.Examples.{type_id, in_interface, in_world, id, named_row, unnamed_row, field_of, parameter_of, function_in, function_of_world, interface_of, imports_interface, imports_function, world_of, u8, u32, item_row, put_row, a_b, c_d}
 use Rattle.set_rows.specs.Places.{place}
 use Rattle.set_rows.specs.Owners.{owners, names}

@@ -1,6 +1,6 @@
-pub mod Keeping
-pub mod Marking
-pub mod Owned
-pub mod Padding
-pub mod Placing
+pub mod KeptElementsAndPlaces
+pub mod MarksOfReached
+pub mod OwnersOfRows
+pub mod PaddedMarks
+pub mod PlacesOfMarked
 pub mod Examples

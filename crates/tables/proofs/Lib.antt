@@ -1,7 +1,7 @@
-mod Names
-pub mod Rows
-mod Unfolded
-pub mod Earlier
-pub mod Standards
-pub mod Erased
+mod TextsComparedByParts
+pub mod ClosedTypesRowByRow
+mod ClosesAlike
+pub mod NamesEarlierTypes
+pub mod HasStandardTypes
+pub mod ErasesToClosed
 pub mod Examples

@@ -9,7 +9,7 @@ use Rattle.tables.specs.declared.tables.Owner.TheVariants as owner
 use Rattle.tables.specs.declared.tables.Function.{Function}
 use Rattle.tables.specs.declared.tables.Definition.{Definition}
 use Rattle.tables.specs.declared.tables.Definition.TheVariants as row
-use Rattle.tables.proofs.Rows.{split, both}
+use Rattle.tables.proofs.ClosedTypesRowByRow.{split, both}
 use Rattle.package_form.specs.Ids.{is_world_function, places_where}
 use Rattle.tree_meaning.specs.Resolves.{HasNoWorlds}
 

@@ -19,7 +19,7 @@ use Rattle.package_form.specs.Scope.{AreDistinct}
 use Rattle.package_form.specs.Ids.{is_world_function}
 use Rattle.package_form.specs.Entries.{type_entries, Table, table_of}
 use Rattle.package_form.proofs.Examples.{p-postfix, found, all-distinct}
-use Rattle.package_form.proofs.Postfix.{used-postfix}
+use Rattle.package_form.proofs.PostfixIsDecided.{used-postfix}
 use Rattle.wit_tokens.specs.declared.wit_syntax.ast.Primitive.TheVariants as keyword
 use Rattle.wit_tokens.specs.declared.wit_syntax.ast.Direction.{Direction as Way}
 use Rattle.wit_tokens.specs.declared.wit_syntax.ast.Direction.TheVariants as way

@@ -8,7 +8,7 @@ use Rattle.tree_meaning.specs.Resolves.{HasKnownNamesOf, IsKnownWorldOf}
 use Rattle.tree_meaning.specs.Knowing.{KnowsFileEntry, LacksFileEntry, RefusesUnknown}
 use Rattle.tables.specs.declared.error.ResolveError.TheVariants as error
 use Rattle.std.proofs.lemmas.List.Elements.{filter_map-append}
-use Rattle.package_form.proofs.Lists.{map-more, all-none, all-cons, all-head, all-tail, contains-here, contains-later}
+use Rattle.package_form.proofs.AllAndContains.{map-more, all-none, all-cons, all-head, all-tail, contains-here, contains-later}
 
 -- what an element gives stands behind what those before it give
 pub given-at : {A B C : Type 0} (h : A → Option B) (g : C → A) (xs : List C) (k : ℕ) (x : C) (y d : B) → k < length xs → x ≡ get_or xs k x → h (g x) ≡ Some y

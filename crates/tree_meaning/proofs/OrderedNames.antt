@@ -4,8 +4,8 @@ use Rattle.std.proofs.lemmas.List.{length-map, get_or-map, get_or_default}
 use Rattle.placement.specs.Order.{IsPlacement}
 use Rattle.tree_meaning.specs.Declarations.{InterfaceTree, interface_at, interface_tree_name, names_of_trees}
 use Rattle.tree_meaning.specs.Resolves.{interface_uses, uses_of_interface, names_in_order}
-use Rattle.package_form.proofs.Lists.{contains-map}
-use Rattle.tree_meaning.proofs.Placing.{among-at}
+use Rattle.package_form.proofs.AllAndContains.{contains-map}
+use Rattle.tree_meaning.proofs.PlacedTypesNameEarlier.{among-at}
 
 pub interface-name : (is : List InterfaceTree) (k : ℕ) → (interface_at is k).name ≡ get_or (names_of_trees is) k []
 interface-name [] k = refl

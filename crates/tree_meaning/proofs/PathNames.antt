@@ -10,16 +10,16 @@ use Rattle.wit_tokens.specs.declared.wit_syntax.ast.Path.{Path}
 use Rattle.wit_tokens.specs.declared.wit_syntax.ast.Path.TheVariants as path
 use Rattle.tables.specs.PackageNames.{PackageParts}
 use Rattle.package_form.specs.Closed.{is_same_package}
-use Rattle.package_form.proofs.Lists.{contains-here, contains-later, flat_map-more, all-append}
-use Rattle.package_form.proofs.OwnPackage.{package-is, same-itself}
+use Rattle.package_form.proofs.AllAndContains.{contains-here, contains-later, flat_map-more, all-append}
+use Rattle.package_form.proofs.FullNamesStandForInterfaces.{package-is, same-itself}
 use Rattle.tree_meaning.specs.Declarations.{path_packages, path_interface, item_tree}
 use Rattle.tree_meaning.specs.Imports.{Imports, HasImport, import_place}
 use Rattle.tree_meaning.specs.Knowing.{IsThere}
 use Rattle.tree_meaning.specs.Resolves.{place_of, IsKnownItemOf, IsUnknownItem}
 use Rattle.tree_meaning.specs.Finished.{header_name}
-use Rattle.tree_meaning.proofs.Finding.{place-has, place-lacks}
-use Rattle.tree_meaning.proofs.Imported.{place-none, place-there}
-use Rattle.tree_meaning.proofs.Trees.{version-is}
+use Rattle.tree_meaning.proofs.NamesFoundInLists.{place-has, place-lacks}
+use Rattle.tree_meaning.proofs.ImportsFoundByName.{place-none, place-there}
+use Rattle.tree_meaning.proofs.PackageOfAFile.{version-is}
 
 -- ---- packages
 

@@ -6,7 +6,7 @@ use Rattle.tables.specs.declared.tables.TypeName.{TypeName}
 use Rattle.tables.specs.declared.tables.TypeDefKind.{TypeDefKind}
 use Rattle.tables.specs.declared.tables.Definition.{Definition}
 use Rattle.tables.specs.declared.tables.Definition.TheVariants as row
-use Rattle.package_form.proofs.Lists.{flat_map-append}
+use Rattle.package_form.proofs.AllAndContains.{flat_map-append}
 use Rattle.package_form.specs.Naming.{row_names}
 use Rattle.tree_meaning.proofs.AllDefinitions.{all_from}
 

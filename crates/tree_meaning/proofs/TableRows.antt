@@ -4,7 +4,7 @@ use Rattle.std.specs.List.{list_all}
 use Rattle.tables.specs.Tables.{definition_below, are_earlier, definition_all, is_type}
 use Rattle.tables.specs.Package.{Tree, reference, references, TextTree, Reference, read_kind, reference_by, key_of}
 use Rattle.tables.specs.declared.tables.Definition.{Definition}
-use Rattle.tables.proofs.Rows.{split, both}
+use Rattle.tables.proofs.ClosedTypesRowByRow.{split, both}
 use Rattle.std.proofs.lemmas.List.{length-map, get_or_append_left}
 use Rattle.package_form.specs.Ids.{interfaces_from, places_where, is_use}
 use Rattle.tree_meaning.specs.Resolves.{in_package, interfaces_behind}

@@ -9,10 +9,10 @@ use Rattle.tables.specs.Tables.{definition_all, is_below, definition_below, is_t
 use Rattle.tables.specs.declared.tables.ValType.{ValType}
 use Rattle.tables.specs.declared.tables.ValType.TheVariants as val
 use Rattle.tables.specs.declared.tables.Definition.{Definition}
-use Rattle.tables.proofs.Earlier.{definition-both}
-use Rattle.tables.proofs.Rows.{earlier-at}
-use Rattle.package_form.proofs.Lists.{get-front}
-use Rattle.tree_meaning.proofs.Typing.{definition-grows}
+use Rattle.tables.proofs.NamesEarlierTypes.{definition-both}
+use Rattle.tables.proofs.ClosedTypesRowByRow.{earlier-at}
+use Rattle.package_form.proofs.AllAndContains.{get-front}
+use Rattle.tree_meaning.proofs.TypesStayTypes.{definition-grows}
 use Rattle.tree_meaning.proofs.TableRows.{IsTyped}
 
 -- rows that name earlier types alone are typed

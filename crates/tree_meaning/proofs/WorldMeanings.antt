@@ -22,11 +22,11 @@ use Rattle.package_form.specs.Ids.{is_of_worlds, is_world_function, places_where
 use Rattle.package_form.specs.Form.{functions_in_item, functions_of}
 use Rattle.tree_meaning.specs.Building.{IsTableFront, table_trees}
 use Rattle.tree_meaning.specs.Resolves.{is_behind, HasWorldsBehind, HasItems}
-use Rattle.tables.proofs.Rows.{split}
-use Rattle.package_form.proofs.Lists.{flat_map-append}
+use Rattle.tables.proofs.ClosedTypesRowByRow.{split}
+use Rattle.package_form.proofs.AllAndContains.{flat_map-append}
 use Rattle.tree_meaning.proofs.TableRows.{places-append, get-seam, references-append, kept-all, IsTyped}
-use Rattle.tree_meaning.proofs.Reading.{definitions-append}
-use Rattle.tree_meaning.proofs.WorldRows.{function-read}
+use Rattle.tree_meaning.proofs.MoreRowsReadTheSame.{definitions-append}
+use Rattle.tree_meaning.proofs.WorldItemsStay.{function-read}
 use Rattle.tree_meaning.proofs.AllDefinitions.{all_of, all_from, all-are, no-place}
 
 abbrev pub item_definitions : ItemMeaning → List NamedDefinition

@@ -1,3 +1,3 @@
-pub mod Nesting
-pub mod Using
+pub mod NestingDepths
+pub mod NamesAsGraphNodes
 pub mod WorldScopes

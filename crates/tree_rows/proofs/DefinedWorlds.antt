@@ -26,13 +26,13 @@ use Rattle.tables.specs.declared.tables.Definition.TheVariants as row
 use Rattle.tables.specs.declared.tables.WorldItemKind.TheVariants as item
 use Rattle.tables.specs.declared.tables.WorldItem.{WorldItem}
 use Rattle.tables.specs.declared.tables.World.{World}
-use Rattle.tables.proofs.Rows.{split, both}
-use Rattle.package_form.proofs.Lists.{flat_map-append, flat_map-one}
+use Rattle.tables.proofs.ClosedTypesRowByRow.{split, both}
+use Rattle.package_form.proofs.AllAndContains.{flat_map-append, flat_map-one}
 use Rattle.tree_meaning.proofs.TableRows.{is-that}
-use Rattle.tree_rows.proofs.MoreRows.{With, with-rows, with-front, with-functions, with-definitions}
-use Rattle.tree_meaning.proofs.Reading.{get-end, front-none, front-trans, extends-trans}
-use Rattle.tree_meaning.proofs.Staying.{all-stay, parameter-stays, parameters-read}
-use Rattle.tree_meaning.proofs.WorldRows.{function-stays, items-stay, worlds-stay}
+use Rattle.tree_rows.proofs.OneRowMore.{With, with-rows, with-front, with-functions, with-definitions}
+use Rattle.tree_meaning.proofs.MoreRowsReadTheSame.{get-end, front-none, front-trans, extends-trans}
+use Rattle.tree_meaning.proofs.TypesReadStay.{all-stay, parameter-stays, parameters-read}
+use Rattle.tree_meaning.proofs.WorldItemsStay.{function-stays, items-stay, worlds-stay}
 
 -- ---- growth after growth
 

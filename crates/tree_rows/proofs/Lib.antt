@@ -1,10 +1,10 @@
-pub mod MoreRows
-pub mod Lowering
-pub mod Growing
+pub mod OneRowMore
+pub mod LoweredTypesStay
+pub mod OneDefinitionMore
 pub mod DefinedWorlds
-pub mod Packaging
-pub mod Finishing
-pub mod Closing
+pub mod InterfacesInPackageOrder
+pub mod IdsAndTypeEntries
+pub mod InterfacesBehindImports
 pub mod PlacedWorlds
 pub mod PathRows
-pub mod Planned
+pub mod PlansTellTheirTrees

@@ -18,9 +18,9 @@ use Rattle.tree_meaning.specs.Imports.{interfaces_of, imports_of}
 use Rattle.tree_meaning.specs.Resolved.{direction_meaning, tree_item_meaning}
 use Rattle.tree_meaning.specs.Resolves.{place_of, path_place, IsKnownItemOf}
 use Rattle.tree_meaning.specs.WorldRows.{DefinesItem}
-use Rattle.tree_meaning.proofs.Finding.{place-at, place-below}
-use Rattle.tree_meaning.proofs.Imported.{imports-length, place-is, place-some, import-named, get_or-append-right}
-use Rattle.tree_meaning.proofs.Placing.{place-found}
+use Rattle.tree_meaning.proofs.NamesFoundInLists.{place-at, place-below}
+use Rattle.tree_meaning.proofs.ImportsFoundByName.{imports-length, place-is, place-some, import-named, get_or-append-right}
+use Rattle.tree_meaning.proofs.PlacedTypesNameEarlier.{place-found}
 use Rattle.tree_rows.proofs.DefinedWorlds.{interface-defined}
 
 pub item-there : (imports : Resolve) (names : List (List ℕ)) (way : Direction) (p : PathTo) → IsKnownItemOf (imports_of imports) names (item_tree (Whole way p))

@@ -6,8 +6,8 @@ use Rattle.tables.specs.Tables.{are_worlds_grouped, are_placed_worlds, is_placed
 use Rattle.tables.specs.declared.tables.World.{World}
 use Rattle.package_form.specs.Entries.{Table}
 use Rattle.tree_meaning.specs.WorldRows.{item_stands, world_stands, worlds_stand}
-use Rattle.tables.proofs.Rows.{split, both}
-use Rattle.package_form.proofs.Lists.{list-grows}
+use Rattle.tables.proofs.ClosedTypesRowByRow.{split, both}
+use Rattle.package_form.proofs.AllAndContains.{list-grows}
 
 -- ---- worlds are placed, and of the package behind its imports
 

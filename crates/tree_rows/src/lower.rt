@@ -33,7 +33,7 @@ fn lower_primitive(primitive: wit_tokens::wit_syntax::Primitive) -> ValType
 
 /// What an expression is: types that stand inside it get rows of their own.
 #[cycle(lower)]
-#[tactic(auto, using(crate::proofs::Lowering::lowering))]
+#[tactic(auto, using(crate::proofs::LoweredTypesStay::lowering))]
 pub fn lower_kind(
     alloc: Global,
     builder: &mut Builder,
@@ -88,7 +88,7 @@ fn lower_boxed(
 }
 
 #[cycle(lower)]
-#[tactic(auto, using(crate::proofs::Lowering::lowering))]
+#[tactic(auto, using(crate::proofs::LoweredTypesStay::lowering))]
 fn lower_all(
     alloc: Global,
     builder: &mut Builder,

@@ -5,7 +5,7 @@ use Rattle.tree_scopes.specs.Sources.{declared_tree}
 use Rattle.tree_scopes.specs.declared.declared.Declarations.{Declarations}
 use Rattle.std.proofs.lemmas.List.{map-append, get_or-map, length-map, get_or_default}
 use Rattle.tree_scopes.specs.Lent.{lent_names}
-use Rattle.tree_meaning.proofs.Finding.{place-below, place-at}
+use Rattle.tree_meaning.proofs.NamesFoundInLists.{place-below, place-at}
 use Rattle.tree_meaning.specs.Resolves.{place_of, IsUnknownName, interface_uses, uses_of_interface}
 use Rattle.placement.specs.Order.{IsPlacement}
 

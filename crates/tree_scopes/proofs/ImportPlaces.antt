@@ -9,14 +9,14 @@ use Rattle.std.proofs.lemmas.Option.{slice_get-get_or}
 use Rattle.std.proofs.lemmas.Slice.Eq.{bytes_eq-Decides}
 use Rattle.package_form.specs.Closed.{is_same_package}
 use Rattle.package_names.specs.Indexed.{is_package_named, is_interface_named, interface_place}
-use Rattle.package_form.proofs.OwnPackage.{package-is, same-itself}
-use Rattle.package_form.proofs.Positions.{position-cons}
+use Rattle.package_form.proofs.FullNamesStandForInterfaces.{package-is, same-itself}
+use Rattle.package_form.proofs.PositionOfTheFirst.{position-cons}
 use Rattle.tables.specs.PackageNames.{PackageParts}
 use Rattle.tables.specs.Tables.{are_grouped}
 use Rattle.tables.specs.declared.tables.Definition.{Definition}
 use Rattle.tables.specs.declared.tables.Interface.{Interface}
 use Rattle.tables.specs.declared.tables.Resolve.{Resolve}
-use Rattle.tables.proofs.Rows.{split, both}
+use Rattle.tables.proofs.ClosedTypesRowByRow.{split, both}
 use Rattle.tree_meaning.specs.Imports.{import_place, nameless, imports_from, interfaces_of}
 
 same-test : (a b : Bool) → (a ≡ true → b ≡ true) → (b ≡ true → a ≡ true) → a ≡ b

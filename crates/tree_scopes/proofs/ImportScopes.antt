@@ -17,13 +17,13 @@ use Rattle.package_form.specs.Entries.{Table}
 use Rattle.package_form.specs.Postfix.{is_unnamed_row, one_if}
 use Rattle.package_form.specs.Reached.{name_of}
 use Rattle.package_form.specs.Scoped.{NameEntry}
-use Rattle.package_form.proofs.Lists.{all-append, all-cons, all-none, map-more}
-use Rattle.package_form.proofs.Meeting.{below_or_at, take-more}
+use Rattle.package_form.proofs.AllAndContains.{all-append, all-cons, all-none, map-more}
+use Rattle.package_form.proofs.NamesMetOneByOne.{below_or_at, take-more}
 use Rattle.tree_meaning.specs.Imports.{Import, no_import, import_at, name_within, type_within, types_within, interfaces_of}
 use Rattle.tree_meaning.specs.Building.{IsEntry, label_at, table_trees}
 use Rattle.tree_scopes.specs.KnownScopes.{IsScope, ArePlaced, HaveImportNames, scope_names}
 use Rattle.tree_scopes.specs.declared.known.KnownTypes.{KnownTypes}
-use Rattle.tree_meaning.proofs.Imported.{imports-at, imports-length}
+use Rattle.tree_meaning.proofs.ImportsFoundByName.{imports-at, imports-length}
 use Rattle.tree_meaning.proofs.TableRows.{tree-here}
 
 -- ---- the row of a name

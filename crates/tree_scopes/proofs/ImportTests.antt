@@ -9,7 +9,7 @@ use Rattle.tables.specs.declared.tables.Interface.{Interface}
 use Rattle.tables.specs.declared.tables.Resolve.{Resolve}
 use Rattle.package_names.specs.Indexed.{interface_place}
 use Rattle.tree_meaning.specs.Imports.{AreApart, Import, nameless, no_import, import_at, import_place, interfaces_of}
-use Rattle.tree_meaning.proofs.Imported.{at-itself, imports-at, imports-length, place-is, place-some}
+use Rattle.tree_meaning.proofs.ImportsFoundByName.{at-itself, imports-at, imports-length, place-is, place-some}
 use Rattle.tree_scopes.proofs.ImportPlaces.{place-same}
 use Rattle.tree_scopes.specs.Tested.{IsFirstOfName}
 

@@ -1,4 +1,4 @@
-pub mod Places
+pub mod PlacesOfNamesByMap
 pub mod ImportPlaces
 pub mod DeclaredTrees
 pub mod ImportScopes

@@ -4,7 +4,7 @@ use Rattle.canonical_abi.specs.Types.{Prim, boolean, unsigned, signed, scalar_va
 use Rattle.canonical_abi.specs.Labelled.{Label, LabelledType, labelled_prim, labelled_string, labelled_list, labelled_option, labelled_tuple, labelled_result, labelled_record, labelled_variant, labelled_enum, labelled_flags, LabelledTypes, no_member, member, Payload, no_payload, payload, LabelledFields, no_labelled_field, labelled_field, LabelledCases, no_labelled_case, labelled_case}
 use Rattle.canonical_abi.specs.Values.{Value, value, values_of, list_value, record_value, plain_value, payload_value}
 use Rattle.canonical_abi.specs.Requests.{items_of as values_in}
-use Rattle.canonical_abi.proofs.Asked.{items-of}
+use Rattle.canonical_abi.proofs.StoredValues.AsksRequests.{items-of}
 use Rattle.serde_json.specs.Data as json
 use Rattle.serde_json.specs.Data.{Data, Members, put}
 use Rattle.serde_json.specs.View.{items_of}

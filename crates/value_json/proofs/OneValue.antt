@@ -11,8 +11,8 @@ use Rattle.serde_json.specs.Data.{Data, Members, no_members, put}
 use Rattle.serde_json.specs.Find.{of_integer, get_member}
 use Rattle.serde_json.proofs.Views.{get_member-put}
 use Rattle.value_json.specs.Json.{PrimJson, Json, EachJson, MembersJson, PayloadJson, CasesJson, FieldsJson, FlagsJson, IsNotAmong, AreDistinctLabels, IsOfNoCase, HasDistinctLabels, MembersHaveDistinctLabels, PayloadHasDistinctLabels, FieldsHaveDistinctLabels, CasesHaveDistinctLabels}
-use Rattle.value_json.proofs.Objects.{only_items}
-use Rattle.value_json.proofs.Fields.{equal-itself}
+use Rattle.value_json.proofs.JsonAsData.{only_items}
+use Rattle.value_json.proofs.MembersBesideFields.{equal-itself}
 
 integer-same : (y z : ℤ) → of_integer y ≡ of_integer z → y ≡ z
 integer-same (pos n) (pos m) e = let same : n ≡ m = cc in ap pos same

@@ -1,8 +1,8 @@
 pub mod ScalarLists
 pub mod TypesShapes
 pub mod TypesExtents
-pub mod Fields
-pub mod Known
-pub mod Results
-pub mod Views
-pub mod Typings
+pub mod FieldsFromAPlace
+pub mod PackageTypesAreStandard
+pub mod WeakerAnswers
+pub mod ValueOfEachVariant
+pub mod ValuesOfTypesByShape

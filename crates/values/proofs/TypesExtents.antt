@@ -5,12 +5,12 @@ use Rattle.std.specs.Int.{next_multiple_of}
 use Rattle.canonical_abi.specs.Guest.{IsAlignment}
 use Rattle.canonical_abi.specs.Types.{ClosedType, record_type, variant_type, Fields, no_field, field, Cases, no_case, plain_case, case_with, case_count, nth_field, nth_case, variant_cases, depth, fields_depth, cases_depth}
 use Rattle.canonical_abi.specs.Layout.{size, align, discriminant_size, greatest_align, end_from, field_extents, payload_extents, payload_place}
-use Rattle.canonical_abi.proofs.Sizes.{is-alignment, greatest-le, max-alignment}
+use Rattle.canonical_abi.proofs.Layouts.AlignmentsAndSizes.{is-alignment, greatest-le, max-alignment}
 use Rattle.layout.specs.Layout.{LayoutTable, layouts_of}
 use Rattle.tables.specs.Tables.{is_below}
 use Rattle.tables.specs.declared.tables.Resolve.{Resolve}
 use Rattle.tables.specs.declared.tables.ValType.{ValType}
-use Rattle.tables.proofs.Rows.{length-closed_rows}
+use Rattle.tables.proofs.ClosedTypesRowByRow.{length-closed_rows}
 use Rattle.values.specs.Types.{IsInside}
 
 -- a type of the package has a row

@@ -11,8 +11,8 @@ use Rattle.tables.specs.declared.tables.Definition.TheVariants as row
 use Rattle.tables.specs.declared.tables.Resolve.{Resolve}
 use Rattle.tables.specs.declared.tables.ValType.{ValType}
 use Rattle.tables.specs.declared.tables.ValType.TheVariants as val
-use Rattle.tables.proofs.Rows.{closed-at}
-use Rattle.tables.proofs.Standards.{type-standard}
+use Rattle.tables.proofs.ClosedTypesRowByRow.{closed-at}
+use Rattle.tables.proofs.HasStandardTypes.{type-standard}
 use Rattle.layout.specs.Layout.{LayoutTable, layouts_of}
 use Rattle.layout.specs.Queries as queries
 use Rattle.layout.specs.declared.queries.Shape.{Shape}

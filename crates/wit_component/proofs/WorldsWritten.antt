@@ -7,13 +7,13 @@ use Rattle.std.proofs.lemmas.List.Folds.{list_all-append}
 use Rattle.ctype_format.specs.Raw.{Decl}
 use Rattle.tables.specs.declared.tables.Definition.{Definition}
 use Rattle.tables.specs.declared.tables.WorldItem.{WorldItem}
-use Rattle.tables.proofs.Rows.{both}
+use Rattle.tables.proofs.ClosedTypesRowByRow.{both}
 use Rattle.wit_component.specs.Rows.{Place, place_after, places_after}
 use Rattle.wit_component.specs.ToComponent.{is_labelled}
 use Rattle.package_form.specs.Ends.{behind_item, behind_items}
 use Rattle.wit_component.specs.Worlds.{rows_between, Surroundings, item_declarations, item_place, items_declared, items_place, StandFrom}
-use Rattle.wit_component.proofs.Declared.{places-append}
-use Rattle.wit_component.proofs.RowsBetween.{first-row, more-rows}
+use Rattle.wit_component.proofs.DeclarationsRowByRow.{places-append}
+use Rattle.wit_component.proofs.InterfaceRows.RowsBetweenPlaces.{first-row, more-rows}
 
 pub next-of : {A : Type 0} (xs : List A) (k : ℕ) (x : A) → k < length xs → x ≡ get_or xs k x → drop k xs ≡ x ∷ drop (k + 1) xs
 next-of xs k x l is = drop-cons xs k x l ∙ ap (λ y. y ∷ drop (suc k) xs) (sym is) ∙ ap (λ m. x ∷ drop m xs) (sym (add-one k))

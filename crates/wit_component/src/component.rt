@@ -137,7 +137,7 @@ fn interfaces_declared(
 }
 
 /// The declaration of a component type.
-#[tactic(auto, unfolding(ctype_format::specs::View::decl_view), using(ctype_format::proofs::Views::views))]
+#[tactic(auto, unfolding(ctype_format::specs::View::decl_view), using(ctype_format::proofs::ScopedTypeViews::views))]
 fn component_decl(decls: Vec<RawDecl>) -> RawDecl
     ensures { decl_view result ≡ Entry (Component (decls_of (map decl_view decls.items))) }
 {

@@ -39,7 +39,7 @@ pub fn aliases_of(
 }
 
 /// The declaration of an instance type.
-#[tactic(auto, unfolding(ctype_format::specs::View::decl_view), using(ctype_format::proofs::Views::views))]
+#[tactic(auto, unfolding(ctype_format::specs::View::decl_view), using(ctype_format::proofs::ScopedTypeViews::views))]
 pub fn instance_decl(decls: Vec<RawDecl>) -> RawDecl
     ensures { decl_view result ≡ Entry (Instance (decls_of (map decl_view decls.items))) }
 {

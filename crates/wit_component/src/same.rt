@@ -45,7 +45,7 @@ pub fn is_same(
     Ok(first.as_slice() == bytes)
 }
 
-#[tactic(auto, using(ctype_format::proofs::Views::views), unfolding(ctype_format::specs::View::type_view))]
+#[tactic(auto, using(ctype_format::proofs::ScopedTypeViews::views), unfolding(ctype_format::specs::View::type_view))]
 fn has_no_decls(ty: &RawType) -> bool
     ensures { result ≡ has_no_decls (type_view ty.now) }
 {

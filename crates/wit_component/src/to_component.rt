@@ -28,7 +28,7 @@ fn package_export(alloc: Global) -> Result<RawExport, AllocError>
 }
 
 /// The type section and the export section of a package's component.
-#[tactic(auto, using(ctype_format::proofs::Views::views))]
+#[tactic(auto, using(ctype_format::proofs::ScopedTypeViews::views))]
 fn parts_of(alloc: Global, resolve: &Resolve) -> Result<(Vec<RawType>, Vec<RawExport>), AllocError>
     requires { IsInPackageForm resolve.now }
     ensures file { IfOk result (λ x. parts_file x.0 x.1 ≡ component_of resolve.now) }

@@ -1,5 +1,5 @@
-pub mod Handed
-pub mod TypeLemmas
-pub mod Results
-pub mod Versions
-pub mod Names
+pub mod FaultsAreHandedOn
+pub mod TypesByFirstToken
+pub mod ViewsOfResults
+pub mod BytesOfVersions
+pub mod LowerNamesAreNames

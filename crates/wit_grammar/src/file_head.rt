@@ -13,7 +13,7 @@ use wit_tokens::wit_syntax::PackageId;
 use wit_tokens::{Expected, Feature, Keyword, Punctuation, TextError, Token, TokenKind};
 
 /// The text, where a package's version may be spelled so.
-#[tactic(auto, using(crate::proofs::Versions::bad_version, crate::proofs::Versions::good_version))]
+#[tactic(auto, using(crate::proofs::BytesOfVersions::bad_version, crate::proofs::BytesOfVersions::good_version))]
 fn version_text(alloc: Global, text: &[u8]) -> Result<Option<String>, AllocError>
     ensures is { IfOk result (λ v. is_some v ≡ is_version_text text.now) }
     ensures text { IfOk result (λ v. IfSome v (λ s. string_bytes s ≡ text.now)) }
@@ -36,7 +36,7 @@ fn is_lower_name(source: &[u8], token: Token) -> bool
 }
 
 /// Takes a name in lower case.
-#[tactic(auto, using(crate::proofs::Names::named), unfolding(crate::specs::Grammar::lower_id))]
+#[tactic(auto, using(crate::proofs::LowerNamesAreNames::named), unfolding(crate::specs::Grammar::lower_id))]
 fn lower_identifier<'a>(
     alloc: Global,
     source: &[u8],

@@ -167,7 +167,7 @@ fn close_angle<'a>(
 
 /// A type with at most `nesting` levels.
 #[cycle(types)]
-#[tactic(auto, using(crate::proofs::TypeLemmas::type_step, crate::proofs::TypeLemmas::type_stops))]
+#[tactic(auto, using(crate::proofs::TypesByFirstToken::type_step, crate::proofs::TypesByFirstToken::type_stops))]
 pub fn type_at<'a>(
     alloc: Global,
     source: &[u8],

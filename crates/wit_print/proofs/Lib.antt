@@ -1,15 +1,15 @@
-pub mod Leaving
-pub mod Texts
-pub mod Lists
-pub mod Results
-mod Written
-mod Fronts
-mod Standing
-mod Lexed
-mod Tokens
-mod Types
-mod Functions
-mod Definitions
-mod Paths
-mod Entries
-mod Files
+pub mod LeavesWords
+pub mod TextsOfWords
+pub mod ListsStillToWrite
+pub mod WordsOfResults
+mod PrintingByGrammar
+mod WordsAtTheFront
+mod WordsStand
+mod WordsAreLexed
+mod TokensOfWords
+mod TypesAreSpelled
+mod FunctionsAreSpelled
+mod DefinitionsAreSpelled
+mod PathsAreSpelled
+mod EntriesAreSpelled
+mod FilesAreReadBack

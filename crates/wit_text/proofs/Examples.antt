@@ -6,7 +6,7 @@ use Rattle.std.specs.Str.{is_utf8, chars}
 use lib.Utf8.{encode}
 use Rattle.atoms.proofs.Examples.{names_on_literals}
 use Rattle.atoms.specs.Production.{many, separator, listed, comma_or, entries, all}
-use Rattle.atoms.proofs.productions.Exact.{ok_is, no_err, err_is}
+use Rattle.atoms.proofs.productions.ProductionsReadExactly.{ok_is, no_err, err_is}
 use Rattle.wit_tokens.specs.declared.token.Keyword.TheVariants as kw
 use Rattle.wit_tokens.specs.declared.token.Punctuation.TheVariants as mark
 use Rattle.wit_tokens.specs.declared.token.Span.{Span}
@@ -18,8 +18,8 @@ use Rattle.wit_tokens.specs.declared.error.TextError.{TextError}
 use Rattle.wit_tokens.specs.declared.error.TextError.TheVariants as error
 use Rattle.wit_tokens.specs.Lexing.{limit}
 use Rattle.wit_tokens.specs.Tokens.{Lexeme, lexemes}
-use Rattle.wit_tokens.proofs.Walked.{tokens_on_literals, walked, lexed, spoilt, within, faulty}
-use Rattle.wit_tokens.proofs.Unique.{one_lexing}
+use Rattle.wit_tokens.proofs.TokensStepByStep.{tokens_on_literals, walked, lexed, spoilt, within, faulty}
+use Rattle.wit_tokens.proofs.TextsHaveOneReading.{one_lexing}
 use Rattle.wit_tokens.specs.declared.wit_syntax.ast.Primitive.TheVariants as primitive
 use Rattle.wit_tokens.specs.declared.wit_syntax.ast.Direction.TheVariants as direction
 use Rattle.wit_tokens.specs.Syntax.{Ty, Prim, Named, ListOf, OptionOf, TupleOf, ResultOf, Absent, Present, tys_of, Member, CaseOf, UsedAs, Alias, Record, Variant, Enumeration, FlagSet, Local, Foreign, Entry, Uses, Defines, Declares, WorldEntry, Whole, Single, FileEntry, AnInterface, AWorld, File, ty_depth}
@@ -27,7 +27,7 @@ use Rattle.wit_grammar.specs.Faults.{Fails}
 use Rattle.wit_grammar.specs.Grammar.{file, nesting}
 use Rattle.wit_grammar.specs.Grammar as g
 use Rattle.wit_text.specs.Reading.{IsRead, FaultyText}
-use Rattle.wit_text.proofs.Parsed.{is_found, only_that, none_read, is_faulty, lex_faulty}
+use Rattle.wit_text.proofs.TokensTellTheText.{is_found, only_that, none_read, is_faulty, lex_faulty}
 
 -- what an example unfolds to compute the tree of a text that is written out
 unfoldable pub texts_on_literals : ⊤

@@ -1,8 +1,8 @@
-pub mod KindLemmas
+pub mod SameKindsAreEqual
 pub mod Examples
-pub mod FaultLemmas
-pub mod Exactness
-pub mod Limits
-pub mod Parsed
-pub mod FullNames
-pub mod Maps
+pub mod FaultsByNextToken
+pub mod ProductionsReadExactly
+pub mod TwoNestingLimits
+pub mod TokensTellTheText
+pub mod HasFullNames
+pub mod IdentityMaps

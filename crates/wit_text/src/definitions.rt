@@ -257,7 +257,7 @@ impl EntryReader for Names {
 }
 
 /// The cases of an enum in their braces.
-#[tactic(auto, using(crate::proofs::Maps::same_items), unfolding(wit_grammar::specs::Grammar::enum_cases))]
+#[tactic(auto, using(crate::proofs::IdentityMaps::same_items), unfolding(wit_grammar::specs::Grammar::enum_cases))]
 pub fn enum_cases<'a>(
     alloc: Global,
     source: &[u8],
@@ -273,7 +273,7 @@ pub fn enum_cases<'a>(
 }
 
 /// The names of flags in their braces.
-#[tactic(auto, using(crate::proofs::Maps::same_items), unfolding(wit_grammar::specs::Grammar::flag_names))]
+#[tactic(auto, using(crate::proofs::IdentityMaps::same_items), unfolding(wit_grammar::specs::Grammar::flag_names))]
 pub fn flag_names<'a>(
     alloc: Global,
     source: &[u8],

@@ -13,8 +13,8 @@ use Rattle.wit_tokens.specs.declared.error.TextError.TheVariants as error
 use Rattle.wit_tokens.specs.Keywords.{keyword_of}
 use Rattle.wit_tokens.specs.Lexing.{limit, Lexes, LexFault, IsBadAt}
 use Rattle.wit_tokens.specs.Tokens.{Lexeme, lexemes, same_kind, span_of, bytes_of}
-use Rattle.wit_tokens.proofs.Unique.{one_lexing, bad_is_refused}
-use Rattle.wit_tokens.proofs.Walked.{tokens_on_literals, walked, lexed, spoilt, within, faulty}
+use Rattle.wit_tokens.proofs.TextsHaveOneReading.{one_lexing, bad_is_refused}
+use Rattle.wit_tokens.proofs.TokensStepByStep.{tokens_on_literals, walked, lexed, spoilt, within, faulty}
 
 abbrev span : ℕ → ℕ → Span
 span s e = record { start = s; end = e }

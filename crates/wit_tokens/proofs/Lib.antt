@@ -1,8 +1,8 @@
-pub mod Blanks
-pub mod Comments
+pub mod BlankRuns
+pub mod OpenComments
 pub mod Examples
-pub mod Fronts
+pub mod MarksAtTheFront
 pub mod LowerWords
-pub mod Spelled
-pub mod Unique
-pub mod Walked
+pub mod KeywordsBySpelling
+pub mod TextsHaveOneReading
+pub mod TokensStepByStep

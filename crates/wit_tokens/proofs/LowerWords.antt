@@ -7,7 +7,7 @@ use Rattle.std.proofs.lemmas.Bool.Decides.{nat_tests}
 use Rattle.atoms.specs.Label.{is_lower, is_upper, is_digit, is_label, are_words}
 use Rattle.atoms.specs.declared.label.Place.{Place}
 use Rattle.atoms.specs.declared.label.Place.TheVariants as place
-use Rattle.atoms.proofs.LabelWords.{label_from, words_by, short_label}
+use Rattle.atoms.proofs.LabelsInOnePass.{label_from, words_by, short_label}
 use Rattle.wit_tokens.specs.Lexing.{word_run, plus, begins_with, token, word_kind, word_front}
 
 -- the length of the word, of which a part may have begun

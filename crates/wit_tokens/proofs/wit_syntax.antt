@@ -1,1 +1,1 @@
-pub mod Views
+pub mod TreesOfExpressions

@@ -186,7 +186,7 @@ fn line_len(text: &[u8]) -> usize
 }
 
 /// One step inside comments: how many bytes it takes, and how many comments are open behind it.
-#[tactic(auto, using(crate::proofs::Comments::comment_at), unfolding(crate::specs::Lexing::comment_run))]
+#[tactic(auto, using(crate::proofs::OpenComments::comment_at), unfolding(crate::specs::Lexing::comment_run))]
 fn comment_step(text: &[u8], level: usize) -> Option<(usize, usize)>
     requires open { 0 < level }
     requires small { level ≤ 2 ^ 60 }
@@ -207,7 +207,7 @@ fn comment_step(text: &[u8], level: usize) -> Option<(usize, usize)>
 }
 
 /// The length of the rest of a comment, behind its `/*`, with its `*/`.
-#[tactic(auto, using(crate::proofs::Comments::plus_plus, crate::proofs::Comments::none_left))]
+#[tactic(auto, using(crate::proofs::OpenComments::plus_plus, crate::proofs::OpenComments::none_left))]
 fn comment_len(text: &[u8]) -> Option<usize>
     requires { length text.now < 2 ^ 60 }
     ensures is { result ≡ comment_run 1 text.now }

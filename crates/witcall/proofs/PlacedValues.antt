@@ -13,7 +13,7 @@ use Rattle.canonical_abi.specs.declared.trap.Step.TheVariants as step
 use Rattle.canonical_abi.specs.declared.trap.TrapKind.{TrapKind}
 use Rattle.canonical_abi.specs.declared.trap.TrapKind.TheVariants as trap
 use Rattle.lift_lower.specs.Crossing.{IsStoredAt, StoreFails}
-use Rattle.lift_lower.proofs.Scripted.{stores-script}
+use Rattle.lift_lower.proofs.EachValueHasAScript.{stores-script}
 
 module _ (allocates : Allocation) (t : ClosedType) (v : Value) (small : size t ≤ 16777216) (old : Memory) where
   pub is_placed : (at : ℕ) (mid new : Memory) → allocates old (align t) (size t) (Some at) mid → IsStoredAt allocates t at v mid new

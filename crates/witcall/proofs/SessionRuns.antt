@@ -7,7 +7,7 @@ use Rattle.std.proofs.lemmas.List.Elements.{All-nil, All-push}
 use Rattle.canonical_abi.specs.Call.{Parties, World, exact}
 use Rattle.canonical_abi.specs.Guest.{Release}
 use Rattle.canonical_abi.specs.Session.{TakesStep, RunsSession}
-use Rattle.canonical_abi.proofs.Longer.{runs-longer}
+use Rattle.canonical_abi.proofs.Sessions.RunsWithOneStepMore.{runs-longer}
 use Rattle.tables.specs.declared.tables.Resolve.{Resolve}
 use Rattle.witcall.specs.Steps.{AreOfSteps, IsKnownAnswer, IsOfStep, answer_of, step_of, RunsSteps}
 use Rattle.witcall.specs.declared.steps.Answer.{Answer}

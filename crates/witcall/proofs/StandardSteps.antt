@@ -5,12 +5,12 @@ use Rattle.std.proofs.lemmas.List.Elements.{All-head, All-tail}
 use Rattle.canonical_abi.specs.Call.{Parties, exact}
 use Rattle.canonical_abi.specs.Guest.{Allocation, Release}
 use Rattle.canonical_abi.specs.Keeping.{AreStandardSteps}
-use Rattle.canonical_abi.proofs.Keeping.{held-is-read, held-stays-held}
-use Rattle.canonical_abi.proofs.Placing.{placed-is-held, placed-is-read, placed-limited}
-use Rattle.canonical_abi.proofs.ToldCalls.{callee-is-told}
+use Rattle.canonical_abi.proofs.Sessions.HeldStaysHeld.{held-is-read, held-stays-held}
+use Rattle.canonical_abi.proofs.Sessions.PlacedIsHeld.{placed-is-held, placed-is-read, placed-limited}
+use Rattle.canonical_abi.proofs.Sessions.CalleeIsTold.{callee-is-told}
 use Rattle.tables.specs.Closed.{closed_type}
 use Rattle.tables.specs.declared.tables.Resolve.{Resolve}
-use Rattle.tables.proofs.Standards.{function-standard, type-standard}
+use Rattle.tables.proofs.HasStandardTypes.{function-standard, type-standard}
 use Rattle.witcall.specs.Laws.{PlacesHeld, StepsKeepHeld, StepsReadHeld, StepsReadPlaced, StepsTellCallee}
 use Rattle.witcall.specs.Steps.{IsStep, step_of}
 use Rattle.witcall.specs.declared.steps.Step.{Step}

@@ -1,3 +1,3 @@
-pub mod Handles
-mod Parted
-mod Sent
+pub mod HandlesAsMachineValues
+mod InputsStandInOrder
+mod HandlesAreSend

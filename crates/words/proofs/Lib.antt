@@ -1,2 +1,2 @@
-mod Pairs
+mod WordsAfterCommand
 mod Examples

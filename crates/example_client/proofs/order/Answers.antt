@@ -8,7 +8,7 @@ use Rattle.memory.specs.Space.{spaces}
 use Rattle.memory.specs.SpaceView.{space_memory}
 use Rattle.tables.specs.Closed.{function_type}
 use Rattle.witcall.specs.Session.{typed_answer}
-use Rattle.example_client.proofs.Orders.{honest, typed, values, found, kept}
+use Rattle.example_client.proofs.PromiseOfAnOrder.{honest, typed, values, found, kept}
 use Rattle.example_client.proofs.order.Goals as goal
 
 -- the item and the count are of the parameters' types

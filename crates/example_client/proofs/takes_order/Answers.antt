@@ -3,7 +3,7 @@ use Rattle.std.specs.Str.{is_utf8}
 use Rattle.std.proofs.lemmas.Str.{is_utf8-from_IsUtf8, IsUtf8-string_bytes}
 use Rattle.canonical_abi.specs.Values.{Value, HaveTypes}
 use Rattle.tables.specs.Closed.{function_type}
-use Rattle.example_client.proofs.Orders.{takes, typed, values}
+use Rattle.example_client.proofs.PromiseOfAnOrder.{takes, typed, values}
 use Rattle.example_client.proofs.takes_order.Goals as goal
 
 -- two arguments of these types are taken just where the parameters are these

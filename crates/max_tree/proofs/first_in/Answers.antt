@@ -1,5 +1,5 @@
 use Rattle.std.proofs.Common.{◌≡◌, ◌⊎◌, inl, inr, ℕ, ◌+◌, ◌*◌, ◌<◌, ◌≤◌, max, List, get_or, arith}
-use Rattle.max_tree.proofs.Maxima.{passed_below, first_found, none_found}
+use Rattle.max_tree.proofs.MaximaTellTheRow.{passed_below, first_found, none_found}
 use Rattle.max_tree.proofs.first_in.Goals as goal
 
 pub loop-node-preserved : goal.loop-node-preserved

@@ -1,5 +1,5 @@
 use Rattle.std.proofs.Common.{◌-◌, ◌<◌, ◌≤◌, get_or}
-use Rattle.max_tree.proofs.Maxima.{Passed}
+use Rattle.max_tree.proofs.MaximaTellTheRow.{Passed}
 use Rattle.max_tree.proofs.first_in.Given as goal
 
 abbrev pub invariant-loop-node : goal.invariant-loop-node

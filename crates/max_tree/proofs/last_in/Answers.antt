@@ -1,6 +1,6 @@
 use Rattle.std.proofs.Common.{◌-◌, arith}
 use Rattle.std.proofs.lemmas.List.{get_or-drop}
-use Rattle.max_tree.proofs.Maxima.{before_odd, climbed_first, climbed_found, climbed_out, climbed_up}
+use Rattle.max_tree.proofs.MaximaTellTheRow.{before_odd, climbed_first, climbed_found, climbed_out, climbed_up}
 use Rattle.max_tree.proofs.last_in.Goals as goal
 use Rattle.max_tree.proofs.last_in.Goals.{else-node-eq1-via-then-node-eq1+else-tree-node-gt0-2, else-node-eq1-via-else-node-eq1}
 

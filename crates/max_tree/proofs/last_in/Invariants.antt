@@ -1,5 +1,5 @@
 use Rattle.std.proofs.Common.{◌*◌, ◌<◌}
-use Rattle.max_tree.proofs.Maxima.{Climbed}
+use Rattle.max_tree.proofs.MaximaTellTheRow.{Climbed}
 use Rattle.max_tree.proofs.last_in.Given as goal
 
 abbrev pub invariant-loop-node : goal.invariant-loop-node

@@ -1,5 +1,5 @@
 use Rattle.std.proofs.Common.{◌≡◌, ◌⊎◌, inl, inr, ℕ, ◌+◌, ◌-◌, ◌*◌, ◌^◌, ◌<◌, List, get_or, arith}
-use Rattle.max_tree.proofs.Maxima.{trailed_below, trailed_end}
+use Rattle.max_tree.proofs.MaximaTellTheRow.{trailed_below, trailed_end}
 use Rattle.max_tree.proofs.last_under.Goals as goal
 
 pub loop-node-preserved : goal.loop-node-preserved

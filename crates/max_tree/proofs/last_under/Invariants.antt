@@ -1,5 +1,5 @@
 use Rattle.std.proofs.Common.{◌-◌, ℕ, ◌+◌, ◌*◌, ◌^◌, ◌<◌, ◌≤◌}
-use Rattle.max_tree.proofs.Maxima.{Trailed}
+use Rattle.max_tree.proofs.MaximaTellTheRow.{Trailed}
 use Rattle.max_tree.proofs.last_under.Given as goal
 
 abbrev pub invariant-loop-node : goal.invariant-loop-node

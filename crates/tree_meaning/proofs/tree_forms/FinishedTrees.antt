@@ -22,16 +22,16 @@ use Rattle.tables.specs.declared.error.ResolveError.TheVariants as error
 use Rattle.tables.specs.declared.tables.Interface.{Interface}
 use Rattle.tables.specs.declared.tables.Definition.{Definition}
 use Rattle.tables.specs.declared.tables.Resolve.{Resolve}
-use Rattle.package_form.proofs.Lists.{all-head, get-front}
-use Rattle.tree_meaning.proofs.Apart.{AreOthers, AreApart, apart-distinct, are-apart}
-use Rattle.tree_meaning.proofs.Referring.{Every}
+use Rattle.package_form.proofs.AllAndContains.{all-head, get-front}
+use Rattle.tree_meaning.proofs.NamesOfScopeAreApart.{AreOthers, AreApart, apart-distinct, are-apart}
+use Rattle.tree_meaning.proofs.ReferencesOfDefinitions.{Every}
 use Rattle.tree_meaning.proofs.TableRows.{behind-length}
-use Rattle.tree_meaning.proofs.Reading.{get-end}
-use Rattle.tables.proofs.Rows.{split, both}
+use Rattle.tree_meaning.proofs.MoreRowsReadTheSame.{get-end}
+use Rattle.tables.proofs.ClosedTypesRowByRow.{split, both}
 use Rattle.tables.specs.Tables.{are_earlier, name_types, are_grouped}
 use Rattle.tree_meaning.specs.WorldRows.{world_stands, worlds_stand}
 use Rattle.tables.specs.declared.tables.World.{World}
-use Rattle.tree_meaning.proofs.Trees.{own_table}
+use Rattle.tree_meaning.proofs.PackageOfAFile.{own_table}
 use Rattle.package_form.specs.Closed.{is_world_of}
 
 -- ---- names of a file

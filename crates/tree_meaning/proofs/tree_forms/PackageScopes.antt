@@ -8,7 +8,7 @@ use Rattle.std.proofs.lemmas.Simd.{map-map}
 use Rattle.wit_tokens.specs.Syntax.{FileEntry, AnInterface, AWorld, File}
 use Rattle.tables.specs.PackageNames.{PackageParts, own_name}
 use Rattle.tables.specs.Names.{full_name_in, world_name}
-use Rattle.tables.proofs.Rows.{split}
+use Rattle.tables.proofs.ClosedTypesRowByRow.{split}
 use Rattle.tables.specs.Package.{Tree, WorldMeaning, worlds as worlds_in, world_meaning as meaning_in, trees as trees_in, interface_names as names_in, references}
 use Rattle.tables.specs.declared.tables.World.{World}
 use Rattle.tables.specs.declared.tables.Definition.{Definition}
@@ -18,36 +18,36 @@ use Rattle.tables.specs.Tables.{are_grouped}
 use Rattle.package_form.specs.Scope.{AreDistinct}
 use Rattle.package_form.specs.Ends.{end_of, rows_of, interfaces_end, is_parted}
 use Rattle.package_form.specs.Ids.{interface_in, interfaces_from}
-use Rattle.package_form.proofs.OnePackage.{one-full-name}
+use Rattle.package_form.proofs.InterfacesOfOnePackage.{one-full-name}
 use Rattle.placement.specs.Order.{IsPlacement}
 use Rattle.tree_meaning.specs.Declarations.{InterfaceTree, WorldTree, interfaces, file_worlds, package_named, full_world, interface_of, world_of, full_interface, type_name, interface_at, no_interface, interface_tree_name, names_of_trees}
 use Rattle.tree_meaning.specs.Scopes.{file_name, interface_scopes}
 use Rattle.tree_meaning.specs.Resolves.{uses_of_interface, interface_uses, names_in_order, AreImports, HasNoFaultsOf, IsClosedPackageOf, interfaces_behind}
-use Rattle.package_form.proofs.Lists.{all-head, all-tail, all-append, all-none, all-left, all-right, all-contained, contains-unmap, flat_map-append}
-use Rattle.package_form.proofs.Meeting.{below_or_at}
-use Rattle.package_form.proofs.EachPackage.{each-distinct}
-use Rattle.package_form.proofs.Scopes.{interfaces-distinct as import-scopes-distinct, names-distinct as interface-labels-distinct}
+use Rattle.package_form.proofs.AllAndContains.{all-head, all-tail, all-append, all-none, all-left, all-right, all-contained, contains-unmap, flat_map-append}
+use Rattle.package_form.proofs.NamesMetOneByOne.{below_or_at}
+use Rattle.package_form.proofs.NamesMetInEachPackage.{each-distinct}
+use Rattle.package_form.proofs.ScopesAreDistinct.{interfaces-distinct as import-scopes-distinct, names-distinct as interface-labels-distinct}
 use Rattle.tree_meaning.proofs.OrderedNames.{interface-name}
-use Rattle.tree_meaning.proofs.tree_forms.Parting.{not-that}
+use Rattle.tree_meaning.proofs.tree_forms.IdsArePlacesOfNamedRows.{not-that}
 use Rattle.tree_meaning.proofs.tree_forms.FinishedTrees.{distinct-interfaces, names-behind}
 use Rattle.tree_meaning.specs.Resolved.{meaning_of_world}
 use Rattle.tree_meaning.specs.Imports.{imports_of}
 use Rattle.tree_meaning.specs.ImportForms.{IsNamedBehind}
-use Rattle.tree_meaning.proofs.Owning.{is_inner_row}
-use Rattle.tree_meaning.proofs.FullNames.{locals-full, interface-full, uses-full}
+use Rattle.tree_meaning.proofs.RowsOfEachInterface.{is_inner_row}
+use Rattle.tree_meaning.proofs.InterfacesUnderFullNames.{locals-full, interface-full, uses-full}
 use Rattle.package_form.specs.Naming.{row_members, rows_scopes, interfaces_scopes, label_of, world_scopes, package_scopes, interface_label_of, interface_labels_of, of_each, world_labels_of}
-use Rattle.tree_meaning.proofs.tree_forms.Segments.{heads, tails, rows-mean}
-use Rattle.tree_meaning.proofs.Referring.{Every, every-append, every-front, every-back}
-use Rattle.tree_meaning.proofs.Reading.{get-end}
-use Rattle.tree_meaning.proofs.tree_forms.Blocks.{Block, block_names, block_definitions, blocks_definitions}
-use Rattle.tree_meaning.proofs.tree_forms.TreeForms.{block, trees, order, types, blocks, named, are-all, back, defined, used-parts, elsewhere, table, count, elsewhere-first, first-end, ordered, own, own_names, parts}
-use Rattle.tree_meaning.proofs.tree_forms.Members.{HasDistinctMembers, rows-distinct}
-use Rattle.tree_meaning.proofs.ItemNames.{HasDistinctParts, function_name, interfaces-distinct}
+use Rattle.tree_meaning.proofs.tree_forms.RowsCutByDefinition.{heads, tails, rows-mean}
+use Rattle.tree_meaning.proofs.ReferencesOfDefinitions.{Every, every-append, every-front, every-back}
+use Rattle.tree_meaning.proofs.MoreRowsReadTheSame.{get-end}
+use Rattle.tree_meaning.proofs.tree_forms.InterfaceBlocks.{Block, block_names, block_definitions, blocks_definitions}
+use Rattle.tree_meaning.proofs.tree_forms.ResolvedTreesAreInForm.{block, trees, order, types, blocks, named, are-all, back, defined, used-parts, elsewhere, table, count, elsewhere-first, first-end, ordered, own, own_names, parts}
+use Rattle.tree_meaning.proofs.tree_forms.MemberNamesOfRows.{HasDistinctMembers, rows-distinct}
+use Rattle.tree_meaning.proofs.ScopesFromDeclarations.{HasDistinctParts, function_name, interfaces-distinct}
 use Rattle.tree_meaning.proofs.tree_forms.TreeNames.{placed-distinct, names-distinct, members-distinct}
 use Rattle.tree_meaning.proofs.tree_forms.TableScopes.{HasDistinctKeys, scoped}
-use Rattle.tree_meaning.proofs.Apart.{AreOthers, AreApart, every-from, every-contained, apart-distinct, are-apart, apart-insert, apart-between}
+use Rattle.tree_meaning.proofs.NamesOfScopeAreApart.{AreOthers, AreApart, every-from, every-contained, apart-distinct, are-apart, apart-insert, apart-between}
 use Rattle.tree_meaning.proofs.TableRows.{is-that}
-use Rattle.tree_meaning.proofs.tree_forms.ClosedForms.{rows-kept}
+use Rattle.tree_meaning.proofs.tree_forms.ImportsStandInClosedTables.{rows-kept}
 use Rattle.package_form.specs.Closed.{is_world_of}
 
 every-map : {A B : Type 0} (P : B → Type 0) (f : A → B) (xs : List A) → Every (λ x. P (f x)) xs → Every P (map f xs)

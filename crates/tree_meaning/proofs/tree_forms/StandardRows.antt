@@ -16,7 +16,7 @@ use Rattle.tables.specs.declared.tables.Definition.TheVariants as row
 use Rattle.package_form.specs.Postfix.{is_unnamed, unnamed, unnamed_if, unnamed_parameter, parts, parts_of, aliased, aliased_by, is_inner, Leaves}
 use Rattle.package_form.specs.Ids.{is_use}
 use Rattle.package_form.specs.Unused.{is_alias}
-use Rattle.tree_meaning.proofs.tree_forms.Weighed.{nodes, nodes_in, nodes_if, total, sum-append, total-append, params-count, if-count, whole-count, val-count, Weights, sizes, Agree, by-name}
+use Rattle.tree_meaning.proofs.tree_forms.WeightsByName.{nodes, nodes_in, nodes_if, total, sum-append, total-append, params-count, if-count, whole-count, val-count, Weights, sizes, Agree, by-name}
 use Rattle.tree_meaning.proofs.TableRows.{IsTyped, not-use}
 use Rattle.tree_meaning.proofs.AllDefinitions.{all_from, all_of}
 

@@ -4,15 +4,15 @@ use Rattle.tables.specs.Package.{references}
 use Rattle.tables.specs.declared.tables.Definition.{Definition}
 use Rattle.package_form.specs.Scope.{AreDistinct}
 use Rattle.package_form.specs.Ids.{interface_in, interfaces_from}
-use Rattle.package_form.proofs.Lists.{all-append, all-cons, all-none, all-left, all-right}
+use Rattle.package_form.proofs.AllAndContains.{all-append, all-cons, all-none, all-left, all-right}
 use Rattle.package_form.specs.Ends.{end_of, rows_of}
 use Rattle.package_form.specs.Unused.{are_used}
 use Rattle.package_form.specs.Naming.{row_names, row_members, rows_scopes, interfaces_scopes}
-use Rattle.tree_meaning.proofs.Referring.{Every}
-use Rattle.tree_meaning.proofs.tree_forms.Parting.{IsElsewhere}
-use Rattle.tree_meaning.proofs.tree_forms.Blocks.{Block, AreBlocks, block_definitions, blocks_definitions, block_names}
-use Rattle.tree_meaning.proofs.tree_forms.Forming.{IsTable, end-is, rows-are}
-use Rattle.tree_meaning.proofs.tree_forms.Folding.{segment}
+use Rattle.tree_meaning.proofs.ReferencesOfDefinitions.{Every}
+use Rattle.tree_meaning.proofs.tree_forms.IdsArePlacesOfNamedRows.{IsElsewhere}
+use Rattle.tree_meaning.proofs.tree_forms.InterfaceBlocks.{Block, AreBlocks, block_definitions, blocks_definitions, block_names}
+use Rattle.tree_meaning.proofs.tree_forms.RowsStandWhereDefined.{IsTable, end-is, rows-are}
+use Rattle.tree_meaning.proofs.tree_forms.InterfaceRowsAreInForm.{segment}
 use Rattle.tree_meaning.proofs.RowNames.{key_name}
 use Rattle.std.proofs.lemmas.List.{map-append}
 use Rattle.tree_meaning.proofs.AllDefinitions.{all_from}

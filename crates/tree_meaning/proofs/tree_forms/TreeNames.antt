@@ -8,13 +8,13 @@ use Rattle.package_form.specs.Scope.{AreDistinct}
 use Rattle.tree_meaning.specs.Declarations.{TypeItem, FunctionItem, InterfaceTree, use_local, type_name, member_name, definition_scopes, own_types}
 use Rattle.tree_meaning.specs.Resolved.{no_type, use_meaning, type_meaning, meaning_of_function, in_order, interface_meaning}
 use Rattle.tree_meaning.specs.Resolves.{type_uses, uses_of_type}
-use Rattle.package_form.proofs.Lists.{all-append, all-contained, contains-unmap}
-use Rattle.tree_meaning.proofs.Referring.{Every}
-use Rattle.tree_meaning.proofs.tree_forms.TreeForms.{one-place, each-map}
-use Rattle.tree_meaning.proofs.Apart.{every-from, every-contained, apart-distinct, are-apart, apart-front, apart-back, apart-between, order-distinct, none-distinct}
+use Rattle.package_form.proofs.AllAndContains.{all-append, all-contained, contains-unmap}
+use Rattle.tree_meaning.proofs.ReferencesOfDefinitions.{Every}
+use Rattle.tree_meaning.proofs.tree_forms.ResolvedTreesAreInForm.{one-place, each-map}
+use Rattle.tree_meaning.proofs.NamesOfScopeAreApart.{every-from, every-contained, apart-distinct, are-apart, apart-front, apart-back, apart-between, order-distinct, none-distinct}
 use Rattle.tree_meaning.proofs.RowNames.{key_name}
-use Rattle.tree_meaning.proofs.tree_forms.Members.{HasDistinctMembers, type-distinct, function-distinct}
-use Rattle.tree_meaning.proofs.ItemNames.{function_name, HasDistinctParts}
+use Rattle.tree_meaning.proofs.tree_forms.MemberNamesOfRows.{HasDistinctMembers, type-distinct, function-distinct}
+use Rattle.tree_meaning.proofs.ScopesFromDeclarations.{function_name, HasDistinctParts}
 
 -- names that differ, in the order of what they name
 pub placed-distinct : (uses : List (List ℕ)) (order : List ℕ) → IsPlacement uses order → (ns : List (List ℕ)) (name : ℕ → List ℕ) → ((k : ℕ) → name k ≡ get_or ns k []) → length uses ≡ length ns

@@ -23,13 +23,13 @@ use Rattle.tree_meaning.specs.Resolved.{meaning_of_world}
 use Rattle.tree_meaning.specs.Resolves.{interface_uses, type_uses, names_in_order, IsKnownItemOf, IsKnownWorldOf, KnowsAllOf, is_behind, HasWorldsBehind, is_owned_among, is_of_interfaces, AreImports}
 use Rattle.tree_meaning.specs.Building.{DefinesPackage, start_table, table_definitions, world_functions}
 use Rattle.tree_meaning.specs.WorldRows.{AddsFunctions, DefinesWorlds}
-use Rattle.tables.proofs.Rows.{split}
-use Rattle.package_form.proofs.Lists.{all-mono}
-use Rattle.tree_meaning.proofs.Reading.{definitions-append, front-trans}
+use Rattle.tables.proofs.ClosedTypesRowByRow.{split}
+use Rattle.package_form.proofs.AllAndContains.{all-mono}
+use Rattle.tree_meaning.proofs.MoreRowsReadTheSame.{definitions-append, front-trans}
 use Rattle.tree_meaning.proofs.AllDefinitions.{none-there}
 use Rattle.tree_meaning.proofs.OrderedNames.{ordered-has}
 use Rattle.tree_meaning.proofs.tree_forms.FinishedTrees.{IsTableOf}
-use Rattle.tree_meaning.proofs.Trees.{own_table, table-resolves}
+use Rattle.tree_meaning.proofs.PackageOfAFile.{own_table, table-resolves}
 
 -- ---- what the rows of worlds leave as it was
 

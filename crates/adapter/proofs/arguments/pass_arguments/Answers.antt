@@ -4,8 +4,8 @@ use Rattle.canonical_abi.specs.Layout.{lifted_signature, max_flat_params, passed
 use Rattle.canonical_abi.specs.Reading.{kind_of}
 use Rattle.canonical_abi.specs.Call.{KindsFit}
 use Rattle.tables.specs.Closed.{function_type}
-use Rattle.adapter.proofs.Signatures.{function-stands, params-row, params-inside}
-use Rattle.adapter.proofs.Crossings.{argument-kinds, same-arguments, EndsArguments, arguments-end}
+use Rattle.adapter.proofs.FunctionsInLayouts.{function-stands, params-row, params-inside}
+use Rattle.adapter.proofs.CallFromItsWays.{argument-kinds, same-arguments, EndsArguments, arguments-end}
 use Rattle.adapter.proofs.arguments.pass_arguments.Goals as goal
 
 pub takes-requires : goal.takes-requires

@@ -1,5 +1,5 @@
 use Rattle.std.proofs.Common.{◌≡◌, length, arith}
-use Rattle.adapter.proofs.OwnValues.{parameter-inside, parameter-own}
+use Rattle.adapter.proofs.PlainValuesCrossAsTheyAre.{parameter-inside, parameter-own}
 use Rattle.adapter.proofs.plain.are_own.Goals as goal
 
 pub is_own_of-requires : goal.is_own_of-requires

@@ -1,6 +1,6 @@
 use Rattle.std.proofs.Common.{map, arith}
-use Rattle.values.proofs.Known.{all-known-inside}
-use Rattle.adapter.proofs.Signatures.{params-known, params-are}
+use Rattle.values.proofs.PackageTypesAreStandard.{all-known-inside}
+use Rattle.adapter.proofs.FunctionsInLayouts.{params-known, params-are}
 use Rattle.adapter.proofs.plain.are_plain.Goals as goal
 
 pub are_own-requires : goal.are_own-requires

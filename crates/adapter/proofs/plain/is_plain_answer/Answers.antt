@@ -1,6 +1,6 @@
 use Rattle.std.proofs.Common.{IfSome, subst}
 use Rattle.values.specs.Types.{IsInside}
-use Rattle.adapter.proofs.Signatures.{result-inside}
+use Rattle.adapter.proofs.FunctionsInLayouts.{result-inside}
 use Rattle.adapter.proofs.plain.is_plain_answer.Goals as goal
 
 pub is_own_of-requires : goal.is_own_of-requires

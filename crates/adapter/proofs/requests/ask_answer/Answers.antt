@@ -3,10 +3,10 @@ use Rattle.canonical_abi.specs.Types.{record_type, result_fields}
 use Rattle.canonical_abi.specs.Layout.{size}
 use Rattle.tables.specs.Closed.{function_type}
 use Rattle.values.specs.Members.{fields_of_types, AreAllInside}
-use Rattle.tables.proofs.Standards.{function-standard}
-use Rattle.adapter.proofs.Functions.{same_types}
-use Rattle.adapter.proofs.Signatures.{function-stands, function-shallow, result-known, result-inside, result-is, result-fields, all-inside, result-small}
-use Rattle.adapter.proofs.Reasons.{unasked-told}
+use Rattle.tables.proofs.HasStandardTypes.{function-standard}
+use Rattle.adapter.proofs.ParametersAsTableTypes.{same_types}
+use Rattle.adapter.proofs.FunctionsInLayouts.{function-stands, function-shallow, result-known, result-inside, result-is, result-fields, all-inside, result-small}
+use Rattle.adapter.proofs.WhyNothingIsAsked.{unasked-told}
 use Rattle.adapter.proofs.requests.ask_answer.Goals as goal
 
 pub lifted_result-result-requires : goal.lifted_result-result-requires

@@ -4,10 +4,10 @@ use Rattle.canonical_abi.specs.Layout.{lifted_signature, max_flat_params, passed
 use Rattle.canonical_abi.specs.Reading.{kind_of}
 use Rattle.canonical_abi.specs.Call.{KindsFit}
 use Rattle.tables.specs.Closed.{function_type}
-use Rattle.tables.proofs.Standards.{function-standard}
-use Rattle.adapter.proofs.Signatures.{function-stands, function-shallow, params-row, params-inside}
-use Rattle.adapter.proofs.Crossings.{argument-kinds, same-arguments}
-use Rattle.adapter.proofs.Reasons.{unasked-told}
+use Rattle.tables.proofs.HasStandardTypes.{function-standard}
+use Rattle.adapter.proofs.FunctionsInLayouts.{function-stands, function-shallow, params-row, params-inside}
+use Rattle.adapter.proofs.CallFromItsWays.{argument-kinds, same-arguments}
+use Rattle.adapter.proofs.WhyNothingIsAsked.{unasked-told}
 use Rattle.adapter.proofs.requests.ask_arguments.Goals as goal
 
 pub takes-requires : goal.takes-requires

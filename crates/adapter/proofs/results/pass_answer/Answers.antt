@@ -4,9 +4,9 @@ use Rattle.canonical_abi.specs.Layout.{lifted_signature, size}
 use Rattle.canonical_abi.specs.Call.{KindsFit}
 use Rattle.tables.specs.Closed.{function_type}
 use Rattle.values.specs.Members.{fields_of_types, AreAllInside}
-use Rattle.adapter.proofs.Functions.{same_types}
-use Rattle.adapter.proofs.Signatures.{function-stands, result-known, result-inside, result-is, result-fields, all-inside, result-small}
-use Rattle.adapter.proofs.Crossings.{area-is, EndsResult, result-ends}
+use Rattle.adapter.proofs.ParametersAsTableTypes.{same_types}
+use Rattle.adapter.proofs.FunctionsInLayouts.{function-stands, result-known, result-inside, result-is, result-fields, all-inside, result-small}
+use Rattle.adapter.proofs.CallFromItsWays.{area-is, EndsResult, result-ends}
 use Rattle.adapter.proofs.results.pass_answer.Goals as goal
 
 pub takes-requires : goal.takes-requires

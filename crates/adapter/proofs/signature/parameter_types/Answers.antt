@@ -5,8 +5,8 @@ use Rattle.canonical_abi.specs.Layout.{size}
 use Rattle.tables.specs.Closed.{function_type}
 use Rattle.tables.specs.declared.tables.ValType.{ValType}
 use Rattle.values.specs.Members.{fields_of_types, AreTypesOf}
-use Rattle.values.proofs.Results.{if-ok-as}
-use Rattle.adapter.proofs.Signatures.{params-are, params-known, params-small}
+use Rattle.values.proofs.WeakerAnswers.{if-ok-as}
+use Rattle.adapter.proofs.FunctionsInLayouts.{params-are, params-known, params-small}
 use Rattle.adapter.proofs.signature.parameter_types.Goals as goal
 
 pub returns-clause-types : goal.returns-clause-types

@@ -1,5 +1,5 @@
 use Rattle.std.proofs.lemmas.Str.Pattern.{split_parts}
-use Rattle.atoms.proofs.FullNames.{of_some, of_none}
+use Rattle.atoms.proofs.FullNamesHaveOneReading.{of_some, of_none}
 use Rattle.atoms.proofs.full_name.cut.Goals as goal
 
 pub returns-clause-some : goal.returns-clause-some

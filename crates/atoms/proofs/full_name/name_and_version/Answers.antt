@@ -1,7 +1,7 @@
 use Rattle.std.proofs.Common.{IsTrue, sym, ap, ◌∙◌, subst, Some}
 use Rattle.atoms.specs.Label.{is_label}
 use Rattle.atoms.specs.FullName.{is_version_or_none}
-use Rattle.atoms.proofs.FullNames.{no_version, version_cut, fails}
+use Rattle.atoms.proofs.FullNamesHaveOneReading.{no_version, version_cut, fails}
 use Rattle.atoms.proofs.full_name.name_and_version.Goals as goal
 
 pub returns-in_err-label-clause-only : goal.returns-in_err-label-clause-only

@@ -1,5 +1,5 @@
 use Rattle.std.proofs.Common.{refl}
-use Rattle.atoms.proofs.LabelWords.{short_label, long_label}
+use Rattle.atoms.proofs.LabelsInOnePass.{short_label, long_label}
 use Rattle.atoms.proofs.label.is_label.Goals as goal
 
 pub returns-then-text-le255 : goal.returns-then-text-le255

@@ -2,7 +2,7 @@ use Rattle.std.proofs.Common.{rules, ◌≡◌, ◌∙◌, false, true, sym, ◌
 use Rattle.std.specs.Char.{is_ascii_lowercase}
 use Rattle.std.specs.Prelude.{not}
 use Rattle.atoms.specs.declared.label.Place.TheVariants.{Start, Lower}
-use Rattle.atoms.proofs.LabelWords.{label_from, words_by, label_behind_lower, starts_lower}
+use Rattle.atoms.proofs.LabelsInOnePass.{label_from, words_by, label_behind_lower, starts_lower}
 use Rattle.atoms.proofs.label.is_words.Goals as goal
 
 pub returns-in_default-place : goal.returns-in_default-place

@@ -1,5 +1,5 @@
 use Rattle.std.proofs.Common.{◌≡◌, length}
-use Rattle.atoms.proofs.LabelWords.{label_from}
+use Rattle.atoms.proofs.LabelsInOnePass.{label_from}
 use Rattle.atoms.specs.declared.label.Place.TheVariants.{Start}
 use Rattle.atoms.proofs.label.is_words.Given as goal
 

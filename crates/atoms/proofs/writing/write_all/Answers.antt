@@ -1,5 +1,5 @@
 use Rattle.std.proofs.Common.{arith, rules}
-use Rattle.atoms.proofs.Known.{appends_next}
+use Rattle.atoms.proofs.AppendsGoOn.{appends_next}
 use Rattle.atoms.proofs.writing.write_all.Goals as goal
 
 pub loop-start-preserved : goal.loop-start-preserved

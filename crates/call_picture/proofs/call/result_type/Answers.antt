@@ -1,4 +1,4 @@
-use Rattle.adapter.proofs.Signatures.{result-known, result-inside}
+use Rattle.adapter.proofs.FunctionsInLayouts.{result-known, result-inside}
 use Rattle.call_picture.proofs.call.result_type.Goals as goal
 
 pub returns-clause-known : goal.returns-clause-known

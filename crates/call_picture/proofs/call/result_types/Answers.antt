@@ -1,5 +1,5 @@
 use Rattle.std.proofs.Common.{◌∙◌, ◌≤◌, ◌++◌, ◌∷◌, [], Some, ap, sym, subst}
-use Rattle.adapter.proofs.Signatures.{result-small}
+use Rattle.adapter.proofs.FunctionsInLayouts.{result-small}
 use Rattle.canonical_abi.specs.Layout.{size}
 use Rattle.canonical_abi.specs.Types.{record_type}
 use Rattle.values.specs.Members.{fields_of_types}

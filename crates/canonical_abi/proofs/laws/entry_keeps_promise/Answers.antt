@@ -1,4 +1,4 @@
-use Rattle.canonical_abi.proofs.HalfPromises.{entry-keeps-promise}
+use Rattle.canonical_abi.proofs.Calls.HalvesKeepPromise.{entry-keeps-promise}
 use Rattle.canonical_abi.proofs.laws.entry_keeps_promise.Goals as goal
 
 pub returns : goal.returns

@@ -1,4 +1,4 @@
-use Rattle.canonical_abi.proofs.Orders.{exact-is-either}
+use Rattle.canonical_abi.proofs.Calls.ExactIsEither.{exact-is-either}
 use Rattle.canonical_abi.proofs.laws.exact_is_either.Goals as goal
 
 pub returns : goal.returns

@@ -1,4 +1,4 @@
-use Rattle.canonical_abi.proofs.Linked.{link-keeps-promise}
+use Rattle.canonical_abi.proofs.Calls.LinkKeepsPromise.{link-keeps-promise}
 use Rattle.canonical_abi.proofs.laws.link_keeps_promise.Goals as goal
 
 pub returns : goal.returns

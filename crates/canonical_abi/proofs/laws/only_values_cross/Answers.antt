@@ -1,4 +1,4 @@
-use Rattle.canonical_abi.proofs.OnlyValues.{only-values-cross}
+use Rattle.canonical_abi.proofs.Sessions.OnlyValuesCross.{only-values-cross}
 use Rattle.canonical_abi.proofs.laws.only_values_cross.Goals as goal
 
 pub returns : goal.returns

@@ -1,4 +1,4 @@
-use Rattle.canonical_abi.proofs.Placing.{placed-is-held}
+use Rattle.canonical_abi.proofs.Sessions.PlacedIsHeld.{placed-is-held}
 use Rattle.canonical_abi.proofs.laws.placed_is_held.Goals as goal
 
 pub returns : goal.returns

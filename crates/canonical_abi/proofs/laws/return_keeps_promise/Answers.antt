@@ -1,4 +1,4 @@
-use Rattle.canonical_abi.proofs.HalfPromises.{return-keeps-promise}
+use Rattle.canonical_abi.proofs.Calls.HalvesKeepPromise.{return-keeps-promise}
 use Rattle.canonical_abi.proofs.laws.return_keeps_promise.Goals as goal
 
 pub returns : goal.returns

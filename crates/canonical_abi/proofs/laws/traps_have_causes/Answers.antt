@@ -1,4 +1,4 @@
-use Rattle.canonical_abi.proofs.Causes.{traps-have-causes}
+use Rattle.canonical_abi.proofs.Calls.TrapsHaveCauses.{traps-have-causes}
 use Rattle.canonical_abi.proofs.laws.traps_have_causes.Goals as goal
 
 pub returns : goal.returns

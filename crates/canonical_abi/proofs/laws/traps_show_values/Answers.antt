@@ -1,4 +1,4 @@
-use Rattle.canonical_abi.proofs.OnlyValues.{traps-show-values}
+use Rattle.canonical_abi.proofs.Sessions.OnlyValuesCross.{traps-show-values}
 use Rattle.canonical_abi.proofs.laws.traps_show_values.Goals as goal
 
 pub returns : goal.returns

@@ -1,4 +1,4 @@
-use Rattle.canonical_abi.proofs.Few.{visits-few-nodes}
+use Rattle.canonical_abi.proofs.Calls.VisitsFewNodes.{visits-few-nodes}
 use Rattle.canonical_abi.proofs.laws.visits_few_nodes.Goals as goal
 
 pub returns : goal.returns

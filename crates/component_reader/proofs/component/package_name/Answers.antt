@@ -1,8 +1,8 @@
 use Rattle.std.proofs.Common.{refl, sym, ◌∙◌}
 use Rattle.atoms.specs.FullName.{full_name_text}
 use Rattle.component_reader.specs.Names.{parts_view}
-use Rattle.component_reader.proofs.Cutting.{parts-cut}
-use Rattle.component_reader.proofs.ExportNames.{package-label}
+use Rattle.component_reader.proofs.CutPartsAreNameParts.{parts-cut}
+use Rattle.component_reader.proofs.FullNamesAreNoLabels.{package-label}
 use Rattle.component_reader.proofs.component.package_name.Goals as goal
 
 pub from_bytes-requires : goal.from_bytes-requires

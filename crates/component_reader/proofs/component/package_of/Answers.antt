@@ -3,8 +3,8 @@ use Rattle.atoms.specs.FullName.{full_name_text}
 use Rattle.tables.specs.PackageNames.{PackageParts}
 use Rattle.component_reader.specs.Component.{package_in_name, has_name}
 use Rattle.component_reader.specs.Names.{parts_view, package_parts}
-use Rattle.component_reader.proofs.Cutting.{package-cut}
-use Rattle.package_form.proofs.Meeting.{on-ok}
+use Rattle.component_reader.proofs.CutPartsAreNameParts.{package-cut}
+use Rattle.package_form.proofs.NamesMetOneByOne.{on-ok}
 use Rattle.component_reader.proofs.component.package_of.Goals as goal
 use Rattle.component_reader.proofs.component.package_of.Goals.{then-not-has_name+in_ok-package_name+in_ok-push, else-not-has_name}
 

@@ -5,7 +5,7 @@ use Rattle.atoms.specs.FullName.{full_name_text}
 use Rattle.atoms.specs.FullNameView.{name_parts_of}
 use Rattle.atoms.specs.declared.full_name.FullName.{FullName}
 use Rattle.ctype_format.specs.Names.{name_view}
-use Rattle.component_reader.proofs.ExportNames.{name-of-parts}
+use Rattle.component_reader.proofs.FullNamesAreNoLabels.{name-of-parts}
 use Rattle.component_reader.proofs.names.name_parts.Goals as goal
 
 pub returns-in-FullName : goal.returns-in-FullName

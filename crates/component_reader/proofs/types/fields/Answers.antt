@@ -2,7 +2,7 @@ use Rattle.std.proofs.Common.{Some, ap, sym, arith, ◌∙◌}
 use Rattle.std.specs.Option.{option_map}
 use Rattle.std.proofs.lemmas.Result.{err_from_is_err_and}
 use Rattle.component_reader.specs.Types.{field_read, field_named}
-use Rattle.component_reader.proofs.Found.{found-more, refused-at, refused-part}
+use Rattle.component_reader.proofs.EachElementIsReadOrNone.{found-more, refused-at, refused-part}
 use Rattle.component_reader.proofs.types.fields.Goals as goal
 
 pub returns-in_err-val_type : goal.returns-in_err-val_type

@@ -1,7 +1,7 @@
 use Rattle.std.proofs.Common.{Some, ap, sym, arith, ◌∙◌}
 use Rattle.std.proofs.lemmas.Result.{err_from_is_err_and}
 use Rattle.component_reader.specs.Types.{val_type}
-use Rattle.component_reader.proofs.Found.{found-next, refused-next}
+use Rattle.component_reader.proofs.EachElementIsReadOrNone.{found-next, refused-next}
 use Rattle.component_reader.proofs.types.members.Goals as goal
 
 pub returns-in_err-val_type : goal.returns-in_err-val_type

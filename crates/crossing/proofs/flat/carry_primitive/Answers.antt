@@ -1,7 +1,7 @@
 use Rattle.std.proofs.Common.{[], ◌∷◌, map, refl}
 use Rattle.canonical_abi.specs.Reading.{number_of, low_bits, flat_bits}
 use Rattle.values.specs.Scalar.{value_in}
-use Rattle.lift_lower.proofs.Denoted.{prim-typed, lifted-number}
+use Rattle.lift_lower.proofs.HeldValuesAreTyped.{prim-typed, lifted-number}
 use Rattle.tables.specs.Closed.{prim_of}
 use Rattle.crossing.proofs.flat.carry_primitive.Goals as goal
 

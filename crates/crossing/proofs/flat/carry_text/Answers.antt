@@ -6,10 +6,10 @@ use Rattle.canonical_abi.specs.Requests.{text_of_value}
 use Rattle.canonical_abi.specs.Trace.{write, EventLeads}
 use Rattle.canonical_abi.specs.declared.flat.Flat.{Flat}
 use Rattle.crossing.specs.Outcome.{IsCrossed}
-use Rattle.crossing.proofs.Nodes.{granted-led}
-use Rattle.crossing.proofs.Flats.{header_behind, TextFlat, text-flat-refused, text-flat-done}
+use Rattle.crossing.proofs.OneNodeOfAWay.{granted-led}
+use Rattle.crossing.proofs.ScriptsOfFlatValues.{header_behind, TextFlat, text-flat-refused, text-flat-done}
 use Rattle.crossing.proofs.flat.carry_text.Goals as goal
-use Rattle.lift_lower.proofs.Unlimited.{request-fails}
+use Rattle.lift_lower.proofs.OnlyAllocatorsRefuse.{request-fails}
 
 pub returns-in-Err-ask_block : goal.returns-in-Err-ask_block
 returns-in-Err-ask_block g c =

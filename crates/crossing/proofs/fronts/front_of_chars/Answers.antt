@@ -1,7 +1,7 @@
 use Rattle.std.proofs.Common.{arith}
 use Rattle.canonical_abi.specs.Types.{prim_type, scalar_value}
-use Rattle.ranges.proofs.Appends.{prims-visited}
-use Rattle.crossing.proofs.Ahead.{crossed-done}
+use Rattle.ranges.proofs.CrossedElementsAppend.{prims-visited}
+use Rattle.crossing.proofs.ElementsCrossedTogether.{crossed-done}
 use Rattle.crossing.proofs.fronts.front_of_chars.Goals as goal
 
 pub returns-clause-crossed : goal.returns-clause-crossed

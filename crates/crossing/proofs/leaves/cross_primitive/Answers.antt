@@ -5,7 +5,7 @@ use Rattle.canonical_abi.specs.Layout.{prim_width}
 use Rattle.canonical_abi.specs.Storing.{number_in}
 use Rattle.canonical_abi.specs.Trace.{write, EventLeads}
 use Rattle.values.specs.Scalar.{value_in}
-use Rattle.lift_lower.proofs.Denoted.{holds-typed}
+use Rattle.lift_lower.proofs.HeldValuesAreTyped.{holds-typed}
 use Rattle.values.specs.Bytes.{AreBytes}
 use Rattle.tables.specs.Closed.{prim_of}
 use Rattle.crossing.proofs.leaves.cross_primitive.Goals as goal

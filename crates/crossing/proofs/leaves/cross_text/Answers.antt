@@ -4,9 +4,9 @@ use Rattle.std.proofs.lemmas.List.{length-take}
 use Rattle.canonical_abi.specs.Requests.{text_of_value}
 use Rattle.canonical_abi.specs.Storing.{pointer_pair}
 use Rattle.canonical_abi.specs.Trace.{write, EventLeads}
-use Rattle.crossing.proofs.Nodes.{granted-led, text-refused, text-done}
+use Rattle.crossing.proofs.OneNodeOfAWay.{granted-led, text-refused, text-done}
 use Rattle.crossing.proofs.leaves.cross_text.Goals as goal
-use Rattle.lift_lower.proofs.Unlimited.{request-fails}
+use Rattle.lift_lower.proofs.OnlyAllocatorsRefuse.{request-fails}
 
 pub returns-in-Err-ask_block : goal.returns-in-Err-ask_block
 returns-in-Err-ask_block g c =

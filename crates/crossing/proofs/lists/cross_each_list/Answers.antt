@@ -4,8 +4,8 @@ use Rattle.canonical_abi.specs.Types.{prim_type, list_type}
 use Rattle.tables.specs.Closed.{prim_of}
 use Rattle.values.specs.Bytes.{AreBytes}
 use Rattle.crossing.specs.Outcome.{Walks}
-use Rattle.crossing.proofs.Ahead.{none-done, each-ahead}
-use Rattle.crossing.proofs.Nodes.{at-node, each-next, each-stopped, each-done}
+use Rattle.crossing.proofs.ElementsCrossedTogether.{none-done, each-ahead}
+use Rattle.crossing.proofs.OneNodeOfAWay.{at-node, each-next, each-stopped, each-done}
 use Rattle.crossing.proofs.lists.cross_each_list.Goals as goal
 
 pub loop-index-init : goal.loop-index-init

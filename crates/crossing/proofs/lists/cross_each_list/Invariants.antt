@@ -2,7 +2,7 @@ use Rattle.std.proofs.Common.{◌+◌, ◌-◌, ◌*◌}
 use Rattle.canonical_abi.specs.Types.{prim_type, list_type}
 use Rattle.tables.specs.Closed.{prim_of}
 use Rattle.crossing.specs.Outcome.{EachWalks}
-use Rattle.crossing.proofs.Parts.{IsBegun}
+use Rattle.crossing.proofs.PartsOfWaysInOrder.{IsBegun}
 use Rattle.crossing.proofs.lists.cross_each_list.Given as goal
 
 abbrev pub invariant-loop-index : goal.invariant-loop-index

@@ -3,14 +3,14 @@ use Rattle.canonical_abi.specs.Types.{prim_type}
 use Rattle.canonical_abi.specs.Layout.{size, align}
 use Rattle.canonical_abi.specs.Storing.{pointer_pair}
 use Rattle.canonical_abi.specs.Trace.{write, EventLeads}
-use Rattle.canonical_abi.proofs.Sizes.{is-alignment}
+use Rattle.canonical_abi.proofs.Layouts.AlignmentsAndSizes.{is-alignment}
 use Rattle.values.specs.Bytes.{AreBytes}
-use Rattle.lift_lower.proofs.Unlimited.{request-fails}
+use Rattle.lift_lower.proofs.OnlyAllocatorsRefuse.{request-fails}
 use Rattle.tables.specs.Closed.{prim_of}
-use Rattle.ranges.proofs.Appends.{prims-visited}
+use Rattle.ranges.proofs.CrossedElementsAppend.{prims-visited}
 use Rattle.crossing.specs.Outcome.{IsCrossed, EachWalks}
-use Rattle.crossing.proofs.Ahead.{crossed-done}
-use Rattle.crossing.proofs.Nodes.{granted-led, list-refused, list-ends}
+use Rattle.crossing.proofs.ElementsCrossedTogether.{crossed-done}
+use Rattle.crossing.proofs.OneNodeOfAWay.{granted-led, list-refused, list-ends}
 use Rattle.crossing.proofs.lists.cross_listed.Goals as goal
 
 pub ask_block-requires : goal.ask_block-requires

@@ -1,5 +1,5 @@
 use Rattle.std.proofs.Common.{arith}
-use Rattle.crossing.proofs.Nodes.{at-node}
+use Rattle.crossing.proofs.OneNodeOfAWay.{at-node}
 use Rattle.crossing.proofs.records.cross_leaf.Goals as goal
 
 pub returns-in-Scalar : goal.returns-in-Scalar

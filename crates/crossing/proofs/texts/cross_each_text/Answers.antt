@@ -3,8 +3,8 @@ use Rattle.std.proofs.lemmas.Result.{err_from_is_err_and}
 use Rattle.canonical_abi.specs.Types.{string_type}
 use Rattle.values.specs.Bytes.{AreBytes}
 use Rattle.crossing.specs.Outcome.{Walks}
-use Rattle.crossing.proofs.Ahead.{none-done, each-ahead}
-use Rattle.crossing.proofs.Nodes.{at-node, each-next, each-stopped, each-done}
+use Rattle.crossing.proofs.ElementsCrossedTogether.{none-done, each-ahead}
+use Rattle.crossing.proofs.OneNodeOfAWay.{at-node, each-next, each-stopped, each-done}
 use Rattle.crossing.proofs.texts.cross_each_text.Goals as goal
 
 pub loop-index-init : goal.loop-index-init

@@ -1,7 +1,7 @@
 use Rattle.std.proofs.Common.{◌+◌, ◌-◌, ◌*◌}
 use Rattle.canonical_abi.specs.Types.{string_type}
 use Rattle.crossing.specs.Outcome.{EachWalks}
-use Rattle.crossing.proofs.Parts.{IsBegun}
+use Rattle.crossing.proofs.PartsOfWaysInOrder.{IsBegun}
 use Rattle.crossing.proofs.texts.cross_each_text.Given as goal
 
 abbrev pub invariant-loop-index : goal.invariant-loop-index

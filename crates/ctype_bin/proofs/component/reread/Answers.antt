@@ -2,7 +2,7 @@ use Rattle.std.proofs.Common.{refl, arith}
 use Rattle.ctype_format.specs.declared.error.Stuck.TheVariants.{End, At, Past}
 use Rattle.ctype_format.specs.File.{component_file}
 use Rattle.ctype_format.specs.View.{parts_file}
-use Rattle.ctype_bin.proofs.Made.{stopped_at, made, no_end, no_past, wrong}
+use Rattle.ctype_bin.proofs.WrittenComponentsAreReadBack.{stopped_at, made, no_end, no_past, wrong}
 use Rattle.ctype_bin.proofs.component.reread.Goals.{in-Ok, in-Err-Memory, in-Err-Stuck-At}
 use Rattle.ctype_bin.proofs.component.reread.Goals as goal
 

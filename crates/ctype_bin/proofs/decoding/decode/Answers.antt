@@ -1,6 +1,6 @@
 use Rattle.std.proofs.Common.{arith}
 use Rattle.ctype_bin.specs.FileView.{raw_component_view}
-use Rattle.ctype_bin.proofs.Decoded.{all_spelt, only_those, all_faulty}
+use Rattle.ctype_bin.proofs.DecodesByProductions.{all_spelt, only_those, all_faulty}
 use Rattle.ctype_bin.proofs.decoding.decode.Goals as goal
 
 pub returns-clause-spelt : goal.returns-clause-spelt

@@ -1,7 +1,7 @@
 use Rattle.std.proofs.Common.{◌≡◌, true, false, Err, ap, sym, ◌∙◌}
 use Rattle.ctype_format.specs.declared.error.BinError.TheVariants.{NoMemory}
 use Rattle.ctype_bin.specs.FileView.{raw_component_view}
-use Rattle.ctype_bin.proofs.Cut.{of_known, of_read, some_read}
+use Rattle.ctype_bin.proofs.BytesPastTheLimit.{of_known, of_read, some_read}
 use Rattle.ctype_bin.proofs.decoding.decode_from.Goals as goal
 
 pub returns-in-Ok-clause-decoded : goal.returns-in-Ok-clause-decoded

@@ -1,6 +1,6 @@
 use Rattle.std.proofs.lemmas.Result.{err_from_is_err_and}
 use Rattle.ctype_format.specs.Grammar.{case}
-use Rattle.ctype_bin.proofs.Loop.{goes_on, ends, is_done}
+use Rattle.ctype_bin.proofs.ReadsExactly.ItemLoops.{goes_on, ends, is_done}
 use Rattle.ctype_bin.proofs.defined.cases_of.Goals as goal
 
 pub returns-in_err-case : goal.returns-in_err-case

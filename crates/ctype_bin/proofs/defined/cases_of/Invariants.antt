@@ -1,7 +1,7 @@
 use Rattle.std.proofs.Common.{◌≡◌, ◌-◌}
 use Rattle.atoms.specs.Production.{times}
 use Rattle.ctype_format.specs.Grammar.{case}
-use Rattle.ctype_bin.proofs.Loop.{with_front}
+use Rattle.ctype_bin.proofs.ReadsExactly.ItemLoops.{with_front}
 use Rattle.ctype_bin.proofs.defined.cases_of.Given as goal
 
 abbrev pub invariant-loop : goal.invariant-loop

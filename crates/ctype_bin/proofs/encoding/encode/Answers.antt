@@ -1,7 +1,7 @@
 use Rattle.std.proofs.Common.{◌∙◌, ◌++◌, ap, List, ℕ}
 use Rattle.std.proofs.Math.Logic.{∥∥₁_map}
 use Rattle.ctype_bin.specs.FileView.{raw_component_view}
-use Rattle.ctype_bin.proofs.Decoded.{written_bytes}
+use Rattle.ctype_bin.proofs.DecodesByProductions.{written_bytes}
 use Rattle.ctype_bin.proofs.encoding.encode.Goals as goal
 
 pub returns-in-Ok-extend_from_slice-clause-ok : goal.returns-in-Ok-extend_from_slice-clause-ok

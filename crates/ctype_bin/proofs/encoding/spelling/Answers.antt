@@ -1,4 +1,4 @@
-use Rattle.ctype_format.proofs.Rows.{file_is, file_formed}
+use Rattle.ctype_format.proofs.WrittenDeclarationsAsLists.{file_is, file_formed}
 use Rattle.ctype_bin.proofs.encoding.spelling.Goals as goal
 
 pub returns-clause-bytes : goal.returns-clause-bytes

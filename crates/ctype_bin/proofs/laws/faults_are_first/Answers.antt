@@ -1,4 +1,4 @@
-use Rattle.ctype_bin.proofs.Decoded.{only_fault, spelt_faultless}
+use Rattle.ctype_bin.proofs.DecodesByProductions.{only_fault, spelt_faultless}
 use Rattle.ctype_bin.proofs.laws.faults_are_first.Goals as goal
 
 pub returns-clause-one : goal.returns-clause-one

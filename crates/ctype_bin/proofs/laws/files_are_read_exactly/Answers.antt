@@ -1,4 +1,4 @@
-use Rattle.ctype_bin.proofs.File.{exact-file}
+use Rattle.ctype_bin.proofs.ReadsExactly.Files.{exact-file}
 use Rattle.ctype_bin.proofs.laws.files_are_read_exactly.Goals as goal
 
 pub returns : goal.returns

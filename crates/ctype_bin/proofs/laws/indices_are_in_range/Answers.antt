@@ -1,6 +1,6 @@
 use Rattle.std.proofs.Math.Logic.{∥∥₁_elim}
 use Rattle.ctype_bin.specs.FileView.{raw_component_view}
-use Rattle.ctype_bin.proofs.InRange.{file_in_range, prop_file}
+use Rattle.ctype_bin.proofs.SpeltIndicesAreInRange.{file_in_range, prop_file}
 use Rattle.ctype_bin.proofs.laws.indices_are_in_range.Goals as goal
 
 pub returns-clause-files : goal.returns-clause-files

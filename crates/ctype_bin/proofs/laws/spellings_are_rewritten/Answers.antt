@@ -1,5 +1,5 @@
-use Rattle.ctype_bin.proofs.RewrittenDecls.{written-type}
-use Rattle.ctype_bin.proofs.RewrittenFile.{file_rewritten}
+use Rattle.ctype_bin.proofs.RewrittenIsSpelt.Declarations.{written-type}
+use Rattle.ctype_bin.proofs.RewrittenIsSpelt.Files.{file_rewritten}
 use Rattle.ctype_bin.proofs.laws.spellings_are_rewritten.Goals as goal
 
 pub returns-clause-types : goal.returns-clause-types

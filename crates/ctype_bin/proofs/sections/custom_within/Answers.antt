@@ -1,6 +1,6 @@
 use Rattle.std.proofs.Common.{arith, length}
-use Rattle.ctype_bin.proofs.Exact.{stays_small, IsBytes-take}
-use Rattle.ctype_bin.proofs.File.{exact-content}
+use Rattle.ctype_bin.proofs.ReadsExactly.PlainProductions.{stays_small, IsBytes-take}
+use Rattle.ctype_bin.proofs.ReadsExactly.Files.{exact-content}
 use Rattle.ctype_bin.proofs.sections.custom_within.Goals as goal
 
 pub in_section-requires : goal.in_section-requires

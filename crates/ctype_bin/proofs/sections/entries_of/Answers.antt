@@ -3,7 +3,7 @@ use Rattle.std.proofs.lemmas.Result.{err_from_is_err_and}
 use Rattle.std.proofs.lemmas.List.{map_push}
 use Rattle.ctype_format.specs.File.{entry_of_type}
 use Rattle.ctype_format.specs.View.{type_view}
-use Rattle.ctype_bin.proofs.Runs.{goes_on, ends, is_done}
+use Rattle.ctype_bin.proofs.ReadsExactly.ItemLoopsWithState.{goes_on, ends, is_done}
 use Rattle.ctype_bin.proofs.sections.entries_of.Goals as goal
 
 pub returns-in_err-ty : goal.returns-in_err-ty

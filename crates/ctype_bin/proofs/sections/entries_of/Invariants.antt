@@ -3,7 +3,7 @@ use Rattle.atoms.specs.Production.{run}
 use Rattle.ctype_format.specs.Grammar.{IsScopeWithin, new_scope}
 use Rattle.ctype_format.specs.File.{entry_of_type}
 use Rattle.ctype_format.specs.View.{type_view}
-use Rattle.ctype_bin.proofs.Runs.{with_front}
+use Rattle.ctype_bin.proofs.ReadsExactly.ItemLoopsWithState.{with_front}
 use Rattle.ctype_bin.proofs.sections.entries_of.Given as goal
 
 abbrev pub invariant-loop : goal.invariant-loop

@@ -3,7 +3,7 @@ use Rattle.std.proofs.lemmas.Result.{err_from_is_err_and}
 use Rattle.std.proofs.lemmas.List.{map_push}
 use Rattle.ctype_format.specs.File.{exported}
 use Rattle.ctype_format.specs.View.{export_view}
-use Rattle.ctype_bin.proofs.Loop.{goes_on, ends, is_done}
+use Rattle.ctype_bin.proofs.ReadsExactly.ItemLoops.{goes_on, ends, is_done}
 use Rattle.ctype_bin.proofs.sections.exports_of.Goals as goal
 
 pub returns-in_err-export : goal.returns-in_err-export

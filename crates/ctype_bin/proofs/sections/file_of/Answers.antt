@@ -1,6 +1,6 @@
 use Rattle.std.proofs.Common.{arith}
 use Rattle.ctype_format.specs.View.{parts_file}
-use Rattle.ctype_bin.proofs.Decoded.{spellable}
+use Rattle.ctype_bin.proofs.DecodesByProductions.{spellable}
 use Rattle.ctype_bin.proofs.sections.file_of.Goals as goal
 
 pub of-requires : goal.of-requires

@@ -1,6 +1,6 @@
 use Rattle.std.proofs.lemmas.Result.{err_from_is_err_and}
 use Rattle.ctype_format.specs.File.{max_length}
-use Rattle.ctype_bin.proofs.Heads.{head_skips, head_found, head_stops, none_found}
+use Rattle.ctype_bin.proofs.ReadsExactly.CustomSections.{head_skips, head_found, head_stops, none_found}
 use Rattle.ctype_bin.proofs.sections.section_of.Goals as goal
 
 pub returns-in_err-size : goal.returns-in_err-size

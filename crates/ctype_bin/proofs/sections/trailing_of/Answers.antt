@@ -1,6 +1,6 @@
 use Rattle.std.proofs.lemmas.Result.{err_from_is_err_and}
 use Rattle.ctype_format.specs.File.{max_length}
-use Rattle.ctype_bin.proofs.Heads.{trailing_ends, trailing_skips, trailing_stops, none_trails}
+use Rattle.ctype_bin.proofs.ReadsExactly.CustomSections.{trailing_ends, trailing_skips, trailing_stops, none_trails}
 use Rattle.ctype_bin.proofs.sections.trailing_of.Goals as goal
 
 pub returns-in_err-more : goal.returns-in_err-more

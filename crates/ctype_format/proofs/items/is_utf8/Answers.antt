@@ -1,5 +1,5 @@
 use Rattle.std.proofs.Common.{◌∙◌}
-use Rattle.ctype_format.proofs.FullNames.{utf8_tested}
+use Rattle.ctype_format.proofs.FullNamesAreTested.{utf8_tested}
 use Rattle.ctype_format.proofs.items.is_utf8.Goals as goal
 
 pub returns : goal.returns

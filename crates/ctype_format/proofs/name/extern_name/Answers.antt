@@ -1,5 +1,5 @@
 use Rattle.std.proofs.Common.{sym, ◌∙◌}
-use Rattle.ctype_format.proofs.FullNames.{extern_full, extern_none}
+use Rattle.ctype_format.proofs.FullNamesAreTested.{extern_full, extern_none}
 use Rattle.ctype_format.proofs.name.extern_name.Goals as goal
 
 pub returns-in-Ok : goal.returns-in-Ok

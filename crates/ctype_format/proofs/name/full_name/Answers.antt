@@ -1,5 +1,5 @@
 use Rattle.std.proofs.Common.{◌≡◌, sym, rules}
-use Rattle.ctype_format.proofs.FullNames.{full_name_passes, refused}
+use Rattle.ctype_format.proofs.FullNamesAreTested.{full_name_passes, refused}
 use Rattle.atoms.specs.FullNameView.{name_parts_of}
 use Rattle.ctype_format.proofs.name.full_name.Goals as goal
 

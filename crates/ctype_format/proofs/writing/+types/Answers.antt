@@ -4,7 +4,7 @@ use Rattle.ctype_format.specs.declared.raw.RawType.{RawType}
 use Rattle.ctype_format.specs.View.{type_view, decl_view}
 use Rattle.ctype_format.specs.Writing.{counted, type_bytes, decl_bytes}
 use Rattle.ctype_format.specs.Formed.{FormedType}
-use Rattle.ctype_format.proofs.Rows.{bytes-Component, bytes-Instance, formed-Component, formed-Instance}
+use Rattle.ctype_format.proofs.WrittenDeclarationsAsLists.{bytes-Component, bytes-Instance, formed-Component, formed-Instance}
 use Rattle.ctype_format.proofs.writing.+types.Goals as goal
 
 pub put_type-returns-in_ok-push-in-Component-clause-bytes : goal.put_type-returns-in_ok-push-in-Component-clause-bytes

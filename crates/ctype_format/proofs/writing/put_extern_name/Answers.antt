@@ -8,7 +8,7 @@ use Rattle.atoms.specs.declared.full_name.FullName.{FullName}
 use Rattle.ctype_format.specs.Names.{name_view}
 use Rattle.ctype_format.specs.declared.name.ExternName.{ExternName}
 use Rattle.ctype_format.specs.Formed.{FormedName}
-use Rattle.ctype_format.proofs.FullNames.{label_passes, extern_passes, full_name_passes}
+use Rattle.ctype_format.proofs.FullNamesAreTested.{label_passes, extern_passes, full_name_passes}
 use Rattle.ctype_format.proofs.writing.put_extern_name.Goals as goal
 
 pub returns-in-Label-clause-formed : goal.returns-in-Label-clause-formed

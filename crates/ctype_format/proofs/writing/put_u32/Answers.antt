@@ -1,5 +1,5 @@
 use Rattle.std.proofs.Common.{arith}
-use Rattle.ctype_format.proofs.Least.{appended}
+use Rattle.ctype_format.proofs.ShortestSpellings.{appended}
 use Rattle.ctype_format.proofs.writing.put_u32.Goals as goal
 
 pub returns-in-Ok : goal.returns-in-Ok

@@ -5,7 +5,7 @@ use Rattle.canonical_abi.specs.declared.flat.Flat.{Flat}
 use Rattle.tables.specs.Closed.{function_type}
 use Rattle.tables.specs.Standard.{HasStandardTypes}
 use Rattle.example_host_halves.specs.Promise.{LeavesCall, RunsOnBytes, PostsOnBytes}
-use Rattle.example_host_halves.proofs.Promises.{not-entered, not-run, not-returned, not-finished, finished}
+use Rattle.example_host_halves.proofs.HostStepsKeepPromise.{not-entered, not-run, not-returned, not-finished, finished}
 use Rattle.example_host_halves.proofs.call.call.Goals as goal
 
 pub returns-in_err-handed : goal.returns-in_err-handed

@@ -1,6 +1,6 @@
 -- The result's types are those of the function's type.
 use Rattle.std.proofs.Common.{arith}
-use Rattle.host_calls.proofs.Areas.{all-of-result, small-result}
+use Rattle.host_calls.proofs.ReturnAreaIsLive.{all-of-result, small-result}
 use Rattle.host_calls.proofs.area.area_len.Goals as goal
 
 pub kinds_within-requires-clause-inside : goal.kinds_within-requires-clause-inside

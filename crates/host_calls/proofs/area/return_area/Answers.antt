@@ -3,8 +3,8 @@ use Rattle.std.proofs.Common.{ap₂, refl}
 use Rattle.canonical_abi.specs.Layout.{lifted_signature}
 use Rattle.tables.specs.Closed.{function_type}
 use Rattle.memory.specs.declared.block.Block.{Block}
-use Rattle.adapter.proofs.Signatures.{function-stands}
-use Rattle.adapter.proofs.Crossings.{area-is}
+use Rattle.adapter.proofs.FunctionsInLayouts.{function-stands}
+use Rattle.adapter.proofs.CallFromItsWays.{area-is}
 use Rattle.host_calls.proofs.area.return_area.Goals as goal
 
 pub lifted_count-count-requires : goal.lifted_count-count-requires

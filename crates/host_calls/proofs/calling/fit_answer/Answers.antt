@@ -1,5 +1,5 @@
 -- A function has a row in the layouts.
-use Rattle.adapter.proofs.Signatures.{function-stands}
+use Rattle.adapter.proofs.FunctionsInLayouts.{function-stands}
 use Rattle.host_calls.proofs.calling.fit_answer.Goals as goal
 
 pub lifted_result-kind-requires : goal.lifted_result-kind-requires

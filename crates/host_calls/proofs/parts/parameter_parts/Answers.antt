@@ -4,10 +4,10 @@ use Rattle.std.proofs.lemmas.List.{take_all, drop-set-lt}
 use Rattle.canonical_abi.specs.Types.{record_fields}
 use Rattle.canonical_abi.specs.Layout.{field_extents, field_places}
 use Rattle.tables.specs.Closed.{function_type}
-use Rattle.adapter.proofs.Signatures.{params-row, params-inside}
+use Rattle.adapter.proofs.FunctionsInLayouts.{params-row, params-inside}
 use Rattle.host_calls.specs.Parts.{extent_of_part}
 use Rattle.host_calls.specs.declared.error.CallError.TheVariants.{NoRoom}
-use Rattle.host_calls.proofs.Fields.{params-count, places-count, told-more}
+use Rattle.host_calls.proofs.FieldsAsLists.{params-count, places-count, told-more}
 use Rattle.host_calls.proofs.parts.parameter_parts.Goals as goal
 
 pub returns-then-out-count : goal.returns-then-out-count

@@ -4,7 +4,7 @@ use Rattle.std.specs.Option.{option_map}
 use Rattle.canonical_abi.specs.Types.{record_fields}
 use Rattle.canonical_abi.specs.Layout.{Extent, extent_of, field_extents}
 use Rattle.tables.specs.Closed.{closed_type}
-use Rattle.host_calls.proofs.Fields.{extents-at, stands}
+use Rattle.host_calls.proofs.FieldsAsLists.{extents-at, stands}
 use Rattle.host_calls.proofs.parts.part_at.Goals as goal
 
 pub unreachable-requires : goal.unreachable-requires

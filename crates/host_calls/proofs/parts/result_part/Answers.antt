@@ -4,10 +4,10 @@ use Rattle.std.specs.Option.{option_map}
 use Rattle.canonical_abi.specs.Types.{result_fields}
 use Rattle.canonical_abi.specs.Layout.{Extent}
 use Rattle.tables.specs.Closed.{closed_type, function_type}
-use Rattle.adapter.proofs.Signatures.{result-inside, result-is}
+use Rattle.adapter.proofs.FunctionsInLayouts.{result-inside, result-is}
 use Rattle.values.proofs.TypesExtents.{has-row}
 use Rattle.host_calls.specs.Parts.{TellsParts}
-use Rattle.host_calls.proofs.Fields.{not-empty, one-told}
+use Rattle.host_calls.proofs.FieldsAsLists.{not-empty, one-told}
 use Rattle.host_calls.proofs.parts.result_part.Goals as goal
 
 pub size-requires : goal.size-requires

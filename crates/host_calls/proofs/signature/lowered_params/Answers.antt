@@ -1,5 +1,5 @@
 -- A function has a row in the layouts.
-use Rattle.adapter.proofs.Signatures.{function-stands}
+use Rattle.adapter.proofs.FunctionsInLayouts.{function-stands}
 use Rattle.host_calls.proofs.signature.lowered_params.Goals as goal
 
 pub lowered-requires : goal.lowered-requires

@@ -1,6 +1,6 @@
 use Rattle.std.proofs.Common.{arith}
 use Rattle.std.proofs.lemmas.Grind.{common_steps}
-use Rattle.layout.proofs.Joins.{join_more-set, join_more-push}
+use Rattle.layout.proofs.JoinsOfFlatKinds.{join_more-set, join_more-push}
 use Rattle.layout.proofs.kinds.joined.Goals as goal
 use Rattle.layout.proofs.kinds.joined.Goals.{then-i-len, else-i-len}
 

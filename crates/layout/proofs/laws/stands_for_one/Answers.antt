@@ -1,4 +1,4 @@
-use Rattle.layout.proofs.Followed.{stands-for-one}
+use Rattle.layout.proofs.StandsForOne.{stands-for-one}
 use Rattle.layout.proofs.laws.stands_for_one.Goals as goal
 
 pub returns : goal.returns

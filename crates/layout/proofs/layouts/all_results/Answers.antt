@@ -1,5 +1,5 @@
 use Rattle.std.proofs.Common.{length, ap, arith}
-use Rattle.layout.proofs.Table.{next-result, length-table}
+use Rattle.layout.proofs.RowsSoFar.{next-result, length-table}
 use Rattle.layout.proofs.layouts.all_results.Goals as goal
 
 pub result_kinds-requires-clause-below : goal.result_kinds-requires-clause-below

@@ -7,8 +7,8 @@ use Rattle.tables.specs.Closed.{closed_type}
 use Rattle.tables.specs.declared.tables.Definition.{Definition}
 use Rattle.layout.specs.Work.{laid_in, laid_work}
 use Rattle.layout.specs.Parts.{parts_from}
-use Rattle.layout.proofs.Table.{length-rows, next-below, refuses-first, all-within, all-rows}
-use Rattle.layout.proofs.Laid.{laid-none, laid-more, length-laid}
+use Rattle.layout.proofs.RowsSoFar.{length-rows, next-below, refuses-first, all-within, all-rows}
+use Rattle.layout.proofs.LaidSoFar.{laid-none, laid-more, length-laid}
 use Rattle.layout.proofs.layouts.lay_all.Goals as goal
 
 pub loop-definition-init : goal.loop-definition-init

@@ -1,6 +1,6 @@
 use Rattle.std.proofs.Common.{◌≡◌, ◌+◌, take}
 use Rattle.layout.specs.Work.{laid_work, saturated}
-use Rattle.layout.proofs.Laid.{LaidSoFar}
+use Rattle.layout.proofs.LaidSoFar.{LaidSoFar}
 use Rattle.layout.proofs.layouts.lay_all.Given as goal
 
 abbrev pub invariant-loop-definition : goal.invariant-loop-definition

@@ -1,5 +1,5 @@
 use Rattle.tables.specs.declared.tables.Case.{Case}
-use Rattle.layout.proofs.Steps.{count-payloads, count-none}
+use Rattle.layout.proofs.StepsSumOverDefinitions.{count-payloads, count-none}
 use Rattle.layout.proofs.rows.lay_kind.Goals as goal
 
 pub returns-in-Variant-clause-steps : goal.returns-in-Variant-clause-steps

@@ -1,4 +1,4 @@
-use Rattle.layout.proofs.Laid.{record-laid}
+use Rattle.layout.proofs.LaidSoFar.{record-laid}
 use Rattle.layout.proofs.rows.lay_members.Goals as goal
 
 pub returns-clause-parts : goal.returns-clause-parts

@@ -1,4 +1,4 @@
-use Rattle.layout.proofs.Laid.{variant-laid}
+use Rattle.layout.proofs.LaidSoFar.{variant-laid}
 use Rattle.layout.proofs.rows.lay_variant.Goals as goal
 
 pub returns-clause-parts : goal.returns-clause-parts

@@ -1,5 +1,5 @@
 use Rattle.std.proofs.Common.{inr, arith}
-use Rattle.lift_lower.proofs.Scripting.{granted}
+use Rattle.lift_lower.proofs.ScriptPartsInOrder.{granted}
 use Rattle.lift_lower.proofs.guest_blocks.ask_block.Goals as goal
 
 pub returns-in_default-clause-fault : goal.returns-in_default-clause-fault

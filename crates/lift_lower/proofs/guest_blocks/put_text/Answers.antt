@@ -1,5 +1,5 @@
 use Rattle.std.proofs.lemmas.Result.{err_from_is_err_and}
-use Rattle.lift_lower.proofs.Scripting.{asked, text-refused, text-put}
+use Rattle.lift_lower.proofs.ScriptPartsInOrder.{asked, text-refused, text-put}
 use Rattle.lift_lower.proofs.guest_blocks.put_text.Goals as goal
 
 pub returns-in_err-start-clause-fault : goal.returns-in_err-start-clause-fault

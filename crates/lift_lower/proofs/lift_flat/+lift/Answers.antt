@@ -8,11 +8,11 @@ use Rattle.tables.specs.Closed.{closed_type}
 use Rattle.values.specs.Members.{members_fields}
 use Rattle.values.specs.Val.{value_of}
 use Rattle.values.proofs.TypesExtents.{member-depth, case-depth}
-use Rattle.lift_lower.proofs.FlatSteps.{lifting-more, lifting-fault, lifting-done, kinds-next, lifts-none, lifts-plain, lifts-payload, payload-kinds, rest-numbers, rest-length}
-use Rattle.lift_lower.proofs.Loadings.{fails-pass}
-use Rattle.values.proofs.Fields.{nth_field-some}
-use Rattle.lift_lower.proofs.Steps.{plain-none}
-use Rattle.values.proofs.Views.{value_of-None, value_of-Some}
+use Rattle.lift_lower.proofs.LiftingStepByStep.{lifting-more, lifting-fault, lifting-done, kinds-next, lifts-none, lifts-plain, lifts-payload, payload-kinds, rest-numbers, rest-length}
+use Rattle.lift_lower.proofs.ListsAreLoaded.{fails-pass}
+use Rattle.values.proofs.FieldsFromAPlace.{nth_field-some}
+use Rattle.lift_lower.proofs.ReadingStepByStep.{plain-none}
+use Rattle.values.proofs.ValueOfEachVariant.{value_of-None, value_of-Some}
 use Rattle.lift_lower.proofs.lift_flat.+lift.Goals as goal
 
 pub lift_at-returns-in-Primitive-clause-value : goal.lift_at-returns-in-Primitive-clause-value

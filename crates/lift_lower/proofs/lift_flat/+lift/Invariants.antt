@@ -5,8 +5,8 @@ use Rattle.canonical_abi.specs.Reading.{number_of, lifting_fields}
 use Rattle.tables.specs.Closed.{closed_type}
 use Rattle.values.specs.Members.{members_fields}
 use Rattle.values.specs.Val.{value_of}
-use Rattle.lift_lower.proofs.Steps.{with_front}
-use Rattle.values.proofs.Fields.{fields_from}
+use Rattle.lift_lower.proofs.ReadingStepByStep.{with_front}
+use Rattle.values.proofs.FieldsFromAPlace.{fields_from}
 use Rattle.lift_lower.proofs.lift_flat.+lift.Given as goal
 
 abbrev pub decreases-lift_at : goal.decreases-lift_at

@@ -1,11 +1,11 @@
 use Rattle.std.proofs.Common.{map, ℕ, ◌<◌, ◌^◌, length, get_or}
 use Rattle.canonical_abi.specs.Layout.{max_flat_params}
-use Rattle.canonical_abi.proofs.Tells.{denoting-tells}
+use Rattle.canonical_abi.proofs.ReadValues.ReadsExactly.{denoting-tells}
 use Rattle.values.specs.Members.{fields_of_types}
 use Rattle.values.specs.Val.{value_of}
-use Rattle.lift_lower.proofs.Denoting.{lift-fails}
+use Rattle.lift_lower.proofs.DenotingWholeLists.{lift-fails}
 use Rattle.lift_lower.proofs.lifting.lift_params.Goals as goal
-use Rattle.lift_lower.proofs.Denoted.{denotes-typed}
+use Rattle.lift_lower.proofs.HeldValuesAreTyped.{denotes-typed}
 
 pub returns-in-Ok-clause-values : goal.returns-in-Ok-clause-values
 returns-in-Ok-clause-values g c =

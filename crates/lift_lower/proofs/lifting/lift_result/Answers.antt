@@ -4,14 +4,14 @@ use Rattle.canonical_abi.specs.Flat.{Denotes, DenotesFault}
 use Rattle.canonical_abi.specs.Layout.{max_flat_results}
 use Rattle.canonical_abi.specs.Reading.{denoting}
 use Rattle.canonical_abi.specs.declared.trap.Step.TheVariants.{Take}
-use Rattle.canonical_abi.proofs.Tells.{denoting-tells}
+use Rattle.canonical_abi.proofs.ReadValues.ReadsExactly.{denoting-tells}
 use Rattle.std.specs.Option.{option_map}
 use Rattle.tables.specs.Closed.{closed_type}
 use Rattle.lift_lower.specs.NoValue.{AnswerStands}
 use Rattle.values.specs.Val.{value_of}
 use Rattle.values.specs.declared.val.Val.{Val}
-use Rattle.lift_lower.proofs.Denoted.{denotes-typed}
-use Rattle.lift_lower.proofs.Loadings.{fails-stand}
+use Rattle.lift_lower.proofs.HeldValuesAreTyped.{denotes-typed}
+use Rattle.lift_lower.proofs.ListsAreLoaded.{fails-stand}
 use Rattle.std.specs.Prelude.{option_to_list}
 use Rattle.lift_lower.proofs.lifting.lift_result.Goals as goal
 

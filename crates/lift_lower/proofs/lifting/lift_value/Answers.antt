@@ -2,8 +2,8 @@ use Rattle.std.proofs.Common.{◌∙◌, sym}
 use Rattle.canonical_abi.specs.Types.{field, no_field}
 use Rattle.canonical_abi.specs.Layout.{max_flat_results}
 use Rattle.tables.specs.Closed.{closed_type}
-use Rattle.lift_lower.proofs.Alone.{gives-flat, gives-spilled}
-use Rattle.lift_lower.proofs.Denoting.{denotes-flat-not, denotes-spilled-not}
+use Rattle.lift_lower.proofs.OneFieldRecords.{gives-flat, gives-spilled}
+use Rattle.lift_lower.proofs.DenotingWholeLists.{denotes-flat-not, denotes-spilled-not}
 use Rattle.lift_lower.proofs.lifting.lift_value.Goals as goal
 
 pub returns-then-not-are_kinds-clause-value : goal.returns-then-not-are_kinds-clause-value

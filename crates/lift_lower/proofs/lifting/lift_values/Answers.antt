@@ -1,7 +1,7 @@
 use Rattle.std.proofs.Common.{◌∙◌, sym}
 use Rattle.values.specs.Members.{fields_of_types}
-use Rattle.lift_lower.proofs.Denoting.{denotes-flat, denotes-flat-not, denotes-spilled-not}
-use Rattle.values.proofs.Fields.{count-types}
+use Rattle.lift_lower.proofs.DenotingWholeLists.{denotes-flat, denotes-flat-not, denotes-spilled-not}
+use Rattle.values.proofs.FieldsFromAPlace.{count-types}
 use Rattle.lift_lower.proofs.lifting.lift_values.Goals as goal
 
 pub returns-then-not-are_kinds-clause-value : goal.returns-then-not-are_kinds-clause-value

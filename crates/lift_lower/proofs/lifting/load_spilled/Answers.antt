@@ -1,7 +1,7 @@
 use Rattle.std.proofs.Common.{arith}
 use Rattle.canonical_abi.specs.Types.{record_type}
 use Rattle.values.specs.Members.{fields_of_types}
-use Rattle.values.proofs.Fields.{count-types}
+use Rattle.values.proofs.FieldsFromAPlace.{count-types}
 use Rattle.values.proofs.TypesExtents.{align-pos}
 use Rattle.lift_lower.proofs.lifting.load_spilled.Goals as goal
 

@@ -10,10 +10,10 @@ use Rattle.tables.specs.Closed.{closed_type}
 use Rattle.values.specs.Members.{members_fields}
 use Rattle.values.specs.Val.{value_of}
 use Rattle.values.proofs.TypesExtents.{member-depth, case-depth, payload-place, payload-fits}
-use Rattle.lift_lower.proofs.Loadings.{fails-pass, listed, list-opened, read-list}
-use Rattle.lift_lower.proofs.Steps.{each-more, each-fault, fields-more, fields-fault, fields-done, case-none, case-plain, case-payload, plain-none}
-use Rattle.values.proofs.Fields.{fields-end, fields-inside, nth_field-some}
-use Rattle.values.proofs.Views.{value_of-List, value_of-None, value_of-Some}
+use Rattle.lift_lower.proofs.ListsAreLoaded.{fails-pass, listed, list-opened, read-list}
+use Rattle.lift_lower.proofs.ReadingStepByStep.{each-more, each-fault, fields-more, fields-fault, fields-done, case-none, case-plain, case-payload, plain-none}
+use Rattle.values.proofs.FieldsFromAPlace.{fields-end, fields-inside, nth_field-some}
+use Rattle.values.proofs.ValueOfEachVariant.{value_of-List, value_of-None, value_of-Some}
 use Rattle.lift_lower.proofs.loading.+load.Goals as goal
 
 pub load_at-returns-in_err-items-in-List-clause-value : goal.load_at-returns-in_err-items-in-List-clause-value

@@ -4,8 +4,8 @@ use Rattle.canonical_abi.specs.Reading.{reading, each_at, reading_fields}
 use Rattle.tables.specs.Closed.{closed_type}
 use Rattle.values.specs.Members.{members_fields}
 use Rattle.values.specs.Val.{value_of}
-use Rattle.lift_lower.proofs.Steps.{with_front}
-use Rattle.values.proofs.Fields.{fields_from, fields_end}
+use Rattle.lift_lower.proofs.ReadingStepByStep.{with_front}
+use Rattle.values.proofs.FieldsFromAPlace.{fields_from, fields_end}
 use Rattle.lift_lower.proofs.loading.+load.Given as goal
 
 abbrev pub decreases-load_at : goal.decreases-load_at

@@ -1,5 +1,5 @@
 use Rattle.std.proofs.Common.{refl}
-use Rattle.lift_lower.proofs.Texts.{block-stands, block-fault}
+use Rattle.lift_lower.proofs.TextsAndBlocksStand.{block-stands, block-fault}
 use Rattle.lift_lower.proofs.loading.check_block.Goals as goal
 
 pub returns-in-Ok-clause-value : goal.returns-in-Ok-clause-value

@@ -5,9 +5,9 @@ use Rattle.tables.specs.Closed.{closed_type}
 use Rattle.lift_lower.specs.Loading.{reading_block}
 use Rattle.lift_lower.specs.NoValue.{FailsAs}
 use Rattle.values.specs.Val.{value_of}
-use Rattle.lift_lower.proofs.Loadings.{block-tells, fails-stand}
+use Rattle.lift_lower.proofs.ListsAreLoaded.{block-tells, fails-stand}
 use Rattle.lift_lower.proofs.loading.load.Goals as goal
-use Rattle.lift_lower.proofs.Denoted.{holds-typed}
+use Rattle.lift_lower.proofs.HeldValuesAreTyped.{holds-typed}
 
 pub returns-in-Ok-clause-value : goal.returns-in-Ok-clause-value
 returns-in-Ok-clause-value g c =

@@ -1,6 +1,6 @@
 use Rattle.canonical_abi.specs.Values.{string_value}
-use Rattle.values.proofs.Views.{value_of-String}
-use Rattle.lift_lower.proofs.Texts.{text-stands, text-fault}
+use Rattle.values.proofs.ValueOfEachVariant.{value_of-String}
+use Rattle.lift_lower.proofs.TextsAndBlocksStand.{text-stands, text-fault}
 use Rattle.lift_lower.proofs.loading.load_text.Goals as goal
 
 pub returns-in_ok-from_str-in-Ok : goal.returns-in_ok-from_str-in-Ok

@@ -11,12 +11,12 @@ use Rattle.values.specs.Members.{members_fields}
 use Rattle.values.specs.Scalar.{prim_in, value_in}
 use Rattle.values.specs.Val.{value_of}
 use Rattle.values.proofs.TypesExtents.{member-depth, case-depth}
-use Rattle.lift_lower.proofs.FlatSteps.{kinds-next, payload-kinds}
-use Rattle.lift_lower.proofs.Lowerings.{lowering-begun, lowering-next, lowering-ended, lowering-done, lowering-room, joined-told, behind-first, record-lowered, record-lowering-ended, case-lowered, plain-case-lowered, case-lowering-ended, scalar-lowered, flags-lowered}
-use Rattle.values.proofs.Results.{if-err-as, on-ok-as}
-use Rattle.values.proofs.Fields.{nth_field-some}
-use Rattle.values.proofs.Typings.{not-list, is-list, is-record, type-of-scalar, type-of-text, type-of-record, type-of-flags, is-plain, is-payload, no-payload, no-case, typed-count, have-first, have-rest, field-standard, case-standard}
-use Rattle.values.proofs.Views.{value_of-List, value_of-Record, value_of-String, value_of-Flags}
+use Rattle.lift_lower.proofs.LiftingStepByStep.{kinds-next, payload-kinds}
+use Rattle.lift_lower.proofs.LoweredFromParts.{lowering-begun, lowering-next, lowering-ended, lowering-done, lowering-room, joined-told, behind-first, record-lowered, record-lowering-ended, case-lowered, plain-case-lowered, case-lowering-ended, scalar-lowered, flags-lowered}
+use Rattle.values.proofs.WeakerAnswers.{if-err-as, on-ok-as}
+use Rattle.values.proofs.FieldsFromAPlace.{nth_field-some}
+use Rattle.values.proofs.ValuesOfTypesByShape.{not-list, is-list, is-record, type-of-scalar, type-of-text, type-of-record, type-of-flags, is-plain, is-payload, no-payload, no-case, typed-count, have-first, have-rest, field-standard, case-standard}
+use Rattle.values.proofs.ValueOfEachVariant.{value_of-List, value_of-Record, value_of-String, value_of-Flags}
 use Rattle.lift_lower.proofs.lower_flat.+lower.Goals as goal
 
 pub lower_at-lower_text-requires : goal.lower_at-lower_text-requires

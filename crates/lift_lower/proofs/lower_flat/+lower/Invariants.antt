@@ -5,8 +5,8 @@ use Rattle.canonical_abi.specs.Layout.{field_kinds}
 use Rattle.tables.specs.Closed.{closed_type}
 use Rattle.values.specs.Members.{members_fields}
 use Rattle.values.specs.Val.{value_of}
-use Rattle.values.proofs.Fields.{fields_from}
-use Rattle.lift_lower.proofs.Lowerings.{AreLowering}
+use Rattle.values.proofs.FieldsFromAPlace.{fields_from}
+use Rattle.lift_lower.proofs.LoweredFromParts.{AreLowering}
 use Rattle.lift_lower.proofs.lower_flat.+lower.Given as goal
 
 abbrev pub decreases-lower_at : goal.decreases-lower_at

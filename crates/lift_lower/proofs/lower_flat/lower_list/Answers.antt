@@ -3,7 +3,7 @@ use Rattle.std.proofs.lemmas.List.{length-map}
 use Rattle.std.proofs.lemmas.Result.{err_from_is_err_and}
 use Rattle.tables.specs.Closed.{closed_type}
 use Rattle.values.specs.Val.{value_of}
-use Rattle.lift_lower.proofs.Lowerings.{list-lowered, list-lowering-refused, list-lowering-ended}
+use Rattle.lift_lower.proofs.LoweredFromParts.{list-lowered, list-lowering-refused, list-lowering-ended}
 use Rattle.lift_lower.proofs.lower_flat.lower_list.Goals as goal
 
 pub returns-in_err-start-clause-fault : goal.returns-in_err-start-clause-fault

@@ -1,6 +1,6 @@
 use Rattle.std.proofs.lemmas.Result.{err_from_is_err_and}
 use Rattle.std.proofs.lemmas.Str.{is_utf8-from_IsUtf8}
-use Rattle.lift_lower.proofs.Lowerings.{text-lowered, text-lowering-ended}
+use Rattle.lift_lower.proofs.LoweredFromParts.{text-lowered, text-lowering-ended}
 use Rattle.lift_lower.proofs.lower_flat.lower_text.Goals as goal
 
 pub returns-in_err-start-clause-fault : goal.returns-in_err-start-clause-fault

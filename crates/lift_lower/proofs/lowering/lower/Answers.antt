@@ -1,4 +1,4 @@
-use Rattle.values.proofs.Known.{all-known-inside, all-known-standard}
+use Rattle.values.proofs.PackageTypesAreStandard.{all-known-inside, all-known-standard}
 use Rattle.lift_lower.proofs.lowering.lower.Goals as goal
 
 pub lower_params-requires-clause-inside : goal.lower_params-requires-clause-inside

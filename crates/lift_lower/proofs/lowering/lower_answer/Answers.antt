@@ -1,6 +1,6 @@
 use Rattle.std.proofs.Common.{arith}
-use Rattle.values.proofs.Known.{all-known-inside, all-known-standard}
-use Rattle.lift_lower.proofs.Placings.{passes-few}
+use Rattle.values.proofs.PackageTypesAreStandard.{all-known-inside, all-known-standard}
+use Rattle.lift_lower.proofs.CallerSideOfTypedCalls.{passes-few}
 use Rattle.lift_lower.proofs.lowering.lower_answer.Goals as goal
 
 pub lower_params-requires-clause-inside : goal.lower_params-requires-clause-inside

@@ -1,6 +1,6 @@
-use Rattle.canonical_abi.proofs.Sizes.{is-alignment}
+use Rattle.canonical_abi.proofs.Layouts.AlignmentsAndSizes.{is-alignment}
 use Rattle.tables.specs.Closed.{closed_type}
-use Rattle.lift_lower.proofs.Placings.{area-asked, area-in, area-fails}
+use Rattle.lift_lower.proofs.CallerSideOfTypedCalls.{area-asked, area-in, area-fails}
 use Rattle.lift_lower.proofs.placing.ask_area.Goals as goal
 
 pub ask_block-requires : goal.ask_block-requires

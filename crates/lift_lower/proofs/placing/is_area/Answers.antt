@@ -3,7 +3,7 @@ use Rattle.canonical_abi.specs.Layout.{align, size}
 use Rattle.canonical_abi.specs.Memory.{BlockHolds}
 use Rattle.canonical_abi.specs.Types.{ClosedType, no_field, field, record_type}
 use Rattle.tables.specs.Closed.{closed_type}
-use Rattle.lift_lower.proofs.Alone.{alone-align, alone-size}
+use Rattle.lift_lower.proofs.OneFieldRecords.{alone-align, alone-size}
 use Rattle.lift_lower.proofs.placing.is_area.Goals as goal
 
 -- the block of a type is that of a record with it alone

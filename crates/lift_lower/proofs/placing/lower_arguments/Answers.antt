@@ -1,10 +1,10 @@
 use Rattle.std.proofs.Common.{map, sym, ap, subst, arith}
 use Rattle.canonical_abi.specs.Types.{record_fields, AreStandardFields}
 use Rattle.canonical_abi.specs.Values.{HaveTypes}
-use Rattle.tables.proofs.Standards.{function-standard}
+use Rattle.tables.proofs.HasStandardTypes.{function-standard}
 use Rattle.values.specs.Val.{value_of}
-use Rattle.values.proofs.Fields.{closed-row}
-use Rattle.lift_lower.proofs.Placings.{is-record, passes-few, is-lowered, lower-fails}
+use Rattle.values.proofs.FieldsFromAPlace.{closed-row}
+use Rattle.lift_lower.proofs.CallerSideOfTypedCalls.{is-record, passes-few, is-lowered, lower-fails}
 use Rattle.lift_lower.proofs.placing.lower_arguments.Goals as goal
 
 pub lower_record-requires-clause-record : goal.lower_record-requires-clause-record

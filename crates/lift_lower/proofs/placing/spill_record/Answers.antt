@@ -3,11 +3,11 @@ use Rattle.std.proofs.lemmas.Result.{err_from_is_err_and}
 use Rattle.canonical_abi.specs.Types.{record_type, record_fields}
 use Rattle.canonical_abi.specs.Layout.{align, size}
 use Rattle.canonical_abi.specs.declared.flat.Flat.TheVariants.{I32}
-use Rattle.canonical_abi.proofs.Sizes.{is-alignment}
+use Rattle.canonical_abi.proofs.Layouts.AlignmentsAndSizes.{is-alignment}
 use Rattle.tables.specs.Closed.{closed_type}
 use Rattle.values.specs.Val.{value_of}
-use Rattle.lift_lower.proofs.Lowerings.{spilled-refused, spilled-ended, spilled-done}
-use Rattle.lift_lower.proofs.Scripting.{asked}
+use Rattle.lift_lower.proofs.LoweredFromParts.{spilled-refused, spilled-ended, spilled-done}
+use Rattle.lift_lower.proofs.ScriptPartsInOrder.{asked}
 use Rattle.lift_lower.proofs.placing.spill_record.Goals as goal
 
 pub ask_block-requires : goal.ask_block-requires

@@ -10,7 +10,7 @@ use Rattle.lift_lower.specs.Placing.{area_at}
 use Rattle.values.specs.Val.{value_of}
 use Rattle.tables.specs.declared.tables.ValType.{ValType}
 use Rattle.values.specs.declared.val.Val.{Val}
-use Rattle.lift_lower.proofs.Placings.{value-block, value-taken, fault-taken}
+use Rattle.lift_lower.proofs.CallerSideOfTypedCalls.{value-block, value-taken, fault-taken}
 use Rattle.std.specs.Prelude.{option_to_list}
 use Rattle.lift_lower.proofs.placing.take_result.Goals as goal
 

@@ -12,12 +12,12 @@ use Rattle.values.specs.Members.{members_fields}
 use Rattle.values.specs.Scalar.{prim_in, value_in}
 use Rattle.values.specs.Val.{value_of}
 use Rattle.values.proofs.TypesExtents.{member-depth, case-depth, payload-place, payload-fits, fields-fit}
-use Rattle.lift_lower.proofs.Scripting.{begun, begun-as, begun-done, done-as, ended-as}
-use Rattle.values.proofs.Results.{if-err-as, on-ok-as}
-use Rattle.values.proofs.Fields.{fields-inside, fields-end, nth_field-some}
-use Rattle.lift_lower.proofs.Storings.{ItemsFrom, items-first, items-none, item-inside, item-done, item-ended, FieldsFrom, stored-none, field-done, field-ended, list-done, list-ended, list-refused, record-done, record-ended, plain-stored, payload-stored, case-done, case-ended, plain-done, scalar-done, flags-done}
-use Rattle.values.proofs.Typings.{not-list, not-flags, is-list, is-record, type-of-scalar, type-of-text, type-of-record, typed-flags, is-plain, is-payload, no-payload, no-case, typed-count, all-at, have-first, have-rest, field-standard, case-standard}
-use Rattle.values.proofs.Views.{value_of-List, value_of-Record, value_of-String, value_of-Flags}
+use Rattle.lift_lower.proofs.ScriptPartsInOrder.{begun, begun-as, begun-done, done-as, ended-as}
+use Rattle.values.proofs.WeakerAnswers.{if-err-as, on-ok-as}
+use Rattle.values.proofs.FieldsFromAPlace.{fields-inside, fields-end, nth_field-some}
+use Rattle.lift_lower.proofs.StoredFromParts.{ItemsFrom, items-first, items-none, item-inside, item-done, item-ended, FieldsFrom, stored-none, field-done, field-ended, list-done, list-ended, list-refused, record-done, record-ended, plain-stored, payload-stored, case-done, case-ended, plain-done, scalar-done, flags-done}
+use Rattle.values.proofs.ValuesOfTypesByShape.{not-list, not-flags, is-list, is-record, type-of-scalar, type-of-text, type-of-record, typed-flags, is-plain, is-payload, no-payload, no-case, typed-count, all-at, have-first, have-rest, field-standard, case-standard}
+use Rattle.values.proofs.ValueOfEachVariant.{value_of-List, value_of-Record, value_of-String, value_of-Flags}
 use Rattle.lift_lower.proofs.storing.+store.Goals as goal
 
 pub store_at-store_text-requires-clause-room : goal.store_at-store_text-requires-clause-room

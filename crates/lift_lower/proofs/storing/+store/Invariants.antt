@@ -7,8 +7,8 @@ use Rattle.tables.specs.Closed.{closed_type}
 use Rattle.values.specs.Members.{members_fields}
 use Rattle.lift_lower.specs.Scripts.{IsBegun}
 use Rattle.values.specs.Val.{value_of}
-use Rattle.values.proofs.Fields.{fields_from, fields_end}
-use Rattle.lift_lower.proofs.Storings.{ItemsFrom, FieldsFrom}
+use Rattle.values.proofs.FieldsFromAPlace.{fields_from, fields_end}
+use Rattle.lift_lower.proofs.StoredFromParts.{ItemsFrom, FieldsFrom}
 use Rattle.lift_lower.proofs.storing.+store.Given as goal
 
 abbrev pub decreases-store_at : goal.decreases-store_at

@@ -1,11 +1,11 @@
 use Rattle.std.proofs.Common.{◌≡◌, ◌*◌, ◌<◌, ◌≤◌, ◌^◌, min, ap, ◌∙◌, arith}
 use Rattle.canonical_abi.specs.Layout.{size}
-use Rattle.canonical_abi.proofs.Sizes.{is-alignment, one-size, le-times}
+use Rattle.canonical_abi.proofs.Layouts.AlignmentsAndSizes.{is-alignment, one-size, le-times}
 use Rattle.tables.specs.Closed.{closed_type}
 use Rattle.canonical_abi.specs.Trace.{RequestEnds}
 use Rattle.lift_lower.specs.Scripts.{HasEnded, AsksBlock}
-use Rattle.lift_lower.proofs.Scripting.{asked, saturated-ends}
-use Rattle.values.proofs.Results.{if-err-as, if-ok-as}
+use Rattle.lift_lower.proofs.ScriptPartsInOrder.{asked, saturated-ends}
+use Rattle.values.proofs.WeakerAnswers.{if-err-as, if-ok-as}
 use Rattle.lift_lower.proofs.storing.ask_elements.Goals as goal
 
 pub ask_block-requires : goal.ask_block-requires

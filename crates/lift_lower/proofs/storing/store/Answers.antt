@@ -1,4 +1,4 @@
-use Rattle.values.proofs.Known.{known-standard}
+use Rattle.values.proofs.PackageTypesAreStandard.{known-standard}
 use Rattle.lift_lower.proofs.storing.store.Goals as goal
 
 pub store_at-requires-clause-standard : goal.store_at-requires-clause-standard

@@ -1,6 +1,6 @@
 use Rattle.std.proofs.lemmas.Result.{err_from_is_err_and}
 use Rattle.std.proofs.lemmas.Str.{is_utf8-from_IsUtf8}
-use Rattle.lift_lower.proofs.Storings.{text-done, text-ended}
+use Rattle.lift_lower.proofs.StoredFromParts.{text-done, text-ended}
 use Rattle.lift_lower.proofs.storing.store_text.Goals as goal
 
 pub returns-in_err-start-clause-fault : goal.returns-in_err-start-clause-fault

@@ -1,5 +1,5 @@
 use Rattle.std.proofs.Common.{◌*◌, ◌^◌, ◌%◌, refl}
-use Rattle.max_tree.proofs.Maxima.{all_zeros}
+use Rattle.max_tree.proofs.MaximaTellTheRow.{all_zeros}
 use Rattle.max_tree.proofs.MaxTree.new.Goals as goal
 
 pub returns : goal.returns

@@ -1,5 +1,5 @@
 use Rattle.std.proofs.Math.Logic.{∥∥₁_map}
-use Rattle.wit_component.proofs.Candidates.{reads-as}
+use Rattle.wit_component.proofs.CandidateIsThePackage.{reads-as}
 use Rattle.opening.proofs.laws.binaries_are_followed.Goals as goal
 
 pub returns : goal.returns

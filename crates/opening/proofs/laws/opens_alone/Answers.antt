@@ -1,4 +1,4 @@
-use Rattle.opening.proofs.Alone.{opens-alone}
+use Rattle.opening.proofs.OpensAlone.{opens-alone}
 use Rattle.opening.proofs.laws.opens_alone.Goals as goal
 
 pub returns : goal.returns

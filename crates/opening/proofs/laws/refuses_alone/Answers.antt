@@ -1,4 +1,4 @@
-use Rattle.opening.proofs.Alone.{refuses-alone}
+use Rattle.opening.proofs.OpensAlone.{refuses-alone}
 use Rattle.opening.proofs.laws.refuses_alone.Goals as goal
 
 pub returns : goal.returns

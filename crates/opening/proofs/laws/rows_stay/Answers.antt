@@ -1,4 +1,4 @@
-use Rattle.opening.proofs.Stays.{rows-stay}
+use Rattle.opening.proofs.RowsStay.{rows-stay}
 use Rattle.opening.proofs.laws.rows_stay.Goals as goal
 
 pub returns : goal.returns

@@ -1,5 +1,5 @@
 use Rattle.std.proofs.Common.{subst}
-use Rattle.package_sets.proofs.SameTables.{same-tables}
+use Rattle.package_sets.proofs.SamePackagesAreOne.{same-tables}
 use Rattle.opening.specs.Opening.{IsOpened, IsPrintedAs, IsWrittenAs}
 use Rattle.opening.proofs.laws.same_packages_are_one.Goals as goal
 

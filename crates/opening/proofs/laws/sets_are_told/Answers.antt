@@ -1,4 +1,4 @@
-use Rattle.opening.proofs.ToldSet.{set-is-told}
+use Rattle.opening.proofs.SetIsTold.{set-is-told}
 use Rattle.opening.proofs.laws.sets_are_told.Goals as goal
 
 pub returns : goal.returns

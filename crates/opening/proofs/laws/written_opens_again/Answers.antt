@@ -1,4 +1,4 @@
-use Rattle.opening.proofs.Reopened.{opens-written, opens-printed}
+use Rattle.opening.proofs.WrittenOpensAgain.{opens-written, opens-printed}
 use Rattle.opening.proofs.laws.written_opens_again.Goals as goal
 
 pub returns-clause-binary : goal.returns-clause-binary

@@ -1,5 +1,5 @@
 -- A package that stands alone is the last of a set of one.
-use Rattle.opening.proofs.Reopened.{alone}
+use Rattle.opening.proofs.WrittenOpensAgain.{alone}
 use Rattle.opening.proofs.package.open.Goals as goal
 
 pub returns-clause-alone : goal.returns-clause-alone

@@ -1,6 +1,6 @@
 -- A binary's package is added where it is decoded and stands in the set, and makes one set.
 use Rattle.std.proofs.lemmas.Result.{err_from_is_err_and}
-use Rattle.opening.proofs.Members.{adds-binary, component-added, binary-refuses, wants}
+use Rattle.opening.proofs.OneInputAdded.{adds-binary, component-added, binary-refuses, wants}
 use Rattle.opening.proofs.set.add_binary.Goals as goal
 
 pub returns-in_err-add_raw_with_bytes-clause-err : goal.returns-in_err-add_raw_with_bytes-clause-err

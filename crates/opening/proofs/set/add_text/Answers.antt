@@ -3,8 +3,8 @@ use Rattle.std.proofs.Common.{sym, subst}
 use Rattle.std.proofs.lemmas.Result.{err_from_is_err_and}
 use Rattle.wit_tokens.specs.View.{file_view}
 use Rattle.wit_text.specs.Reading.{IsRead, FaultyText}
-use Rattle.opening.proofs.Members.{adds-text, of-member, tree-added, text-refuses, no-text, not-read, not-long, wants}
-use Rattle.opening.proofs.PrintedTexts.{read-tree, only-memory}
+use Rattle.opening.proofs.OneInputAdded.{adds-text, of-member, tree-added, text-refuses, no-text, not-read, not-long, wants}
+use Rattle.opening.proofs.LastPackageAsText.{read-tree, only-memory}
 use Rattle.opening.proofs.set.add_text.Goals as goal
 
 pub add_ast-requires : goal.add_ast-requires

@@ -8,7 +8,7 @@ use Rattle.tables.specs.Same.{IsSamePackage}
 use Rattle.tables.specs.declared.tables.Resolve.{Resolve}
 use Rattle.opening.specs.Opening.{IsOpened}
 use Rattle.opening.specs.Sets.{all_bytes, IsSetOf}
-use Rattle.opening.proofs.Behind.{first-refused, same-laid-out, is-in-tower, count-packages, few-packages}
+use Rattle.opening.proofs.OpensBehindPackages.{first-refused, same-laid-out, is-in-tower, count-packages, few-packages}
 use Rattle.opening.proofs.set.open_set.Goals as goal
 
 pub returns-in_err-set-clause-err : goal.returns-in_err-set-clause-err

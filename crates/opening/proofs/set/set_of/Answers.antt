@@ -5,7 +5,7 @@ use Rattle.std.proofs.lemmas.List.{take_all}
 use Rattle.std.proofs.lemmas.Option.{slice_get-get_or}
 use Rattle.std.proofs.lemmas.Result.{err_from_is_err_and}
 use Rattle.opening.specs.Sets.{all_bytes, IsSetOf}
-use Rattle.opening.proofs.Sets.{IsOneSet, none-made, one-more, next-added, input-next, inputs-parted}
+use Rattle.opening.proofs.SetsAreOne.{IsOneSet, none-made, one-more, next-added, input-next, inputs-parted}
 use Rattle.opening.proofs.set.set_of.Goals as goal
 
 pub loop-bytes-init : goal.loop-bytes-init

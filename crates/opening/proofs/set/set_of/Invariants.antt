@@ -1,6 +1,6 @@
 use Rattle.std.proofs.Common.{take}
 use Rattle.opening.specs.Sets.{all_bytes}
-use Rattle.opening.proofs.Sets.{IsOneSet}
+use Rattle.opening.proofs.SetsAreOne.{IsOneSet}
 use Rattle.opening.proofs.set.set_of.Given as goal
 
 abbrev pub invariant-loop-bytes : goal.invariant-loop-bytes

@@ -1,6 +1,6 @@
 use Rattle.std.proofs.Common.{◌≡◌, List, length, get_or, ap, sym, ◌∙◌, arith}
 use Rattle.tables.specs.declared.tables.Interface.{Interface}
-use Rattle.tables.proofs.Earlier.{grouped-at}
+use Rattle.tables.proofs.NamesEarlierTypes.{grouped-at}
 use Rattle.overview.proofs.layouts.laid_out.Goals as goal
 
 pub full_name-requires : goal.full_name-requires

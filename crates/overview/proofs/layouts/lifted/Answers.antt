@@ -1,4 +1,4 @@
-use Rattle.overview.proofs.Places.{function-below}
+use Rattle.overview.proofs.InterfacesInTheLayoutTable.{function-below}
 use Rattle.overview.proofs.layouts.lifted.Goals as goal
 
 pub lifted-requires : goal.lifted-requires

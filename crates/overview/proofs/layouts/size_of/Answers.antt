@@ -1,4 +1,4 @@
-use Rattle.overview.proofs.Places.{type-below}
+use Rattle.overview.proofs.InterfacesInTheLayoutTable.{type-below}
 use Rattle.overview.proofs.layouts.size_of.Goals as goal
 
 pub size-requires : goal.size-requires

@@ -4,11 +4,11 @@ use Rattle.std.proofs.lemmas.Option.{slice_get_past}
 use Rattle.package_form.specs.Closed.{is_same_package}
 use Rattle.package_names.specs.Indexed.{key_parts}
 use Rattle.package_sets.specs.Joining.{are_same_packages}
-use Rattle.package_sets.proofs.Lists.{item-get}
+use Rattle.package_sets.proofs.GrowingLists.{item-get}
 use Rattle.tables.specs.PackageNames.{PackageParts}
 use Rattle.package_adding.specs.ImportNames.{import_names}
 use Rattle.package_adding.specs.Asked.{nothing, also}
-use Rattle.package_adding.proofs.Asking.{asked-as, asked-none, asked-one, on-both}
+use Rattle.package_adding.proofs.NamesAskedOfSets.{asked-as, asked-none, asked-one, on-both}
 use Rattle.package_adding.proofs.imported.ask_import.Goals as goal
 
 pub returns-in-Some : goal.returns-in-Some

@@ -1,11 +1,11 @@
 use Rattle.std.proofs.Common.{◌≡◌, ◌<◌, ◌∙◌, ◌+◌, ◌&&◌, ◌||◌, Bool, false, List, ℕ, length, get_or, take, ap, sym, subst, arith}
-use Rattle.package_form.proofs.Meeting.{all-taken}
+use Rattle.package_form.proofs.NamesMetOneByOne.{all-taken}
 use Rattle.package_sets.specs.Joining.{imports}
 use Rattle.tables.specs.declared.tables.Interface.{Interface}
 use Rattle.package_adding.specs.ImportNames.{import_names, marked_names}
 use Rattle.package_adding.specs.Asked.{also, AreAsked}
-use Rattle.package_adding.proofs.BehindImports.{any-more}
-use Rattle.package_adding.proofs.Asking.{asked-as, asked-then, asked-else, or-assoc}
+use Rattle.package_adding.proofs.OwnPartNamesOfSet.{any-more}
+use Rattle.package_adding.proofs.NamesAskedOfSets.{asked-as, asked-then, asked-else, or-assoc}
 use Rattle.package_adding.proofs.imported.ask_imports.Goals as goal
 use Rattle.package_adding.proofs.imported.ask_imports.Goals.{then-reached-place+in_ok-ask_import, else-reached-place}
 

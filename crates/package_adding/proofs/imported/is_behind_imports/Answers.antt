@@ -1,6 +1,6 @@
 use Rattle.std.proofs.Common.{List, Bool, subst}
 use Rattle.package_sets.specs.Imports.{IsImportsOf}
-use Rattle.package_adding.proofs.BehindImports.{decides-behind}
+use Rattle.package_adding.proofs.OwnPartNamesOfSet.{decides-behind}
 use Rattle.package_adding.proofs.imported.is_behind_imports.Goals as goal
 
 pub returns : goal.returns

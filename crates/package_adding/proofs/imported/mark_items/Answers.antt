@@ -2,8 +2,8 @@ use Rattle.std.proofs.Common.{◌+◌, ◌++◌, List, flat_map, take, ap, sym, 
 use Rattle.tables.specs.declared.tables.WorldItem.{WorldItem}
 use Rattle.package_form.specs.Reached.{reached_by_kind, reached_by_item}
 use Rattle.package_form.specs.Marks.{AreMarked}
-use Rattle.package_form.proofs.Marks.{marked-one-at, marked-none-at}
-use Rattle.package_form.proofs.Meeting.{all-taken}
+use Rattle.package_form.proofs.MarksOneByOne.{marked-one-at, marked-none-at}
+use Rattle.package_form.proofs.NamesMetOneByOne.{all-taken}
 use Rattle.package_adding.proofs.imported.mark_items.Goals as goal
 use Rattle.package_adding.proofs.imported.mark_items.Goals.{in-Interface, in_default}
 

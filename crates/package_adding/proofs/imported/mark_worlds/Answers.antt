@@ -3,8 +3,8 @@ use Rattle.tables.specs.declared.tables.World.{World}
 use Rattle.tables.specs.declared.tables.WorldItem.{WorldItem}
 use Rattle.package_form.specs.Reached.{reached_by_item, reached_by_world}
 use Rattle.package_form.specs.Marks.{AreMarked}
-use Rattle.package_form.proofs.Marks.{marked-more}
-use Rattle.package_form.proofs.Meeting.{all-taken}
+use Rattle.package_form.proofs.MarksOneByOne.{marked-more}
+use Rattle.package_form.proofs.NamesMetOneByOne.{all-taken}
 use Rattle.package_adding.proofs.imported.mark_worlds.Goals as goal
 
 pub loop-world-preserved : goal.loop-world-preserved

@@ -1,12 +1,12 @@
 use Rattle.std.proofs.Common.{◌≡◌, ◌∙◌, ℕ, [], Bool, true, List, replicate, ap, subst}
-use Rattle.tree_meaning.proofs.Trees.{ok-map}
+use Rattle.tree_meaning.proofs.PackageOfAFile.{ok-map}
 use Rattle.package_sets.specs.Joining.{imports}
 use Rattle.package_adding.specs.ImportNames.{marked_names}
-use Rattle.package_adding.proofs.Asking.{nothing-asked}
+use Rattle.package_adding.proofs.NamesAskedOfSets.{nothing-asked}
 use Rattle.package_sets.specs.NamedIn.{NamesIn}
 use Rattle.package_adding.specs.Asked.{nothing, also, AreAsked}
-use Rattle.package_adding.proofs.BehindImports.{imports-tell}
-use Rattle.package_adding.proofs.Marks.{also-marks}
+use Rattle.package_adding.proofs.OwnPartNamesOfSet.{imports-tell}
+use Rattle.package_adding.proofs.MarksOfNamesAreOne.{also-marks}
 use Rattle.package_adding.proofs.imported.named_in.Goals as goal
 
 pub returns : goal.returns

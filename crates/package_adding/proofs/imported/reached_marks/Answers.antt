@@ -4,7 +4,7 @@ use Rattle.package_form.specs.Reached.{reached_by_row, reached_by_world}
 use Rattle.tables.specs.declared.tables.Definition.{Definition}
 use Rattle.tables.specs.declared.tables.World.{World}
 use Rattle.package_sets.specs.NamedIn.{own_rows}
-use Rattle.package_adding.proofs.BehindImports.{none-marked}
+use Rattle.package_adding.proofs.OwnPartNamesOfSet.{none-marked}
 use Rattle.package_adding.proofs.imported.reached_marks.Goals as goal
 
 pub returns : goal.returns

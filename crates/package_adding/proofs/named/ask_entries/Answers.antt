@@ -1,10 +1,10 @@
 use Rattle.std.proofs.Common.{List, map, take}
 use Rattle.wit_tokens.specs.View.{item_view}
 use Rattle.wit_tokens.specs.declared.wit_syntax.ast.Item.{Item}
-use Rattle.package_form.proofs.Meeting.{all-taken}
+use Rattle.package_form.proofs.NamesMetOneByOne.{all-taken}
 use Rattle.package_adding.specs.Named.{file_entry_names, any_names}
 use Rattle.package_adding.specs.Asked.{also, AreAsked}
-use Rattle.package_adding.proofs.Asking.{asked-none, asked-more}
+use Rattle.package_adding.proofs.NamesAskedOfSets.{asked-none, asked-more}
 use Rattle.package_adding.proofs.named.ask_entries.Goals as goal
 
 pub loop-item-init : goal.loop-item-init

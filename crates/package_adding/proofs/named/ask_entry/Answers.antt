@@ -5,7 +5,7 @@ use Rattle.wit_tokens.specs.declared.wit_syntax.ast.Item.{Item}
 use Rattle.wit_tokens.specs.declared.wit_syntax.ast.WorldItem.{WorldItem}
 use Rattle.package_adding.specs.Named.{entry_names_interface, world_entry_names, file_entry_names, any_names}
 use Rattle.package_adding.specs.Asked.{also, AreAsked}
-use Rattle.package_adding.proofs.Asking.{on-map}
+use Rattle.package_adding.proofs.NamesAskedOfSets.{on-map}
 use Rattle.package_adding.proofs.named.ask_entry.Goals as goal
 
 pub returns-in-Interface : goal.returns-in-Interface

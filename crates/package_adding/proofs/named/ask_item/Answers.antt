@@ -5,7 +5,7 @@ use Rattle.wit_tokens.specs.declared.wit_syntax.ast.InterfaceItem.{InterfaceItem
 use Rattle.wit_tokens.specs.declared.wit_syntax.ast.Use.{Use}
 use Rattle.package_adding.specs.Named.{entry_names_interface}
 use Rattle.package_adding.specs.Asked.{also, AreAsked}
-use Rattle.package_adding.proofs.Asking.{on-map}
+use Rattle.package_adding.proofs.NamesAskedOfSets.{on-map}
 use Rattle.package_adding.proofs.named.ask_item.Goals as goal
 
 pub returns-in-Use : goal.returns-in-Use

@@ -8,7 +8,7 @@ use Rattle.tables.specs.PackageNames.{PackageParts}
 use Rattle.tree_meaning.proofs.PathNames.{parts-are}
 use Rattle.package_adding.specs.Named.{path_names}
 use Rattle.package_adding.specs.Asked.{also, AreAsked}
-use Rattle.package_adding.proofs.Asking.{asked-none, asked-one, on-both}
+use Rattle.package_adding.proofs.NamesAskedOfSets.{asked-none, asked-one, on-both}
 use Rattle.package_adding.proofs.named.ask_path.Goals as goal
 
 pub returns-in-Foreign : goal.returns-in-Foreign

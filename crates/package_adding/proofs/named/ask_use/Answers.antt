@@ -3,7 +3,7 @@ use Rattle.std.proofs.lemmas.Bool.Decides.{nat_tests}
 use Rattle.std.proofs.lemmas.List.{length-map}
 use Rattle.wit_tokens.specs.View.{path_view, used_view}
 use Rattle.package_adding.specs.Named.{path_names}
-use Rattle.package_adding.proofs.Asking.{asked-then, on-map}
+use Rattle.package_adding.proofs.NamesAskedOfSets.{asked-then, on-map}
 use Rattle.package_adding.proofs.named.ask_use.Goals as goal
 
 pub returns-else-is_empty : goal.returns-else-is_empty

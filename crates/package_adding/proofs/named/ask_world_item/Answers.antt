@@ -3,7 +3,7 @@ use Rattle.wit_tokens.specs.View.{world_kind_view}
 use Rattle.wit_tokens.specs.declared.wit_syntax.ast.WorldItemKind.{WorldItemKind}
 use Rattle.package_adding.specs.Named.{world_entry_names}
 use Rattle.package_adding.specs.Asked.{also, AreAsked}
-use Rattle.package_adding.proofs.Asking.{on-map}
+use Rattle.package_adding.proofs.NamesAskedOfSets.{on-map}
 use Rattle.package_adding.proofs.named.ask_world_item.Goals as goal
 
 pub returns-in-Interface : goal.returns-in-Interface

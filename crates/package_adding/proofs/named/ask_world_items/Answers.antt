@@ -1,10 +1,10 @@
 use Rattle.std.proofs.Common.{List, map, take}
 use Rattle.wit_tokens.specs.View.{world_entry_view}
 use Rattle.wit_tokens.specs.declared.wit_syntax.ast.WorldItem.{WorldItem}
-use Rattle.package_form.proofs.Meeting.{all-taken}
+use Rattle.package_form.proofs.NamesMetOneByOne.{all-taken}
 use Rattle.package_adding.specs.Named.{world_entry_names, any_names}
 use Rattle.package_adding.specs.Asked.{also, AreAsked}
-use Rattle.package_adding.proofs.Asking.{asked-none, asked-more}
+use Rattle.package_adding.proofs.NamesAskedOfSets.{asked-none, asked-more}
 use Rattle.package_adding.proofs.named.ask_world_items.Goals as goal
 
 pub loop-item-init : goal.loop-item-init

@@ -1,12 +1,12 @@
 use Rattle.std.proofs.Common.{◌≡◌, ◌∙◌, ℕ, [], true, List, map, replicate, ap, subst}
 use Rattle.wit_tokens.specs.View.{item_view, file_view}
 use Rattle.wit_tokens.specs.declared.wit_syntax.ast.Item.{Item}
-use Rattle.tree_meaning.proofs.Trees.{ok-map}
+use Rattle.tree_meaning.proofs.PackageOfAFile.{ok-map}
 use Rattle.package_adding.specs.Named.{NamesInterface, file_entry_names, any_names}
-use Rattle.package_adding.proofs.Asking.{nothing-asked}
+use Rattle.package_adding.proofs.NamesAskedOfSets.{nothing-asked}
 use Rattle.package_adding.specs.Asked.{nothing, also, AreAsked}
-use Rattle.package_adding.proofs.Marks.{also-marks}
-use Rattle.package_adding.proofs.Naming.{file-names}
+use Rattle.package_adding.proofs.MarksOfNamesAreOne.{also-marks}
+use Rattle.package_adding.proofs.TestsTellFileNames.{file-names}
 use Rattle.package_adding.proofs.named.named_by_paths.Goals as goal
 
 pub returns : goal.returns

@@ -7,7 +7,7 @@ use Rattle.tables.specs.Same.{IsSamePackage}
 use Rattle.tables.specs.declared.tables.Resolve.{Resolve}
 use Rattle.wit_tokens.specs.View.{file_view}
 use Rattle.package_adding.specs.Alone.{IsFileAlone}
-use Rattle.package_adding.proofs.Alone.{file-alone, file-writable, file-added, file-refused}
+use Rattle.package_adding.proofs.PackagesAddedAlone.{file-alone, file-writable, file-added, file-refused}
 use Rattle.package_adding.proofs.single.from_ast.Goals as goal
 
 pub returns-clause-ok : goal.returns-clause-ok

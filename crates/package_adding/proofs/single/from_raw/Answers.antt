@@ -6,7 +6,7 @@ use Rattle.package_text.specs.Writable.{package_labels}
 use Rattle.tables.specs.Same.{IsSamePackage}
 use Rattle.tables.specs.declared.tables.Resolve.{Resolve}
 use Rattle.package_adding.specs.Alone.{IsComponentAlone}
-use Rattle.package_adding.proofs.Alone.{component-alone, component-writable, component-added, component-refused}
+use Rattle.package_adding.proofs.PackagesAddedAlone.{component-alone, component-writable, component-added, component-refused}
 use Rattle.package_adding.proofs.single.from_raw.Goals as goal
 
 pub returns-clause-ok : goal.returns-clause-ok

@@ -3,13 +3,13 @@ use Rattle.std.proofs.Common.{List, All, subst}
 use Rattle.std.proofs.Math.Logic.{∥∥₁_elim, ∥∥₁_map₂}
 use Rattle.std.proofs.lemmas.Result.{err_from_is_err_and}
 use Rattle.package_form.specs.Laws.{IsLabelled}
-use Rattle.package_sets.proofs.SameTables.{same-is-prop}
+use Rattle.package_sets.proofs.SamePackagesAreOne.{same-is-prop}
 use Rattle.tables.specs.declared.tables.Interface.{Interface}
 use Rattle.wit_tokens.specs.View.{file_view}
-use Rattle.package_adding.proofs.Adding.{cause-stands, in-form, distinct-scopes}
-use Rattle.package_adding.proofs.ImportTables.{tree-is-behind}
-use Rattle.package_adding.proofs.Importing.{are-imports}
-use Rattle.package_adding.proofs.Only.{one-imports, has-closed}
+use Rattle.package_adding.proofs.ClosedTableOfFileIsAdded.{cause-stands, in-form, distinct-scopes}
+use Rattle.package_adding.proofs.BeginningsAreImports.{tree-is-behind}
+use Rattle.package_adding.proofs.ImportsFromSets.{are-imports}
+use Rattle.package_adding.proofs.OneSetOrOutOfMemory.{one-imports, has-closed}
 use Rattle.package_adding.proofs.tree.closed_over.Goals as goal
 
 pub closed_table-requires : goal.closed_table-requires

@@ -1,6 +1,6 @@
 -- The component is that of the package's table.
 use Rattle.std.proofs.Math.Logic.{∥∥₁_map}
-use Rattle.package_text.proofs.Formed.{form-told}
+use Rattle.package_text.proofs.TableRows.FormOfSingleRows.{form-told}
 use Rattle.package_adding.proofs.written.to_raw.Goals as goal
 
 pub component_with_bytes-requires : goal.component_with_bytes-requires

@@ -2,8 +2,8 @@ use Rattle.std.proofs.Common.{◌+◌, ◌++◌, List, flat_map, take, ap, sym, 
 use Rattle.tables.specs.declared.tables.Definition.{Definition}
 use Rattle.package_form.specs.Reached.{reached_by_row}
 use Rattle.package_form.specs.Marks.{AreMarked}
-use Rattle.package_form.proofs.Marks.{marked-one, marked-none}
-use Rattle.package_form.proofs.Meeting.{all-taken}
+use Rattle.package_form.proofs.MarksOneByOne.{marked-one, marked-none}
+use Rattle.package_form.proofs.NamesMetOneByOne.{all-taken}
 use Rattle.package_form.proofs.closed.mark_uses.Goals as goal
 use Rattle.package_form.proofs.closed.mark_uses.Goals.{in-Some, in_default}
 

@@ -1,4 +1,4 @@
-use Rattle.package_form.proofs.RowEntries.{worlds-pass}
+use Rattle.package_form.proofs.RowsTakeTypeEntries.{worlds-pass}
 use Rattle.package_form.proofs.entries.passes_entries.Goals as goal
 
 pub returns-then-total-gt-MAX_ENTRIES : goal.returns-then-total-gt-MAX_ENTRIES

@@ -1,4 +1,4 @@
-use Rattle.package_form.proofs.RowEntries.{passes}
+use Rattle.package_form.proofs.RowsTakeTypeEntries.{passes}
 use Rattle.package_form.proofs.entries.passes_rows.Goals as goal
 
 pub returns-then-total-gt-MAX_ENTRIES : goal.returns-then-total-gt-MAX_ENTRIES

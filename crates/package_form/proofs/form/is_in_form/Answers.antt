@@ -1,4 +1,4 @@
-use Rattle.package_form.proofs.Forms.{tested}
+use Rattle.package_form.proofs.PackageFormIsTested.{tested}
 use Rattle.package_form.proofs.form.is_in_form.Goals as goal
 
 pub returns : goal.returns

@@ -1,6 +1,6 @@
 use Rattle.std.proofs.Common.{sym, ◌∙◌}
-use Rattle.package_form.proofs.RowEntries.{within-entries, few-rows}
-use Rattle.package_form.proofs.OneRow.{worlds-parted}
+use Rattle.package_form.proofs.RowsTakeTypeEntries.{within-entries, few-rows}
+use Rattle.package_form.proofs.NamesStandForOneRow.{worlds-parted}
 use Rattle.package_form.proofs.form.passes_tests.Goals as goal
 
 pub are_interfaces-requires-clause-few : goal.are_interfaces-requires-clause-few

@@ -1,9 +1,9 @@
 use Rattle.std.proofs.Common.{All, List, subst}
 use Rattle.tables.specs.declared.tables.Interface.{Interface}
 use Rattle.package_form.specs.Laws.{IsLabelled}
-use Rattle.package_form.proofs.Lists.{all-contained}
-use Rattle.package_form.proofs.OwnPackage.{labelled-interfaces}
-use Rattle.package_form.proofs.DistinctTypes.{types-apart}
+use Rattle.package_form.proofs.AllAndContains.{all-contained}
+use Rattle.package_form.proofs.FullNamesStandForInterfaces.{labelled-interfaces}
+use Rattle.package_form.proofs.NamesTypesApart.{types-apart}
 use Rattle.package_form.proofs.laws.names_types_apart.Goals as goal
 
 pub returns : goal.returns

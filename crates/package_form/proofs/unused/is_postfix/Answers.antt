@@ -1,7 +1,7 @@
 use Rattle.std.proofs.Common.{List, Bool, IfOk, [], ◌≡◌, subst}
 use Rattle.tables.specs.declared.tables.Definition.{Definition}
 use Rattle.package_form.specs.Unused.{are_used}
-use Rattle.package_form.proofs.Postfix.{decides-postfix}
+use Rattle.package_form.proofs.PostfixIsDecided.{decides-postfix}
 use Rattle.package_form.proofs.unused.is_postfix.Goals as goal
 
 pub returns : goal.returns

@@ -1,6 +1,6 @@
 use Rattle.std.proofs.Common.{◌≡◌, true, sym, arith, ◌∙◌}
 use Rattle.std.specs.Str.{bytes_eq}
-use Rattle.package_names.proofs.Asking.{any-at}
+use Rattle.package_names.proofs.NamesAskedOfPackages.{any-at}
 use Rattle.package_names.proofs.asked.is_among.Goals as goal
 
 pub returns-then-eq : goal.returns-then-eq

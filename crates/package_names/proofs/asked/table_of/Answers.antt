@@ -2,7 +2,7 @@ use Rattle.std.proofs.Common.{◌∙◌, ◌||◌, Bool, List, ℕ, take, Bor, a
 use Rattle.std.specs.List.{list_any}
 use Rattle.std.specs.Str.{bytes_eq}
 use Rattle.package_names.specs.Asked.{lent_labels}
-use Rattle.package_names.proofs.Asking.{any-more, any-inserted}
+use Rattle.package_names.proofs.NamesAskedOfPackages.{any-more, any-inserted}
 use Rattle.package_names.proofs.asked.table_of.Goals as goal
 
 pub loop-name-preserved : goal.loop-name-preserved

@@ -3,10 +3,10 @@ use Rattle.std.proofs.lemmas.Result.{err_from_is_err_and}
 use Rattle.tables.specs.declared.tables.Case.{Case}
 use Rattle.package_form.specs.Scope.{AreDistinct}
 use Rattle.package_form.specs.Distinct.{AreMet}
-use Rattle.package_form.proofs.Lists.{map-more}
-use Rattle.package_form.proofs.Meeting.{met-none, met-push, all-taken}
+use Rattle.package_form.proofs.AllAndContains.{map-more}
+use Rattle.package_form.proofs.NamesMetOneByOne.{met-none, met-push, all-taken}
 use Rattle.package_form.specs.Naming.{case_name}
-use Rattle.package_names.proofs.Naming.{refuses-named}
+use Rattle.package_names.proofs.NamesOfOneScope.{refuses-named}
 use Rattle.package_names.proofs.distinct.distinct_cases.Goals as goal
 
 pub loop-case-init : goal.loop-case-init

@@ -3,10 +3,10 @@ use Rattle.std.proofs.lemmas.Result.{err_from_is_err_and}
 use Rattle.tables.specs.declared.tables.Field.{Field}
 use Rattle.package_form.specs.Scope.{AreDistinct}
 use Rattle.package_form.specs.Distinct.{AreMet}
-use Rattle.package_form.proofs.Lists.{map-more}
-use Rattle.package_form.proofs.Meeting.{met-none, met-push, all-taken}
+use Rattle.package_form.proofs.AllAndContains.{map-more}
+use Rattle.package_form.proofs.NamesMetOneByOne.{met-none, met-push, all-taken}
 use Rattle.package_form.specs.Naming.{field_name}
-use Rattle.package_names.proofs.Naming.{refuses-named}
+use Rattle.package_names.proofs.NamesOfOneScope.{refuses-named}
 use Rattle.package_names.proofs.distinct.distinct_fields.Goals as goal
 
 pub loop-field-init : goal.loop-field-init

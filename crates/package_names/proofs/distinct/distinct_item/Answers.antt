@@ -1,7 +1,7 @@
 use Rattle.std.proofs.Common.{IsTrue, length, slice_get, sym, subst}
 use Rattle.tables.specs.Package.{interface_names, trees}
 use Rattle.tables.specs.Tables.{function_of, is_placed_item}
-use Rattle.package_names.proofs.WorldItems.{function-there, parameters-met, parameters-refused}
+use Rattle.package_names.proofs.WorldItemNamesAreMet.{function-there, parameters-met, parameters-refused}
 use Rattle.package_names.proofs.distinct.distinct_item.Goals as goal
 
 pub signature-requires : goal.signature-requires

@@ -3,8 +3,8 @@ use Rattle.std.proofs.lemmas.Result.{err_from_is_err_and}
 use Rattle.tables.specs.Package.{item_meaning, interface_names, trees}
 use Rattle.tables.specs.declared.tables.WorldItem.{WorldItem}
 use Rattle.package_form.specs.Scope.{AreDistinct}
-use Rattle.package_form.proofs.Lists.{all-none}
-use Rattle.package_names.proofs.WorldItems.{refused-name-at, refused-parameters-at, sides-more, parameters-more, whole-world}
+use Rattle.package_form.proofs.AllAndContains.{all-none}
+use Rattle.package_names.proofs.WorldItemNamesAreMet.{refused-name-at, refused-parameters-at, sides-more, parameters-more, whole-world}
 use Rattle.package_names.proofs.distinct.distinct_items.Goals as goal
 
 pub loop-item-init : goal.loop-item-init

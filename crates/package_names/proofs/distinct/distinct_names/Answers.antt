@@ -2,8 +2,8 @@ use Rattle.std.proofs.Common.{flat_map, sym}
 use Rattle.std.proofs.lemmas.Result.{err_from_is_err_and}
 use Rattle.tables.specs.Package.{worlds}
 use Rattle.package_form.specs.Naming.{interface_labels_of, world_labels_of, interfaces_scopes, world_scopes}
-use Rattle.package_form.proofs.EachPackage.{refuses-wider}
-use Rattle.package_form.proofs.Scopes.{all-met, all-refused}
+use Rattle.package_form.proofs.NamesMetInEachPackage.{refuses-wider}
+use Rattle.package_form.proofs.ScopesAreDistinct.{all-met, all-refused}
 use Rattle.package_names.proofs.distinct.distinct_names.Goals as goal
 
 pub meet_interfaces-requires-clause-grouped : goal.meet_interfaces-requires-clause-grouped

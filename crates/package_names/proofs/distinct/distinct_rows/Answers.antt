@@ -2,11 +2,11 @@ use Rattle.std.proofs.Common.{List, ℕ, All, ◌∷◌, [], map, flat_map, subs
 use Rattle.std.proofs.lemmas.Result.{err_from_is_err_and}
 use Rattle.package_form.specs.Scope.{AreDistinct}
 use Rattle.package_form.specs.Distinct.{AreMet}
-use Rattle.package_form.proofs.Lists.{map-more, all-append, all-cons, all-none}
+use Rattle.package_form.proofs.AllAndContains.{map-more, all-append, all-cons, all-none}
 use Rattle.tables.specs.declared.tables.Definition.{Definition}
 use Rattle.package_form.specs.Naming.{row_names, row_members}
-use Rattle.package_form.proofs.Meeting.{all-taken}
-use Rattle.package_names.proofs.Naming.{names-more, refuses-row-name, refuses-row-members}
+use Rattle.package_form.proofs.NamesMetOneByOne.{all-taken}
+use Rattle.package_names.proofs.NamesOfOneScope.{names-more, refuses-row-name, refuses-row-members}
 use Rattle.package_names.proofs.distinct.distinct_rows.Goals as goal
 
 pub returns-in_err-distinct_members-clause-err : goal.returns-in_err-distinct_members-clause-err

@@ -8,12 +8,12 @@ use Rattle.tables.specs.declared.tables.Resolve.{Resolve}
 use Rattle.package_form.specs.Scope.{AreDistinct}
 use Rattle.package_form.specs.Distinct.{RefusesScopes}
 use Rattle.package_form.specs.Naming.{world_label_of, world_labels_of, of_each, world_scopes}
-use Rattle.package_form.proofs.EachPackage.{each-distinct, refuses-each, met-alike, met-more, refuses-met}
-use Rattle.package_form.proofs.Lists.{all-none, contains-left}
-use Rattle.package_form.proofs.Meeting.{refuses-among, all-taken}
-use Rattle.package_names.proofs.Naming.{item-dropped}
-use Rattle.package_form.proofs.Scopes.{refuses-world-scopes, world-scopes-more, world-placed, worlds-placed-on}
-use Rattle.package_form.proofs.OwnPackage.{world-at}
+use Rattle.package_form.proofs.NamesMetInEachPackage.{each-distinct, refuses-each, met-alike, met-more, refuses-met}
+use Rattle.package_form.proofs.AllAndContains.{all-none, contains-left}
+use Rattle.package_form.proofs.NamesMetOneByOne.{refuses-among, all-taken}
+use Rattle.package_names.proofs.NamesOfOneScope.{item-dropped}
+use Rattle.package_form.proofs.ScopesAreDistinct.{refuses-world-scopes, world-scopes-more, world-placed, worlds-placed-on}
+use Rattle.package_form.proofs.FullNamesStandForInterfaces.{world-at}
 use Rattle.package_names.proofs.distinct.distinct_worlds.Goals as goal
 
 -- each world is of a package

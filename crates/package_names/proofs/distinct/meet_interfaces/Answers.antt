@@ -3,16 +3,16 @@ use Rattle.std.proofs.lemmas.Result.{err_from_is_err_and}
 use Rattle.std.proofs.lemmas.List.{drop_all}
 use Rattle.tables.specs.Tables.{are_grouped}
 use Rattle.tables.specs.declared.tables.Interface.{Interface}
-use Rattle.tables.proofs.Earlier.{grouped-at}
+use Rattle.tables.proofs.NamesEarlierTypes.{grouped-at}
 use Rattle.package_form.specs.Scope.{AreDistinct}
 use Rattle.package_form.specs.Distinct.{AreMetInEach}
-use Rattle.package_form.proofs.EachPackage.{refuses-each, met-more, refuses-met}
-use Rattle.package_form.proofs.Lists.{all-append, all-none, contains-left, contains-right}
-use Rattle.package_form.proofs.Meeting.{refuses-among, all-taken}
+use Rattle.package_form.proofs.NamesMetInEachPackage.{refuses-each, met-more, refuses-met}
+use Rattle.package_form.proofs.AllAndContains.{all-append, all-none, contains-left, contains-right}
+use Rattle.package_form.proofs.NamesMetOneByOne.{refuses-among, all-taken}
 use Rattle.package_form.specs.Ends.{end_of, is_parted, rows_of}
 use Rattle.package_form.specs.Naming.{interface_label_of, interface_labels_of, of_each, rows_scopes, interfaces_scopes}
-use Rattle.package_names.proofs.Naming.{item-dropped}
-use Rattle.tables.proofs.Rows.{split}
+use Rattle.package_names.proofs.NamesOfOneScope.{item-dropped}
+use Rattle.tables.proofs.ClosedTypesRowByRow.{split}
 use Rattle.package_names.proofs.distinct.meet_interfaces.Goals as goal
 
 -- each interface is of a package

@@ -1,7 +1,7 @@
 use Rattle.std.proofs.Common.{inl, sym}
 use Rattle.std.proofs.lemmas.Result.{err_from_is_err_and}
 use Rattle.tables.specs.Package.{interface_names, trees}
-use Rattle.package_names.proofs.WorldItems.{direction-told, item-met, item-refused}
+use Rattle.package_names.proofs.WorldItemNamesAreMet.{direction-told, item-met, item-refused}
 use Rattle.package_names.proofs.distinct.meet_item.Goals as goal
 
 pub returns-in_err-name-clause-err : goal.returns-in_err-name-clause-err

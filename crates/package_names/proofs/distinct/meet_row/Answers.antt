@@ -1,6 +1,6 @@
 use Rattle.std.proofs.Common.{◌∙◌, ap}
 use Rattle.package_form.specs.Naming.{name_if, row_names}
-use Rattle.package_names.proofs.Naming.{on-met, if-refused}
+use Rattle.package_names.proofs.NamesOfOneScope.{on-met, if-refused}
 use Rattle.package_names.proofs.distinct.meet_row.Goals as goal
 
 pub returns-in-Some-clause-ok : goal.returns-in-Some-clause-ok

@@ -1,6 +1,6 @@
 use Rattle.std.proofs.Common.{◌≡◌, ℕ, zero, suc, ◌+◌, List, [], ◌∷◌, ◌++◌, length, replicate, get_or, refl, ap, ◌∙◌, arith}
 use Rattle.std.proofs.lemmas.List.{length-replicate}
-use Rattle.package_form.proofs.EachPackage.{none-met}
+use Rattle.package_form.proofs.NamesMetInEachPackage.{none-met}
 use Rattle.package_names.proofs.distinct.scopes_of_packages.Goals as goal
 
 no-scopes : ℕ → List (List (List ℕ))

@@ -1,6 +1,6 @@
 use Rattle.std.proofs.Common.{◌<◌, ◌∙◌, List, length, get_or, ap, arith}
 use Rattle.tables.specs.declared.tables.Interface.{Interface}
-use Rattle.package_names.proofs.Indexing.{one-more-indexed, within-packages}
+use Rattle.package_names.proofs.InterfacesIndexedByName.{one-more-indexed, within-packages}
 use Rattle.package_names.proofs.indexed.places_of.Goals as goal
 
 pub put_interface-requires-clause-within : goal.put_interface-requires-clause-within

@@ -6,7 +6,7 @@ use Rattle.std.specs.Str.{bytes_eq}
 use Rattle.tables.specs.PackageNames.{PackageParts}
 use Rattle.package_form.specs.Closed.{is_same_package}
 use Rattle.package_names.specs.Indexed.{placed}
-use Rattle.package_names.proofs.Indexing.{put-one, has-first}
+use Rattle.package_names.proofs.InterfacesIndexedByName.{put-one, has-first}
 use Rattle.package_names.proofs.indexed.put_interface.Goals as goal
 
 pub returns-in_ok-put-clause-put : goal.returns-in_ok-put-clause-put

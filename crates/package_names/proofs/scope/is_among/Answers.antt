@@ -1,9 +1,9 @@
 use Rattle.std.proofs.Common.{◌≡◌, ◌+◌, ◌++◌, ◌∷◌, [], List, ℕ, map, take, get_or, Contains, sym, subst, arith, Bor}
 use Rattle.std.proofs.lemmas.List.{get_or_default}
 use Rattle.package_form.specs.Scope.{lowered, lowered_name}
-use Rattle.package_form.proofs.Lists.{map-more, contains-map, contains-at}
-use Rattle.package_form.proofs.Meeting.{all-taken}
-use Rattle.package_names.proofs.MetNames.{none-met, is-other, in-neither}
+use Rattle.package_form.proofs.AllAndContains.{map-more, contains-map, contains-at}
+use Rattle.package_form.proofs.NamesMetOneByOne.{all-taken}
+use Rattle.package_names.proofs.NamesMetBefore.{none-met, is-other, in-neither}
 use Rattle.package_names.proofs.scope.is_among.Goals as goal
 
 pub loop-met-init : goal.loop-met-init

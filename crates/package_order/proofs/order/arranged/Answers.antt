@@ -1,6 +1,6 @@
 use Rattle.std.proofs.Common.{◌∷◌, [], arith}
 use Rattle.std.proofs.lemmas.List.{length-append}
-use Rattle.placement.proofs.OrderSteps.{placed_more, cycle_of}
+use Rattle.placement.proofs.PlacedSoFar.{placed_more, cycle_of}
 use Rattle.package_order.proofs.order.arranged.Goals as goal
 
 pub ring_of-requires-clause-cycle : goal.ring_of-requires-clause-cycle

@@ -1,5 +1,5 @@
 use Rattle.std.proofs.Common.{◌≡◌, ◌+◌, length}
-use Rattle.placement.proofs.OrderSteps.{PlacedSoFar}
+use Rattle.placement.proofs.PlacedSoFar.{PlacedSoFar}
 use Rattle.package_order.proofs.order.arranged.Given as goal
 
 abbrev pub invariant-loop-left : goal.invariant-loop-left

@@ -1,7 +1,7 @@
 use Rattle.std.proofs.Common.{◌≡◌, ◌++◌, ◌∷◌, [], ℕ, List, drop, sym, ap, subst, ◌∙◌, arith}
 use Rattle.std.proofs.lemmas.Result.{IfOk-weaker}
 use Rattle.package_order.specs.Arranged.{IsRing}
-use Rattle.package_order.proofs.Walks.{no_tour, tour_more, ring_at, tour_is_short}
+use Rattle.package_order.proofs.WalksEndInRings.{no_tour, tour_more, ring_at, tour_is_short}
 use Rattle.package_order.proofs.ring.ring_of.Goals as goal
 
 pub loop-alloc-init : goal.loop-alloc-init

@@ -1,6 +1,6 @@
 use Rattle.std.proofs.Common.{◌≡◌, ◌-◌, true, length}
 use Rattle.package_order.specs.Arranged.{is_left}
-use Rattle.package_order.proofs.Walks.{IsTour}
+use Rattle.package_order.proofs.WalksEndInRings.{IsTour}
 use Rattle.package_order.proofs.ring.ring_of.Given as goal
 
 abbrev pub invariant-loop-alloc : goal.invariant-loop-alloc

@@ -2,7 +2,7 @@ use Rattle.std.proofs.Common.{rules, ◌≡◌, ◌∙◌, Result, Ok, Err, IfOk
 use Rattle.tables.specs.PackageNames.{PackageParts}
 use Rattle.package_form.specs.Closed.{own_package}
 use Rattle.package_sets.specs.Attached.{HasRoom, HasAll, IsOwn, IsNew, has_package, others}
-use Rattle.package_sets.proofs.Lists.{item-get}
+use Rattle.package_sets.proofs.GrowingLists.{item-get}
 use Rattle.package_sets.proofs.attachment.fitting.Goals as goal
 
 on-ok : {A E : Type 0} {P Q : A → Type 0} (r : Result A E) → IfOk r P → ((x : A) → P x → Q x) → IfOk r Q

@@ -1,7 +1,7 @@
 use Rattle.std.proofs.Common.{rules, ◌≡◌, inr, refl, arith, true, false}
 use Rattle.package_sets.specs.Attached.{has_package}
-use Rattle.package_sets.proofs.Lists.{item-get, each-more}
-use Rattle.package_sets.proofs.Finding.{lacks-first}
+use Rattle.package_sets.proofs.GrowingLists.{item-get, each-more}
+use Rattle.package_sets.proofs.FoundImports.ImportsAreFound.{lacks-first}
 use Rattle.package_sets.proofs.attachment.has_packages.Goals as goal
 
 pub returns-then-not-has_package-clause-err : goal.returns-then-not-has_package-clause-err

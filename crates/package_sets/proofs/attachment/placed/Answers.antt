@@ -3,7 +3,7 @@ use Rattle.tables.specs.declared.tables.Interface.{Interface}
 use Rattle.tables.specs.declared.tables.Definition.{Definition}
 use Rattle.package_sets.specs.Joining.{AreRowsThere, AreIdsThere}
 use Rattle.package_sets.specs.Joined.{joined_places, renaming_of}
-use Rattle.package_sets.proofs.Finding.{rows-as, ids-as}
+use Rattle.package_sets.proofs.FoundImports.ImportsAreFound.{rows-as, ids-as}
 use Rattle.package_sets.proofs.attachment.placed.Goals as goal
 
 pub returns-clause-ok : goal.returns-clause-ok

@@ -1,10 +1,10 @@
 -- The lists that are given back are the set's; else they are the set's with the own part behind them.
 use Rattle.std.proofs.Common.{◌∙◌}
 use Rattle.package_sets.specs.Joined.{joined_places}
-use Rattle.package_sets.proofs.Accepting.{attaches}
-use Rattle.package_sets.proofs.Behind as table
-use Rattle.package_sets.proofs.Putting.{put-behind}
-use Rattle.package_sets.proofs.SameTables.{same-tables}
+use Rattle.package_sets.proofs.AttachedSets.IsAttached.{attaches}
+use Rattle.package_sets.proofs.AttachedSets.OwnPartStandsBehind as table
+use Rattle.package_sets.proofs.AttachedSets.PutBehind.{put-behind}
+use Rattle.package_sets.proofs.SamePackagesAreOne.{same-tables}
 use Rattle.package_sets.proofs.attachment.put_behind.Goals as goal
 
 pub invariant_of-result : goal.invariant_of-result

@@ -1,4 +1,4 @@
-use Rattle.package_sets.proofs.Parts.{interfaces-part}
+use Rattle.package_sets.proofs.ReachedParts.ReachedIsPart.{interfaces-part}
 use Rattle.package_sets.proofs.importing.imports.Goals as goal
 
 pub part_table-requires : goal.part_table-requires

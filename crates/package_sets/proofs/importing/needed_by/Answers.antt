@@ -1,6 +1,6 @@
 use Rattle.std.proofs.Common.{ap, ◌∙◌}
 use Rattle.set_rows.specs.Reaches.{padded}
-use Rattle.package_sets.proofs.Needing.{needed-by}
+use Rattle.package_sets.proofs.PackageTables.NeededPackages.{needed-by}
 use Rattle.package_sets.proofs.importing.needed_by.Goals as goal
 
 pub returns : goal.returns

@@ -3,8 +3,8 @@ use Rattle.std.specs.Str.{bytes_eq}
 use Rattle.std.proofs.lemmas.Option.{slice_get_past}
 use Rattle.package_form.specs.Closed.{is_same_package}
 use Rattle.package_names.specs.Asked.{is_asked}
-use Rattle.package_sets.proofs.Asking.{asks-more, asks-none}
-use Rattle.package_sets.proofs.Lists.{item-get}
+use Rattle.package_sets.proofs.FoundImports.AskedOneByOne.{asks-more, asks-none}
+use Rattle.package_sets.proofs.GrowingLists.{item-get}
 use Rattle.tables.specs.PackageNames.{PackageParts}
 use Rattle.package_sets.proofs.joining.ask.Goals as goal
 

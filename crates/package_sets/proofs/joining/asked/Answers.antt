@@ -1,7 +1,7 @@
 use Rattle.std.proofs.Common.{◌≡◌, ◌∙◌, ◌+◌, List, ℕ, [], ap, sym, subst, take, replicate, arith, length}
-use Rattle.package_form.proofs.Meeting.{all-taken, take-more}
+use Rattle.package_form.proofs.NamesMetOneByOne.{all-taken, take-more}
 use Rattle.package_sets.specs.Asking.{AsksFor}
-use Rattle.package_sets.proofs.Asking.{asks-nothing}
+use Rattle.package_sets.proofs.FoundImports.AskedOneByOne.{asks-nothing}
 use Rattle.tables.specs.declared.tables.Interface.{Interface}
 use Rattle.package_sets.proofs.joining.asked.Goals as goal
 

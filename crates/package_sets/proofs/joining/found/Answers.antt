@@ -1,9 +1,9 @@
 use Rattle.std.proofs.Common.{inr, refl, sym, subst, ◌++◌, ◌∷◌, [], take, ◌+◌, ap, ◌∙◌, arith, List, ℕ}
-use Rattle.package_form.proofs.Lists.{all-at}
+use Rattle.package_form.proofs.AllAndContains.{all-at}
 use Rattle.package_sets.specs.Asking.{AsksForOne}
 use Rattle.package_sets.specs.Joining.{AreFound}
-use Rattle.package_sets.proofs.Lists.{item-get}
-use Rattle.package_sets.proofs.Finding.{found-more}
+use Rattle.package_sets.proofs.GrowingLists.{item-get}
+use Rattle.package_sets.proofs.FoundImports.ImportsAreFound.{found-more}
 use Rattle.package_sets.proofs.joining.found.Goals as goal
 
 pub returns-in-None-clause-err : goal.returns-in-None-clause-err

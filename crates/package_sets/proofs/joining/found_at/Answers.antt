@@ -3,9 +3,9 @@ use Rattle.std.specs.List.{position}
 use Rattle.tables.specs.PackageNames.{PackageParts}
 use Rattle.package_form.specs.Closed.{is_same_package}
 use Rattle.package_names.specs.Indexed.{interface_place, placed_at}
-use Rattle.package_sets.proofs.Asking.{place-among-all}
-use Rattle.package_sets.proofs.Finding.{IsFoundAt, place-first}
-use Rattle.package_sets.proofs.Lists.{item-get}
+use Rattle.package_sets.proofs.FoundImports.AskedOneByOne.{place-among-all}
+use Rattle.package_sets.proofs.FoundImports.ImportsAreFound.{IsFoundAt, place-first}
+use Rattle.package_sets.proofs.GrowingLists.{item-get}
 use Rattle.package_sets.proofs.joining.found_at.Goals as goal
 
 pub returns : goal.returns

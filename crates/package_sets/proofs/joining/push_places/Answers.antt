@@ -1,5 +1,5 @@
 use Rattle.std.proofs.Common.{◌++◌, ◌-◌, ◌∷◌, [], ap, sym, ◌∙◌, append_assoc}
-use Rattle.package_sets.proofs.Lists.{places-more}
+use Rattle.package_sets.proofs.GrowingLists.{places-more}
 use Rattle.std.specs.List.{range_with_len}
 use Rattle.package_sets.proofs.joining.push_places.Goals as goal
 

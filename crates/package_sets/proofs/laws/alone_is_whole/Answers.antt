@@ -1,4 +1,4 @@
-use Rattle.package_sets.proofs.Whole.{whole, whole-form}
+use Rattle.package_sets.proofs.PackageTables.AloneIsWhole.{whole, whole-form}
 use Rattle.package_sets.proofs.laws.alone_is_whole.Goals as goal
 
 pub returns-clause-table : goal.returns-clause-table

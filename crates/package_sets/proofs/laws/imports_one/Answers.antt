@@ -1,4 +1,4 @@
-use Rattle.package_sets.proofs.One.{imports-one}
+use Rattle.package_sets.proofs.AttachedAndImportedAreOne.{imports-one}
 use Rattle.package_sets.proofs.laws.imports_one.Goals as goal
 
 pub returns : goal.returns

@@ -1,4 +1,4 @@
-use Rattle.package_sets.proofs.InTower.{none-in-tower}
+use Rattle.package_sets.proofs.AttachedSets.IsInTower.{none-in-tower}
 use Rattle.package_sets.proofs.laws.is_set_of_none.Goals as goal
 
 pub returns : goal.returns

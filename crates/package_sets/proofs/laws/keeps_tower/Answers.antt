@@ -1,4 +1,4 @@
-use Rattle.package_sets.proofs.FromAttached.{keeps-tower}
+use Rattle.package_sets.proofs.AttachedSets.KeepsTower.{keeps-tower}
 use Rattle.package_sets.proofs.laws.keeps_tower.Goals as goal
 
 pub returns : goal.returns

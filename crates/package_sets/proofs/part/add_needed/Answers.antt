@@ -1,6 +1,6 @@
 use Rattle.std.proofs.Common.{length, get_or, inl, inr, ap, sym, ◌∙◌, arith, List}
 use Rattle.tables.specs.declared.tables.Interface.{Interface}
-use Rattle.package_sets.proofs.Needing.{adds-needed-more, adds-needed-all}
+use Rattle.package_sets.proofs.PackageTables.NeededPackages.{adds-needed-more, adds-needed-all}
 use Rattle.package_sets.proofs.part.add_needed.Goals as goal
 use Rattle.package_sets.proofs.part.add_needed.Goals.{then-has_interface, else-has_interface}
 

@@ -1,4 +1,4 @@
-use Rattle.package_sets.proofs.Needing.{AddsNeededSoFar}
+use Rattle.package_sets.proofs.PackageTables.NeededPackages.{AddsNeededSoFar}
 use Rattle.package_sets.proofs.part.add_needed.Given as goal
 
 abbrev pub invariant-loop-place : goal.invariant-loop-place

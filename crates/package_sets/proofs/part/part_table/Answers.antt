@@ -1,7 +1,7 @@
 use Rattle.std.proofs.Common.{◌∙◌}
 use Rattle.std.proofs.lemmas.List.{map-id}
 use Rattle.std.specs.List.{items_where_true}
-use Rattle.package_sets.proofs.Restricting as table
+use Rattle.package_sets.proofs.KeptParts.KeptIsATable as table
 use Rattle.package_sets.proofs.part.part_table.Goals as goal
 
 pub invariant_of-result : goal.invariant_of-result

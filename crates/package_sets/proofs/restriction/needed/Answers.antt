@@ -1,6 +1,6 @@
 use Rattle.std.proofs.Common.{ap, ◌∙◌, []}
 use Rattle.set_rows.specs.Reaches.{padded}
-use Rattle.package_sets.proofs.Needing.{needed-own}
+use Rattle.package_sets.proofs.PackageTables.NeededPackages.{needed-own}
 use Rattle.package_sets.proofs.restriction.needed.Goals as goal
 
 pub returns : goal.returns

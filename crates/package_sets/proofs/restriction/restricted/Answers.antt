@@ -1,5 +1,5 @@
-use Rattle.package_sets.proofs.Parts.{package-part}
-use Rattle.package_sets.proofs.TowerForm.{table-form, table-distinct}
+use Rattle.package_sets.proofs.ReachedParts.ReachedIsPart.{package-part}
+use Rattle.package_sets.proofs.PackageTables.TableIsInForm.{table-form, table-distinct}
 use Rattle.package_sets.proofs.restriction.restricted.Goals as goal
 
 pub part_table-requires : goal.part_table-requires

@@ -1,5 +1,5 @@
 use Rattle.wit_tokens.specs.View.{ty_view}
-use Rattle.package_text.proofs.References.{alias-written}
+use Rattle.package_text.proofs.WrittenTrees.ReferencesToRows.{alias-written}
 use Rattle.package_text.proofs.definition.alias.Goals as goal
 
 pub returns : goal.returns

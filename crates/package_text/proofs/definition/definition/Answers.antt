@@ -2,7 +2,7 @@ use Rattle.std.proofs.Common.{map, ap, sym, ◌∙◌}
 use Rattle.wit_tokens.specs.Syntax.{Record, Variant, Enumeration}
 use Rattle.package_text.specs.Tree.{own_trees}
 use Rattle.package_text.specs.Pieces.{field_by, case_by}
-use Rattle.package_text.proofs.Expressions.{record-written, variant-written, enum-written}
+use Rattle.package_text.proofs.WrittenTrees.ExpressionsOfKinds.{record-written, variant-written, enum-written}
 use Rattle.package_text.proofs.definition.definition.Goals as goal
 
 pub returns-in_ok-members-in-Record : goal.returns-in_ok-members-in-Record

@@ -1,7 +1,7 @@
 use Rattle.std.proofs.Common.{map, ap, sym, ◌∙◌}
 use Rattle.package_text.specs.Tree.{own_trees}
 use Rattle.package_text.specs.Pieces.{parameter_by}
-use Rattle.package_text.proofs.Expressions.{parameters-written, optional-written}
+use Rattle.package_text.proofs.WrittenTrees.ExpressionsOfKinds.{parameters-written, optional-written}
 use Rattle.package_text.proofs.definition.function_type.Goals as goal
 
 pub returns : goal.returns

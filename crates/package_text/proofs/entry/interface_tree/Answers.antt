@@ -1,7 +1,7 @@
 use Rattle.std.proofs.Common.{map, ap}
 use Rattle.wit_tokens.specs.Syntax.{AnInterface}
 use Rattle.wit_tokens.specs.View.{entry_view}
-use Rattle.package_text.proofs.Entries.{interface-pushed}
+use Rattle.package_text.proofs.WrittenTrees.EntriesOfRows.{interface-pushed}
 use Rattle.package_text.proofs.entry.interface_tree.Goals as goal
 
 pub returns : goal.returns

@@ -1,8 +1,8 @@
 use Rattle.tables.specs.declared.tables.Definition.TheVariants as row
 use Rattle.package_text.specs.Tree.{written_at}
-use Rattle.package_text.proofs.Standing.{earlier-at}
-use Rattle.package_text.proofs.Formed.{used-at}
-use Rattle.package_text.proofs.Entries.{no-entries, unnamed-entries, type-entries, function-entries, world-entries, pushed, unchanged}
+use Rattle.package_text.proofs.TableRows.RowsStandForTrees.{earlier-at}
+use Rattle.package_text.proofs.TableRows.FormOfSingleRows.{used-at}
+use Rattle.package_text.proofs.WrittenTrees.EntriesOfRows.{no-entries, unnamed-entries, type-entries, function-entries, world-entries, pushed, unchanged}
 use Rattle.package_text.proofs.entry.push_entry.Goals as goal
 
 pub type_entry-requires-clause-earlier : goal.type_entry-requires-clause-earlier

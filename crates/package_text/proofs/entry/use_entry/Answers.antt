@@ -4,7 +4,7 @@ use Rattle.wit_tokens.specs.View.{path_view, used_view}
 use Rattle.wit_tokens.specs.declared.wit_syntax.ast.Use.{Use}
 use Rattle.wit_print.specs.Unplaced.{nowhere}
 use Rattle.package_text.specs.Tree.{path_at, local_of}
-use Rattle.package_text.proofs.Entries.{use-written}
+use Rattle.package_text.proofs.WrittenTrees.EntriesOfRows.{use-written}
 use Rattle.package_text.proofs.entry.use_entry.Goals as goal
 
 pub returns : goal.returns

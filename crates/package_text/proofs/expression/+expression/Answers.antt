@@ -7,10 +7,10 @@ use Rattle.std.specs.Prelude.{None}
 use Rattle.package_text.specs.Written.{ty_of}
 use Rattle.package_text.specs.Tree.{own_trees}
 use Rattle.package_text.specs.Pieces.{type_by}
-use Rattle.package_text.proofs.Standing.{type-tree, earlier-at}
-use Rattle.package_text.proofs.Formed.{inner-at}
-use Rattle.package_text.proofs.Expressions.{tuple-written}
-use Rattle.package_text.proofs.References.{named-written}
+use Rattle.package_text.proofs.TableRows.RowsStandForTrees.{type-tree, earlier-at}
+use Rattle.package_text.proofs.TableRows.FormOfSingleRows.{inner-at}
+use Rattle.package_text.proofs.WrittenTrees.ExpressionsOfKinds.{tuple-written}
+use Rattle.package_text.proofs.WrittenTrees.ReferencesToRows.{named-written}
 use Rattle.package_text.proofs.expression.+expression.Goals as goal
 
 pub inner-returns-in_ok-members-in-Tuple : goal.inner-returns-in_ok-members-in-Tuple

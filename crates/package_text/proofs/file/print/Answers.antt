@@ -1,4 +1,4 @@
-use Rattle.package_text.proofs.Formed.{form-told}
+use Rattle.package_text.proofs.TableRows.FormOfSingleRows.{form-told}
 use Rattle.package_text.proofs.file.print.Goals as goal
 
 pub tree-requires : goal.tree-requires

@@ -1,4 +1,4 @@
-use Rattle.package_text.proofs.Entries.{world-placed}
+use Rattle.package_text.proofs.WrittenTrees.EntriesOfRows.{world-placed}
 use Rattle.package_text.proofs.file.push_worlds.Goals as goal
 
 pub world_tree-requires-clause-placed : goal.world_tree-requires-clause-placed

@@ -7,7 +7,7 @@ use Rattle.wit_tokens.specs.declared.wit_syntax.ast.Item.{Item}
 use Rattle.tables.specs.PackageNames.{PackageParts}
 use Rattle.package_form.specs.Closed.{own_package}
 use Rattle.package_form.specs.Reached.{is_interface_of}
-use Rattle.package_form.proofs.OwnPackage.{some-package}
+use Rattle.package_form.proofs.FullNamesStandForInterfaces.{some-package}
 use Rattle.tree_meaning.specs.Imports.{nameless}
 use Rattle.package_text.specs.Tree.{interface_entry, world_written, interfaces_of_package, own_parts}
 use Rattle.package_text.proofs.file.tree.Goals as goal

@@ -1,5 +1,5 @@
 use Rattle.package_form.specs.Naming.{case_name}
-use Rattle.package_text.proofs.EachLabel.{labels-more, labels-whole}
+use Rattle.package_text.proofs.PrintableTrees.LabelsOneByOne.{labels-more, labels-whole}
 use Rattle.package_text.proofs.labels.cases.Goals as goal
 
 pub loop-case-preserved : goal.loop-case-preserved

@@ -1,5 +1,5 @@
 use Rattle.package_form.specs.Naming.{field_name}
-use Rattle.package_text.proofs.EachLabel.{labels-more, labels-whole}
+use Rattle.package_text.proofs.PrintableTrees.LabelsOneByOne.{labels-more, labels-whole}
 use Rattle.package_text.proofs.labels.fields.Goals as goal
 
 pub loop-field-preserved : goal.loop-field-preserved

@@ -1,5 +1,5 @@
 use Rattle.package_form.specs.Naming.{interface_name}
-use Rattle.package_text.proofs.EachLabel.{labels-more, labels-whole}
+use Rattle.package_text.proofs.PrintableTrees.LabelsOneByOne.{labels-more, labels-whole}
 use Rattle.package_text.proofs.labels.interfaces.Goals as goal
 
 pub loop-interface-preserved : goal.loop-interface-preserved

@@ -1,7 +1,7 @@
 use Rattle.std.proofs.Common.{subst, All}
 use Rattle.std.proofs.lemmas.List.{take_all}
 use Rattle.atoms.specs.Label.{IsLabel}
-use Rattle.package_text.proofs.EachLabel.{listed-more}
+use Rattle.package_text.proofs.PrintableTrees.LabelsOneByOne.{listed-more}
 use Rattle.package_text.proofs.labels.labels.Goals as goal
 
 pub loop-label-preserved : goal.loop-label-preserved

@@ -1,5 +1,5 @@
 use Rattle.package_form.specs.Naming.{parameter_name}
-use Rattle.package_text.proofs.EachLabel.{labels-more, labels-whole}
+use Rattle.package_text.proofs.PrintableTrees.LabelsOneByOne.{labels-more, labels-whole}
 use Rattle.package_text.proofs.labels.parameters.Goals as goal
 
 pub loop-parameter-preserved : goal.loop-parameter-preserved

@@ -1,5 +1,5 @@
 use Rattle.package_text.specs.Writable.{row_labels}
-use Rattle.package_text.proofs.EachLabel.{lists-more, lists-whole}
+use Rattle.package_text.proofs.PrintableTrees.LabelsOneByOne.{lists-more, lists-whole}
 use Rattle.package_text.proofs.labels.rows.Goals as goal
 
 pub loop-definition-preserved : goal.loop-definition-preserved

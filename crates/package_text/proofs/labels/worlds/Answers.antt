@@ -1,5 +1,5 @@
 use Rattle.package_form.specs.Naming.{label_of}
-use Rattle.package_text.proofs.EachLabel.{labels-more, labels-whole}
+use Rattle.package_text.proofs.PrintableTrees.LabelsOneByOne.{labels-more, labels-whole}
 use Rattle.package_text.proofs.labels.worlds.Goals as goal
 
 pub loop-world-preserved : goal.loop-world-preserved

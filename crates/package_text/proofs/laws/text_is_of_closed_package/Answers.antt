@@ -1,4 +1,4 @@
-use Rattle.package_text.proofs.Told.{text-of-closed}
+use Rattle.package_text.proofs.TreeAndTextStandForPackage.{text-of-closed}
 use Rattle.package_text.proofs.laws.text_is_of_closed_package.Goals as goal
 
 pub returns : goal.returns

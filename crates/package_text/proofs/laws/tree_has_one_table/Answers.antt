@@ -1,4 +1,4 @@
-use Rattle.package_text.proofs.OneTable.{one-table}
+use Rattle.package_text.proofs.OneTablePerTree.HasOneClosedTable.{one-table}
 use Rattle.package_text.proofs.laws.tree_has_one_table.Goals as goal
 
 pub returns : goal.returns

@@ -1,4 +1,4 @@
-use Rattle.package_text.proofs.Told.{tree-of-closed}
+use Rattle.package_text.proofs.TreeAndTextStandForPackage.{tree-of-closed}
 use Rattle.package_text.proofs.laws.tree_is_of_closed_package.Goals as goal
 
 pub returns : goal.returns

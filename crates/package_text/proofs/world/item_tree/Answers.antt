@@ -1,4 +1,4 @@
-use Rattle.package_text.proofs.Standing.{function-earlier}
+use Rattle.package_text.proofs.TableRows.RowsStandForTrees.{function-earlier}
 use Rattle.package_text.proofs.world.item_tree.Goals as goal
 
 pub func-requires-clause-earlier : goal.func-requires-clause-earlier

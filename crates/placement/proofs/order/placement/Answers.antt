@@ -1,5 +1,5 @@
 use Rattle.std.proofs.Common.{◌≡◌, false, not, get_or, sym, ◌∙◌, arith}
-use Rattle.placement.proofs.OrderSteps.{placed_more, placed_all, cycle_of}
+use Rattle.placement.proofs.PlacedSoFar.{placed_more, placed_all, cycle_of}
 use Rattle.placement.proofs.StraightOrder.{straight}
 use Rattle.placement.proofs.order.placement.Goals as goal
 

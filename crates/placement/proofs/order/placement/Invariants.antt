@@ -1,6 +1,6 @@
 use Rattle.std.proofs.Common.{◌≡◌, []}
 use Rattle.placement.specs.Waiting.{IsSettled}
-use Rattle.placement.proofs.OrderSteps.{PlacedSoFar}
+use Rattle.placement.proofs.PlacedSoFar.{PlacedSoFar}
 use Rattle.placement.proofs.order.placement.Given as goal
 
 abbrev pub invariant-loop-left : goal.invariant-loop-left

@@ -1,4 +1,4 @@
-use Rattle.ranges.proofs.Fronts.{chunk-crosses}
+use Rattle.ranges.proofs.FrontsThatCrossed.{chunk-crosses}
 use Rattle.ranges.proofs.blend.blend_chunk.Goals as goal
 
 pub returns-clause-crosses : goal.returns-clause-crosses

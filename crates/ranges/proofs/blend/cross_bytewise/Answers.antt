@@ -1,8 +1,8 @@
 use Rattle.std.proofs.Common.{◌≡◌, ◌+◌, ◌-◌, ◌*◌, ◌/◌, ◌≤◌, min, ap, ◌∙◌, sym, arith}
 use Rattle.std.proofs.Math.Nat.{mul-le-mul_right}
 use Rattle.canonical_abi.specs.Layout.{size}
-use Rattle.ranges.proofs.Fronts.{chunk-caps, parts-fit}
-use Rattle.ranges.proofs.Appends.{crosses-both}
+use Rattle.ranges.proofs.FrontsThatCrossed.{chunk-caps, parts-fit}
+use Rattle.ranges.proofs.CrossedElementsAppend.{crosses-both}
 use Rattle.ranges.proofs.blend.cross_bytewise.Goals as goal
 
 pub blend_chunk-requires-clause-inside : goal.blend_chunk-requires-clause-inside

@@ -1,7 +1,7 @@
 use Rattle.std.proofs.Common.{◌≡◌, ◌*◌, ap, arith}
 use Rattle.canonical_abi.specs.Layout.{size}
 use Rattle.values.specs.Bytes.{AreBytes}
-use Rattle.ranges.proofs.Fronts.{range-front, as-they-are, front-crosses, same-caps}
+use Rattle.ranges.proofs.FrontsThatCrossed.{range-front, as-they-are, front-crosses, same-caps}
 use Rattle.ranges.proofs.blend.cross_range.Goals as goal
 
 pub returns-clause-crosses : goal.returns-clause-crosses

@@ -1,5 +1,5 @@
 use Rattle.std.proofs.Common.{◌≡◌, ◌-◌, ◌*◌, ◌≤◌, min, ◌∙◌, arith}
-use Rattle.ranges.proofs.Appends.{crosses-both}
+use Rattle.ranges.proofs.CrossedElementsAppend.{crosses-both}
 use Rattle.ranges.proofs.bools.cross_bools.Goals as goal
 
 pub loop-done-preserved : goal.loop-done-preserved

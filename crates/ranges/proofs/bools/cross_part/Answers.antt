@@ -1,7 +1,7 @@
 use Rattle.std.proofs.Common.{arith}
 use Rattle.canonical_abi.specs.Types.{prim_type, boolean}
-use Rattle.ranges.proofs.Whole.{bool-caps}
-use Rattle.ranges.proofs.Leaves.{part-get}
+use Rattle.ranges.proofs.BoolsAndNumbersCross.{bool-caps}
+use Rattle.ranges.proofs.OneNumberCrosses.{part-get}
 use Rattle.ranges.proofs.bools.cross_part.Goals as goal
 
 pub cross_plain-requires-clause-plain : goal.cross_plain-requires-clause-plain

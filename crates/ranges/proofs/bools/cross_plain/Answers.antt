@@ -1,4 +1,4 @@
-use Rattle.ranges.proofs.Whole.{bools-cross}
+use Rattle.ranges.proofs.BoolsAndNumbersCross.{bools-cross}
 use Rattle.ranges.proofs.bools.cross_plain.Goals as goal
 
 pub returns-clause-crosses : goal.returns-clause-crosses

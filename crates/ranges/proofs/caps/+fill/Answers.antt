@@ -2,12 +2,12 @@ use Rattle.std.proofs.Common.{◌≡◌, ◌+◌, sym, ap, ◌∙◌, subst, ari
 use Rattle.std.specs.Int.{next_multiple_of}
 use Rattle.canonical_abi.specs.Types.{record_type, record_fields, depth}
 use Rattle.canonical_abi.specs.Layout.{size, align, end_from, field_extents}
-use Rattle.canonical_abi.proofs.Places.{le-next_multiple_of}
+use Rattle.canonical_abi.proofs.Layouts.LeastPlaces.{le-next_multiple_of}
 use Rattle.tables.specs.Closed.{closed_type}
 use Rattle.values.proofs.TypesExtents.{member-depth}
-use Rattle.values.proofs.Fields.{nth_field-some, fields-inside, fields-end}
+use Rattle.values.proofs.FieldsFromAPlace.{nth_field-some, fields-inside, fields-end}
 use Rattle.ranges.specs.Plan.{Fills}
-use Rattle.ranges.proofs.Filled.{filled-next, filled-record}
+use Rattle.ranges.proofs.CapsOfFields.{filled-next, filled-record}
 use Rattle.ranges.proofs.caps.+fill.Goals as goal
 
 pub fill_fields-unreachable-requires : goal.fill_fields-unreachable-requires

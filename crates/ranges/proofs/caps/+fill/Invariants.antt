@@ -1,8 +1,8 @@
 use Rattle.std.proofs.Common.{◌≡◌, ◌+◌, ◌*◌}
 use Rattle.canonical_abi.specs.Types.{depth, record_fields}
 use Rattle.tables.specs.Closed.{closed_type}
-use Rattle.values.proofs.Fields.{fields_from, fields_end}
-use Rattle.ranges.proofs.Filled.{Filled}
+use Rattle.values.proofs.FieldsFromAPlace.{fields_from, fields_end}
+use Rattle.ranges.proofs.CapsOfFields.{Filled}
 use Rattle.ranges.proofs.caps.+fill.Given as goal
 
 abbrev pub decreases-fill : goal.decreases-fill

@@ -2,8 +2,8 @@ use Rattle.std.proofs.Common.{◌≡◌, ◌+◌, ◌*◌, get_or, ap, ◌∙◌
 use Rattle.std.proofs.lemmas.Option.{IfSome_then}
 use Rattle.std.specs.Prelude.{slice_range}
 use Rattle.ranges.specs.Columns.{laid}
-use Rattle.ranges.proofs.Laid.{seen-same}
-use Rattle.ranges.proofs.Leaves.{part-get}
+use Rattle.ranges.proofs.ColumnsLaidOverCaps.{seen-same}
+use Rattle.ranges.proofs.OneNumberCrosses.{part-get}
 use Rattle.ranges.proofs.cases.fill_pairs.Goals as goal
 
 pub returns-clause-good : goal.returns-clause-good

@@ -3,8 +3,8 @@ use Rattle.std.proofs.lemmas.Grind.{common_steps}
 use Rattle.std.proofs.lemmas.Bool.{cases_lt, le-leb}
 use Rattle.std.proofs.Math.Nat.{mod-eq_of_lt}
 use Rattle.ranges.specs.Columns.{case_in}
-use Rattle.ranges.proofs.ByCase.{element-fits}
-use Rattle.ranges.proofs.Laid.{laid-before, laid-within, laid-after}
+use Rattle.ranges.proofs.VariantElementsByCase.{element-fits}
+use Rattle.ranges.proofs.ColumnsLaidOverCaps.{laid-before, laid-within, laid-after}
 use Rattle.ranges.proofs.cases.fill_rows.Goals as goal
 
 pub loop-i-preserved : goal.loop-i-preserved

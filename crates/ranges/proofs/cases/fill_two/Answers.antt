@@ -3,8 +3,8 @@ use Rattle.std.specs.Int.{w64, to_le_bytes}
 use Rattle.std.proofs.lemmas.Grind.{common_steps}
 use Rattle.std.proofs.lemmas.Bool.{cases_lt}
 use Rattle.ranges.specs.Columns.{case_in}
-use Rattle.ranges.proofs.ByCase.{element-fits, pair-nodes}
-use Rattle.ranges.proofs.Laid.{laid-before, laid-within, laid-after}
+use Rattle.ranges.proofs.VariantElementsByCase.{element-fits, pair-nodes}
+use Rattle.ranges.proofs.ColumnsLaidOverCaps.{laid-before, laid-within, laid-after}
 use Rattle.ranges.proofs.cases.fill_two.Goals.{then-case-eq0, else-case-eq0}
 use Rattle.ranges.proofs.cases.fill_two.Goals as goal
 

@@ -2,7 +2,7 @@ use Rattle.std.proofs.Common.{◌≡◌, ◌+◌, ◌≤◌, length, take, get_o
 use Rattle.std.specs.Int.{w64, to_le_bytes}
 use Rattle.std.proofs.lemmas.List.{get_or-take, length-take-le}
 use Rattle.std.proofs.lemmas.Slice.{take-put_mid}
-use Rattle.ranges.proofs.Fronts.{mid-get}
+use Rattle.ranges.proofs.FrontsThatCrossed.{mid-get}
 use Rattle.ranges.proofs.cases.put_word.Goals as goal
 
 pub returns-clause-put : goal.returns-clause-put

@@ -2,8 +2,8 @@ use Rattle.std.proofs.Common.{◌+◌, get_or, ap, ◌∙◌, arith}
 use Rattle.std.specs.Int.{w64, from_le_bytes}
 use Rattle.std.specs.Prelude.{slice_range}
 use Rattle.std.proofs.lemmas.Nat.{le_bytes_8}
-use Rattle.ranges.proofs.Fronts.{part-length}
-use Rattle.ranges.proofs.Leaves.{part-get, range-byte}
+use Rattle.ranges.proofs.FrontsThatCrossed.{part-length}
+use Rattle.ranges.proofs.OneNumberCrosses.{part-get, range-byte}
 use Rattle.ranges.proofs.cases.word_of.Goals as goal
 
 pub returns : goal.returns

@@ -1,7 +1,7 @@
 use Rattle.std.proofs.Common.{◌*◌, ap, sym, ◌∙◌, arith}
 use Rattle.std.specs.Int.{w32}
 use Rattle.canonical_abi.specs.Values.{is_scalar}
-use Rattle.ranges.proofs.Fronts.{part-number}
+use Rattle.ranges.proofs.FrontsThatCrossed.{part-number}
 use Rattle.ranges.proofs.chars.are_chars.Goals as goal
 
 pub returns : goal.returns

@@ -1,8 +1,8 @@
 use Rattle.std.proofs.Common.{◌≡◌, ◌-◌, ◌≤◌, min, sym, refl, ◌∙◌, arith}
 use Rattle.std.proofs.lemmas.List.{get_or-replicate}
 use Rattle.canonical_abi.specs.Types.{prim_type, scalar_value}
-use Rattle.ranges.proofs.Capped.{caps-below}
-use Rattle.ranges.proofs.Appends.{crosses-both}
+use Rattle.ranges.proofs.CapsAndBlends.{caps-below}
+use Rattle.ranges.proofs.CrossedElementsAppend.{crosses-both}
 use Rattle.ranges.proofs.chars.cross_chars.Goals as goal
 
 pub loop-done-preserved : goal.loop-done-preserved

@@ -1,5 +1,5 @@
 use Rattle.std.proofs.Common.{[], arith}
-use Rattle.ranges.proofs.Laid.{seen-nothing, seen-both}
+use Rattle.ranges.proofs.ColumnsLaidOverCaps.{seen-nothing, seen-both}
 use Rattle.ranges.proofs.columns.+fill_columns.Goals as goal
 
 pub returns-in-empty-clause-nodes : goal.returns-in-empty-clause-nodes

@@ -3,10 +3,10 @@ use Rattle.std.proofs.lemmas.Nat.{mod-mul-add}
 use Rattle.canonical_abi.specs.Layout.{size}
 use Rattle.ranges.specs.Bytewise.{IsTested}
 use Rattle.ranges.specs.Columns.{HaveCases, overlaid, columns_seen}
-use Rattle.ranges.proofs.Appends.{crosses-both, nodes-both}
-use Rattle.ranges.proofs.Fronts.{parts-fit}
-use Rattle.ranges.proofs.ByCase.{element-fits}
-use Rattle.ranges.proofs.Laid.{laid-again, planned-caps, planned-visited}
+use Rattle.ranges.proofs.CrossedElementsAppend.{crosses-both, nodes-both}
+use Rattle.ranges.proofs.FrontsThatCrossed.{parts-fit}
+use Rattle.ranges.proofs.VariantElementsByCase.{element-fits}
+use Rattle.ranges.proofs.ColumnsLaidOverCaps.{laid-again, planned-caps, planned-visited}
 use Rattle.ranges.proofs.columns.cross_columns.Goals as goal
 
 pub loop-done-init : goal.loop-done-init

@@ -2,8 +2,8 @@ use Rattle.std.proofs.Common.{◌≡◌, ◌*◌, ◌^◌, ◌<◌, arith}
 use Rattle.std.proofs.Math.Nat.{mod-lt}
 use Rattle.std.proofs.Math.Pow.{pow_pos}
 use Rattle.canonical_abi.specs.Layout.{flags_size}
-use Rattle.ranges.proofs.ByCase.{element-fits}
-use Rattle.ranges.proofs.Fronts.{part-sized}
+use Rattle.ranges.proofs.VariantElementsByCase.{element-fits}
+use Rattle.ranges.proofs.FrontsThatCrossed.{part-sized}
 use Rattle.ranges.proofs.flags.are_flags.Goals as goal
 
 pub returns : goal.returns

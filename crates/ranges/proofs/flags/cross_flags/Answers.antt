@@ -2,8 +2,8 @@ use Rattle.std.proofs.Common.{◌≡◌, inr, ◌-◌, ◌*◌, ◌≤◌, min, 
 use Rattle.std.proofs.lemmas.List.{get_or-replicate}
 use Rattle.canonical_abi.specs.Types.{flags_type}
 use Rattle.canonical_abi.specs.Layout.{flags_size}
-use Rattle.ranges.proofs.Capped.{caps-below}
-use Rattle.ranges.proofs.Appends.{crosses-both}
+use Rattle.ranges.proofs.CapsAndBlends.{caps-below}
+use Rattle.ranges.proofs.CrossedElementsAppend.{crosses-both}
 use Rattle.ranges.proofs.flags.cross_flags.Goals as goal
 
 pub loop-done-preserved : goal.loop-done-preserved

@@ -1,4 +1,4 @@
-use Rattle.ranges.proofs.Whole.{numbers-cross}
+use Rattle.ranges.proofs.BoolsAndNumbersCross.{numbers-cross}
 use Rattle.ranges.proofs.numbers.cross_numbers.Goals as goal
 
 pub returns-clause-crosses : goal.returns-clause-crosses

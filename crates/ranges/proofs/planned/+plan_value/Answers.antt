@@ -2,14 +2,14 @@ use Rattle.std.proofs.Common.{◌≡◌, ◌+◌, ◌≤◌, sym, ap, ◌∙◌,
 use Rattle.std.specs.Int.{next_multiple_of}
 use Rattle.canonical_abi.specs.Types.{record_type, record_fields, depth}
 use Rattle.canonical_abi.specs.Layout.{size, align, end_from, field_extents}
-use Rattle.canonical_abi.proofs.Places.{le-next_multiple_of}
-use Rattle.canonical_abi.proofs.Sizes.{is-alignment}
+use Rattle.canonical_abi.proofs.Layouts.LeastPlaces.{le-next_multiple_of}
+use Rattle.canonical_abi.proofs.Layouts.AlignmentsAndSizes.{is-alignment}
 use Rattle.tables.specs.Closed.{closed_type}
 use Rattle.values.proofs.TypesExtents.{member-depth}
-use Rattle.values.proofs.Fields.{fields_end, nth_field-some, fields-inside, fields-end, fields-last}
+use Rattle.values.proofs.FieldsFromAPlace.{fields_end, nth_field-some, fields-inside, fields-end, fields-last}
 use Rattle.ranges.specs.Columns.{Plans}
-use Rattle.ranges.proofs.Laid.{before-more}
-use Rattle.ranges.proofs.Planning.{planned-next, planned-record}
+use Rattle.ranges.proofs.ColumnsLaidOverCaps.{before-more}
+use Rattle.ranges.proofs.PlansOneByOne.{planned-next, planned-record}
 use Rattle.ranges.proofs.planned.+plan_value.Goals as goal
 
 pub plan_fields-unreachable-requires : goal.plan_fields-unreachable-requires

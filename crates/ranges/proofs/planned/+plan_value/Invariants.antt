@@ -1,8 +1,8 @@
 use Rattle.std.proofs.Common.{◌≡◌, ◌+◌, ◌*◌}
 use Rattle.canonical_abi.specs.Types.{depth, record_fields}
 use Rattle.tables.specs.Closed.{closed_type}
-use Rattle.values.proofs.Fields.{fields_from, fields_end}
-use Rattle.ranges.proofs.Planning.{FieldsPlanned}
+use Rattle.values.proofs.FieldsFromAPlace.{fields_from, fields_end}
+use Rattle.ranges.proofs.PlansOneByOne.{FieldsPlanned}
 use Rattle.ranges.proofs.planned.+plan_value.Given as goal
 
 abbrev pub decreases-plan_fields : goal.decreases-plan_fields

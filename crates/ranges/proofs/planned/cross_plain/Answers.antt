@@ -1,6 +1,6 @@
 use Rattle.std.proofs.Common.{◌+◌, ◌*◌, ap, arith}
 use Rattle.canonical_abi.specs.Layout.{size}
-use Rattle.ranges.proofs.Appends.{same-visited}
+use Rattle.ranges.proofs.CrossedElementsAppend.{same-visited}
 use Rattle.ranges.proofs.planned.cross_plain.Goals as goal
 
 pub returns-clause-crosses : goal.returns-clause-crosses

@@ -1,6 +1,6 @@
 use Rattle.std.proofs.Common.{arith}
 use Rattle.std.proofs.lemmas.Bool.Decides.{nat_tests}
-use Rattle.ranges.proofs.Planning.{planned-plain}
+use Rattle.ranges.proofs.PlansOneByOne.{planned-plain}
 use Rattle.ranges.proofs.planned.cross_planned.Goals as goal
 
 pub returns-then-is_empty-clause-crosses : goal.returns-then-is_empty-clause-crosses

@@ -1,6 +1,6 @@
 use Rattle.std.proofs.Common.{refl}
-use Rattle.ranges.proofs.Filled.{zeros}
-use Rattle.ranges.proofs.Planning.{planned-whole}
+use Rattle.ranges.proofs.CapsOfFields.{zeros}
+use Rattle.ranges.proofs.PlansOneByOne.{planned-whole}
 use Rattle.ranges.proofs.planned.plan_of.Goals as goal
 
 pub plan_value-requires-clause-blank : goal.plan_value-requires-clause-blank

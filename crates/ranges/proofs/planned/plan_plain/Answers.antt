@@ -1,5 +1,5 @@
 use Rattle.std.proofs.Common.{refl}
-use Rattle.ranges.proofs.Planning.{plans-plain}
+use Rattle.ranges.proofs.PlansOneByOne.{plans-plain}
 use Rattle.ranges.proofs.planned.plan_plain.Goals as goal
 
 pub returns : goal.returns

@@ -1,5 +1,5 @@
 use Rattle.std.proofs.Common.{refl}
-use Rattle.ranges.proofs.Planning.{plans-column}
+use Rattle.ranges.proofs.PlansOneByOne.{plans-column}
 use Rattle.ranges.proofs.planned.plan_variant.Goals as goal
 
 pub returns : goal.returns

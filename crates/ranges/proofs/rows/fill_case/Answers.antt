@@ -4,8 +4,8 @@ use Rattle.canonical_abi.specs.Layout.{size, align, payload_place}
 use Rattle.tables.specs.Closed.{closed_type}
 use Rattle.values.proofs.TypesExtents.{payload-place, payload-fits}
 use Rattle.ranges.specs.Plan.{IsRow}
-use Rattle.ranges.proofs.Capped.{cap-past}
-use Rattle.ranges.proofs.Filling.{plain-row, payload-row, blank-behind}
+use Rattle.ranges.proofs.CapsAndBlends.{cap-past}
+use Rattle.ranges.proofs.CapsOfCases.{plain-row, payload-row, blank-behind}
 use Rattle.ranges.proofs.rows.fill_case.Goals as goal
 
 pub returns-in_default-clause-row : goal.returns-in_default-clause-row

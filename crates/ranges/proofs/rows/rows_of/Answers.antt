@@ -6,8 +6,8 @@ use Rattle.canonical_abi.specs.Layout.{size}
 use Rattle.tables.specs.Closed.{closed_type}
 use Rattle.ranges.specs.Bytewise.{IsBytewise, HasRows}
 use Rattle.ranges.specs.Plan.{IsRow}
-use Rattle.ranges.proofs.Filled.{zeros}
-use Rattle.ranges.proofs.Filling.{row-stays, rows-bytewise, rows-told}
+use Rattle.ranges.proofs.CapsOfFields.{zeros}
+use Rattle.ranges.proofs.CapsOfCases.{row-stays, rows-bytewise, rows-told}
 use Rattle.ranges.proofs.rows.rows_of.Goals as goal
 
 pub loop-case-init : goal.loop-case-init

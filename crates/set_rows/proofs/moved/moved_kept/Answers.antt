@@ -1,5 +1,5 @@
 use Rattle.std.proofs.Common.{inl, inr, sym, ap, ◌∙◌, ◌++◌, ◌∷◌, [], arith, map}
-use Rattle.set_rows.proofs.Keeping.{kept-none, kept-more}
+use Rattle.set_rows.proofs.KeptElementsAndPlaces.{kept-none, kept-more}
 use Rattle.set_rows.proofs.moved.moved_kept.Goals as goal
 use Rattle.set_rows.proofs.moved.moved_kept.Goals.{then-has+in_ok-moved+in_ok-push, else-has}
 

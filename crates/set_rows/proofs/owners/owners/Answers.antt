@@ -1,5 +1,5 @@
 use Rattle.std.proofs.Common.{arith, sym}
-use Rattle.set_rows.proofs.Owned.{owners-more}
+use Rattle.set_rows.proofs.OwnersOfRows.{owners-more}
 use Rattle.set_rows.proofs.owners.owners.Goals as goal
 
 pub loop-behind-preserved : goal.loop-behind-preserved

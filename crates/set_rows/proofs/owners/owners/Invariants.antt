@@ -1,5 +1,5 @@
 use Rattle.std.proofs.Common.{◌-◌, length, drop}
-use Rattle.set_rows.proofs.Owned.{OwnersBehind}
+use Rattle.set_rows.proofs.OwnersOfRows.{OwnersBehind}
 use Rattle.set_rows.proofs.owners.owners.Given as goal
 
 abbrev pub invariant-loop-behind : goal.invariant-loop-behind

@@ -1,5 +1,5 @@
 use Rattle.std.proofs.Common.{refl}
-use Rattle.set_rows.proofs.Padding.{padded-more}
+use Rattle.set_rows.proofs.PaddedMarks.{padded-more}
 use Rattle.set_rows.proofs.reached.padded.Goals as goal
 
 pub loop-place-preserved : goal.loop-place-preserved

@@ -1,5 +1,5 @@
 use Rattle.std.proofs.Common.{length, refl, sym, ◌∙◌}
-use Rattle.tables.proofs.Earlier.{package-parts}
+use Rattle.tables.proofs.NamesEarlierTypes.{package-parts}
 use Rattle.table_building.proofs.parts.from_parts.Goals as goal
 
 pub returns-then-not-is_package-clause-err : goal.returns-then-not-is_package-clause-err

@@ -1,5 +1,5 @@
 use Rattle.std.proofs.Common.{sym, ◌∙◌, arith}
-use Rattle.tables.proofs.Earlier.{names-more, names-never}
+use Rattle.tables.proofs.NamesEarlierTypes.{names-more, names-never}
 use Rattle.table_building.proofs.parts.name_earlier_types.Goals as goal
 
 pub loop-place-preserved : goal.loop-place-preserved

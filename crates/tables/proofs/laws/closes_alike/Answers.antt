@@ -1,4 +1,4 @@
-use Rattle.tables.proofs.Unfolded.{closes_alike}
+use Rattle.tables.proofs.ClosesAlike.{closes_alike}
 use Rattle.tables.proofs.laws.closes_alike.Goals as goal
 
 pub returns : goal.returns

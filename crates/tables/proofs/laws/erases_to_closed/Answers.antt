@@ -1,4 +1,4 @@
-use Rattle.tables.proofs.Erased.{erases}
+use Rattle.tables.proofs.ErasesToClosed.{erases}
 use Rattle.tables.proofs.laws.erases_to_closed.Goals as goal
 
 pub returns : goal.returns

@@ -1,4 +1,4 @@
-use Rattle.tables.proofs.Standards.{standard-types}
+use Rattle.tables.proofs.HasStandardTypes.{standard-types}
 use Rattle.tables.proofs.laws.types_are_standard.Goals as goal
 
 pub returns : goal.returns

@@ -1,4 +1,4 @@
-use Rattle.tables.proofs.Names.{both_behind}
+use Rattle.tables.proofs.TextsComparedByParts.{both_behind}
 use Rattle.tables.proofs.lookup.behind_part.Goals as goal
 
 pub returns : goal.returns

@@ -5,8 +5,8 @@ use Rattle.wit_tokens.specs.declared.wit_syntax.ast.Field.{Field}
 use Rattle.tree_meaning.specs.Declarations.{member_name}
 use Rattle.package_form.specs.Scope.{AreDistinct}
 use Rattle.package_form.specs.Distinct.{AreMet}
-use Rattle.package_form.proofs.Lists.{map_map-more}
-use Rattle.package_form.proofs.Meeting.{met-none, met-push, refuses-at, all-taken}
+use Rattle.package_form.proofs.AllAndContains.{map_map-more}
+use Rattle.package_form.proofs.NamesMetOneByOne.{met-none, met-push, refuses-at, all-taken}
 use Rattle.tree_names.proofs.duplicates.distinct_fields.Goals as goal
 
 pub loop-field-init : goal.loop-field-init

@@ -4,7 +4,7 @@ use Rattle.wit_tokens.specs.View.{entry_view}
 use Rattle.wit_tokens.specs.declared.wit_syntax.ast.InterfaceItem.{InterfaceItem}
 use Rattle.tree_meaning.specs.Declarations.{entry_names}
 use Rattle.package_form.specs.Distinct.{AreMet, RefusesNames}
-use Rattle.package_form.proofs.Meeting.{met-push, refuses-end, on-ok}
+use Rattle.package_form.proofs.NamesMetOneByOne.{met-push, refuses-end, on-ok}
 use Rattle.tree_names.proofs.duplicates.distinct_item.Goals as goal
 
 pub returns-in_err-meet-in-TypeDef-clause-err : goal.returns-in_err-meet-in-TypeDef-clause-err

@@ -7,7 +7,7 @@ use Rattle.package_form.specs.Distinct.{RefusesNames}
 use Rattle.package_form.specs.Naming.{item_parameters}
 use Rattle.tree_meaning.specs.Declarations.{member_name}
 use Rattle.tree_scopes.specs.Sources.{item_in}
-use Rattle.tree_meaning.proofs.Apart.{none-distinct}
+use Rattle.tree_meaning.proofs.NamesOfScopeAreApart.{none-distinct}
 use Rattle.tree_names.proofs.WorldScopes.{no-parameters, labels-meant}
 use Rattle.tree_names.proofs.duplicates.distinct_item_parameters.Goals as goal
 

@@ -5,8 +5,8 @@ use Rattle.wit_tokens.specs.declared.wit_syntax.ast.InterfaceItem.{InterfaceItem
 use Rattle.tree_meaning.specs.Declarations.{entry_names, entry_scopes, item_scopes}
 use Rattle.package_form.specs.Scope.{AreDistinct}
 use Rattle.package_form.specs.Distinct.{AreMet}
-use Rattle.package_form.proofs.Lists.{flat_map-more, all-append, all-cons, all-none}
-use Rattle.package_form.proofs.Meeting.{met-none, refuses-item, all-taken}
+use Rattle.package_form.proofs.AllAndContains.{flat_map-more, all-append, all-cons, all-none}
+use Rattle.package_form.proofs.NamesMetOneByOne.{met-none, refuses-item, all-taken}
 use Rattle.tree_names.proofs.duplicates.distinct_items.Goals as goal
 
 pub loop-item-init : goal.loop-item-init

@@ -2,7 +2,7 @@ use Rattle.std.proofs.Common.{List, ℕ, subst, sym, arith}
 use Rattle.std.proofs.lemmas.Result.{err_from_is_err_and}
 use Rattle.package_form.specs.Scope.{AreDistinct}
 use Rattle.package_form.specs.Distinct.{AreMet, RefusesNames}
-use Rattle.package_form.proofs.Meeting.{met-none, met-push, refuses-end, refuses-more, split-at, take-more, all-taken}
+use Rattle.package_form.proofs.NamesMetOneByOne.{met-none, met-push, refuses-end, refuses-more, split-at, take-more, all-taken}
 use Rattle.tree_names.proofs.duplicates.distinct_labels.Goals as goal
 
 pub loop-label-init : goal.loop-label-init

@@ -6,8 +6,8 @@ use Rattle.tables.specs.declared.error.ResolveError.TheVariants as error
 use Rattle.tree_meaning.specs.Scopes.{file_name, interface_scopes, scopes_in}
 use Rattle.package_form.specs.Scope.{lowered, AreDistinct}
 use Rattle.package_form.specs.Distinct.{AreMet}
-use Rattle.package_form.proofs.Lists.{map_map-more, flat_map-more, all-append, all-cons, all-none, contains-here, contains-later}
-use Rattle.package_form.proofs.Meeting.{met-none, met-push, refuses-at, refuses-scope, refuses-among, part-contained, all-taken}
+use Rattle.package_form.proofs.AllAndContains.{map_map-more, flat_map-more, all-append, all-cons, all-none, contains-here, contains-later}
+use Rattle.package_form.proofs.NamesMetOneByOne.{met-none, met-push, refuses-at, refuses-scope, refuses-among, part-contained, all-taken}
 use Rattle.tree_names.proofs.duplicates.distinct_names.Goals as goal
 
 pub loop-item-init : goal.loop-item-init

@@ -5,8 +5,8 @@ use Rattle.tree_scopes.specs.Sources.{item_in}
 use Rattle.package_form.specs.Scope.{AreDistinct}
 use Rattle.package_names.specs.Sides.{AreMetOnSides}
 use Rattle.package_form.specs.Naming.{item_parameters}
-use Rattle.package_form.proofs.Lists.{all-none}
-use Rattle.package_names.proofs.WorldItems.{refuses-world, refuses-item-parameters, sides-more, parameters-more, whole-world}
+use Rattle.package_form.proofs.AllAndContains.{all-none}
+use Rattle.package_names.proofs.WorldItemNamesAreMet.{refuses-world, refuses-item-parameters, sides-more, parameters-more, whole-world}
 use Rattle.tree_names.proofs.duplicates.distinct_world_items.Goals as goal
 
 pub loop-item-init : goal.loop-item-init

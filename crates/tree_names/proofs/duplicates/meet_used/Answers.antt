@@ -3,8 +3,8 @@ use Rattle.std.proofs.lemmas.Result.{err_from_is_err_and}
 use Rattle.wit_tokens.specs.View.{used_view}
 use Rattle.tree_meaning.specs.Declarations.{local_name}
 use Rattle.package_form.specs.Distinct.{AreMet}
-use Rattle.package_form.proofs.Lists.{map_map-more}
-use Rattle.package_form.proofs.Meeting.{met-push, names-split, refuses-within}
+use Rattle.package_form.proofs.AllAndContains.{map_map-more}
+use Rattle.package_form.proofs.NamesMetOneByOne.{met-push, names-split, refuses-within}
 use Rattle.tree_names.proofs.duplicates.meet_used.Goals as goal
 
 pub returns-in_err-meet-clause-err : goal.returns-in_err-meet-clause-err

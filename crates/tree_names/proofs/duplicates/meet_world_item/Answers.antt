@@ -1,6 +1,6 @@
 use Rattle.std.proofs.Common.{◌∙◌, inl, sym}
 use Rattle.std.proofs.lemmas.Result.{err_from_is_err_and}
-use Rattle.package_names.proofs.WorldItems.{item-met, item-refused}
+use Rattle.package_names.proofs.WorldItemNamesAreMet.{item-met, item-refused}
 use Rattle.tree_names.proofs.WorldScopes.{side-told}
 use Rattle.tree_names.proofs.duplicates.meet_world_item.Goals as goal
 

@@ -1,6 +1,6 @@
 use Rattle.std.proofs.Common.{map, ◌∙◌}
 use Rattle.tree_scopes.specs.Sources.{declared_tree}
-use Rattle.tree_names.proofs.Using.{interface_graph-below}
+use Rattle.tree_names.proofs.NamesAsGraphNodes.{interface_graph-below}
 use Rattle.tree_names.proofs.graphs.interface_order.Goals as goal
 
 pub ordered-requires : goal.ordered-requires

@@ -1,6 +1,6 @@
 use Rattle.std.proofs.Common.{sym, ◌∙◌, arith, refl}
-use Rattle.tree_names.proofs.Using.{places-some, places-none}
-use Rattle.tree_meaning.proofs.Finding.{none-of}
+use Rattle.tree_names.proofs.NamesAsGraphNodes.{places-some, places-none}
+use Rattle.tree_meaning.proofs.NamesFoundInLists.{none-of}
 use Rattle.tree_names.proofs.graphs.places.Goals as goal
 use Rattle.tree_names.proofs.graphs.places.Goals.{in-Some+in_ok-push, in_default}
 

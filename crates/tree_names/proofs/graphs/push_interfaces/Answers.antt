@@ -6,7 +6,7 @@ use Rattle.wit_tokens.specs.declared.wit_syntax.ast.Path.{Path}
 use Rattle.tree_meaning.specs.Declarations.{own_use, own_interface, path_package, path_interface}
 use Rattle.tree_scopes.specs.Lent.{lent_names, lent_name, used_item_of}
 use Rattle.tree_meaning.proofs.FileEntries.{given-next}
-use Rattle.tree_meaning.proofs.Uses.{not-local}
+use Rattle.tree_meaning.proofs.OwnUsedNames.{not-local}
 use Rattle.tree_names.proofs.graphs.push_interfaces.Goals as goal
 use Rattle.tree_names.proofs.graphs.push_interfaces.Goals.{in-Local+in_ok-push, in_default}
 

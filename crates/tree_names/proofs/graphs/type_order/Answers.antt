@@ -1,6 +1,6 @@
 use Rattle.std.proofs.Common.{◌∙◌}
 use Rattle.tree_scopes.specs.Sources.{declared_tree}
-use Rattle.tree_names.proofs.Using.{type_graph-below}
+use Rattle.tree_names.proofs.NamesAsGraphNodes.{type_graph-below}
 use Rattle.tree_names.proofs.graphs.type_order.Goals as goal
 
 pub ordered-requires : goal.ordered-requires

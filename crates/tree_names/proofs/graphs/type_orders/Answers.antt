@@ -1,8 +1,8 @@
 use Rattle.std.proofs.Common.{arith, inl, inr}
 use Rattle.std.proofs.lemmas.Result.{err_from_is_err_and}
 use Rattle.tree_scopes.specs.Sources.{declared_tree}
-use Rattle.package_form.proofs.Lists.{contains-map, contains-at}
-use Rattle.tree_names.proofs.Using.{orders-more}
+use Rattle.package_form.proofs.AllAndContains.{contains-map, contains-at}
+use Rattle.tree_names.proofs.NamesAsGraphNodes.{orders-more}
 use Rattle.tree_names.proofs.graphs.type_orders.Goals as goal
 
 pub loop-declared-preserved : goal.loop-declared-preserved

@@ -1,4 +1,4 @@
-use Rattle.tree_names.proofs.Using.{OrdersBelow}
+use Rattle.tree_names.proofs.NamesAsGraphNodes.{OrdersBelow}
 use Rattle.tree_names.proofs.graphs.type_orders.Given as goal
 
 abbrev pub invariant-loop-declared : goal.invariant-loop-declared

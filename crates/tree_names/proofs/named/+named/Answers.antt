@@ -3,7 +3,7 @@ use Rattle.wit_tokens.specs.Syntax.{tys_of}
 use Rattle.wit_tokens.specs.View.{ty_view}
 use Rattle.tree_meaning.specs.Declarations.{named, named_all}
 use Rattle.tree_scopes.specs.Lent.{lent_names}
-use Rattle.tree_names.proofs.Nesting.{named_all-more}
+use Rattle.tree_names.proofs.NestingDepths.{named_all-more}
 use Rattle.tree_names.proofs.named.+named.Goals as goal
 
 pub push_named_all-loop-ty-preserved : goal.push_named_all-loop-ty-preserved

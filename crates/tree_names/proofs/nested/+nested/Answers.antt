@@ -2,7 +2,7 @@ use Rattle.std.proofs.Common.{nat_le, List, map, ap, sym, ◌∙◌, arith}
 use Rattle.wit_tokens.specs.Syntax.{depth_all, tys_of}
 use Rattle.wit_tokens.specs.View.{ty_view}
 use Rattle.wit_tokens.specs.declared.wit_syntax.ast.TypeExpression.{TypeExpression}
-use Rattle.tree_names.proofs.Nesting.{deeper-at, within-more}
+use Rattle.tree_names.proofs.NestingDepths.{deeper-at, within-more}
 use Rattle.tree_names.proofs.nested.+nested.Goals as goal
 
 pub are_within-returns-then-not-is_within : goal.are_within-returns-then-not-is_within

@@ -1,7 +1,7 @@
 use Rattle.std.proofs.Common.{sym, ◌∙◌, arith}
 use Rattle.wit_tokens.specs.View.{entry_view}
 use Rattle.tree_meaning.specs.Resolves.{entry_fits}
-use Rattle.tree_names.proofs.Nesting.{all_false-at}
+use Rattle.tree_names.proofs.NestingDepths.{all_false-at}
 use Rattle.tree_names.proofs.nested.are_items_nested.Goals as goal
 
 pub returns-then-not-is_item_nested : goal.returns-then-not-is_item_nested

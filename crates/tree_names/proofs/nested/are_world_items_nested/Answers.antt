@@ -1,7 +1,7 @@
 use Rattle.std.proofs.Common.{sym, ◌∙◌, arith}
 use Rattle.wit_tokens.specs.View.{world_entry_view}
 use Rattle.tree_meaning.specs.Resolves.{world_entry_fits}
-use Rattle.tree_names.proofs.Nesting.{all_false-at}
+use Rattle.tree_names.proofs.NestingDepths.{all_false-at}
 use Rattle.tree_names.proofs.nested.are_world_items_nested.Goals as goal
 
 pub returns-then-not-is_world_item_nested : goal.returns-then-not-is_world_item_nested

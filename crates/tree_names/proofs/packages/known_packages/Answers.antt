@@ -5,9 +5,9 @@ use Rattle.tree_meaning.specs.Declarations.{file_entry_packages}
 use Rattle.tree_meaning.specs.Knowing.{RefusesPackage}
 use Rattle.tables.specs.PackageNames.{PackageParts}
 use Rattle.tables.specs.declared.error.ResolveError.TheVariants as error
-use Rattle.package_form.proofs.Lists.{contains-flat, contains-map, contains-at}
-use Rattle.package_form.proofs.Meeting.{all-taken}
-use Rattle.tree_meaning.proofs.Finding.{if-none}
+use Rattle.package_form.proofs.AllAndContains.{contains-flat, contains-map, contains-at}
+use Rattle.package_form.proofs.NamesMetOneByOne.{all-taken}
+use Rattle.tree_meaning.proofs.NamesFoundInLists.{if-none}
 use Rattle.tree_meaning.proofs.PathNames.{all-more}
 use Rattle.tree_names.proofs.packages.known_packages.Goals as goal
 

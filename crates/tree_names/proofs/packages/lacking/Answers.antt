@@ -1,6 +1,6 @@
 use Rattle.std.proofs.Common.{◌∙◌, [], List, All, Contains, sym, subst}
 use Rattle.tables.specs.PackageNames.{PackageParts}
-use Rattle.package_form.proofs.Lists.{all-cons, all-none, contains-here}
+use Rattle.package_form.proofs.AllAndContains.{all-cons, all-none, contains-here}
 use Rattle.tree_meaning.specs.Finished.{header_name}
 use Rattle.tree_meaning.specs.Knowing.{IsLacking}
 use Rattle.tree_meaning.proofs.PathNames.{any-there, any-not, names-package}

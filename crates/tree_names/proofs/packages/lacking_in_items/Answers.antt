@@ -2,9 +2,9 @@ use Rattle.std.proofs.Common.{List, All, Contains, map, flat_map, arith}
 use Rattle.wit_tokens.specs.View.{entry_view}
 use Rattle.wit_tokens.specs.declared.wit_syntax.ast.InterfaceItem.{InterfaceItem}
 use Rattle.tree_meaning.specs.Declarations.{entry_packages}
-use Rattle.package_form.proofs.Lists.{contains-flat, contains-map, contains-at}
-use Rattle.package_form.proofs.Meeting.{all-taken}
-use Rattle.tree_meaning.proofs.Finding.{if-none}
+use Rattle.package_form.proofs.AllAndContains.{contains-flat, contains-map, contains-at}
+use Rattle.package_form.proofs.NamesMetOneByOne.{all-taken}
+use Rattle.tree_meaning.proofs.NamesFoundInLists.{if-none}
 use Rattle.tree_meaning.proofs.PathNames.{all-more}
 use Rattle.tree_names.proofs.packages.lacking_in_items.Goals as goal
 

@@ -2,9 +2,9 @@ use Rattle.std.proofs.Common.{◌∙◌, get_or, sym, subst, arith, Contains}
 use Rattle.std.proofs.lemmas.List.{get_or_default}
 use Rattle.tree_scopes.specs.Sources.{declared_tree}
 use Rattle.tree_scopes.specs.declared.declared.Declarations.{Declarations}
-use Rattle.package_form.proofs.Lists.{contains-map, contains-at}
+use Rattle.package_form.proofs.AllAndContains.{contains-map, contains-at}
 use Rattle.tree_scopes.proofs.DeclaredTrees.{place-in, interface-there}
-use Rattle.tree_meaning.proofs.Finding.{place-lacks}
+use Rattle.tree_meaning.proofs.NamesFoundInLists.{place-lacks}
 use Rattle.tree_names.proofs.unknown.find_interface.Goals as goal
 
 pub bounds-tree-place : goal.bounds-tree-place

@@ -1,8 +1,8 @@
 use Rattle.std.proofs.Common.{List, ℕ, [], Bor, All, Contains, sym, ◌∙◌, subst, arith}
 use Rattle.tree_scopes.specs.Lent.{lent_names, lent_name}
-use Rattle.package_form.proofs.Lists.{map-more, all-append, all-cons, all-none, contains-map, contains-at}
-use Rattle.tree_meaning.proofs.Finding.{none-of, place-lacks, place-has}
-use Rattle.package_form.proofs.Meeting.{all-taken}
+use Rattle.package_form.proofs.AllAndContains.{map-more, all-append, all-cons, all-none, contains-map, contains-at}
+use Rattle.tree_meaning.proofs.NamesFoundInLists.{none-of, place-lacks, place-has}
+use Rattle.package_form.proofs.NamesMetOneByOne.{all-taken}
 use Rattle.tree_names.proofs.unknown.first_unknown.Goals as goal
 
 pub loop-name-preserved : goal.loop-name-preserved

@@ -10,8 +10,8 @@ use Rattle.tree_meaning.specs.Declarations.{InterfaceTree, no_interface, interfa
 use Rattle.tree_meaning.specs.Resolves.{HasKnownNamesOf}
 use Rattle.tree_scopes.specs.Sources.{declared_tree}
 use Rattle.tree_meaning.specs.Knowing.{KnowsFileEntry, LacksFileEntry, RefusesUnknown}
-use Rattle.package_form.proofs.Lists.{contains-map, contains-at, all-append, all-cons, all-none, map-more}
-use Rattle.package_form.proofs.Meeting.{all-taken}
+use Rattle.package_form.proofs.AllAndContains.{contains-map, contains-at, all-append, all-cons, all-none, map-more}
+use Rattle.package_form.proofs.NamesMetOneByOne.{all-taken}
 use Rattle.tree_meaning.proofs.FileEntries.{given-at, given-next, interfaces-known, worlds-known, entry-lacks}
 use Rattle.tree_names.proofs.unknown.known_names.Goals as goal
 use Rattle.tree_names.proofs.unknown.known_names.Goals.{in-Interface, in_default-item}

@@ -10,9 +10,9 @@ use Rattle.tree_meaning.specs.Resolves.{HasKnownNamesOf, IsUnknownIn, IsKnownIte
 use Rattle.tree_meaning.specs.Knowing.{KnowsFileEntry, LacksFileEntry, LacksItem}
 use Rattle.tree_scopes.specs.Sources.{declared_tree}
 use Rattle.tree_scopes.specs.declared.declared.Declarations.{Declarations}
-use Rattle.tree_meaning.proofs.Finding.{interface-known, interface-lacks, none-map, some-map}
+use Rattle.tree_meaning.proofs.NamesFoundInLists.{interface-known, interface-lacks, none-map, some-map}
 use Rattle.tree_scopes.proofs.DeclaredTrees.{tree-at}
-use Rattle.tree_meaning.proofs.Trees.{ok-map}
+use Rattle.tree_meaning.proofs.PackageOfAFile.{ok-map}
 use Rattle.tree_names.proofs.unknown.unknown_in_entry.Goals as goal
 
 pub bounds-tree-place : goal.bounds-tree-place

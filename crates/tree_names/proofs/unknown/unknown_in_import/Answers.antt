@@ -2,7 +2,7 @@ use Rattle.std.proofs.Common.{◌<◌, ◌∙◌, ℕ, List, inl, inr, refl, ap,
 use Rattle.std.specs.Prelude.{Contains}
 use Rattle.tree_meaning.specs.Finished.{header_name}
 use Rattle.tree_meaning.specs.Imports.{import_at, interfaces_of, imports_of}
-use Rattle.tree_meaning.proofs.Imported.{at-itself, place-is, place-none}
+use Rattle.tree_meaning.proofs.ImportsFoundByName.{at-itself, place-is, place-none}
 use Rattle.tree_scopes.specs.KnownScopes.{scope_names}
 use Rattle.tree_scopes.proofs.ImportScopes.{scopes-long, scope-types}
 use Rattle.tree_names.proofs.unknown.unknown_in_import.Goals as goal

@@ -5,7 +5,7 @@ use Rattle.tree_meaning.specs.Imports.{imports_of}
 use Rattle.tree_scopes.specs.Lent.{lent_names}
 use Rattle.tree_scopes.specs.Sources.{declared_tree}
 use Rattle.tree_meaning.specs.Knowing.{KnowsEntry, LacksEntry}
-use Rattle.tree_meaning.proofs.Finding.{none-map, some-map}
+use Rattle.tree_meaning.proofs.NamesFoundInLists.{none-map, some-map}
 use Rattle.tree_scopes.proofs.DeclaredTrees.{knows-all, lacks-name}
 use Rattle.tree_names.proofs.unknown.unknown_in_item.Goals as goal
 

@@ -1,6 +1,6 @@
 use Rattle.std.proofs.Common.{inr, refl, sym, ◌∙◌, subst, Contains}
 use Rattle.tree_scopes.specs.Sources.{declared_tree}
-use Rattle.tree_meaning.proofs.Finding.{place-lacks, place-has}
+use Rattle.tree_meaning.proofs.NamesFoundInLists.{place-lacks, place-has}
 use Rattle.tree_scopes.proofs.DeclaredTrees.{lacks-one}
 use Rattle.tree_names.proofs.unknown.unknown_in_own.Goals as goal
 

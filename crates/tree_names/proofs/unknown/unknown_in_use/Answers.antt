@@ -5,9 +5,9 @@ use Rattle.tree_meaning.specs.Imports.{imports_of}
 use Rattle.tree_meaning.specs.Declarations.{used_item}
 use Rattle.tree_meaning.specs.Resolves.{IsKnownUseOf}
 use Rattle.tree_scopes.specs.Sources.{declared_tree}
-use Rattle.package_form.proofs.Lists.{map_map-more, all-append, all-cons, all-none, contains-map, contains-at}
-use Rattle.tree_meaning.proofs.Finding.{if-none}
-use Rattle.package_form.proofs.Meeting.{all-taken}
+use Rattle.package_form.proofs.AllAndContains.{map_map-more, all-append, all-cons, all-none, contains-map, contains-at}
+use Rattle.tree_meaning.proofs.NamesFoundInLists.{if-none}
+use Rattle.package_form.proofs.NamesMetOneByOne.{all-taken}
 use Rattle.tree_names.proofs.unknown.unknown_in_use.Goals as goal
 
 pub returns-in-Some-clause-some : goal.returns-in-Some-clause-some

@@ -5,8 +5,8 @@ use Rattle.wit_tokens.specs.declared.wit_syntax.ast.WorldItem.{WorldItem}
 use Rattle.tree_meaning.specs.Imports.{imports_of}
 use Rattle.tree_meaning.specs.Declarations.{item_tree}
 use Rattle.tree_meaning.specs.Resolves.{IsKnownItemOf, IsUnknownItem}
-use Rattle.package_form.proofs.Lists.{contains-map, contains-at}
-use Rattle.package_form.proofs.Meeting.{all-taken}
+use Rattle.package_form.proofs.AllAndContains.{contains-map, contains-at}
+use Rattle.package_form.proofs.NamesMetOneByOne.{all-taken}
 use Rattle.tree_names.proofs.unknown.unknown_in_world.Goals as goal
 
 pub returns-in-Some-clause-some : goal.returns-in-Some-clause-some

@@ -11,8 +11,8 @@ use Rattle.tree_scopes.specs.KnownScopes.{IsScope, ArePlaced}
 use Rattle.tree_meaning.specs.Building.{label_at}
 use Rattle.tree_scopes.specs.declared.known.KnownTypes.{KnownTypes}
 use Rattle.tree_scopes.specs.declared.declared.Declarations.{Declarations}
-use Rattle.tree_rows.proofs.Planned.{below, declares, known, distinct}
-use Rattle.tree_rows.proofs.Packaging.{none-defined, name-here, can-use-all, one-more, defines-package}
+use Rattle.tree_rows.proofs.PlansTellTheirTrees.{below, declares, known, distinct}
+use Rattle.tree_rows.proofs.InterfacesInPackageOrder.{none-defined, name-here, can-use-all, one-more, defines-package}
 use Rattle.tree_rows.proofs.assembly.define_package.Goals as goal
 
 pub loop-place-init : goal.loop-place-init

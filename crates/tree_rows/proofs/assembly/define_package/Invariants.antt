@@ -1,6 +1,6 @@
 use Rattle.std.proofs.Common.{map}
 use Rattle.tree_scopes.specs.Sources.{declared_tree}
-use Rattle.tree_rows.proofs.Packaging.{PackageSoFar}
+use Rattle.tree_rows.proofs.InterfacesInPackageOrder.{PackageSoFar}
 use Rattle.tree_rows.proofs.assembly.define_package.Given as goal
 
 abbrev pub invariant-loop-place : goal.invariant-loop-place

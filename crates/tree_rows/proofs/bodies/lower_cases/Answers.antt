@@ -5,9 +5,9 @@ use Rattle.tree_meaning.specs.Declarations.{named_case}
 use Rattle.tree_meaning.specs.Resolved.{resolved_if, case_meaning}
 use Rattle.tree_meaning.specs.Building.{LowersIf, case_typed, read_case}
 use Rattle.tree_scopes.specs.KnownScopes.{scope_name, scope_names}
-use Rattle.package_form.proofs.Lists.{all_flat-at, map_map-more}
-use Rattle.tree_rows.proofs.Lowering.{scope-later, same_name, choice-same, case-stays}
-use Rattle.tree_meaning.proofs.Staying.{lowers_each-none, lowers_each-more}
+use Rattle.package_form.proofs.AllAndContains.{all_flat-at, map_map-more}
+use Rattle.tree_rows.proofs.LoweredTypesStay.{scope-later, same_name, choice-same, case-stays}
+use Rattle.tree_meaning.proofs.TypesReadStay.{lowers_each-none, lowers_each-more}
 use Rattle.tree_rows.proofs.bodies.lower_cases.Goals as goal
 
 pub loop-item-init : goal.loop-item-init

@@ -9,7 +9,7 @@ use Rattle.tree_meaning.specs.Resolved.{definition_meaning}
 use Rattle.tree_meaning.specs.Building.{LowersKind}
 use Rattle.tree_scopes.specs.KnownScopes.{KnowsNames, scope_name}
 use Rattle.tables.specs.declared.tables.TypeDefKind.TheVariants as kind
-use Rattle.tree_rows.proofs.Lowering.{lowers-record, lowers-variant}
+use Rattle.tree_rows.proofs.LoweredTypesStay.{lowers-record, lowers-variant}
 use Rattle.tree_rows.proofs.bodies.lower_definition.Goals as goal
 
 pub lower_kind-requires-clause-known : goal.lower_kind-requires-clause-known

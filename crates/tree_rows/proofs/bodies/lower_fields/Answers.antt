@@ -5,9 +5,9 @@ use Rattle.tree_meaning.specs.Declarations.{named_member}
 use Rattle.tree_meaning.specs.Resolved.{resolved, member_meaning}
 use Rattle.tree_meaning.specs.Building.{field_typed, read_field, LowersType}
 use Rattle.tree_scopes.specs.KnownScopes.{scope_name, scope_names}
-use Rattle.package_form.proofs.Lists.{all_flat-at, map_map-more}
-use Rattle.tree_rows.proofs.Lowering.{scope-later, same_name, labelled-same, field-stays}
-use Rattle.tree_meaning.proofs.Staying.{lowers_each-none, lowers_each-more}
+use Rattle.package_form.proofs.AllAndContains.{all_flat-at, map_map-more}
+use Rattle.tree_rows.proofs.LoweredTypesStay.{scope-later, same_name, labelled-same, field-stays}
+use Rattle.tree_meaning.proofs.TypesReadStay.{lowers_each-none, lowers_each-more}
 use Rattle.tree_rows.proofs.bodies.lower_fields.Goals as goal
 
 pub loop-member-init : goal.loop-member-init

@@ -1,5 +1,5 @@
 use Rattle.std.proofs.Common.{◌∙◌, refl, [], arith}
-use Rattle.tree_rows.proofs.Closing.{interfaces-more-in}
+use Rattle.tree_rows.proofs.InterfacesBehindImports.{interfaces-more-in}
 use Rattle.tree_rows.proofs.closed.empty_interfaces.Goals as goal
 
 pub loop-name-preserved : goal.loop-name-preserved

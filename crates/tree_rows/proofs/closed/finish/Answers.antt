@@ -7,11 +7,11 @@ use Rattle.package_form.specs.Ids.{interfaces_from}
 use Rattle.tables.specs.declared.tables.Definition.{Definition}
 use Rattle.tables.specs.declared.tables.Interface.{Interface}
 use Rattle.tables.specs.declared.tables.World.{World}
-use Rattle.package_form.proofs.RowEntries.{within-entries, few-rows}
+use Rattle.package_form.proofs.RowsTakeTypeEntries.{within-entries, few-rows}
 use Rattle.tree_meaning.specs.Resolves.{interfaces_behind}
-use Rattle.tree_rows.proofs.Closing.{placed-behind, grouped-behind}
+use Rattle.tree_rows.proofs.InterfacesBehindImports.{placed-behind, grouped-behind}
 use Rattle.tree_meaning.proofs.TableRows.{behind-length}
-use Rattle.tree_rows.proofs.Finishing.{all-placed-ids}
+use Rattle.tree_rows.proofs.IdsAndTypeEntries.{all-placed-ids}
 use Rattle.tree_rows.proofs.PlacedWorlds.{worlds-placed, worlds-grouped}
 use Rattle.tree_rows.proofs.closed.finish.Goals as goal
 

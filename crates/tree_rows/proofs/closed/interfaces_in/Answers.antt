@@ -2,8 +2,8 @@ use Rattle.std.proofs.Common.{◌≡◌, ◌∙◌, List, length, take, set, get
 use Rattle.tree_meaning.specs.Finished.{with_definition}
 use Rattle.tree_meaning.specs.Resolves.{interfaces_behind}
 use Rattle.tables.specs.declared.tables.Interface.{Interface}
-use Rattle.tree_meaning.proofs.Finding.{if-none}
-use Rattle.tree_rows.proofs.Closing.{rows-there-in, rows-elsewhere-in}
+use Rattle.tree_meaning.proofs.NamesFoundInLists.{if-none}
+use Rattle.tree_rows.proofs.InterfacesBehindImports.{rows-there-in, rows-elsewhere-in}
 use Rattle.tree_meaning.proofs.TableRows.{behind-length}
 use Rattle.tree_rows.proofs.closed.interfaces_in.Goals as goal
 use Rattle.tree_rows.proofs.closed.interfaces_in.Goals.{in-Some+in_ok-push_id, in_default}

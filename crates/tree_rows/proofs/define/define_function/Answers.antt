@@ -5,9 +5,9 @@ use Rattle.tree_meaning.specs.Declarations.{named_member, named_if}
 use Rattle.tree_meaning.specs.Resolved.{member_meaning, resolved_if}
 use Rattle.tree_meaning.specs.Building.{LowersParameters, LowersIf}
 use Rattle.tree_scopes.specs.KnownScopes.{KnowsNames, scope_name, scope_names}
-use Rattle.package_form.proofs.Lists.{all-left, all-right}
-use Rattle.tree_rows.proofs.Lowering.{scope-later, same_name}
-use Rattle.tree_rows.proofs.Growing.{function-adds}
+use Rattle.package_form.proofs.AllAndContains.{all-left, all-right}
+use Rattle.tree_rows.proofs.LoweredTypesStay.{scope-later, same_name}
+use Rattle.tree_rows.proofs.OneDefinitionMore.{function-adds}
 use Rattle.tree_rows.proofs.define.define_function.Goals as goal
 
 pub lower_parameters-requires-clause-known : goal.lower_parameters-requires-clause-known

@@ -2,8 +2,8 @@ use Rattle.std.proofs.Common.{arith}
 use Rattle.tree_meaning.specs.Declarations.{FunctionItem, names_in_function}
 use Rattle.tree_scopes.specs.Sources.{declared_function}
 use Rattle.tree_scopes.specs.KnownScopes.{KnowsNames}
-use Rattle.package_form.proofs.Lists.{all_map-at}
-use Rattle.tree_rows.proofs.Lowering.{scope-later}
+use Rattle.package_form.proofs.AllAndContains.{all_map-at}
+use Rattle.tree_rows.proofs.LoweredTypesStay.{scope-later}
 use Rattle.tree_rows.proofs.define.define_functions.Goals as goal
 
 pub define_function-requires-clause-scoped : goal.define_function-requires-clause-scoped

@@ -10,8 +10,8 @@ use Rattle.tree_meaning.specs.Building.{NamesEarlier, ordered_names}
 use Rattle.tree_scopes.specs.KnownScopes.{scope_names}
 use Rattle.tree_scopes.specs.declared.declared.UsedType.{UsedType}
 use Rattle.tree_scopes.specs.declared.known.KnownTypes.{KnownTypes}
-use Rattle.tree_meaning.proofs.Placing.{placed-earlier, functions-placed}
-use Rattle.tree_rows.proofs.Growing.{defines-interface, first_names, both_names}
+use Rattle.tree_meaning.proofs.PlacedTypesNameEarlier.{placed-earlier, functions-placed}
+use Rattle.tree_rows.proofs.OneDefinitionMore.{defines-interface, first_names, both_names}
 use Rattle.tree_rows.proofs.define.define_interface.Goals as goal
 
 pub define_uses-requires-clause-known : goal.define_uses-requires-clause-known

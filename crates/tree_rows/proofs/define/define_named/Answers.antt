@@ -1,6 +1,6 @@
 use Rattle.std.proofs.Common.{◌≡◌, ◌++◌, ◌∷◌, [], refl}
 use Rattle.tree_scopes.specs.declared.known.KnownTypes.{KnownTypes}
-use Rattle.tree_rows.proofs.Growing.{define-grows}
+use Rattle.tree_rows.proofs.OneDefinitionMore.{define-grows}
 use Rattle.tree_rows.proofs.define.define_named.Goals as goal
 
 pub returns : goal.returns

@@ -1,4 +1,4 @@
-use Rattle.tree_rows.proofs.Growing.{on-ok}
+use Rattle.tree_rows.proofs.OneDefinitionMore.{on-ok}
 use Rattle.tree_rows.proofs.define.define_type.Goals as goal
 
 pub returns : goal.returns

@@ -6,7 +6,7 @@ use Rattle.tree_meaning.specs.Resolved.{no_type}
 use Rattle.tree_scopes.specs.Lent.{declared_type}
 use Rattle.tree_scopes.specs.KnownScopes.{scope_name, scope_names}
 use Rattle.tree_meaning.specs.Building.{ordered_names}
-use Rattle.tree_rows.proofs.Growing.{knows-by, order-names}
+use Rattle.tree_rows.proofs.OneDefinitionMore.{knows-by, order-names}
 use Rattle.tree_rows.proofs.define.define_types.Goals as goal
 
 pub bounds-types-place : goal.bounds-types-place

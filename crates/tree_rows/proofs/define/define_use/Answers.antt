@@ -1,4 +1,4 @@
-use Rattle.tree_rows.proofs.Growing.{on-ok, uses-kind}
+use Rattle.tree_rows.proofs.OneDefinitionMore.{on-ok, uses-kind}
 use Rattle.tree_rows.proofs.define.define_use.Goals as goal
 
 pub returns : goal.returns

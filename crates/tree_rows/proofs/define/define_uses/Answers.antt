@@ -2,8 +2,8 @@ use Rattle.std.proofs.Common.{arith}
 use Rattle.tree_scopes.specs.Lent.{used_item_of}
 use Rattle.tree_meaning.specs.Imports.{interfaces_of}
 use Rattle.tree_rows.specs.Defining.{CanUse}
-use Rattle.package_form.proofs.Lists.{all_map-at}
-use Rattle.tree_rows.proofs.Growing.{can_use-later, scopes-later}
+use Rattle.package_form.proofs.AllAndContains.{all_map-at}
+use Rattle.tree_rows.proofs.OneDefinitionMore.{can_use-later, scopes-later}
 use Rattle.tree_rows.proofs.define.define_uses.Goals as goal
 
 pub target-requires-clause-known : goal.target-requires-clause-known

@@ -9,10 +9,10 @@ use Rattle.tree_meaning.specs.Declarations.{named_maybe}
 use Rattle.tree_meaning.specs.Resolved.{resolved, resolved_maybe}
 use Rattle.tree_meaning.specs.Building.{LowersIf, LowersInner}
 use Rattle.tree_scopes.specs.KnownScopes.{KnowsNames, scope_name, scope_names}
-use Rattle.package_form.proofs.Lists.{all-head, all-left, all-right}
-use Rattle.wit_tokens.proofs.wit_syntax.Views.{view-Named, view-List, view-Option, view-Tuple, view-Result}
-use Rattle.tree_rows.proofs.Lowering.{known-by, inner-by, scope-later, same_name, lowers-list, lowers-option, lowers-tuple, lowers-result, lowers-some, resolved_all-more, all_named-at}
-use Rattle.tree_meaning.proofs.Staying.{lowers_each-more, val-stays}
+use Rattle.package_form.proofs.AllAndContains.{all-head, all-left, all-right}
+use Rattle.wit_tokens.proofs.wit_syntax.TreesOfExpressions.{view-Named, view-List, view-Option, view-Tuple, view-Result}
+use Rattle.tree_rows.proofs.LoweredTypesStay.{known-by, inner-by, scope-later, same_name, lowers-list, lowers-option, lowers-tuple, lowers-result, lowers-some, resolved_all-more, all_named-at}
+use Rattle.tree_meaning.proofs.TypesReadStay.{lowers_each-more, val-stays}
 use Rattle.tree_rows.proofs.lower.+lower.Goals as goal
 
 pub lower_kind-get-requires : goal.lower_kind-get-requires

@@ -4,11 +4,11 @@ use Rattle.wit_tokens.specs.View.{file_view}
 use Rattle.tables.specs.declared.tables.Resolve.{Resolve}
 use Rattle.tree_meaning.specs.Imports.{imports_of}
 use Rattle.tree_meaning.specs.Resolves.{IsClosedPackageOf, HasNoFaultsOf, ResolveRefusesOf}
-use Rattle.tree_meaning.proofs.Trees.{ok-map}
-use Rattle.tree_meaning.proofs.tree_forms.ClosedTables.{closes}
-use Rattle.tree_meaning.proofs.tree_forms.Only.{answers-behind}
+use Rattle.tree_meaning.proofs.PackageOfAFile.{ok-map}
+use Rattle.tree_meaning.proofs.tree_forms.TablesAreClosed.{closes}
+use Rattle.tree_meaning.proofs.tree_forms.FailsOnlyForMemory.{answers-behind}
 use Rattle.tree_meaning.proofs.tree_forms.PackageScopes.{has-distinct-names}
-use Rattle.tree_meaning.proofs.tree_forms.TreeForms.{has-form}
+use Rattle.tree_meaning.proofs.tree_forms.ResolvedTreesAreInForm.{has-form}
 use Rattle.tree_rows.proofs.tree.closed_table.Goals as goal
 
 pub returns-in_err-all-clause-err : goal.returns-in_err-all-clause-err

@@ -8,10 +8,10 @@ use Rattle.tree_meaning.specs.Resolved.{meaning_of_world}
 use Rattle.tree_meaning.specs.Resolves.{IsKnownWorldOf}
 use Rattle.tree_meaning.specs.Building.{DefinesPackage, start_table}
 use Rattle.tree_meaning.specs.WorldRows.{DefinesWorlds}
-use Rattle.tree_meaning.proofs.Trees.{ok-map, err-map}
-use Rattle.tree_meaning.proofs.tree_forms.Defined.{finished, refused}
+use Rattle.tree_meaning.proofs.PackageOfAFile.{ok-map, err-map}
+use Rattle.tree_meaning.proofs.tree_forms.ClosedTableOrLimit.{finished, refused}
 use Rattle.tree_rows.specs.Planning.{imported, planned_file}
-use Rattle.tree_rows.proofs.Planned.{known-worlds, placed, types-placed, ordered}
+use Rattle.tree_rows.proofs.PlansTellTheirTrees.{known-worlds, placed, types-placed, ordered}
 use Rattle.tree_rows.proofs.tree.planned.Goals as goal
 
 pub define_worlds-requires-clause-known : goal.define_worlds-requires-clause-known

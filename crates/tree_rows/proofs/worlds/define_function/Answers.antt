@@ -4,7 +4,7 @@ use Rattle.wit_tokens.specs.declared.wit_syntax.ast.Field.{Field}
 use Rattle.tree_meaning.specs.Resolved.{member_meaning, direction_meaning}
 use Rattle.tree_meaning.specs.Building.{LowersParameters, LowersIf, label_at}
 use Rattle.tree_rows.proofs.DefinedWorlds.{function-defined}
-use Rattle.tree_meaning.proofs.WorldRows.{members-same, if-same, none-left, none-right}
+use Rattle.tree_meaning.proofs.WorldItemsStay.{members-same, if-same, none-left, none-right}
 use Rattle.tree_rows.proofs.worlds.define_function.Goals as goal
 
 pub returns : goal.returns

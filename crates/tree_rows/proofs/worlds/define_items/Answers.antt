@@ -2,7 +2,7 @@ use Rattle.std.proofs.Common.{◌∙◌, arith}
 use Rattle.tree_meaning.specs.Resolved.{tree_item_meaning}
 use Rattle.tree_meaning.specs.Resolves.{IsKnownItemOf}
 use Rattle.tree_scopes.specs.Sources.{declared_item}
-use Rattle.package_form.proofs.Lists.{all_map-at, map_map-more}
+use Rattle.package_form.proofs.AllAndContains.{all_map-at, map_map-more}
 use Rattle.tree_rows.proofs.DefinedWorlds.{items-none, items-more}
 use Rattle.tree_meaning.specs.Imports.{imports_of}
 use Rattle.tree_rows.proofs.worlds.define_items.Goals as goal

@@ -7,7 +7,7 @@ use Rattle.tree_meaning.specs.Declarations.{WorldTree, world_of}
 use Rattle.tree_meaning.specs.Resolved.{meaning_of_world}
 use Rattle.tree_meaning.specs.Resolves.{IsKnownWorldOf}
 use Rattle.tree_scopes.specs.Sources.{declared_world}
-use Rattle.package_form.proofs.Lists.{all-contained, contains-map, contains-at}
+use Rattle.package_form.proofs.AllAndContains.{all-contained, contains-map, contains-at}
 use Rattle.tree_meaning.proofs.FileEntries.{found, given-next}
 use Rattle.tree_rows.proofs.DefinedWorlds.{worlds-none, worlds-more}
 use Rattle.tree_rows.proofs.worlds.define_worlds.Goals as goal

@@ -2,7 +2,7 @@ use Rattle.std.proofs.Common.{◌≡◌, ◌++◌, [], ◌∙◌, ℕ, List, All
 use Rattle.std.specs.List.{filter_map}
 use Rattle.std.proofs.lemmas.List.Elements.{filter_map-append}
 use Rattle.package_form.specs.Scoped.{NameEntry}
-use Rattle.package_form.proofs.Lists.{all-none}
+use Rattle.package_form.proofs.AllAndContains.{all-none}
 use Rattle.tables.specs.declared.tables.InterfaceId.{InterfaceId}
 use Rattle.tables.specs.declared.tables.TypeId.{TypeId}
 use Rattle.tree_meaning.specs.Imports.{type_within}

@@ -5,7 +5,7 @@ use Rattle.tables.specs.declared.tables.Interface.{Interface}
 use Rattle.tables.specs.declared.tables.InterfaceId.{InterfaceId}
 use Rattle.tree_meaning.specs.Imports.{Import, types_within, interfaces_of}
 use Rattle.tree_scopes.specs.KnownScopes.{scope_names}
-use Rattle.tree_meaning.proofs.Imported.{imports-length}
+use Rattle.tree_meaning.proofs.ImportsFoundByName.{imports-length}
 use Rattle.tree_scopes.proofs.ImportScopes.{scopes-more}
 use Rattle.tree_scopes.proofs.imports.import_scopes.Goals as goal
 

@@ -1,8 +1,8 @@
 use Rattle.std.proofs.Common.{◌≡◌, ◌+◌, ◌++◌, ◌∷◌, [], List, ℕ, take, sym, subst, arith, All, Bor}
 use Rattle.atoms.specs.Label.{IsLabel}
 use Rattle.tree_scopes.specs.Lent.{lent_names, lent_name}
-use Rattle.package_form.proofs.Lists.{map-more, all-none, all-cons, all-append}
-use Rattle.package_form.proofs.Meeting.{all-taken}
+use Rattle.package_form.proofs.AllAndContains.{map-more, all-none, all-cons, all-append}
+use Rattle.package_form.proofs.NamesMetOneByOne.{all-taken}
 use Rattle.tree_scopes.proofs.names.are_labels.Goals as goal
 
 pub loop-name-init : goal.loop-name-init

@@ -2,9 +2,9 @@ use Rattle.std.proofs.Common.{◌≡◌, ◌∙◌, List, ℕ, None, true, false
 use Rattle.std.specs.Str.{bytes_eq}
 use Rattle.tree_scopes.specs.Lent.{lent_names, lent_name}
 use Rattle.tree_meaning.specs.Resolves.{place_of}
-use Rattle.package_form.proofs.Lists.{map-more}
-use Rattle.package_form.proofs.Meeting.{all-taken}
-use Rattle.tree_scopes.proofs.Places.{not-yet, first-found}
+use Rattle.package_form.proofs.AllAndContains.{map-more}
+use Rattle.package_form.proofs.NamesMetOneByOne.{all-taken}
+use Rattle.tree_scopes.proofs.PlacesOfNamesByMap.{not-yet, first-found}
 use Rattle.tree_scopes.proofs.names.first_place.Goals as goal
 
 pub loop-place-preserved : goal.loop-place-preserved

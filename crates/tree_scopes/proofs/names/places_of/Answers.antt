@@ -5,9 +5,9 @@ use Rattle.std.proofs.lemmas.List.{length-map, length-take}
 use Rattle.indexmap.proofs.CallerLemmas.{insert_entry-new}
 use Rattle.tree_scopes.specs.Lent.{lent_names, lent_name}
 use Rattle.tree_meaning.specs.Knowing.{TellsPlaces}
-use Rattle.package_form.proofs.Lists.{map-more}
-use Rattle.package_form.proofs.Meeting.{all-taken}
-use Rattle.tree_scopes.proofs.Places.{tells-none, tells-more, tells-same, none-there}
+use Rattle.package_form.proofs.AllAndContains.{map-more}
+use Rattle.package_form.proofs.NamesMetOneByOne.{all-taken}
+use Rattle.tree_scopes.proofs.PlacesOfNamesByMap.{tells-none, tells-more, tells-same, none-there}
 use Rattle.tree_scopes.proofs.names.places_of.Goals as goal
 use Rattle.tree_scopes.proofs.names.places_of.Goals.{then-not-contains_key+in_ok-insert, else-not-contains_key}
 

@@ -4,7 +4,7 @@ use Rattle.wit_tokens.specs.View.{path_view}
 use Rattle.wit_tokens.specs.declared.wit_syntax.ast.Path.{Path}
 use Rattle.tree_meaning.specs.Imports.{interfaces_of}
 use Rattle.tree_meaning.specs.Resolves.{path_place}
-use Rattle.tree_meaning.proofs.Imported.{imports-length}
+use Rattle.tree_meaning.proofs.ImportsFoundByName.{imports-length}
 use Rattle.tree_scopes.proofs.paths.interface_place.Goals as goal
 
 if-any-err : {A E P : Type 0} → (r : Result A E) → P → IfErr r (λ _. P)

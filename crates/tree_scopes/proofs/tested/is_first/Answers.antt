@@ -3,7 +3,7 @@ use Rattle.std.proofs.lemmas.List.{get_or_default}
 use Rattle.tables.specs.PackageNames.{PackageParts}
 use Rattle.tables.specs.declared.tables.Resolve.{Resolve}
 use Rattle.tree_meaning.specs.Imports.{nameless}
-use Rattle.tree_meaning.proofs.Imported.{import-within}
+use Rattle.tree_meaning.proofs.ImportsFoundByName.{import-within}
 use Rattle.tree_scopes.proofs.ImportTests.{asked, some-decides, none-decides}
 use Rattle.tree_scopes.proofs.tested.is_first.Goals as goal
 

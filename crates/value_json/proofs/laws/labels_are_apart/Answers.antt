@@ -1,4 +1,4 @@
-use Rattle.value_json.proofs.OneLabel.{labels-apart}
+use Rattle.value_json.proofs.LabelsAreApart.{labels-apart}
 use Rattle.value_json.proofs.laws.labels_are_apart.Goals as goal
 
 pub returns : goal.returns

@@ -1,4 +1,4 @@
-use Rattle.value_json.proofs.Depths.{json-depth}
+use Rattle.value_json.proofs.JsonNestingDepth.{json-depth}
 use Rattle.value_json.proofs.laws.nests_as_its_type.Goals as goal
 
 pub returns : goal.returns

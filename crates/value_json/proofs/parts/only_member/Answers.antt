@@ -7,7 +7,7 @@ use Rattle.serde_json.specs.View.{view, members_view}
 use Rattle.serde_json.specs.declared.value.Value.{Value}
 use Rattle.serde_json.proofs.Views.{members_len-members_view}
 use Rattle.value_json.specs.Json.{one_member}
-use Rattle.value_json.proofs.Objects.{object-is, single-found, single-get, one-long}
+use Rattle.value_json.proofs.JsonAsData.{object-is, single-found, single-get, one-long}
 use Rattle.value_json.proofs.parts.only_member.Goals as goal
 
 found-some : (r : Option (Bor Value)) (json : Data) (l : List ℕ) (es : _) → json ≡ object (members_view es) → length es ≡ 1

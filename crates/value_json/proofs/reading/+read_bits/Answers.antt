@@ -2,7 +2,7 @@ use Rattle.std.proofs.Common.{◌≡◌, ◌-◌, ◌∷◌, map, length, take, 
 use Rattle.serde_json.specs.Data.{string}
 use Rattle.serde_json.specs.View.{view}
 use Rattle.value_json.specs.Json.{FlagsJson}
-use Rattle.value_json.proofs.Bits.{none-taken, split-list}
+use Rattle.value_json.proofs.FlagsAsSetLabels.{none-taken, split-list}
 use Rattle.value_json.proofs.reading.+read_bits.Goals as goal
 
 pub returns-in-None-clause-none : goal.returns-in-None-clause-none

@@ -1,4 +1,4 @@
-use Rattle.value_json.proofs.Rows.{kind-row, kind-apart}
+use Rattle.value_json.proofs.LabelledTypesRowByRow.{kind-row, kind-apart}
 use Rattle.value_json.proofs.reading.kind_of.Goals as goal
 
 pub returns-clause-is : goal.returns-clause-is

@@ -2,7 +2,7 @@ use Rattle.std.proofs.Common.{map, sym, ap, ◌∙◌, subst}
 use Rattle.serde_json.specs.Data.{array}
 use Rattle.serde_json.specs.View.{view, items_of}
 use Rattle.value_json.specs.Json.{FlagsJson}
-use Rattle.value_json.proofs.Objects.{array-is, only_items}
+use Rattle.value_json.proofs.JsonAsData.{array-is, only_items}
 use Rattle.value_json.proofs.reading.read_flags.Goals as goal
 
 pub returns-in-None-clause-other : goal.returns-in-None-clause-other

@@ -1,8 +1,8 @@
 use Rattle.std.proofs.Common.{◌<◌, length, refl, sym, ap, ◌∙◌, true≢false, arith}
 use Rattle.std.proofs.lemmas.Option.{slice_get_read, slice_get_within}
 use Rattle.serde_json.specs.Data.{string}
-use Rattle.values.proofs.Views.{value_of-None}
-use Rattle.value_json.proofs.Cases.{among-next}
+use Rattle.values.proofs.ValueOfEachVariant.{value_of-None}
+use Rattle.value_json.proofs.CasesTriedOneByOne.{among-next}
 use Rattle.value_json.proofs.reading.read_label.Goals as goal
 
 pub returns-then-is_text-clause-ok : goal.returns-then-is_text-clause-ok

@@ -1,8 +1,8 @@
 use Rattle.std.proofs.lemmas.Str.{IsUtf8-string_bytes, is_utf8-from_IsUtf8}
 use Rattle.std.proofs.Common.{string_bytes, sym, ap, ◌∙◌}
 use Rattle.serde_json.specs.Data.{string}
-use Rattle.values.proofs.Views.{value_of-String}
-use Rattle.value_json.proofs.Objects.{text-is}
+use Rattle.values.proofs.ValueOfEachVariant.{value_of-String}
+use Rattle.value_json.proofs.JsonAsData.{text-is}
 use Rattle.value_json.proofs.reading.read_text.Goals as goal
 
 pub returns-in_ok-from_str-in-Some-clause-ok : goal.returns-in_ok-from_str-in-Some-clause-ok

@@ -1,7 +1,7 @@
 use Rattle.values.specs.Val.{value_of}
-use Rattle.values.proofs.Results.{if-ok-as}
+use Rattle.values.proofs.WeakerAnswers.{if-ok-as}
 use Rattle.serde_json.specs.View.{view}
-use Rattle.value_json.proofs.Typed.{value-typed}
+use Rattle.value_json.proofs.JsonValuesAreTyped.{value-typed}
 use Rattle.value_json.proofs.reading.value_of_json.Goals as goal
 
 pub returns-clause-typed : goal.returns-clause-typed

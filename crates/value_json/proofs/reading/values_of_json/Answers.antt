@@ -1,11 +1,11 @@
 use Rattle.std.proofs.Common.{map, sym, ap, ◌∙◌, subst, rules}
-use Rattle.values.proofs.Known.{all-known-inside}
+use Rattle.values.proofs.PackageTypesAreStandard.{all-known-inside}
 use Rattle.serde_json.specs.Data.{array}
 use Rattle.serde_json.specs.View.{view, items_of}
 use Rattle.tables.specs.Labelled.{labelled_types, labelled_members}
 use Rattle.value_json.specs.Json.{MembersJson}
-use Rattle.value_json.proofs.Objects.{array-is, only_items}
-use Rattle.value_json.proofs.Typed.{values-typed}
+use Rattle.value_json.proofs.JsonAsData.{array-is, only_items}
+use Rattle.value_json.proofs.JsonValuesAreTyped.{values-typed}
 use Rattle.value_json.proofs.reading.values_of_json.Goals as goal
 
 pub read_members-requires-clause-below : goal.read_members-requires-clause-below

@@ -2,13 +2,13 @@ use Rattle.std.proofs.Common.{◌≡◌, ◌≤◌, sym, subst}
 use Rattle.canonical_abi.specs.Types.{depth}
 use Rattle.canonical_abi.specs.Values.{HasType}
 use Rattle.values.specs.Val.{value_of}
-use Rattle.values.proofs.Results.{if-ok-as}
+use Rattle.values.proofs.WeakerAnswers.{if-ok-as}
 use Rattle.serde_json.specs.Data as json
 use Rattle.serde_json.specs.View.{view}
-use Rattle.tables.proofs.Erased.{erases}
+use Rattle.tables.proofs.ErasesToClosed.{erases}
 use Rattle.tables.specs.Labelled.{labelled_type}
-use Rattle.value_json.proofs.Depths.{json-depth}
-use Rattle.value_json.proofs.Floats.{json-whole}
+use Rattle.value_json.proofs.JsonNestingDepth.{json-depth}
+use Rattle.value_json.proofs.JsonHasNoFloats.{json-whole}
 use Rattle.value_json.proofs.writing.json_of_value.Goals as goal
 
 pub write_value-requires-clause-typed : goal.write_value-requires-clause-typed

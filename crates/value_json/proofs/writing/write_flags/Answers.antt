@@ -5,9 +5,9 @@ use Rattle.serde_json.specs.Data.{string}
 use Rattle.serde_json.specs.View.{view}
 use Rattle.serde_json.proofs.Views.{view-Array}
 use Rattle.values.specs.Val.{value_of}
-use Rattle.values.proofs.Views.{value_of-Flags}
+use Rattle.values.proofs.ValueOfEachVariant.{value_of-Flags}
 use Rattle.value_json.specs.Json.{FlagsJson}
-use Rattle.value_json.proofs.Writes.{bits-below, flag-set, flag-unset, no-flag-left}
+use Rattle.value_json.proofs.WrittenStandsForValue.{bits-below, flag-set, flag-unset, no-flag-left}
 use Rattle.value_json.proofs.writing.write_flags.Goals as goal
 use Rattle.value_json.proofs.writing.write_flags.Goals.{then-rest-eq1+in_ok-text_of+in_ok-push, else-rest-eq1}
 

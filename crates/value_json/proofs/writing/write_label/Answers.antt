@@ -5,7 +5,7 @@ use Rattle.serde_json.specs.Data.{string}
 use Rattle.serde_json.specs.View.{view}
 use Rattle.values.specs.Val.{value_of}
 use Rattle.value_json.specs.Json.{Json}
-use Rattle.value_json.proofs.Writes.{label-found, one-case, ok-map}
+use Rattle.value_json.proofs.WrittenStandsForValue.{label-found, one-case, ok-map}
 use Rattle.value_json.proofs.writing.write_label.Goals as goal
 
 pub case_of-number-requires : goal.case_of-number-requires

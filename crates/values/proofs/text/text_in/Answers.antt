@@ -1,7 +1,7 @@
 use Rattle.std.proofs.Common.{inr, refl, ap, arith}
 use Rattle.std.proofs.lemmas.Str.{is_utf8-from_IsUtf8, IsUtf8-from_is_utf8, IsUtf8-from_ascii}
 use Rattle.canonical_abi.specs.Values.{string_value}
-use Rattle.canonical_abi.proofs.Runs.{not-true}
+use Rattle.canonical_abi.proofs.Traces.WhatTracesKeep.{not-true}
 use Rattle.values.proofs.text.text_in.Goals as goal
 
 pub returns-in-Some-clause-text : goal.returns-in-Some-clause-text

@@ -7,9 +7,9 @@ use Rattle.canonical_abi.specs.Values.{Value, HasType, HaveTypes, values_of}
 use Rattle.tables.specs.Closed.{closed_type, closed_types}
 use Rattle.values.specs.Members.{members_fields}
 use Rattle.values.specs.Val.{value_of}
-use Rattle.values.proofs.Fields.{nth_field-some}
-use Rattle.values.proofs.Typings.{not-string, not-list, not-record, not-flags, string-is, list-is, is-list, record-is, is-record, plain-is, payload-is, is-payload, no-payload, no-plain, no-case, all-step, all-at, typed-count, have-both, have-first, have-rest, have-none}
-use Rattle.values.proofs.Views.{value_of-List, value_of-Record, value_of-String, value_of-Flags}
+use Rattle.values.proofs.FieldsFromAPlace.{nth_field-some}
+use Rattle.values.proofs.ValuesOfTypesByShape.{not-string, not-list, not-record, not-flags, string-is, list-is, is-list, record-is, is-record, plain-is, payload-is, is-payload, no-payload, no-plain, no-case, all-step, all-at, typed-count, have-both, have-first, have-rest, have-none}
+use Rattle.values.proofs.ValueOfEachVariant.{value_of-List, value_of-Record, value_of-String, value_of-Flags}
 use Rattle.values.proofs.typing.+typing.Goals as goal
 
 pub are_of-returns-then-not-is_of : goal.are_of-returns-then-not-is_of

@@ -4,7 +4,7 @@ use Rattle.canonical_abi.specs.Values.{HasType, HaveTypes}
 use Rattle.tables.specs.Closed.{closed_type}
 use Rattle.values.specs.Members.{members_fields}
 use Rattle.values.specs.Val.{value_of}
-use Rattle.values.proofs.Fields.{fields_from}
+use Rattle.values.proofs.FieldsFromAPlace.{fields_from}
 use Rattle.values.proofs.typing.+typing.Given as goal
 
 abbrev pub invariant-are_of-loop-item : goal.invariant-are_of-loop-item

@@ -3,7 +3,7 @@ use Rattle.std.specs.Prelude.{IsTrue}
 use Rattle.canonical_abi.specs.Types.{record_fields}
 use Rattle.canonical_abi.specs.Values.{HaveTypes}
 use Rattle.values.specs.Val.{value_of}
-use Rattle.values.proofs.Fields.{closed-row, count-params}
+use Rattle.values.proofs.FieldsFromAPlace.{closed-row, count-params}
 use Rattle.values.proofs.typing.has_arguments.Goals as goal
 
 pub members_have_types-requires-clause-counted : goal.members_have_types-requires-clause-counted

@@ -1,4 +1,4 @@
-use Rattle.values.proofs.Fields.{count-types}
+use Rattle.values.proofs.FieldsFromAPlace.{count-types}
 use Rattle.values.proofs.typing.have_types.Goals as goal
 
 pub members_have_types-requires-clause-counted : goal.members_have_types-requires-clause-counted

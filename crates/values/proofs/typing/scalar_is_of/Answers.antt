@@ -1,5 +1,5 @@
 use Rattle.values.specs.Scalar.{prim_in, value_in}
-use Rattle.values.proofs.Typings.{not-scalar}
+use Rattle.values.proofs.ValuesOfTypesByShape.{not-scalar}
 use Rattle.values.proofs.typing.scalar_is_of.Goals as goal
 
 pub returns-in_default : goal.returns-in_default

@@ -2,13 +2,13 @@ use Rattle.std.proofs.Common.{◌≡◌, ℕ, ◌+◌, ◌<◌, ◌++◌, ◌&&�
 use Rattle.std.specs.List.{list_all}
 use Rattle.ctype_format.specs.View.{decl_view}
 use Rattle.tables.specs.declared.tables.World.{World}
-use Rattle.tables.proofs.Rows.{both}
+use Rattle.tables.proofs.ClosedTypesRowByRow.{both}
 use Rattle.package_form.specs.Ends.{interfaces_end, world_end, world_rows}
-use Rattle.package_form.proofs.Forms.{rows-few}
+use Rattle.package_form.proofs.PackageFormIsTested.{rows-few}
 use Rattle.atoms.specs.Label.{is_label}
 use Rattle.wit_component.specs.Component.{ComponentFront, no_front, worlds_declared}
 use Rattle.wit_component.specs.ToComponent.{is_labelled, are_worlds_labelled}
-use Rattle.wit_component.proofs.WorldItems.{AreWorlds, world-first, worlds-later, world-grouped, items-stand, package-worlds, end-within, worlds-few, world-items-few, instances-count}
+use Rattle.wit_component.proofs.WorldItemsStandInOrder.{AreWorlds, world-first, worlds-later, world-grouped, items-stand, package-worlds, end-within, worlds-few, world-items-few, instances-count}
 use Rattle.wit_component.proofs.WorldsWritten.{next-of}
 use Rattle.wit_component.proofs.component.declarations.Goals as goal
 

@@ -3,7 +3,7 @@ use Rattle.ctype_format.specs.View.{decl_view}
 use Rattle.package_form.specs.Ends.{interfaces_end}
 use Rattle.wit_component.specs.Component.{worlds_declared, package_declarations}
 use Rattle.wit_component.specs.ToComponent.{are_worlds_labelled}
-use Rattle.wit_component.proofs.WorldItems.{AreWorlds}
+use Rattle.wit_component.proofs.WorldItemsStandInOrder.{AreWorlds}
 use Rattle.wit_component.proofs.component.declarations.Given as goal
 
 abbrev pub invariant-loop-world : goal.invariant-loop-world

@@ -1,7 +1,7 @@
 use Rattle.std.proofs.Common.{List, length, drop, get_or, ap, sym, ◌∙◌, arith}
-use Rattle.tables.proofs.Earlier.{grouped-at}
+use Rattle.tables.proofs.NamesEarlierTypes.{grouped-at}
 use Rattle.tables.specs.declared.tables.Interface.{Interface}
-use Rattle.wit_component.proofs.WorldItems.{parted-within}
+use Rattle.wit_component.proofs.WorldItemsStandInOrder.{parted-within}
 use Rattle.wit_component.proofs.component.interfaces_declared.Goals as goal
 
 pub interface_declarations-requires-clause-placed : goal.interface_declarations-requires-clause-placed

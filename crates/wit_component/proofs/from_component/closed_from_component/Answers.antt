@@ -1,6 +1,6 @@
 use Rattle.std.proofs.lemmas.Result.{err_from_is_err_and}
-use Rattle.wit_component.proofs.Refusing.{refuses-package}
-use Rattle.wit_component.proofs.Candidates.{not-empty, no-duplicate}
+use Rattle.wit_component.proofs.RepeatedNamesRefuse.{refuses-package}
+use Rattle.wit_component.proofs.CandidateIsThePackage.{not-empty, no-duplicate}
 use Rattle.wit_component.proofs.from_component.closed_from_component.Goals as goal
 
 pub returns-then-is_empty_package-clause-only : goal.returns-then-is_empty_package-clause-only

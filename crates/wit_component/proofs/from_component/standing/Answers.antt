@@ -10,7 +10,7 @@ use Rattle.wit_component.specs.ToComponent.{ComponentStands}
 use Rattle.package_form.specs.Form.{IsInPackageForm}
 use Rattle.component_reader.specs.declared.unread.Unread.{Unread}
 use Rattle.component_reader.specs.Component.{candidate_of, Makes}
-use Rattle.wit_component.proofs.Candidates.{no-other-shape, in-form, written-again, is-that-package}
+use Rattle.wit_component.proofs.CandidateIsThePackage.{no-other-shape, in-form, written-again, is-that-package}
 use Rattle.wit_component.proofs.from_component.standing.Goals as goal
 
 pub returns-in-Err-NotThisShape-clause-err : goal.returns-in-Err-NotThisShape-clause-err

@@ -1,4 +1,4 @@
-use Rattle.wit_component.proofs.Candidates.{reads-as}
+use Rattle.wit_component.proofs.CandidateIsThePackage.{reads-as}
 use Rattle.wit_component.proofs.laws.follows.Goals as goal
 
 pub returns : goal.returns

@@ -4,7 +4,7 @@ use Rattle.std.proofs.lemmas.Bool.{OnTrue_from}
 use Rattle.std.proofs.lemmas.Slice.Eq.{bytes_eq-Decides}
 use Rattle.ctype_format.specs.File.{component_file}
 use Rattle.ctype_bin.specs.FileView.{raw_component_view}
-use Rattle.wit_component.proofs.OneReading.{one-reading, spelt-alone}
+use Rattle.wit_component.proofs.SameBytesSameComponents.{one-reading, spelt-alone}
 use Rattle.wit_component.proofs.same.is_same.Goals as goal
 
 pub returns-then-eq-clause-same : goal.returns-then-eq-clause-same

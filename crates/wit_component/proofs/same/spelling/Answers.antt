@@ -1,6 +1,6 @@
 use Rattle.std.proofs.Math.Logic.{∥∥₁_map}
 use Rattle.ctype_bin.specs.FileView.{raw_component_view}
-use Rattle.wit_component.proofs.OneReading.{spelt-alone}
+use Rattle.wit_component.proofs.SameBytesSameComponents.{spelt-alone}
 use Rattle.wit_component.proofs.same.spelling.Goals as goal
 
 pub returns-in-Ok-clause-spelt : goal.returns-in-Ok-clause-spelt

@@ -1,12 +1,12 @@
 use Rattle.std.proofs.Common.{◌≡◌, ◌<◌, ℕ, suc, ◌-◌, length, map, [], ◌∷◌, ◌++◌, arith}
 use Rattle.std.proofs.lemmas.Result.{err_from_is_err_and}
 use Rattle.std.proofs.lemmas.List.{map_push, length-append}
-use Rattle.atoms.proofs.productions.Lists.{goes_on, is_done, item_fails, separator_fails}
+use Rattle.atoms.proofs.productions.ListLoops.{goes_on, is_done, item_fails, separator_fails}
 use Rattle.wit_tokens.specs.Lexing.{limit}
 use Rattle.wit_tokens.specs.Tokens.{lexemes}
 use Rattle.wit_grammar.specs.Faults.{is, wanted}
 use Rattle.wit_grammar.specs.Grammar.{comma, close_brace}
-use Rattle.wit_grammar.proofs.Handed.{Fails-on}
+use Rattle.wit_grammar.proofs.FaultsAreHandedOn.{Fails-on}
 use Rattle.wit_grammar.proofs.lists.comma_list.Goals as goal
 
 room : (n : ℕ) → n < limit → limit - n ≡ suc (limit - suc n)

@@ -1,6 +1,6 @@
 use Rattle.std.proofs.Common.{◌≡◌, ◌≤◌, ◌+◌, ◌-◌, length, map}
 use Rattle.atoms.specs.Production.{listed}
-use Rattle.atoms.proofs.productions.Lists.{with_front}
+use Rattle.atoms.proofs.productions.ListLoops.{with_front}
 use Rattle.wit_tokens.specs.Lexing.{limit}
 use Rattle.wit_tokens.specs.Tokens.{lexemes}
 use Rattle.wit_grammar.specs.Faults.{is, wanted}

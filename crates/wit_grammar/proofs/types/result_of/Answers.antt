@@ -1,4 +1,4 @@
-use Rattle.wit_grammar.proofs.Results.{view_result}
+use Rattle.wit_grammar.proofs.ViewsOfResults.{view_result}
 use Rattle.wit_grammar.proofs.types.result_of.Goals as goal
 
 pub returns : goal.returns

@@ -1,5 +1,5 @@
 use Rattle.std.proofs.lemmas.Result.{on_ok_weaker}
-use Rattle.wit_print.proofs.Texts.{adds_then}
+use Rattle.wit_print.proofs.TextsOfWords.{adds_then}
 use Rattle.wit_print.proofs.definition.write_alias.Goals as goal
 
 pub returns : goal.returns

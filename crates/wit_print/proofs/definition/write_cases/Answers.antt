@@ -2,8 +2,8 @@ use Rattle.std.proofs.Common.{List, map, arith}
 use Rattle.wit_tokens.specs.declared.wit_syntax.ast.Case.{Case}
 use Rattle.wit_tokens.specs.View.{case_view}
 use Rattle.wit_print.specs.Canonical.{lined_words, case_words}
-use Rattle.wit_print.proofs.Texts.{leaves_then}
-use Rattle.wit_print.proofs.Lists.{left-next}
+use Rattle.wit_print.proofs.TextsOfWords.{leaves_then}
+use Rattle.wit_print.proofs.ListsStillToWrite.{left-next}
 use Rattle.wit_print.proofs.definition.write_cases.Goals as goal
 
 pub loop-case-preserved : goal.loop-case-preserved

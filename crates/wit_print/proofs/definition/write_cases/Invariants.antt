@@ -1,7 +1,7 @@
 use Rattle.std.proofs.Common.{drop, map}
 use Rattle.wit_tokens.specs.View.{case_view}
 use Rattle.wit_print.specs.Canonical.{lined_words, case_words}
-use Rattle.wit_print.proofs.Leaving.{LeavesWords}
+use Rattle.wit_print.proofs.LeavesWords.{LeavesWords}
 use Rattle.wit_print.proofs.definition.write_cases.Given as goal
 
 abbrev pub invariant-loop-case : goal.invariant-loop-case

@@ -1,7 +1,7 @@
 use Rattle.std.proofs.Common.{drop, map}
 use Rattle.wit_tokens.specs.View.{field_view}
 use Rattle.wit_print.specs.Canonical.{lined_words, field_words}
-use Rattle.wit_print.proofs.Leaving.{LeavesWords}
+use Rattle.wit_print.proofs.LeavesWords.{LeavesWords}
 use Rattle.wit_print.proofs.definition.write_fields.Given as goal
 
 abbrev pub invariant-loop-field : goal.invariant-loop-field

@@ -1,6 +1,6 @@
 use Rattle.std.proofs.Common.{drop}
 use Rattle.wit_print.specs.Canonical.{lined_words, label_words}
-use Rattle.wit_print.proofs.Leaving.{LeavesWords}
+use Rattle.wit_print.proofs.LeavesWords.{LeavesWords}
 use Rattle.wit_print.proofs.definition.write_labels.Given as goal
 
 abbrev pub invariant-loop-label : goal.invariant-loop-label

@@ -3,7 +3,7 @@ use Rattle.std.proofs.lemmas.Result.{on_ok_weaker}
 use Rattle.wit_tokens.specs.declared.wit_syntax.ast.UsedName.{UsedName}
 use Rattle.wit_tokens.specs.View.{used_view}
 use Rattle.wit_print.specs.Canonical.{uses_words}
-use Rattle.wit_print.proofs.Texts.{adds_then, adds_same}
+use Rattle.wit_print.proofs.TextsOfWords.{adds_then, adds_same}
 use Rattle.wit_print.proofs.entry.write_use.Goals as goal
 
 pub returns : goal.returns

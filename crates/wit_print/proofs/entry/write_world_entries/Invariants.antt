@@ -1,7 +1,7 @@
 use Rattle.std.proofs.Common.{drop, map}
 use Rattle.wit_tokens.specs.View.{world_entry_view}
 use Rattle.wit_print.specs.Canonical.{braced_words, world_entry_words}
-use Rattle.wit_print.proofs.Leaving.{LeavesWords}
+use Rattle.wit_print.proofs.LeavesWords.{LeavesWords}
 use Rattle.wit_print.proofs.entry.write_world_entries.Given as goal
 
 abbrev pub invariant-loop-item : goal.invariant-loop-item

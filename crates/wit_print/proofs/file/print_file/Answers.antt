@@ -1,6 +1,6 @@
 use Rattle.std.proofs.Common.{◌∙◌}
 use Rattle.std.specs.String.{string_bytes}
-use Rattle.wit_print.proofs.Texts.{ended_text, pushed}
+use Rattle.wit_print.proofs.TextsOfWords.{ended_text, pushed}
 use Rattle.wit_print.proofs.file.print_file.Goals as goal
 
 pub returns-clause-ok : goal.returns-clause-ok

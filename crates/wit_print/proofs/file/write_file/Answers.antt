@@ -3,7 +3,7 @@ use Rattle.std.proofs.lemmas.Result.{on_ok_weaker}
 use Rattle.wit_tokens.specs.declared.wit_syntax.ast.Item.{Item}
 use Rattle.wit_tokens.specs.View.{item_view}
 use Rattle.wit_print.specs.Canonical.{items_words}
-use Rattle.wit_print.proofs.Texts.{adds_then, adds_same}
+use Rattle.wit_print.proofs.TextsOfWords.{adds_then, adds_same}
 use Rattle.wit_print.proofs.file.write_file.Goals as goal
 
 pub returns : goal.returns

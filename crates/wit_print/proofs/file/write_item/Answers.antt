@@ -4,7 +4,7 @@ use Rattle.wit_tokens.specs.declared.wit_syntax.ast.Item.{Item}
 use Rattle.wit_tokens.specs.declared.wit_syntax.ast.InterfaceItem.{InterfaceItem}
 use Rattle.wit_tokens.specs.View.{item_view, entry_view}
 use Rattle.wit_print.specs.Canonical.{file_entry_words, braced_words, entry_words}
-use Rattle.wit_print.proofs.Texts.{adds_then, adds_same}
+use Rattle.wit_print.proofs.TextsOfWords.{adds_then, adds_same}
 use Rattle.wit_print.proofs.file.write_item.Goals as goal
 
 pub returns-in_ok-write_mark-in-Interface : goal.returns-in_ok-write_mark-in-Interface

@@ -2,8 +2,8 @@ use Rattle.std.proofs.Common.{List, map, arith}
 use Rattle.wit_tokens.specs.declared.wit_syntax.ast.Item.{Item}
 use Rattle.wit_tokens.specs.View.{item_view}
 use Rattle.wit_print.specs.Canonical.{items_words}
-use Rattle.wit_print.proofs.Texts.{leaves_then}
-use Rattle.wit_print.proofs.Lists.{left-next}
+use Rattle.wit_print.proofs.TextsOfWords.{leaves_then}
+use Rattle.wit_print.proofs.ListsStillToWrite.{left-next}
 use Rattle.wit_print.proofs.file.write_items.Goals as goal
 
 pub loop-item-preserved : goal.loop-item-preserved

@@ -1,7 +1,7 @@
 use Rattle.std.proofs.Common.{drop, map}
 use Rattle.wit_tokens.specs.View.{item_view}
 use Rattle.wit_print.specs.Canonical.{items_words}
-use Rattle.wit_print.proofs.Leaving.{LeavesWords}
+use Rattle.wit_print.proofs.LeavesWords.{LeavesWords}
 use Rattle.wit_print.proofs.file.write_items.Given as goal
 
 abbrev pub invariant-loop-item : goal.invariant-loop-item

@@ -3,7 +3,7 @@ use Rattle.std.proofs.lemmas.Result.{on_ok_weaker}
 use Rattle.wit_tokens.specs.declared.wit_syntax.ast.Field.{Field}
 use Rattle.wit_tokens.specs.View.{field_view}
 use Rattle.wit_print.specs.Canonical.{parameter_words}
-use Rattle.wit_print.proofs.Texts.{adds_then, adds_same}
+use Rattle.wit_print.proofs.TextsOfWords.{adds_then, adds_same}
 use Rattle.wit_print.proofs.function.write_function.Goals as goal
 
 pub returns : goal.returns

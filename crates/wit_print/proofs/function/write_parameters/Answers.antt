@@ -3,7 +3,7 @@ use Rattle.wit_tokens.specs.View.{field_view}
 use Rattle.wit_tokens.specs.declared.token.Punctuation.TheVariants as mark
 use Rattle.wit_print.specs.Words.{mark_word}
 use Rattle.wit_print.specs.Canonical.{member_words}
-use Rattle.wit_print.proofs.Lists.{listed-next}
+use Rattle.wit_print.proofs.ListsStillToWrite.{listed-next}
 use Rattle.wit_print.proofs.function.write_parameters.Goals as goal
 
 pub loop-index-preserved : goal.loop-index-preserved

@@ -3,8 +3,8 @@ use Rattle.wit_tokens.specs.View.{field_view}
 use Rattle.wit_tokens.specs.declared.token.Punctuation.TheVariants as mark
 use Rattle.wit_print.specs.Words.{mark_word}
 use Rattle.wit_print.specs.Canonical.{listed_words, member_words}
-use Rattle.wit_print.proofs.Leaving.{LeavesWords}
-use Rattle.wit_print.proofs.Lists.{pending}
+use Rattle.wit_print.proofs.LeavesWords.{LeavesWords}
+use Rattle.wit_print.proofs.ListsStillToWrite.{pending}
 use Rattle.wit_print.proofs.function.write_parameters.Given as goal
 
 abbrev pub invariant-loop-index : goal.invariant-loop-index

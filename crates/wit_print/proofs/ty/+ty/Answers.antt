@@ -5,9 +5,9 @@ use Rattle.wit_tokens.specs.declared.wit_syntax.ast.TypeExpression.{TypeExpressi
 use Rattle.wit_tokens.specs.declared.token.Punctuation.TheVariants as mark
 use Rattle.wit_print.specs.Words.{mark_word}
 use Rattle.wit_print.specs.Canonical.{ty_words, listed_words}
-use Rattle.wit_print.proofs.Texts.{adds_then, adds_same, leaves_all, leaves_none}
-use Rattle.wit_print.proofs.Lists.{listed-next, listed-end, tys-listed}
-use Rattle.wit_print.proofs.Results.{words-alone, words-with}
+use Rattle.wit_print.proofs.TextsOfWords.{adds_then, adds_same, leaves_all, leaves_none}
+use Rattle.wit_print.proofs.ListsStillToWrite.{listed-next, listed-end, tys-listed}
+use Rattle.wit_print.proofs.WordsOfResults.{words-alone, words-with}
 use Rattle.wit_print.proofs.ty.+ty.Goals as goal
 
 pub write_error-returns : goal.write_error-returns

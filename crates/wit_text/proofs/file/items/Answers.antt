@@ -1,12 +1,12 @@
 use Rattle.std.proofs.Common.{◌≡◌, ◌≤◌, ◌<◌, ◌+◌, ℕ, suc, ◌-◌, length, map, [], ◌∷◌, ◌++◌, arith}
 use Rattle.std.proofs.lemmas.Result.{err_from_is_err_and}
 use Rattle.std.proofs.lemmas.List.{map_push, length-append}
-use Rattle.atoms.proofs.productions.Lists.{all_goes_on, all_fails, all_stops, all_ends}
+use Rattle.atoms.proofs.productions.ListLoops.{all_goes_on, all_fails, all_stops, all_ends}
 use Rattle.wit_tokens.specs.Lexing.{limit}
 use Rattle.wit_tokens.specs.Tokens.{lexemes}
 use Rattle.wit_tokens.specs.View.{item_view}
 use Rattle.wit_grammar.specs.Grammar.{nesting, begins_item, file_fault, item, optional_item}
-use Rattle.wit_grammar.proofs.Handed.{Fails-on, item_handed}
+use Rattle.wit_grammar.proofs.FaultsAreHandedOn.{Fails-on, item_handed}
 use Rattle.wit_text.proofs.file.items.Goals as goal
 
 room : (n : ℕ) → n < limit → limit - n ≡ suc (limit - suc n)

@@ -1,5 +1,5 @@
 use Rattle.std.proofs.Common.{◌≡◌, ◌≤◌, ◌+◌, ◌-◌, length, map}
-use Rattle.atoms.proofs.productions.Lists.{with_front}
+use Rattle.atoms.proofs.productions.ListLoops.{with_front}
 use Rattle.wit_tokens.specs.Lexing.{limit}
 use Rattle.wit_tokens.specs.Tokens.{lexemes}
 use Rattle.wit_tokens.specs.View.{item_view}

@@ -1,5 +1,5 @@
 use Rattle.std.proofs.lemmas.Result.{err_from_is_err_and}
-use Rattle.wit_text.proofs.Parsed.{lex_faulty, lex_refuses, all_found, only_those, all_faulty}
+use Rattle.wit_text.proofs.TokensTellTheText.{lex_faulty, lex_refuses, all_found, only_those, all_faulty}
 use Rattle.wit_text.proofs.file.parse.Goals as goal
 
 pub returns-in_err-tokens-clause-only : goal.returns-in_err-tokens-clause-only

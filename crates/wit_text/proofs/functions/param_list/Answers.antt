@@ -2,7 +2,7 @@ use Rattle.std.proofs.Common.{◌≡◌, ◌≤◌, ◌<◌, ◌+◌, ℕ, suc, 
 use Rattle.std.proofs.lemmas.Result.{err_from_is_err_and}
 use Rattle.std.proofs.lemmas.List.{map_push, length-append}
 use Rattle.atoms.specs.Production.{never}
-use Rattle.atoms.proofs.productions.Lists.{entry_goes_on, entry_is_last, entry_fails, more_fails}
+use Rattle.atoms.proofs.productions.ListLoops.{entry_goes_on, entry_is_last, entry_fails, more_fails}
 use Rattle.wit_tokens.specs.declared.error.Expected.TheVariants as want
 use Rattle.wit_tokens.specs.Lexing.{limit}
 use Rattle.wit_tokens.specs.Tokens.{lexemes}
@@ -11,7 +11,7 @@ use Rattle.wit_tokens.specs.Syntax.{Member}
 use Rattle.wit_grammar.specs.Lookahead.{Phrase}
 use Rattle.wit_grammar.specs.Faults.{wanted}
 use Rattle.wit_grammar.specs.Grammar.{nesting, member, after_member}
-use Rattle.wit_grammar.proofs.Handed.{Fails-on}
+use Rattle.wit_grammar.proofs.FaultsAreHandedOn.{Fails-on}
 use Rattle.wit_text.proofs.functions.param_list.Goals as goal
 
 abbrev last : ℕ → Phrase (List Member)

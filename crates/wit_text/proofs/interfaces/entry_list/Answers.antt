@@ -1,7 +1,7 @@
 use Rattle.std.proofs.Common.{◌≡◌, ◌<◌, ℕ, suc, ◌-◌, length, map, List, [], ◌∷◌, ◌++◌, arith}
 use Rattle.std.proofs.lemmas.Result.{err_from_is_err_and}
 use Rattle.std.proofs.lemmas.List.{map_push, length-append}
-use Rattle.atoms.proofs.productions.Lists.{many_goes_on, many_fails, many_closes}
+use Rattle.atoms.proofs.productions.ListLoops.{many_goes_on, many_fails, many_closes}
 use Rattle.wit_tokens.specs.Lexing.{limit}
 use Rattle.wit_tokens.specs.Tokens.{Lexeme, lexeme, lexemes}
 use Rattle.wit_tokens.specs.View.{entry_view}
@@ -9,7 +9,7 @@ use Rattle.wit_grammar.specs.Faults.{is, wanted}
 use Rattle.wit_grammar.specs.Grammar.{entry, nesting, close_brace}
 use Rattle.wit_tokens.specs.declared.error.TextError.{TextError}
 use Rattle.wit_tokens.specs.declared.error.Expected.TheVariants as want
-use Rattle.wit_grammar.proofs.Handed.{Fails-on, peeked}
+use Rattle.wit_grammar.proofs.FaultsAreHandedOn.{Fails-on, peeked}
 use Rattle.wit_text.proofs.interfaces.entry_list.Goals as goal
 
 abbrev fault : ℕ → List Lexeme → TextError

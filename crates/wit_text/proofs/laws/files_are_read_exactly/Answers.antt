@@ -1,8 +1,8 @@
 use Rattle.std.proofs.Common.{refl}
 use Rattle.wit_grammar.specs.Grammar as g
-use Rattle.wit_text.proofs.FaultLemmas.{none-begins}
-use Rattle.wit_text.proofs.Exactness.{exact-file}
-use Rattle.wit_text.proofs.Limits.{none-at-any-nesting, one-file}
+use Rattle.wit_text.proofs.FaultsByNextToken.{none-begins}
+use Rattle.wit_text.proofs.ProductionsReadExactly.{exact-file}
+use Rattle.wit_text.proofs.TwoNestingLimits.{none-at-any-nesting, one-file}
 use Rattle.wit_text.proofs.laws.files_are_read_exactly.Goals as goal
 
 pub returns-clause-exact : goal.returns-clause-exact

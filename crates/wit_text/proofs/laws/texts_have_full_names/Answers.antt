@@ -1,4 +1,4 @@
-use Rattle.wit_text.proofs.FullNames.{full-names}
+use Rattle.wit_text.proofs.HasFullNames.{full-names}
 use Rattle.wit_text.proofs.laws.texts_have_full_names.Goals as goal
 
 pub returns : goal.returns

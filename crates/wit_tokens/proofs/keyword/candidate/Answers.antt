@@ -1,5 +1,5 @@
 use Rattle.std.proofs.Common.{◌∙◌}
-use Rattle.wit_tokens.proofs.Spelled.{placed}
+use Rattle.wit_tokens.proofs.KeywordsBySpelling.{placed}
 use Rattle.wit_tokens.proofs.keyword.candidate.Goals as goal
 
 pub returns : goal.returns

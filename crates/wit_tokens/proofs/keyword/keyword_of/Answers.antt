@@ -2,7 +2,7 @@ use Rattle.std.proofs.Common.{◌≡◌, ap, sym, ◌∙◌}
 use Rattle.std.proofs.lemmas.Bool.Decides.{Decides-eqb}
 use Rattle.std.proofs.lemmas.Slice.Eq.{slice_eq-Decides}
 use Rattle.wit_tokens.specs.Keywords.{spelling}
-use Rattle.wit_tokens.proofs.Spelled.{spelled, no_keyword}
+use Rattle.wit_tokens.proofs.KeywordsBySpelling.{spelled, no_keyword}
 use Rattle.wit_tokens.proofs.keyword.keyword_of.Goals as goal
 
 pub returns-in-Some : goal.returns-in-Some

@@ -1,5 +1,5 @@
 use Rattle.std.proofs.Common.{◌-◌}
-use Rattle.wit_tokens.proofs.Unique.{one_lexing, bad_is_refused, open_is_refused}
+use Rattle.wit_tokens.proofs.TextsHaveOneReading.{one_lexing, bad_is_refused, open_is_refused}
 use Rattle.wit_tokens.proofs.laws.texts_have_one_lexing.Goals as goal
 
 pub returns-clause-one : goal.returns-clause-one

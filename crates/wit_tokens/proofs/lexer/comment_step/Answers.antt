@@ -1,5 +1,5 @@
 use Rattle.std.proofs.Common.{sym, ◌∙◌}
-use Rattle.wit_tokens.proofs.Comments.{one_more}
+use Rattle.wit_tokens.proofs.OpenComments.{one_more}
 use Rattle.wit_tokens.proofs.lexer.comment_step.Goals as goal
 
 pub returns-clause-some : goal.returns-clause-some

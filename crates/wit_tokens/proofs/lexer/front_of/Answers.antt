@@ -1,5 +1,5 @@
 use Rattle.std.proofs.Common.{rules, arith}
-use Rattle.wit_tokens.proofs.Fronts.{mark_front_at}
+use Rattle.wit_tokens.proofs.MarksAtTheFront.{mark_front_at}
 use Rattle.wit_tokens.proofs.lexer.front_of.Goals as goal
 
 pub returns-in-Some-clause-is : goal.returns-in-Some-clause-is

@@ -1,7 +1,7 @@
 use Rattle.std.proofs.Common.{◌+◌, arith, sym, ap, ◌∙◌}
 use Rattle.wit_tokens.specs.Lexing.{begin, blank, next, token_from, front_of}
 use Rattle.std.proofs.lemmas.List.{take_rest, length-drop, length_push}
-use Rattle.wit_tokens.proofs.Blanks.{over_blanks}
+use Rattle.wit_tokens.proofs.BlankRuns.{over_blanks}
 use Rattle.wit_tokens.proofs.lexer.lex.Goals as goal
 
 pub loop-at-init : goal.loop-at-init

@@ -2,8 +2,8 @@ use Rattle.std.proofs.Common.{map, Ok, Err, ap, refl, ◌∙◌}
 use Rattle.std.proofs.lemmas.Result.{err_from_is_err_and}
 use Rattle.std.specs.Option.{option_map}
 use Rattle.values.specs.Val.{value_of}
-use Rattle.witcall.proofs.Printing.{asks, answers, call-refuses, not-before}
-use Rattle.witcall.proofs.Written.{appended, begun}
+use Rattle.witcall.proofs.PrintedCalls.{asks, answers, call-refuses, not-before}
+use Rattle.witcall.proofs.BytesWrittenBySlices.{appended, begun}
 use Rattle.witcall.proofs.calling.run_call_with.Goals as goal
 
 pub returns-in_err-write_bytes-clause-begun : goal.returns-in_err-write_bytes-clause-begun

@@ -3,7 +3,7 @@ use Rattle.std.specs.Prelude.{IfErr}
 use Rattle.tables.specs.Closed.{function_at}
 use Rattle.tables.specs.declared.tables.Function.{Function}
 use Rattle.witcall.specs.Json.{RefusesArray}
-use Rattle.witcall.proofs.Functions.{own_params}
+use Rattle.witcall.proofs.FunctionTypesAsFields.{own_params}
 use Rattle.witcall.proofs.json.arguments_from_json.Goals as goal
 
 pub returns-clause-err : goal.returns-clause-err

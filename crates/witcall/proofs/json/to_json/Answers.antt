@@ -3,8 +3,8 @@ use Rattle.values.specs.Val.{value_of}
 use Rattle.serde_json.specs.View.{view}
 use Rattle.tables.specs.Labelled.{labelled_type}
 use Rattle.value_json.specs.Json.{Json}
-use Rattle.witcall.proofs.ReadBack.{read-back}
-use Rattle.adapter.proofs.Within.{type-shallow}
+use Rattle.witcall.proofs.WrittenTextsAreReadBack.{read-back}
+use Rattle.adapter.proofs.PackageTypesWithinLimits.{type-shallow}
 use Rattle.witcall.proofs.json.to_json.Goals as goal
 
 pub returns-clause-written : goal.returns-clause-written

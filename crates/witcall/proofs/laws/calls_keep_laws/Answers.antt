@@ -1,7 +1,7 @@
-use Rattle.canonical_abi.proofs.Causes.{traps-have-causes}
-use Rattle.canonical_abi.proofs.Few.{visits-few-nodes}
-use Rattle.canonical_abi.proofs.Halves.{halves-are-a-call}
-use Rattle.canonical_abi.proofs.OnlyValues.{only-values-cross, traps-show-values}
+use Rattle.canonical_abi.proofs.Calls.TrapsHaveCauses.{traps-have-causes}
+use Rattle.canonical_abi.proofs.Calls.VisitsFewNodes.{visits-few-nodes}
+use Rattle.canonical_abi.proofs.Calls.HalvesAreACall.{halves-are-a-call}
+use Rattle.canonical_abi.proofs.Sessions.OnlyValuesCross.{only-values-cross, traps-show-values}
 use Rattle.witcall.proofs.laws.calls_keep_laws.Goals as goal
 
 pub returns-clause-only_values : goal.returns-clause-only_values

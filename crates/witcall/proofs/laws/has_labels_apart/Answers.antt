@@ -1,5 +1,5 @@
 use Rattle.std.proofs.Math.Logic.{∥∥₁_map}
-use Rattle.witcall.proofs.SetLabels.{labels-apart}
+use Rattle.witcall.proofs.SetLabelsAreApart.{labels-apart}
 use Rattle.witcall.proofs.laws.has_labels_apart.Goals as goal
 
 pub returns : goal.returns

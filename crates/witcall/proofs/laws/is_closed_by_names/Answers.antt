@@ -1,12 +1,12 @@
 use Rattle.std.proofs.Common.{subst}
 use Rattle.std.proofs.Math.Logic.{∥∥₁_map}
 use Rattle.atoms.specs.Label.{IsLabel}
-use Rattle.package_adding.proofs.ImportTables.{interfaces-labelled}
+use Rattle.package_adding.proofs.BeginningsAreImports.{interfaces-labelled}
 use Rattle.package_text.specs.Writable.{package_labels}
 use Rattle.std.specs.Prelude.{All}
 use Rattle.tables.specs.Package.{ClosesAlike}
 use Rattle.tables.specs.declared.tables.Resolve.{Resolve}
-use Rattle.witcall.proofs.SetNames.{types-apart}
+use Rattle.witcall.proofs.SetNamesStandForOne.{types-apart}
 use Rattle.witcall.proofs.laws.is_closed_by_names.Goals as goal
 
 pub returns : goal.returns

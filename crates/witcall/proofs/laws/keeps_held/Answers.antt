@@ -1,5 +1,5 @@
 use Rattle.canonical_abi.specs.Call.{exact}
-use Rattle.canonical_abi.proofs.CalleeKeeping.{callee-keeps-held}
+use Rattle.canonical_abi.proofs.Sessions.CalleeKeepsHeld.{callee-keeps-held}
 use Rattle.witcall.proofs.StandardSteps.{keep_held, place_held, read_held, read_placed}
 use Rattle.witcall.proofs.laws.keeps_held.Goals as goal
 

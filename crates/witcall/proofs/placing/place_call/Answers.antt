@@ -4,8 +4,8 @@ use Rattle.canonical_abi.specs.Types.{result_fields}
 use Rattle.tables.specs.Closed.{function_type}
 use Rattle.lift_lower.specs.Placing.{IsAreaIn, IsAreaAsked, AreaFails}
 use Rattle.values.specs.Val.{value_of}
-use Rattle.adapter.proofs.Signatures.{result-inside, result-is}
-use Rattle.witcall.proofs.Prepared.{ready_flat, ready_with_area, arguments_fail, area_fails}
+use Rattle.adapter.proofs.FunctionsInLayouts.{result-inside, result-is}
+use Rattle.witcall.proofs.CallerBeforeTypedCalls.{ready_flat, ready_with_area, arguments_fail, area_fails}
 use Rattle.witcall.proofs.placing.place_call.Goals as goal
 
 pub returns-in_err-flats-clause-fault : goal.returns-in_err-flats-clause-fault

@@ -2,14 +2,14 @@ use Rattle.std.proofs.Common.{◌≡◌, ℕ, Option, Some, None, subst}
 use Rattle.canonical_abi.specs.Guest.{Memory, Allocation}
 use Rattle.canonical_abi.specs.Layout.{align, size}
 use Rattle.canonical_abi.specs.Types.{ClosedType}
-use Rattle.canonical_abi.proofs.Sizes.{is-alignment}
+use Rattle.canonical_abi.proofs.Layouts.AlignmentsAndSizes.{is-alignment}
 use Rattle.tables.specs.Closed.{closed_type}
 use Rattle.lift_lower.specs.Crossing.{IsStoredAt, StoreFails}
 use Rattle.values.specs.Val.{value_of}
-use Rattle.values.proofs.Known.{known-inside}
+use Rattle.values.proofs.PackageTypesAreStandard.{known-inside}
 use Rattle.values.proofs.TypesExtents.{has-row}
 use Rattle.witcall.proofs.PlacedValues.{is_placed, is_not_granted, is_not_stored}
-use Rattle.adapter.proofs.Within.{type-small}
+use Rattle.adapter.proofs.PackageTypesWithinLimits.{type-small}
 use Rattle.witcall.proofs.placing.place_value.Goals as goal
 
 -- a request of the type's alignment and size, in the numbers that the layouts told

@@ -2,7 +2,7 @@
 use Rattle.std.proofs.Common.{ap, [], ◌∷◌, ◌++◌, ◌∙◌}
 use Rattle.opening.specs.Sets.{all_bytes}
 use Rattle.witcall.specs.Running.{all_items}
-use Rattle.witcall.proofs.Inputs.{opens, refuses}
+use Rattle.witcall.proofs.InputsAfterEarlierOnes.{opens, refuses}
 use Rattle.witcall.proofs.running.opened_behind.Goals as goal
 
 pub returns-clause-ok : goal.returns-clause-ok

@@ -1,9 +1,9 @@
 use Rattle.std.proofs.Common.{◌≡◌, true, false, Err, refl, sym, ap, ◌∙◌, inl, inr}
 use Rattle.std.proofs.lemmas.Result.{err_from_is_err_and}
-use Rattle.witcall.proofs.Made.{makes, refuses-opening, refuses-making}
+use Rattle.witcall.proofs.MadeFromReaders.{makes, refuses-opening, refuses-making}
 use Rattle.witcall.specs.Running.{all_items, RunRefuses}
 use Rattle.witcall.specs.declared.refused.Refused.TheVariants.{Open}
-use Rattle.witcall.proofs.Written.{appended, begun}
+use Rattle.witcall.proofs.BytesWrittenBySlices.{appended, begun}
 use Rattle.witcall.proofs.running.run_set.Goals as goal
 
 pub returns-in_err-last-clause-err : goal.returns-in_err-last-clause-err

@@ -13,11 +13,11 @@ use Rattle.tables.specs.declared.tables.ValType.{ValType}
 use Rattle.lift_lower.specs.NoValue.{AnswerStands}
 use Rattle.lift_lower.specs.Placing.{area_at, IsAreaIn}
 use Rattle.values.specs.Val.{value_of}
-use Rattle.adapter.proofs.Signatures.{result-inside, result-is}
+use Rattle.adapter.proofs.FunctionsInLayouts.{result-inside, result-is}
 use Rattle.canonical_abi.specs.Halves.{as_world}
 use Rattle.witcall.specs.Session.{IsReady, IsNotReady}
-use Rattle.witcall.proofs.Prepared.{area_stays}
-use Rattle.witcall.proofs.Promised.{promised}
+use Rattle.witcall.proofs.CallerBeforeTypedCalls.{area_stays}
+use Rattle.witcall.proofs.TypedCallsKeepPromise.{promised}
 use Rattle.witcall.proofs.TypedCalls.{placed, place_fails, link_fails, came_back, takes}
 use Rattle.witcall.proofs.session.call_typed.Goals as goal
 

@@ -1,7 +1,7 @@
 use Rattle.std.proofs.Common.{sym, ap}
-use Rattle.adapter.proofs.Signatures.{result-known}
+use Rattle.adapter.proofs.FunctionsInLayouts.{result-known}
 use Rattle.witcall.specs.Signature.{function_signature}
-use Rattle.witcall.proofs.Functions.{all_known, result_is_fields}
+use Rattle.witcall.proofs.FunctionTypesAsFields.{all_known, result_is_fields}
 use Rattle.witcall.proofs.signature.result_type.Goals as goal
 
 pub returns-clause-ty : goal.returns-clause-ty

@@ -1,6 +1,6 @@
 use Rattle.std.proofs.Common.{rules, [], ◌∷◌, refl, inr, ap, ◌∙◌}
 use Rattle.std.proofs.lemmas.List.{map-append}
-use Rattle.witcall_c.proofs.Parted.{too-long, too-many, one-more}
+use Rattle.witcall_c.proofs.InputsStandInOrder.{too-long, too-many, one-more}
 use Rattle.opening.specs.Sets.{all_bytes}
 use Rattle.witcall_c.proofs.set.pieces.Goals as goal
 

@@ -1,6 +1,6 @@
 use Rattle.std.proofs.Common.{◌++◌, take, ap, ◌∙◌}
 use Rattle.words.specs.Earlier.{with_files, behind_files, lent_texts, texts_of}
-use Rattle.words.proofs.Pairs.{texts_behind, texts_in_front}
+use Rattle.words.proofs.WordsAfterCommand.{texts_behind, texts_in_front}
 use Rattle.words.proofs.earlier.parted.Goals as goal
 
 pub returns-clause-files : goal.returns-clause-files

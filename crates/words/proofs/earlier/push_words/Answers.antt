@@ -1,6 +1,6 @@
 use Rattle.std.proofs.Common.{ap, ◌∙◌, rules}
 use Rattle.words.specs.Earlier.{lent_texts}
-use Rattle.words.proofs.Pairs.{one_more}
+use Rattle.words.proofs.WordsAfterCommand.{one_more}
 use Rattle.words.proofs.earlier.push_words.Goals as goal
 
 pub loop-word-preserved : goal.loop-word-preserved

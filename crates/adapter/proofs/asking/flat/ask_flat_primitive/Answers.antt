@@ -2,10 +2,10 @@ use Rattle.std.proofs.Common.{ℕ, ◌%◌, ◌^◌, map, sym, subst}
 use Rattle.canonical_abi.specs.Memory.{PrimIs}
 use Rattle.canonical_abi.specs.Types.{prim_type}
 use Rattle.canonical_abi.specs.Reading.{number_of, low_bits, flat_bits}
-use Rattle.canonical_abi.proofs.Tells.{lifting-tells}
+use Rattle.canonical_abi.proofs.ReadValues.ReadsExactly.{lifting-tells}
 use Rattle.tables.specs.Closed.{prim_of}
 use Rattle.values.specs.Scalar.{value_in}
-use Rattle.adapter.proofs.asking.Told.{told-none, first-number}
+use Rattle.adapter.proofs.asking.RequestsOfParts.{told-none, first-number}
 use Rattle.adapter.proofs.asking.flat.ask_flat_primitive.Goals as goal
 
 pub returns-in-Ok-clause-asks : goal.returns-in-Ok-clause-asks

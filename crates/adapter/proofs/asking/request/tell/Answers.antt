@@ -1,6 +1,6 @@
 use Rattle.std.proofs.Common.{inl, inr, arith}
 use Rattle.canonical_abi.specs.Requests.{request}
-use Rattle.adapter.proofs.asking.Told.{told-one}
+use Rattle.adapter.proofs.asking.RequestsOfParts.{told-one}
 use Rattle.adapter.proofs.asking.request.tell.Goals as goal
 use Rattle.adapter.proofs.asking.request.tell.Goals.{then-count-slots, else-count-slots}
 

@@ -1,5 +1,5 @@
 use Rattle.canonical_abi.specs.Values.{char_value}
-use Rattle.adapter.proofs.asking.Told.{told-none, reads-number, reads-char, scalar-true}
+use Rattle.adapter.proofs.asking.RequestsOfParts.{told-none, reads-number, reads-char, scalar-true}
 use Rattle.adapter.proofs.asking.walk.ask_primitive.Goals as goal
 
 pub returns-in_default-clause-asks : goal.returns-in_default-clause-asks

@@ -1,7 +1,7 @@
 use Rattle.std.proofs.Common.{arith}
 use Rattle.canonical_abi.specs.Values.{string_value}
-use Rattle.lift_lower.proofs.Texts.{text-stands}
-use Rattle.adapter.proofs.asking.Told.{text-length, text-stops}
+use Rattle.lift_lower.proofs.TextsAndBlocksStand.{text-stands}
+use Rattle.adapter.proofs.asking.RequestsOfParts.{text-length, text-stops}
 use Rattle.adapter.proofs.asking.walk.ask_text.Goals as goal
 
 pub returns-clause-asks : goal.returns-clause-asks

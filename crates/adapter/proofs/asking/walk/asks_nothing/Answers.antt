@@ -1,4 +1,4 @@
-use Rattle.adapter.proofs.asking.Told.{flags-ask-nothing}
+use Rattle.adapter.proofs.asking.RequestsOfParts.{flags-ask-nothing}
 use Rattle.adapter.proofs.asking.walk.asks_nothing.Goals as goal
 
 pub returns-in-Primitive : goal.returns-in-Primitive

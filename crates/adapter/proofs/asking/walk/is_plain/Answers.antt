@@ -1,4 +1,4 @@
-use Rattle.adapter.proofs.asking.Told.{plain-asks-nothing}
+use Rattle.adapter.proofs.asking.RequestsOfParts.{plain-asks-nothing}
 use Rattle.adapter.proofs.asking.walk.is_plain.Goals as goal
 
 pub returns-in_default : goal.returns-in_default

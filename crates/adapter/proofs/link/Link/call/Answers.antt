@@ -4,7 +4,7 @@ use Rattle.canonical_abi.specs.Call.{Parties, World}
 use Rattle.canonical_abi.specs.Halves.{as_world, ReturnFails, RunsBetween, RunsAndReturns, CallsInHalves, ends_at_return, ends_at_post, completes}
 use Rattle.layout.specs.Layout.{AreWithin}
 use Rattle.tables.specs.Closed.{function_type}
-use Rattle.adapter.proofs.Promised.{link-promised, link-told}
+use Rattle.adapter.proofs.LinkCallsKeepPromise.{link-promised, link-told}
 use Rattle.adapter.proofs.link.Link.call.Goals as goal
 
 pub returns-in_err-ran-clause-call : goal.returns-in_err-ran-clause-call

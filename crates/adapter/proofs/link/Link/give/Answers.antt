@@ -3,7 +3,7 @@ use Rattle.canonical_abi.specs.Guest.{IsLimited}
 use Rattle.canonical_abi.specs.Types.{result_fields}
 use Rattle.tables.specs.Closed.{function_type}
 use Rattle.adapter.specs.Plain.{AreOwn}
-use Rattle.adapter.proofs.OwnValues.{plain-returned}
+use Rattle.adapter.proofs.PlainValuesCrossAsTheyAre.{plain-returned}
 use Rattle.adapter.proofs.link.Link.give.Goals as goal
 
 pub returns-then-is_plain_answer-clause-returned : goal.returns-then-is_plain_answer-clause-returned

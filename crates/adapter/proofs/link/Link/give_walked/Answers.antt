@@ -1,4 +1,4 @@
-use Rattle.adapter.proofs.Crossings.{returned-few}
+use Rattle.adapter.proofs.CallFromItsWays.{returned-few}
 use Rattle.adapter.proofs.link.Link.give_walked.Goals as goal
 
 pub flat_results-requires : goal.flat_results-requires

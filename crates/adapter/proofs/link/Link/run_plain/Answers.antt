@@ -2,7 +2,7 @@ use Rattle.std.proofs.Common.{refl, arith}
 use Rattle.canonical_abi.specs.Guest.{IsLimited}
 use Rattle.canonical_abi.specs.Halves.{ends_at_run}
 use Rattle.tables.specs.Closed.{function_type}
-use Rattle.adapter.proofs.OwnValues.{plain-entered}
+use Rattle.adapter.proofs.PlainValuesCrossAsTheyAre.{plain-entered}
 use Rattle.adapter.proofs.link.Link.run_plain.Goals as goal
 
 pub returns-clause-ran : goal.returns-clause-ran

@@ -1,6 +1,6 @@
 use Rattle.std.proofs.Common.{IsTrue, sym, ◌∙◌, subst}
 use Rattle.atoms.specs.FullName.{is_package_label, IsName}
-use Rattle.atoms.proofs.FullNames.{no_namespace, namespace_cut, no_package, package_cut, fails, fails_as, same_parts}
+use Rattle.atoms.proofs.FullNamesHaveOneReading.{no_namespace, namespace_cut, no_package, package_cut, fails, fails_as, same_parts}
 use Rattle.atoms.proofs.full_name.FullName.parse.Goals as goal
 
 pub returns-in_default-clause-only : goal.returns-in_default-clause-only

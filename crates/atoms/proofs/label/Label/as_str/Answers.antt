@@ -1,4 +1,4 @@
-use Rattle.atoms.proofs.LabelWords.{label_is_utf8}
+use Rattle.atoms.proofs.LabelsInOnePass.{label_is_utf8}
 use Rattle.atoms.proofs.label.Label.as_str.Goals as goal
 
 pub from_utf8_unchecked-requires : goal.from_utf8_unchecked-requires

@@ -1,4 +1,4 @@
-use Rattle.atoms.proofs.productions.Example.{example_alone, example_met, example_spelled}
+use Rattle.atoms.proofs.productions.SmallGrammarReadsExactly.{example_alone, example_met, example_spelled}
 use Rattle.atoms.proofs.productions.laws.faults_are_first.Goals as goal
 
 pub returns-clause-alone : goal.returns-clause-alone

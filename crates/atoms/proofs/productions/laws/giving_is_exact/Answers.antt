@@ -1,5 +1,5 @@
 use Rattle.atoms.specs.Exactness.{plain}
-use Rattle.atoms.proofs.productions.Exact.{exact-give}
+use Rattle.atoms.proofs.productions.ProductionsReadExactly.{exact-give}
 use Rattle.atoms.proofs.productions.laws.giving_is_exact.Goals as goal
 
 pub returns : goal.returns

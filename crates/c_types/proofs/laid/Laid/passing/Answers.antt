@@ -8,7 +8,7 @@ use Rattle.layout.specs.Kinds.{count_of, kinds_of}
 use Rattle.tables.specs.Closed.{closed_type, function_type}
 use Rattle.tables.specs.Tables.{is_below}
 use Rattle.tables.specs.declared.tables.ValType.{ValType}
-use Rattle.tables.proofs.Rows.{stands, function-row, function-type}
+use Rattle.tables.proofs.ClosedTypesRowByRow.{stands, function-row, function-type}
 use Rattle.c_types.proofs.laid.Laid.passing.Goals as goal
 
 -- at most sixteen kinds have a count

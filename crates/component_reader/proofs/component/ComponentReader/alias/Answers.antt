@@ -8,7 +8,7 @@ use Rattle.tables.specs.declared.tables.TypeId.{TypeId}
 use Rattle.tables.specs.declared.tables.InterfaceId.{InterfaceId}
 use Rattle.component_reader.specs.Component.{ComponentRead, alias_read, with_read_type}
 use Rattle.component_reader.specs.Readers.{component_view}
-use Rattle.component_reader.proofs.Instances.{type-found}
+use Rattle.component_reader.proofs.DeclarationsReadInOrder.{type-found}
 use Rattle.component_reader.proofs.component.ComponentReader.alias.Goals as goal
 
 pub returns-in_default-get-2 : goal.returns-in_default-get-2

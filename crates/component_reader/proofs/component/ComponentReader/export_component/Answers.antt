@@ -5,7 +5,7 @@ use Rattle.tables.specs.declared.tables.World.{World}
 use Rattle.component_reader.specs.Component.{ComponentRead, package_in_name, with_package, last_package, world_named, with_world}
 use Rattle.component_reader.specs.Names.{parts_view}
 use Rattle.component_reader.specs.Readers.{world_with, component_view}
-use Rattle.component_reader.proofs.Cutting.{parts-cut}
+use Rattle.component_reader.proofs.CutPartsAreNameParts.{parts-cut}
 use Rattle.component_reader.proofs.component.ComponentReader.export_component.Goals as goal
 
 pub returns : goal.returns

@@ -1,7 +1,7 @@
 use Rattle.std.proofs.Common.{◌≡◌, inr, cond, IsTrue, length, None, Some, refl, ap, sym, ◌∙◌}
 use Rattle.tables.specs.Parts.{is_package}
 use Rattle.component_reader.specs.Component.{Candidate}
-use Rattle.tables.proofs.Earlier.{package-whole, tests-of}
+use Rattle.tables.proofs.NamesEarlierTypes.{package-whole, tests-of}
 use Rattle.component_reader.proofs.component.ComponentReader.finish.Goals as goal
 
 pub returns-in-Ok : goal.returns-in-Ok

@@ -6,7 +6,7 @@ use Rattle.tables.specs.declared.tables.Interface.{Interface}
 use Rattle.component_reader.specs.Component.{ComponentRead, package_in_name, with_package, last_package, interface_named, with_interface}
 use Rattle.component_reader.specs.Names.{parts_view}
 use Rattle.component_reader.specs.Readers.{names_view, read_with, component_view}
-use Rattle.component_reader.proofs.Cutting.{parts-cut}
+use Rattle.component_reader.proofs.CutPartsAreNameParts.{parts-cut}
 use Rattle.component_reader.proofs.component.ComponentReader.name_instance.Goals as goal
 
 pub returns : goal.returns

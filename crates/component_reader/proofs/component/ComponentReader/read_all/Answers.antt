@@ -4,7 +4,7 @@ use Rattle.ctype_format.specs.Raw.{Decls}
 use Rattle.ctype_format.specs.View.{decl_view, decls_of}
 use Rattle.component_reader.specs.Component.{declarations_read}
 use Rattle.component_reader.specs.Readers.{component_view}
-use Rattle.component_reader.proofs.Instances.{found-first, none-first, next-decl, no-decl}
+use Rattle.component_reader.proofs.DeclarationsReadInOrder.{found-first, none-first, next-decl, no-decl}
 use Rattle.component_reader.proofs.component.ComponentReader.read_all.Goals as goal
 
 pub loop-decl-init : goal.loop-decl-init

@@ -3,7 +3,7 @@ use Rattle.package_form.specs.Ids.{type_id}
 use Rattle.tables.specs.declared.tables.TypeId.{TypeId}
 use Rattle.component_reader.specs.Instance.{named_row, uses_with, types_with, with_name}
 use Rattle.component_reader.specs.Readers.{awaited_view, names_view}
-use Rattle.component_reader.proofs.Instances.{same-instance, names-inserted}
+use Rattle.component_reader.proofs.DeclarationsReadInOrder.{same-instance, names-inserted}
 use Rattle.component_reader.proofs.instance.InstanceReader.push_named.Goals as goal
 
 pub returns : goal.returns

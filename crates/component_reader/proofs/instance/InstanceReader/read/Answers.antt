@@ -4,7 +4,7 @@ use Rattle.ctype_format.specs.Raw.{Decls}
 use Rattle.ctype_format.specs.View.{decl_view, decls_of}
 use Rattle.component_reader.specs.Instance.{InstanceRead, nothing_read, if_found, settled, decls_read}
 use Rattle.component_reader.specs.Readers.{read_with}
-use Rattle.component_reader.proofs.Instances.{found-first, none-first, unread-behind, next-decl, no-decl}
+use Rattle.component_reader.proofs.DeclarationsReadInOrder.{found-first, none-first, unread-behind, next-decl, no-decl}
 use Rattle.component_reader.proofs.instance.InstanceReader.read.Goals as goal
 
 pub loop-decl-init : goal.loop-decl-init

@@ -4,7 +4,7 @@ use Rattle.ctype_format.specs.declared.raw.RawDecl.{RawDecl}
 use Rattle.component_reader.specs.Types.{Becomes}
 use Rattle.component_reader.specs.Instance.{use_read, defined_read, decl_read}
 use Rattle.component_reader.specs.Readers.{read_with}
-use Rattle.component_reader.proofs.Instances.{becomes-behind}
+use Rattle.component_reader.proofs.DeclarationsReadInOrder.{becomes-behind}
 use Rattle.component_reader.proofs.instance.InstanceReader.read_decl.Goals as goal
 
 pub returns-in_ok-settle-in-Alias : goal.returns-in_ok-settle-in-Alias

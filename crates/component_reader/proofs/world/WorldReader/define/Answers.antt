@@ -2,8 +2,8 @@ use Rattle.ctype_format.specs.View.{type_view}
 use Rattle.component_reader.specs.Instance.{settled, defined_read}
 use Rattle.component_reader.specs.World.{with_inside}
 use Rattle.component_reader.specs.Readers.{read_with, world_with}
-use Rattle.component_reader.proofs.Found.{becomes-within}
-use Rattle.component_reader.proofs.Instances.{becomes-behind}
+use Rattle.component_reader.proofs.EachElementIsReadOrNone.{becomes-within}
+use Rattle.component_reader.proofs.DeclarationsReadInOrder.{becomes-behind}
 use Rattle.component_reader.proofs.world.WorldReader.define.Goals as goal
 
 pub returns : goal.returns

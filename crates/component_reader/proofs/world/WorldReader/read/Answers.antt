@@ -4,7 +4,7 @@ use Rattle.ctype_format.specs.Raw.{Decls}
 use Rattle.ctype_format.specs.View.{decl_view, decls_of}
 use Rattle.component_reader.specs.World.{items_read}
 use Rattle.component_reader.specs.Readers.{world_with}
-use Rattle.component_reader.proofs.Instances.{found-first, none-first, next-decl, no-decl}
+use Rattle.component_reader.proofs.DeclarationsReadInOrder.{found-first, none-first, next-decl, no-decl}
 use Rattle.component_reader.proofs.world.WorldReader.read.Goals as goal
 
 pub loop-decl-init : goal.loop-decl-init

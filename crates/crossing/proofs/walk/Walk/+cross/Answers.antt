@@ -6,18 +6,18 @@ use Rattle.canonical_abi.specs.Layout.{size, align, discriminant_size, payload_p
 use Rattle.canonical_abi.specs.Reading.{number_at, byte_width, case_number}
 use Rattle.canonical_abi.specs.Storing.{pointer_pair}
 use Rattle.canonical_abi.specs.Trace.{write, EventLeads}
-use Rattle.canonical_abi.proofs.Sizes.{is-alignment}
+use Rattle.canonical_abi.proofs.Layouts.AlignmentsAndSizes.{is-alignment}
 use Rattle.tables.specs.Closed.{closed_type}
 use Rattle.values.specs.Bytes.{AreBytes}
 use Rattle.values.specs.Members.{members_fields}
 use Rattle.values.proofs.TypesExtents.{member-depth, case-depth, payload-place, payload-fits}
-use Rattle.values.proofs.Fields.{fields-inside, fields-end, nth_field-some}
-use Rattle.lift_lower.proofs.Unlimited.{request-fails}
+use Rattle.values.proofs.FieldsFromAPlace.{fields-inside, fields-end, nth_field-some}
+use Rattle.lift_lower.proofs.OnlyAllocatorsRefuse.{request-fails}
 use Rattle.crossing.specs.Outcome.{Walks, EachWalks, Ends}
-use Rattle.crossing.proofs.Ahead.{each-ahead}
-use Rattle.crossing.proofs.Parts.{begun}
-use Rattle.crossing.proofs.ByShape.{told_case, plain-walks, missing-walks}
-use Rattle.crossing.proofs.Nodes.{granted-led, at-node, at-record, each-next, each-stopped, each-done, field-next, field-stopped, fields-done, list-refused, list-ends, variant-ends}
+use Rattle.crossing.proofs.ElementsCrossedTogether.{each-ahead}
+use Rattle.crossing.proofs.PartsOfWaysInOrder.{begun}
+use Rattle.crossing.proofs.ScriptsOfTypes.{told_case, plain-walks, missing-walks}
+use Rattle.crossing.proofs.OneNodeOfAWay.{granted-led, at-node, at-record, each-next, each-stopped, each-done, field-next, field-stopped, fields-done, list-refused, list-ends, variant-ends}
 use Rattle.crossing.proofs.walk.Walk.+cross.Goals as goal
 
 -- ---- the node itself

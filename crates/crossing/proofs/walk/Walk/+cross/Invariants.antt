@@ -3,9 +3,9 @@ use Rattle.canonical_abi.specs.Types.{depth, fields_depth}
 use Rattle.canonical_abi.specs.Layout.{size}
 use Rattle.tables.specs.Closed.{closed_type}
 use Rattle.values.specs.Members.{members_fields}
-use Rattle.values.proofs.Fields.{fields_from, fields_end}
+use Rattle.values.proofs.FieldsFromAPlace.{fields_from, fields_end}
 use Rattle.crossing.specs.Outcome.{EachWalks, FieldsWalk}
-use Rattle.crossing.proofs.Parts.{IsBegun}
+use Rattle.crossing.proofs.PartsOfWaysInOrder.{IsBegun}
 use Rattle.crossing.proofs.walk.Walk.+cross.Given as goal
 
 abbrev pub decreases-cross_at : goal.decreases-cross_at

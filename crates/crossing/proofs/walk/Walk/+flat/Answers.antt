@@ -10,13 +10,13 @@ use Rattle.canonical_abi.specs.declared.flat.Flat.TheVariants as flat
 use Rattle.tables.specs.Closed.{closed_type, prim_of}
 use Rattle.values.specs.Bytes.{AreBytes}
 use Rattle.values.specs.Members.{members_fields}
-use Rattle.lift_lower.proofs.Denoted.{low-small}
-use Rattle.lift_lower.proofs.FlatSteps.{kinds-next, payload-kinds, rest-numbers, rest-length}
-use Rattle.lift_lower.proofs.Lowerings.{lowers-length, behind-first, joined-told}
-use Rattle.values.proofs.Fields.{nth_field-some}
+use Rattle.lift_lower.proofs.HeldValuesAreTyped.{low-small}
+use Rattle.lift_lower.proofs.LiftingStepByStep.{kinds-next, payload-kinds, rest-numbers, rest-length}
+use Rattle.lift_lower.proofs.LoweredFromParts.{lowers-length, behind-first, joined-told}
+use Rattle.values.proofs.FieldsFromAPlace.{nth_field-some}
 use Rattle.values.proofs.TypesExtents.{member-depth, case-depth}
 use Rattle.crossing.specs.Outcome.{FlatWalks, FlatEnds}
-use Rattle.crossing.proofs.Flats.{flat-node, flat-record, leaf-done, primitive-ends, carrying-next, carrying-stopped, carrying-done, missing-fault, plain-done, payload-done, payload-stopped}
+use Rattle.crossing.proofs.ScriptsOfFlatValues.{flat-node, flat-record, leaf-done, primitive-ends, carrying-next, carrying-stopped, carrying-done, missing-fault, plain-done, payload-done, payload-stopped}
 use Rattle.crossing.proofs.walk.Walk.+flat.Goals as goal
 
 -- ---- the node itself

@@ -4,8 +4,8 @@ use Rattle.canonical_abi.specs.Layout.{field_kinds}
 use Rattle.canonical_abi.specs.Reading.{number_of}
 use Rattle.tables.specs.Closed.{closed_type}
 use Rattle.values.specs.Members.{members_fields}
-use Rattle.values.proofs.Fields.{fields_from}
-use Rattle.crossing.proofs.Flats.{AreCarrying}
+use Rattle.values.proofs.FieldsFromAPlace.{fields_from}
+use Rattle.crossing.proofs.ScriptsOfFlatValues.{AreCarrying}
 use Rattle.crossing.proofs.walk.Walk.+flat.Given as goal
 
 abbrev pub decreases-cross_flat : goal.decreases-cross_flat

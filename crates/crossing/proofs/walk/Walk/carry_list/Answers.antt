@@ -4,13 +4,13 @@ use Rattle.std.specs.Prelude.{Ok, Err}
 use Rattle.canonical_abi.specs.Layout.{size, align}
 use Rattle.canonical_abi.specs.Reading.{number_of}
 use Rattle.canonical_abi.specs.declared.flat.Flat.{Flat}
-use Rattle.canonical_abi.proofs.Sizes.{is-alignment}
+use Rattle.canonical_abi.proofs.Layouts.AlignmentsAndSizes.{is-alignment}
 use Rattle.tables.specs.Closed.{closed_type}
 use Rattle.values.specs.Bytes.{AreBytes}
-use Rattle.lift_lower.proofs.Unlimited.{request-fails}
+use Rattle.lift_lower.proofs.OnlyAllocatorsRefuse.{request-fails}
 use Rattle.crossing.specs.Outcome.{EachWalks, Ends, IsCrossed}
-use Rattle.crossing.proofs.Nodes.{granted-led}
-use Rattle.crossing.proofs.Flats.{header_behind, ListFlat, list-flat-refused, list-flat-ends}
+use Rattle.crossing.proofs.OneNodeOfAWay.{granted-led}
+use Rattle.crossing.proofs.ScriptsOfFlatValues.{header_behind, ListFlat, list-flat-refused, list-flat-ends}
 use Rattle.crossing.proofs.walk.Walk.carry_list.Goals as goal
 
 pub ask_block-requires : goal.ask_block-requires

@@ -4,8 +4,8 @@ use Rattle.canonical_abi.specs.Types.{record_fields}
 use Rattle.canonical_abi.specs.Layout.{size}
 use Rattle.tables.specs.Closed.{closed_type}
 use Rattle.crossing.specs.Outcome.{Walks, Ends}
-use Rattle.crossing.proofs.Ahead.{none-done, each-ahead}
-use Rattle.crossing.proofs.Nodes.{at-record, each-next, each-stopped, each-done}
+use Rattle.crossing.proofs.ElementsCrossedTogether.{none-done, each-ahead}
+use Rattle.crossing.proofs.OneNodeOfAWay.{at-record, each-next, each-stopped, each-done}
 use Rattle.crossing.proofs.walk.Walk.cross_each_by_steps.Goals as goal
 
 pub loop-index-init : goal.loop-index-init

@@ -2,7 +2,7 @@ use Rattle.std.proofs.Common.{◌+◌, ◌-◌, ◌*◌}
 use Rattle.canonical_abi.specs.Layout.{size}
 use Rattle.tables.specs.Closed.{closed_type}
 use Rattle.crossing.specs.Outcome.{EachWalks}
-use Rattle.crossing.proofs.Parts.{IsBegun}
+use Rattle.crossing.proofs.PartsOfWaysInOrder.{IsBegun}
 use Rattle.crossing.proofs.walk.Walk.cross_each_by_steps.Given as goal
 
 abbrev pub invariant-loop-index : goal.invariant-loop-index

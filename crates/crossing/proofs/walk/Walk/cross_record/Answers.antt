@@ -4,13 +4,13 @@ use Rattle.canonical_abi.specs.Types.{record_type, record_fields}
 use Rattle.canonical_abi.specs.Layout.{size, align, max_flat_params}
 use Rattle.canonical_abi.specs.Script.{AddressFaulty}
 use Rattle.canonical_abi.specs.declared.flat.Flat.TheVariants.{I32}
-use Rattle.canonical_abi.proofs.Sizes.{is-alignment}
+use Rattle.canonical_abi.proofs.Layouts.AlignmentsAndSizes.{is-alignment}
 use Rattle.tables.specs.Closed.{closed_type}
 use Rattle.values.specs.Bytes.{AreBytes}
-use Rattle.lift_lower.proofs.Unlimited.{request-fails}
+use Rattle.lift_lower.proofs.OnlyAllocatorsRefuse.{request-fails}
 use Rattle.crossing.specs.Outcome.{FieldsWalk, IsCrossed, HasStopped}
-use Rattle.crossing.proofs.Nodes.{granted-led}
-use Rattle.crossing.proofs.Passing.{record-refused, record-done, record-stopped}
+use Rattle.crossing.proofs.OneNodeOfAWay.{granted-led}
+use Rattle.crossing.proofs.ScriptsOfWholeWays.{record-refused, record-done, record-stopped}
 use Rattle.crossing.proofs.walk.Walk.cross_record.Goals as goal
 
 pub ask_block-requires : goal.ask_block-requires

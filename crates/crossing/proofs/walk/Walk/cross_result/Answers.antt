@@ -1,4 +1,4 @@
-use Rattle.values.proofs.Fields.{count-types}
+use Rattle.values.proofs.FieldsFromAPlace.{count-types}
 use Rattle.crossing.proofs.walk.Walk.cross_result.Goals as goal
 
 pub carry_fields-requires-clause-counted : goal.carry_fields-requires-clause-counted

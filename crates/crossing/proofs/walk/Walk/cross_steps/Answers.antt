@@ -4,13 +4,13 @@ use Rattle.std.specs.Int.{next_multiple_of}
 use Rattle.canonical_abi.specs.Types.{record_fields}
 use Rattle.canonical_abi.specs.Layout.{size, align}
 use Rattle.tables.specs.Closed.{closed_type}
-use Rattle.values.proofs.Fields.{fields_from, fields-inside, fields-end}
+use Rattle.values.proofs.FieldsFromAPlace.{fields_from, fields-inside, fields-end}
 use Rattle.crossing.specs.Outcome.{FieldsWalk}
 use Rattle.crossing.specs.Steps.{leaf_type}
-use Rattle.crossing.proofs.ByShape.{fields-none}
-use Rattle.crossing.proofs.Nodes.{field-next, field-stopped}
-use Rattle.crossing.proofs.Parts.{begun, begun-done}
-use Rattle.crossing.proofs.Stepping.{step-here, step-last, none}
+use Rattle.crossing.proofs.ScriptsOfTypes.{fields-none}
+use Rattle.crossing.proofs.OneNodeOfAWay.{field-next, field-stopped}
+use Rattle.crossing.proofs.PartsOfWaysInOrder.{begun, begun-done}
+use Rattle.crossing.proofs.RecordMembersByStep.{step-here, step-last, none}
 use Rattle.crossing.proofs.walk.Walk.cross_steps.Goals as goal
 
 pub loop-step-init : goal.loop-step-init

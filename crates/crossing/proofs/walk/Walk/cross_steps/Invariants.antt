@@ -1,10 +1,10 @@
 use Rattle.std.proofs.Common.{◌≡◌, ℕ, drop}
 use Rattle.canonical_abi.specs.Types.{record_fields}
 use Rattle.tables.specs.Closed.{closed_type}
-use Rattle.values.proofs.Fields.{fields_from, fields_end}
+use Rattle.values.proofs.FieldsFromAPlace.{fields_from, fields_end}
 use Rattle.crossing.specs.Outcome.{FieldsWalk}
 use Rattle.crossing.specs.Steps.{AreSteps}
-use Rattle.crossing.proofs.Parts.{IsBegun}
+use Rattle.crossing.proofs.PartsOfWaysInOrder.{IsBegun}
 use Rattle.crossing.proofs.walk.Walk.cross_steps.Given as goal
 
 abbrev pub invariant-loop-step : goal.invariant-loop-step

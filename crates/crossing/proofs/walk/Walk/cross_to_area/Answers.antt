@@ -1,9 +1,9 @@
 use Rattle.canonical_abi.specs.Types.{record_type}
 use Rattle.canonical_abi.specs.Layout.{max_flat_results}
 use Rattle.values.specs.Members.{fields_of_types}
-use Rattle.values.proofs.Fields.{count-types}
+use Rattle.values.proofs.FieldsFromAPlace.{count-types}
 use Rattle.values.proofs.TypesExtents.{align-pos}
-use Rattle.crossing.proofs.Passing.{area-ends}
+use Rattle.crossing.proofs.ScriptsOfWholeWays.{area-ends}
 use Rattle.crossing.proofs.walk.Walk.cross_to_area.Goals as goal
 
 pub test_block-requires-clause-aligned : goal.test_block-requires-clause-aligned

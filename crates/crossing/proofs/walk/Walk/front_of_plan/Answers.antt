@@ -1,7 +1,7 @@
 use Rattle.std.proofs.Common.{refl}
 use Rattle.tables.specs.Closed.{closed_type}
 use Rattle.ranges.specs.Bytewise.{each_nodes}
-use Rattle.crossing.proofs.Ahead.{crossed-done}
+use Rattle.crossing.proofs.ElementsCrossedTogether.{crossed-done}
 use Rattle.crossing.proofs.walk.Walk.front_of_plan.Goals as goal
 
 pub returns-clause-crossed : goal.returns-clause-crossed

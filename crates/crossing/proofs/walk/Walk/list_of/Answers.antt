@@ -2,13 +2,13 @@ use Rattle.std.proofs.Common.{◌≡◌, ◌∷◌, [], length-append, append_as
 use Rattle.std.specs.Int.{next_multiple_of}
 use Rattle.canonical_abi.specs.Types.{record_fields}
 use Rattle.canonical_abi.specs.Layout.{size, align}
-use Rattle.canonical_abi.proofs.Sizes.{is-alignment}
+use Rattle.canonical_abi.proofs.Layouts.AlignmentsAndSizes.{is-alignment}
 use Rattle.tables.specs.Closed.{closed_type}
-use Rattle.values.proofs.Fields.{nth_field-some, fields-inside, fields-end}
+use Rattle.values.proofs.FieldsFromAPlace.{nth_field-some, fields-inside, fields-end}
 use Rattle.values.proofs.TypesExtents.{fields-fit}
 use Rattle.crossing.specs.Steps.{AreSteps}
 use Rattle.crossing.specs.declared.records.Step.{Step}
-use Rattle.crossing.proofs.Stepping.{step-more, step-none}
+use Rattle.crossing.proofs.RecordMembersByStep.{step-more, step-none}
 use Rattle.crossing.proofs.walk.Walk.list_of.Goals as goal
 
 pub loop-index-init : goal.loop-index-init

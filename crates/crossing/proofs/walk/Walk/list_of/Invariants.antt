@@ -1,7 +1,7 @@
 use Rattle.std.proofs.Common.{◌≡◌, List, ◌++◌, length}
 use Rattle.canonical_abi.specs.Types.{record_fields}
 use Rattle.tables.specs.Closed.{closed_type}
-use Rattle.values.proofs.Fields.{fields_from, fields_end}
+use Rattle.values.proofs.FieldsFromAPlace.{fields_from, fields_end}
 use Rattle.crossing.specs.Steps.{AreSteps}
 use Rattle.crossing.specs.declared.records.Step.{Step}
 use Rattle.crossing.proofs.walk.Walk.list_of.Given as goal

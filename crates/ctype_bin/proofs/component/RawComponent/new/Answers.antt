@@ -4,7 +4,7 @@ use Rattle.ctype_bin.specs.Parts.{ComponentRefuses}
 use Rattle.ctype_format.specs.View.{parts_file}
 use Rattle.ctype_format.specs.Writing.{file_bytes}
 use Rattle.ctype_format.specs.Formed.{FormedFile}
-use Rattle.ctype_bin.proofs.Made.{only_memory}
+use Rattle.ctype_bin.proofs.WrittenComponentsAreReadBack.{only_memory}
 use Rattle.ctype_bin.proofs.component.RawComponent.new.Goals as goal
 
 pub of-requires : goal.of-requires

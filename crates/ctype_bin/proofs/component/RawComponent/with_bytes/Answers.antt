@@ -2,8 +2,8 @@ use Rattle.std.proofs.Common.{◌≡◌, []}
 use Rattle.ctype_format.specs.View.{parts_file}
 use Rattle.ctype_format.specs.Writing.{file_bytes}
 use Rattle.ctype_format.specs.Formed.{FormedFile}
-use Rattle.ctype_bin.proofs.Decoded.{written_bytes}
-use Rattle.ctype_bin.proofs.SpeltFile.{file_spelt}
+use Rattle.ctype_bin.proofs.DecodesByProductions.{written_bytes}
+use Rattle.ctype_bin.proofs.AcceptedIsSpelt.Files.{file_spelt}
 use Rattle.ctype_bin.proofs.component.RawComponent.with_bytes.Goals as goal
 
 pub of-requires : goal.of-requires

@@ -3,8 +3,8 @@ use Rattle.std.proofs.lemmas.Result.{err_from_is_err_and}
 use Rattle.std.proofs.lemmas.List.{map_push}
 use Rattle.ctype_format.specs.Grammar.{decl, type}
 use Rattle.ctype_format.specs.View.{decl_view, type_view}
-use Rattle.ctype_bin.proofs.Runs.{goes_on, ends, is_done}
-use Rattle.ctype_bin.proofs.ByOpcode.{type_stops, type_plain, type_nested, plain_ok, plain_stops}
+use Rattle.ctype_bin.proofs.ReadsExactly.ItemLoopsWithState.{goes_on, ends, is_done}
+use Rattle.ctype_bin.proofs.ReadsExactly.TypesByOpcode.{type_stops, type_plain, type_nested, plain_ok, plain_stops}
 use Rattle.ctype_bin.proofs.types.Nesting.+types.Goals as goal
 
 pub decls_of-returns-in_err-decl-clause-reads : goal.decls_of-returns-in_err-decl-clause-reads

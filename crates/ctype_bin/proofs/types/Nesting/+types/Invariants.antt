@@ -2,7 +2,7 @@ use Rattle.std.proofs.Common.{◌≡◌, ◌≤◌, ◌+◌, ◌-◌, ◌*◌, m
 use Rattle.atoms.specs.Production.{run}
 use Rattle.ctype_format.specs.Grammar.{decl, type, IsScopeWithin, new_scope}
 use Rattle.ctype_format.specs.View.{decl_view}
-use Rattle.ctype_bin.proofs.Runs.{with_front}
+use Rattle.ctype_bin.proofs.ReadsExactly.ItemLoopsWithState.{with_front}
 use Rattle.ctype_bin.proofs.types.Nesting.+types.Given as goal
 
 abbrev pub decreases-decl_of : goal.decreases-decl_of

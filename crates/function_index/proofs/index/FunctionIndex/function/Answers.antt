@@ -2,7 +2,7 @@ use Rattle.std.proofs.Common.{Option, IfSome, IfNone, sym, subst}
 use Rattle.tables.specs.Closed.{IsFunction}
 use Rattle.tables.specs.Names.{IsNamed}
 use Rattle.tables.specs.declared.tables.FunctionId.{FunctionId}
-use Rattle.function_index.proofs.Candidates.{found, function, none}
+use Rattle.function_index.proofs.RowsUnderFullNames.{found, function, none}
 use Rattle.function_index.proofs.index.FunctionIndex.function.Goals as goal
 
 pub returns-clause-found : goal.returns-clause-found

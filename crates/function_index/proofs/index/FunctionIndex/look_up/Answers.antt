@@ -3,7 +3,7 @@ use Rattle.std.specs.Map.{lookup}
 use Rattle.std.specs.Str.{bytes_eq}
 use Rattle.tables.specs.declared.tables.FunctionId.{FunctionId}
 use Rattle.function_index.specs.Index.{function_among}
-use Rattle.function_index.proofs.Putting.{looked-up}
+use Rattle.function_index.proofs.FunctionsPutUnderNames.{looked-up}
 use Rattle.function_index.proofs.index.FunctionIndex.look_up.Goals as goal
 
 pub returns-in_err-get : goal.returns-in_err-get

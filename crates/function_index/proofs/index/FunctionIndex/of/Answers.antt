@@ -5,9 +5,9 @@ use Rattle.tables.specs.declared.tables.Interface.{Interface}
 use Rattle.tables.specs.declared.tables.FunctionId.{FunctionId}
 use Rattle.tables.specs.PackageNames.{PackageParts}
 use Rattle.tables.specs.Names.{full_name, full_name_in}
-use Rattle.tables.proofs.Earlier.{grouped-at}
+use Rattle.tables.proofs.NamesEarlierTypes.{grouped-at}
 use Rattle.function_index.specs.Index.{Candidate, IsIndexOver, candidates, under}
-use Rattle.function_index.proofs.Candidates.{candidates-more}
+use Rattle.function_index.proofs.RowsUnderFullNames.{candidates-more}
 use Rattle.function_index.proofs.index.FunctionIndex.of.Goals as goal
 
 pub bounds-packages-interface : goal.bounds-packages-interface

@@ -7,7 +7,7 @@ use Rattle.indexmap.specs.IndexMap.{IndexMap, get, insert_entry}
 use Rattle.indexmap.proofs.CallerLemmas.{insert_entry-new}
 use Rattle.tables.specs.declared.tables.FunctionId.{FunctionId}
 use Rattle.function_index.specs.Index.{named}
-use Rattle.function_index.proofs.Putting.{on-ok, looked-up, lookup-end, changed, put-there, put-new}
+use Rattle.function_index.proofs.FunctionsPutUnderNames.{on-ok, looked-up, lookup-end, changed, put-there, put-new}
 use Rattle.function_index.proofs.index.FunctionIndex.put.Goals as goal
 
 -- a new key goes last

@@ -1,8 +1,8 @@
 use Rattle.std.proofs.Common.{ap}
 use Rattle.tables.specs.declared.tables.Function.{Function}
 use Rattle.std.specs.Option.{option_map}
-use Rattle.function_index.proofs.Putting.{on-ok}
-use Rattle.function_index.proofs.Candidates.{one-more, none-more, nameless}
+use Rattle.function_index.proofs.FunctionsPutUnderNames.{on-ok}
+use Rattle.function_index.proofs.RowsUnderFullNames.{one-more, none-more, nameless}
 use Rattle.function_index.proofs.index.FunctionIndex.put_row.Goals as goal
 
 pub returns : goal.returns

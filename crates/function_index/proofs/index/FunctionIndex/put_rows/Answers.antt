@@ -1,7 +1,7 @@
 use Rattle.std.proofs.Common.{◌++◌, List, take, sym, subst, append-nil, arith}
 use Rattle.std.proofs.lemmas.List.{get_or_default}
 use Rattle.function_index.specs.Index.{Candidate, IsIndexOver, under}
-use Rattle.function_index.proofs.Candidates.{under-more, all-under}
+use Rattle.function_index.proofs.RowsUnderFullNames.{under-more, all-under}
 use Rattle.function_index.proofs.index.FunctionIndex.put_rows.Goals as goal
 
 pub loop-row-init : goal.loop-row-init

@@ -1,7 +1,7 @@
 use Rattle.std.proofs.Common.{◌∙◌, ap, sym}
 use Rattle.std.specs.Map.{lookup}
 use Rattle.std.specs.Str.{bytes_eq}
-use Rattle.function_index.proofs.Putting.{looked-up}
+use Rattle.function_index.proofs.FunctionsPutUnderNames.{looked-up}
 use Rattle.function_index.proofs.names.NamedFunctions.get.Goals as goal
 
 pub returns : goal.returns

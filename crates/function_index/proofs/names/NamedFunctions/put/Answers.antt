@@ -6,7 +6,7 @@ use Rattle.std.proofs.lemmas.List.{map-append}
 use Rattle.indexmap.proofs.CallerLemmas.{insert_entry-new}
 use Rattle.tables.specs.declared.tables.FunctionId.{FunctionId}
 use Rattle.function_index.specs.Index.{named}
-use Rattle.function_index.proofs.Putting.{looked-up, lookup-end, kept, none-there}
+use Rattle.function_index.proofs.FunctionsPutUnderNames.{looked-up, lookup-end, kept, none-there}
 use Rattle.function_index.proofs.names.NamedFunctions.put.Goals as goal
 
 pub returns-in_ok-insert : goal.returns-in_ok-insert

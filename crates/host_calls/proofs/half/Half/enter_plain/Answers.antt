@@ -5,9 +5,9 @@ use Rattle.canonical_abi.specs.Halves.{HasEntered}
 use Rattle.memory.specs.Blocks.{can_lend}
 use Rattle.memory.specs.Lent.{lent, LentAllocates}
 use Rattle.tables.specs.Closed.{function_type}
-use Rattle.adapter.proofs.OwnValues.{plain-entered}
+use Rattle.adapter.proofs.PlainValuesCrossAsTheyAre.{plain-entered}
 use Rattle.host_calls.specs.Calling.{no_block}
-use Rattle.host_calls.proofs.Areas.{lent-limited}
+use Rattle.host_calls.proofs.ReturnAreaIsLive.{lent-limited}
 use Rattle.host_calls.proofs.half.Half.enter_plain.Goals as goal
 
 pub returns-clause-done : goal.returns-clause-done

@@ -1,12 +1,12 @@
 -- What is said of the flat values is said of the core values that they are.
 use Rattle.std.proofs.Common.{◌≡◌, ◌<◌, ℕ, true, length, refl, sym, ◌∙◌, subst, rules}
 use Rattle.canonical_abi.specs.Call.{KindsFit}
-use Rattle.adapter.proofs.OwnValues.{plain-kinds}
+use Rattle.adapter.proofs.PlainValuesCrossAsTheyAre.{plain-kinds}
 use Rattle.host_calls.specs.Halves.{EntryOfLentFails}
 use Rattle.memory.specs.Blocks.{can_lend}
 use Rattle.tables.specs.Closed.{function_type}
 use Rattle.host_calls.specs.Calling.{no_block, EnterRefuses}
-use Rattle.host_calls.proofs.Halves.{enter-refuses}
+use Rattle.host_calls.proofs.BrokenHalvesAreRefused.{enter-refuses}
 use Rattle.host_calls.proofs.half.Half.enter_values.Goals as goal
 
 pub returns-in-Err-clause-done : goal.returns-in-Err-clause-done

@@ -1,9 +1,9 @@
 -- The caller's bytes are those that the memory has which was lent.
 use Rattle.std.proofs.Common.{ap, ◌∙◌, subst, drop}
-use Rattle.memory.proofs.LentNames.{IsNamed}
+use Rattle.memory.proofs.LentNamesStay.{IsNamed}
 use Rattle.tables.specs.Closed.{function_type}
 use Rattle.host_calls.specs.Halves.{ReturnsLent, ReturnOfLentFails}
-use Rattle.host_calls.proofs.Names.{returned, not_returned, failed_return_keeps, named_lent, left_fit}
+use Rattle.host_calls.proofs.LentMemoriesKeepNames.{returned, not_returned, failed_return_keeps, named_lent, left_fit}
 use Rattle.host_calls.proofs.half.Half.leave_flats.Goals as goal
 
 pub half_error-requires : goal.half_error-requires

@@ -5,10 +5,10 @@ use Rattle.canonical_abi.specs.Halves.{HasReturned}
 use Rattle.memory.specs.Blocks.{can_lend}
 use Rattle.memory.specs.Lent.{lent, LentAllocates}
 use Rattle.tables.specs.Closed.{function_type}
-use Rattle.adapter.proofs.OwnValues.{plain-returned}
+use Rattle.adapter.proofs.PlainValuesCrossAsTheyAre.{plain-returned}
 use Rattle.host_calls.specs.Calling.{area_block}
 use Rattle.host_calls.specs.Values.{flat_of}
-use Rattle.host_calls.proofs.Areas.{keeps-area, lent-limited}
+use Rattle.host_calls.proofs.ReturnAreaIsLive.{keeps-area, lent-limited}
 use Rattle.host_calls.proofs.half.Half.leave_plain.Goals as goal
 
 pub returns-clause-done : goal.returns-clause-done

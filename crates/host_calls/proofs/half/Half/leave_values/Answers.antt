@@ -6,8 +6,8 @@ use Rattle.host_calls.specs.Values.{flat_of}
 use Rattle.memory.specs.Blocks.{can_lend}
 use Rattle.tables.specs.Closed.{function_type}
 use Rattle.host_calls.specs.Calling.{area_block, AnswerFits, AnswerCanReturn, LeaveRefuses}
-use Rattle.host_calls.proofs.Areas.{keeps-area}
-use Rattle.host_calls.proofs.Halves.{leave-refuses}
+use Rattle.host_calls.proofs.ReturnAreaIsLive.{keeps-area}
+use Rattle.host_calls.proofs.BrokenHalvesAreRefused.{leave-refuses}
 use Rattle.host_calls.proofs.half.Half.leave_values.Goals as goal
 
 pub returns-in-Ok-clause-done : goal.returns-in-Ok-clause-done

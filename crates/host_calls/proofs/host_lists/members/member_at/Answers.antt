@@ -4,7 +4,7 @@ use Rattle.std.specs.Option.{option_map}
 use Rattle.host_calls.specs.Contents.{types_of_members}
 use Rattle.host_calls.specs.Members.{member_info, member_in}
 use Rattle.host_calls.specs.declared.host_lists.members.MemberInfo.{MemberInfo}
-use Rattle.host_calls.proofs.host_lists.Inside.{there, member-inside}
+use Rattle.host_calls.proofs.host_lists.RowTypesAreInTheTable.{there, member-inside}
 use Rattle.host_calls.proofs.host_lists.members.member_at.Goals as goal
 
 pub type_info-requires : goal.type_info-requires

@@ -6,7 +6,7 @@ use Rattle.tables.specs.Tables.{option_below}
 use Rattle.host_calls.specs.Owners.{owner_kind, owner_number}
 use Rattle.host_calls.specs.Rows.{type_info, row_info}
 use Rattle.host_calls.specs.declared.host_lists.rows.RowInfo.{RowInfo}
-use Rattle.host_calls.proofs.host_lists.Inside.{there, target-inside}
+use Rattle.host_calls.proofs.host_lists.RowTypesAreInTheTable.{there, target-inside}
 use Rattle.host_calls.proofs.host_lists.rows.row_at.Goals as goal
 
 pub type_info-requires-2 : goal.type_info-requires-2

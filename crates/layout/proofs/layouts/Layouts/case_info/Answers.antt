@@ -1,5 +1,5 @@
-use Rattle.layout.proofs.Told.{IsEndOf, case-answer}
-use Rattle.layout.proofs.Followed.{own-case}
+use Rattle.layout.proofs.PartsTellClosedTypes.{IsEndOf, case-answer}
+use Rattle.layout.proofs.StandsForOne.{own-case}
 use Rattle.layout.proofs.layouts.Layouts.case_info.Goals as goal
 
 pub returns-clause-told : goal.returns-clause-told

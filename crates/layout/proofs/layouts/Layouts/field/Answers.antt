@@ -1,5 +1,5 @@
-use Rattle.layout.proofs.Told.{IsEndOf, field-answer}
-use Rattle.layout.proofs.Followed.{own-member}
+use Rattle.layout.proofs.PartsTellClosedTypes.{IsEndOf, field-answer}
+use Rattle.layout.proofs.StandsForOne.{own-member}
 use Rattle.layout.proofs.layouts.Layouts.field.Goals as goal
 
 pub returns-clause-told : goal.returns-clause-told

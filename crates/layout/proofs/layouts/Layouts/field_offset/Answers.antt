@@ -1,6 +1,6 @@
 use Rattle.std.proofs.Common.{None, length}
 use Rattle.tables.specs.Closed.{closed_type}
-use Rattle.layout.proofs.Told.{offset-told}
+use Rattle.layout.proofs.PartsTellClosedTypes.{offset-told}
 use Rattle.layout.proofs.layouts.Layouts.field_offset.Goals as goal
 
 pub returns-in-None : goal.returns-in-None

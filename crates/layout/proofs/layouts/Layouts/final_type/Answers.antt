@@ -1,7 +1,7 @@
 use Rattle.std.proofs.Common.{◌≡◌, ap}
 use Rattle.layout.specs.Layout.{LayoutTable}
 use Rattle.layout.specs.Parts.{final_type}
-use Rattle.layout.proofs.Told.{end-told}
+use Rattle.layout.proofs.PartsTellClosedTypes.{end-told}
 use Rattle.layout.proofs.layouts.Layouts.final_type.Goals as goal
 
 pub returns : goal.returns

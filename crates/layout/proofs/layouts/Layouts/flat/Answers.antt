@@ -1,7 +1,7 @@
 use Rattle.std.proofs.Common.{◌≡◌, ◌∙◌, take, arith, ap}
 use Rattle.std.proofs.lemmas.List.{take_all}
 use Rattle.layout.specs.Layout.{LayoutTable, layouts_of}
-use Rattle.layout.proofs.Signatures.{kinds-are}
+use Rattle.layout.proofs.CoreSignatures.{kinds-are}
 use Rattle.layout.proofs.layouts.Layouts.flat.Goals as goal
 
 pub returns : goal.returns

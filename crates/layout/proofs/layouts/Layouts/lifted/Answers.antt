@@ -1,6 +1,6 @@
 use Rattle.std.proofs.Common.{◌∙◌, ap}
 use Rattle.layout.specs.Layout.{LayoutTable}
-use Rattle.layout.proofs.Signatures.{are-kinds, lifted-is}
+use Rattle.layout.proofs.CoreSignatures.{are-kinds, lifted-is}
 use Rattle.layout.proofs.layouts.Layouts.lifted.Goals as goal
 
 pub returns : goal.returns

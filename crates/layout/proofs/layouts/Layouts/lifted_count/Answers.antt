@@ -1,7 +1,7 @@
 use Rattle.std.proofs.Common.{◌∙◌, ap, length, List}
 use Rattle.canonical_abi.specs.declared.flat.CoreKind.{CoreKind}
 use Rattle.layout.specs.Layout.{LayoutTable}
-use Rattle.layout.proofs.Signatures.{params-are}
+use Rattle.layout.proofs.CoreSignatures.{params-are}
 use Rattle.layout.proofs.layouts.Layouts.lifted_count.Goals as goal
 
 pub returns : goal.returns

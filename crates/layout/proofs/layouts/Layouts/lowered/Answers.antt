@@ -1,6 +1,6 @@
 use Rattle.std.proofs.Common.{◌∙◌, ap}
 use Rattle.layout.specs.Layout.{LayoutTable}
-use Rattle.layout.proofs.Signatures.{are-kinds, lowered-is}
+use Rattle.layout.proofs.CoreSignatures.{are-kinds, lowered-is}
 use Rattle.layout.proofs.layouts.Layouts.lowered.Goals as goal
 
 pub returns : goal.returns

@@ -4,9 +4,9 @@ use Rattle.canonical_abi.specs.Layout.{extent_of}
 use Rattle.tables.specs.Closed.{closed_types, closed_type}
 use Rattle.layout.specs.Layout.{result_of}
 use Rattle.layout.specs.Work.{saturated, total_work}
-use Rattle.layout.proofs.Steps.{work-split}
-use Rattle.layout.proofs.Agreement.{length-parts}
-use Rattle.layout.proofs.Table.{length-table}
+use Rattle.layout.proofs.StepsSumOverDefinitions.{work-split}
+use Rattle.layout.proofs.MeasuresAgree.{length-parts}
+use Rattle.layout.proofs.RowsSoFar.{length-table}
 use Rattle.layout.proofs.layouts.Layouts.of.Goals as goal
 
 pub invariant_of-result : goal.invariant_of-result

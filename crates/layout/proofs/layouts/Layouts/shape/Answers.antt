@@ -1,5 +1,5 @@
-use Rattle.layout.proofs.Told.{IsEndOf, shape-answer}
-use Rattle.layout.proofs.Followed.{own-shape}
+use Rattle.layout.proofs.PartsTellClosedTypes.{IsEndOf, shape-answer}
+use Rattle.layout.proofs.StandsForOne.{own-shape}
 use Rattle.layout.proofs.layouts.Layouts.shape.Goals as goal
 
 pub returns-clause-shape : goal.returns-clause-shape

@@ -1,7 +1,7 @@
 use Rattle.std.proofs.Common.{◌∙◌, ap, sym}
 use Rattle.canonical_abi.specs.Layout.{CoreSignature}
 use Rattle.layout.specs.Layout.{LayoutTable}
-use Rattle.layout.proofs.Signatures.{are-kinds, lowered-is}
+use Rattle.layout.proofs.CoreSignatures.{are-kinds, lowered-is}
 use Rattle.layout.proofs.layouts.Layouts.takes.Goals as goal
 
 pub returns : goal.returns

@@ -2,9 +2,9 @@ use Rattle.std.proofs.Common.{rules, arith, length, ◌<◌, ◌≤◌, sym, sub
 use Rattle.std.proofs.Math.Logic.{∥∥₁_elim}
 use Rattle.std.proofs.lemmas.Grind.{common_steps}
 use Rattle.package_sets.specs.Tower.{IsInTower}
-use Rattle.package_sets.proofs.SameTables.{same-tables}
+use Rattle.package_sets.proofs.SamePackagesAreOne.{same-tables}
 use Rattle.tables.specs.declared.tables.Resolve.{Resolve}
-use Rattle.opening.proofs.Behind.{same-laid-out}
+use Rattle.opening.proofs.OpensBehindPackages.{same-laid-out}
 use Rattle.opening.proofs.package.Package.copy.Goals as goal
 
 pub invariant_of-result-clause-tower : goal.invariant_of-result-clause-tower

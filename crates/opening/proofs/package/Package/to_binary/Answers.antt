@@ -3,10 +3,10 @@ use Rattle.std.proofs.Math.Logic.{∥∥₁_map}
 use Rattle.package_form.specs.Form.{IsInPackageForm}
 use Rattle.package_form.specs.Naming.{package_scopes}
 use Rattle.package_form.specs.Scope.{AreDistinct}
-use Rattle.package_text.proofs.Formed.{form-told}
+use Rattle.package_text.proofs.TableRows.FormOfSingleRows.{form-told}
 use Rattle.tables.specs.declared.tables.Resolve.{Resolve}
 use Rattle.opening.specs.Opening.{IsLast}
-use Rattle.opening.proofs.Binaries.{begins, written-as}
+use Rattle.opening.proofs.LastPackageAsBinary.{begins, written-as}
 use Rattle.opening.proofs.package.Package.to_binary.Goals as goal
 
 abbrev IsFormed : Resolve → Type 0

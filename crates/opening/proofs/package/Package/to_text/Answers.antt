@@ -8,7 +8,7 @@ use Rattle.package_text.specs.Text.{text_of}
 use Rattle.tables.specs.declared.tables.Resolve.{Resolve}
 use Rattle.wit_tokens.specs.Lexing as lexing
 use Rattle.opening.specs.Opening.{IsLast}
-use Rattle.opening.proofs.PrintedTexts.{printed-as}
+use Rattle.opening.proofs.LastPackageAsText.{printed-as}
 use Rattle.opening.proofs.package.Package.to_text.Goals as goal
 
 pub print-requires : goal.print-requires

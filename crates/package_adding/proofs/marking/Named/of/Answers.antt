@@ -1,6 +1,6 @@
 use Rattle.std.proofs.Common.{◌∙◌, ap, List, ℕ, map}
 use Rattle.package_names.specs.Asked.{is_asked_of}
-use Rattle.package_adding.proofs.Asking.{marks-told}
+use Rattle.package_adding.proofs.NamesAskedOfSets.{marks-told}
 use Rattle.package_adding.proofs.marking.Named.of.Goals as goal
 
 pub returns : goal.returns

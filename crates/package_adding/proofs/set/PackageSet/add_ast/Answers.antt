@@ -2,8 +2,8 @@
 use Rattle.std.proofs.Math.Logic.{∥∥₁_map, ∥∥₁_map₂}
 use Rattle.std.proofs.lemmas.Result.{err_from_is_err_and}
 use Rattle.wit_tokens.specs.View.{file_view}
-use Rattle.package_adding.proofs.Adding.{not-put}
-use Rattle.package_adding.proofs.Only.{want, refused-for-memory, makes-one, is-known}
+use Rattle.package_adding.proofs.ClosedTableOfFileIsAdded.{not-put}
+use Rattle.package_adding.proofs.OneSetOrOutOfMemory.{want, refused-for-memory, makes-one, is-known}
 use Rattle.package_adding.proofs.set.PackageSet.add_ast.Goals as goal
 
 pub returns-in_err-id-clause-err : goal.returns-in_err-id-clause-err

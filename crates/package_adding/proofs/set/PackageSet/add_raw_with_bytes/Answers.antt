@@ -1,7 +1,7 @@
 -- A component's package is put behind the set for what is right with it there, and makes one set.
 use Rattle.std.proofs.lemmas.Result.{err_from_is_err_and}
-use Rattle.package_adding.proofs.Only.{one-component, component-for-memory, component-refused, makes-one, is-known}
-use Rattle.package_adding.proofs.Refusals.{not-attached}
+use Rattle.package_adding.proofs.OneSetOrOutOfMemory.{one-component, component-for-memory, component-refused, makes-one, is-known}
+use Rattle.package_adding.proofs.NotAttachedIsNotAdded.{not-attached}
 use Rattle.package_adding.proofs.set.PackageSet.add_raw_with_bytes.Goals as goal
 
 pub returns-in_err-id-clause-err : goal.returns-in_err-id-clause-err

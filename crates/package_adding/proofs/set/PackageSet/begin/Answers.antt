@@ -1,6 +1,6 @@
 -- The set of the first package is in the tower, and the package has its table.
 use Rattle.package_sets.specs.One.{StandsAlone}
-use Rattle.package_adding.proofs.Again.{stays-in-tower, has-table, keeps-tables}
+use Rattle.package_adding.proofs.AddedTablesAreKept.{stays-in-tower, has-table, keeps-tables}
 use Rattle.package_adding.proofs.set.PackageSet.begin.Goals as goal
 
 pub invariant_of-self : goal.invariant_of-self

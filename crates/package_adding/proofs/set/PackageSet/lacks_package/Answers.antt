@@ -6,7 +6,7 @@ use Rattle.package_sets.specs.declared.error.AttachError.TheVariants.{SamePackag
 use Rattle.tree_meaning.specs.Finished.{header_name}
 use Rattle.tree_meaning.proofs.PathNames.{parts-are}
 use Rattle.tables.specs.PackageNames.{PackageParts}
-use Rattle.package_adding.proofs.Naming.{same-there}
+use Rattle.package_adding.proofs.TestsTellFileNames.{same-there}
 use Rattle.package_adding.proofs.set.PackageSet.lacks_package.Goals as goal
 
 pub returns-then-has_package-clause-err : goal.returns-then-has_package-clause-err

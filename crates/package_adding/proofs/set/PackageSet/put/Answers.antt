@@ -2,7 +2,7 @@
 use Rattle.std.proofs.Common.{subst}
 use Rattle.tables.specs.declared.tables.Resolve.{Resolve}
 use Rattle.package_sets.specs.Attached.{IsAttached}
-use Rattle.package_adding.proofs.Again.{stays-in-tower, has-table, keeps-tables}
+use Rattle.package_adding.proofs.AddedTablesAreKept.{stays-in-tower, has-table, keeps-tables}
 use Rattle.package_adding.proofs.set.PackageSet.put.Goals as goal
 
 pub invariant_of-self : goal.invariant_of-self

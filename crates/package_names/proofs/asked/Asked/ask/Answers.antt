@@ -1,7 +1,7 @@
 use Rattle.std.proofs.Common.{◌≡◌, ◌∙◌, ◌+◌, Some, ap, sym, subst, arith, slice_get}
 use Rattle.std.proofs.lemmas.Option.{slice_get-get_or, slice_get_within}
 use Rattle.package_names.specs.Indexed.{key_parts}
-use Rattle.package_names.proofs.Asking.{AreAskedFor, one-asked, none-more-asked}
+use Rattle.package_names.proofs.NamesAskedOfPackages.{AreAskedFor, one-asked, none-more-asked}
 use Rattle.package_names.proofs.asked.Asked.ask.Goals as goal
 use Rattle.package_names.proofs.asked.Asked.ask.Goals.{then-is_of+in_ok-push, else-is_of}
 

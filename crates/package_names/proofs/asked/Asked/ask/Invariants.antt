@@ -1,5 +1,5 @@
 use Rattle.package_names.specs.Indexed.{key_parts}
-use Rattle.package_names.proofs.Asking.{AreAskedFor}
+use Rattle.package_names.proofs.NamesAskedOfPackages.{AreAskedFor}
 use Rattle.package_names.proofs.asked.Asked.ask.Given as goal
 
 abbrev pub invariant-loop-place : goal.invariant-loop-place

@@ -1,8 +1,8 @@
 use Rattle.std.proofs.Common.{◌<◌, ◌∙◌, ◌+◌, List, length, take, get_or, ap, sym, subst, arith}
 use Rattle.tables.specs.declared.tables.Interface.{Interface}
 use Rattle.package_names.specs.Asked.{IsIndexOfAsked}
-use Rattle.package_names.proofs.Asking.{one-more-asked, none-more}
-use Rattle.package_names.proofs.Indexing.{within-packages}
+use Rattle.package_names.proofs.NamesAskedOfPackages.{one-more-asked, none-more}
+use Rattle.package_names.proofs.InterfacesIndexedByName.{within-packages}
 use Rattle.package_names.proofs.asked.AskedPlaces.of.Goals as goal
 use Rattle.package_names.proofs.asked.AskedPlaces.of.Goals.{then-has+in_ok-put_interface, else-has}
 

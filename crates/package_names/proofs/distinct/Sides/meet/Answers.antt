@@ -1,4 +1,4 @@
-use Rattle.package_names.proofs.WorldItems.{import-met, import-refused, export-met, export-refused}
+use Rattle.package_names.proofs.WorldItemNamesAreMet.{import-met, import-refused, export-met, export-refused}
 use Rattle.package_names.proofs.distinct.Sides.meet.Goals as goal
 
 pub returns-in-Import-clause-ok : goal.returns-in-Import-clause-ok

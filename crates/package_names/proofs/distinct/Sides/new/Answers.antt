@@ -1,4 +1,4 @@
-use Rattle.package_names.proofs.WorldItems.{sides-met-none}
+use Rattle.package_names.proofs.WorldItemNamesAreMet.{sides-met-none}
 use Rattle.package_names.proofs.distinct.Sides.new.Goals as goal
 
 pub returns : goal.returns

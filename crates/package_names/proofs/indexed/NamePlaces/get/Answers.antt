@@ -2,7 +2,7 @@ use Rattle.std.proofs.Common.{◌∙◌, List, ℕ, ap, sym}
 use Rattle.std.specs.Map.{lookup}
 use Rattle.std.specs.Str.{bytes_eq}
 use Rattle.std.specs.String.{string_bytes}
-use Rattle.package_names.proofs.Indexing.{looked-up}
+use Rattle.package_names.proofs.InterfacesIndexedByName.{looked-up}
 use Rattle.package_names.proofs.indexed.NamePlaces.get.Goals as goal
 
 pub returns : goal.returns

@@ -5,7 +5,7 @@ use Rattle.std.specs.String.{string_bytes}
 use Rattle.std.proofs.lemmas.List.{map-append}
 use Rattle.indexmap.proofs.CallerLemmas.{insert_entry-new}
 use Rattle.package_names.specs.Indexed.{place_entry}
-use Rattle.package_names.proofs.Indexing.{looked-up, lookup-end, kept, none-there}
+use Rattle.package_names.proofs.InterfacesIndexedByName.{looked-up, lookup-end, kept, none-there}
 use Rattle.package_names.proofs.indexed.NamePlaces.put.Goals as goal
 
 pub returns-in_ok-insert : goal.returns-in_ok-insert

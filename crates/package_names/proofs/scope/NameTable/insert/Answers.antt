@@ -1,5 +1,5 @@
 use Rattle.std.specs.String.{string_bytes}
-use Rattle.package_names.proofs.MetNames.{new-where, met-where}
+use Rattle.package_names.proofs.NamesMetBefore.{new-where, met-where}
 use Rattle.package_names.proofs.scope.NameTable.insert.Goals as goal
 
 pub returns-clause-new : goal.returns-clause-new

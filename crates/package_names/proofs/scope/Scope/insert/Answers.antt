@@ -1,7 +1,7 @@
 use Rattle.std.proofs.Common.{◌≡◌, List, ℕ, map, Contains, subst, Bor, Result, Ok, Err, IfOk}
 use Rattle.std.specs.String.{string_bytes}
 use Rattle.package_form.specs.Scope.{lowered, lowered_name}
-use Rattle.package_names.proofs.MetNames.{met-in-many, new-in-both}
+use Rattle.package_names.proofs.NamesMetBefore.{met-in-many, new-in-both}
 use Rattle.package_names.proofs.scope.Scope.insert.Goals as goal
 
 kept : {T E : Type 0} (r : Result T E) (P Q : T → Type 0) → ((x : T) → P x → Q x) → IfOk r P → IfOk r Q

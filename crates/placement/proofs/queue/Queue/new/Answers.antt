@@ -1,5 +1,5 @@
 use Rattle.std.proofs.Common.{◌≡◌, length, replicate, false, [], arith}
-use Rattle.placement.proofs.Settling.{none_pending, one_more_pending, all_pending}
+use Rattle.placement.proofs.NodesAreSettled.{none_pending, one_more_pending, all_pending}
 use Rattle.placement.proofs.queue.Queue.new.Goals as goal
 
 pub loop-node-init : goal.loop-node-init

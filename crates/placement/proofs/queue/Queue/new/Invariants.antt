@@ -1,4 +1,4 @@
-use Rattle.placement.proofs.Settling.{AllPending}
+use Rattle.placement.proofs.NodesAreSettled.{AllPending}
 use Rattle.placement.proofs.queue.Queue.new.Given as goal
 
 abbrev pub invariant-loop-node : goal.invariant-loop-node

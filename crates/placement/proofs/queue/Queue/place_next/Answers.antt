@@ -1,6 +1,6 @@
 use Rattle.std.proofs.Common.{◌≡◌, [], slice_index_or, refl, sym, ◌∙◌, arith}
 use Rattle.std.proofs.lemmas.List.{get_or_default}
-use Rattle.placement.proofs.Settling.{least_is_next, placed_first}
+use Rattle.placement.proofs.NodesAreSettled.{least_is_next, placed_first}
 use Rattle.placement.proofs.queue.Queue.place_next.Goals as goal
 
 pub index_mut-requires : goal.index_mut-requires

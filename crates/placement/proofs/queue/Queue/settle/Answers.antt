@@ -1,6 +1,6 @@
 use Rattle.std.proofs.Common.{◌≡◌, ◌<◌, ◌∷◌, [], length, slice_index_or, sym, ◌∙◌, arith}
 use Rattle.std.proofs.lemmas.List.{get_or_default}
-use Rattle.placement.proofs.Settling.{pending_in_range, use_in_range, settled_ready, settled_waiting}
+use Rattle.placement.proofs.NodesAreSettled.{pending_in_range, use_in_range, settled_ready, settled_waiting}
 use Rattle.placement.proofs.queue.Queue.settle.Goals as goal
 
 pub offset_bounds-uses-node : goal.offset_bounds-uses-node

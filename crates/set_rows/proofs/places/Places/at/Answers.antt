@@ -1,7 +1,7 @@
 use Rattle.std.proofs.Common.{◌≡◌, ◌≤◌, ap, ◌∙◌, length, arith, min}
 use Rattle.std.proofs.lemmas.List.{get_or_default}
 use Rattle.set_rows.specs.Places.{place}
-use Rattle.set_rows.proofs.Placing.{place-le, place-min}
+use Rattle.set_rows.proofs.PlacesOfMarked.{place-le, place-min}
 use Rattle.set_rows.proofs.places.Places.at.Goals as goal
 
 told : (c : goal.After-row_known-1) → c.index.result.now ≡ place c.args.self.now c.args.old

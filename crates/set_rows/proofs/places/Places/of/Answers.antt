@@ -1,6 +1,6 @@
 use Rattle.std.proofs.Common.{false, ap, ◌++◌, ◌∷◌, [], inl, inr, ◌∙◌, arith}
 use Rattle.std.proofs.lemmas.List.{get_or_default}
-use Rattle.set_rows.proofs.Placing.{placed-none, placed-more, place-le}
+use Rattle.set_rows.proofs.PlacesOfMarked.{placed-none, placed-more, place-le}
 use Rattle.set_rows.proofs.places.Places.of.Goals as goal
 use Rattle.set_rows.proofs.places.Places.of.Goals.{then-mark, else-mark}
 

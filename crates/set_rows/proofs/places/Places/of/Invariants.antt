@@ -1,4 +1,4 @@
-use Rattle.set_rows.proofs.Placing.{ArePlaced}
+use Rattle.set_rows.proofs.PlacesOfMarked.{ArePlaced}
 use Rattle.set_rows.proofs.places.Places.of.Given as goal
 
 abbrev pub invariant-loop-mark : goal.invariant-loop-mark

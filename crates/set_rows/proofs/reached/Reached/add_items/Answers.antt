@@ -1,6 +1,6 @@
 use Rattle.std.proofs.Common.{refl, arith}
 use Rattle.set_rows.specs.Reaches.{owners_in}
-use Rattle.set_rows.proofs.Marking.{adds-more}
+use Rattle.set_rows.proofs.MarksOfReached.{adds-more}
 use Rattle.set_rows.proofs.reached.Reached.add_items.Goals as goal
 
 pub loop-item-preserved : goal.loop-item-preserved

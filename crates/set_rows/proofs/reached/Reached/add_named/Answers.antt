@@ -5,7 +5,7 @@ use Rattle.tables.specs.declared.tables.TypeId.{TypeId}
 use Rattle.set_rows.specs.Owners.{names}
 use Rattle.set_rows.specs.Reaches.{owner_at}
 use Rattle.set_rows.specs.Marking.{AddsMarks}
-use Rattle.set_rows.proofs.Marking.{marked-none, adds-named, tells-more}
+use Rattle.set_rows.proofs.MarksOfReached.{marked-none, adds-named, tells-more}
 use Rattle.set_rows.proofs.reached.Reached.add_named.Goals as goal
 use Rattle.set_rows.proofs.reached.Reached.add_named.Goals.{then-add, else-add}
 

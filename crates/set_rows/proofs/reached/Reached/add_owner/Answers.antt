@@ -1,5 +1,5 @@
 use Rattle.std.proofs.Common.{ap, sym, List, Bool}
-use Rattle.set_rows.proofs.Marking.{adds-interface, adds-world, tells-interface, tells-world}
+use Rattle.set_rows.proofs.MarksOfReached.{adds-interface, adds-world, tells-interface, tells-world}
 use Rattle.set_rows.proofs.reached.Reached.add_owner.Goals as goal
 
 pub returns-in-Interface-clause-adds : goal.returns-in-Interface-clause-adds

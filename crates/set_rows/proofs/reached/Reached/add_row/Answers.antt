@@ -1,5 +1,5 @@
 use Rattle.std.proofs.Common.{sym, ◌∙◌}
-use Rattle.set_rows.proofs.Marking.{adds-row, adds-over}
+use Rattle.set_rows.proofs.MarksOfReached.{adds-row, adds-over}
 use Rattle.set_rows.proofs.reached.Reached.add_row.Goals as goal
 
 pub returns : goal.returns

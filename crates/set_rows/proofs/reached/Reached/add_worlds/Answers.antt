@@ -1,6 +1,6 @@
 use Rattle.std.proofs.Common.{arith}
 use Rattle.set_rows.specs.Reaches.{world_owners}
-use Rattle.set_rows.proofs.Marking.{adds-more, adds-own, adds-other}
+use Rattle.set_rows.proofs.MarksOfReached.{adds-more, adds-own, adds-other}
 use Rattle.set_rows.proofs.reached.Reached.add_worlds.Goals as goal
 use Rattle.set_rows.proofs.reached.Reached.add_worlds.Goals.{then-world-id, else-world-id}
 

@@ -1,5 +1,5 @@
 use Rattle.set_rows.specs.Reaches.{OfInterfaces}
-use Rattle.set_rows.proofs.Marking.{interfaces-begun, are-reached}
+use Rattle.set_rows.proofs.MarksOfReached.{interfaces-begun, are-reached}
 use Rattle.set_rows.proofs.reached.Reached.from_marks.Goals as goal
 
 pub returns : goal.returns

@@ -1,5 +1,5 @@
 use Rattle.set_rows.specs.Marking.{unmarked}
-use Rattle.set_rows.proofs.Marking.{IsGrowing}
+use Rattle.set_rows.proofs.MarksOfReached.{IsGrowing}
 use Rattle.set_rows.proofs.reached.Reached.grown.Given as goal
 
 abbrev pub invariant-loop-reached : goal.invariant-loop-reached

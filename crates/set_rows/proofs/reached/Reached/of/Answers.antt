@@ -3,7 +3,7 @@ use Rattle.std.specs.Prelude.{flat_map}
 use Rattle.tables.specs.declared.tables.World.{World}
 use Rattle.set_rows.specs.Reaches.{world_owners, OfPackage}
 use Rattle.set_rows.specs.Marking.{AddsMarks}
-use Rattle.set_rows.proofs.Marking.{package-begun, are-reached}
+use Rattle.set_rows.proofs.MarksOfReached.{package-begun, are-reached}
 use Rattle.set_rows.proofs.reached.Reached.of.Goals as goal
 
 pub returns : goal.returns

@@ -1,7 +1,7 @@
 use Rattle.std.proofs.Common.{◌-◌, inl, inr, refl, ap, ◌∙◌, length, get_or, arith, List}
 use Rattle.tables.specs.declared.tables.Definition.{Definition}
-use Rattle.set_rows.proofs.Marking.{passes-more, passes-none, passes-all}
-use Rattle.set_rows.proofs.Owned.{length-owners}
+use Rattle.set_rows.proofs.MarksOfReached.{passes-more, passes-none, passes-all}
+use Rattle.set_rows.proofs.OwnersOfRows.{length-owners}
 use Rattle.set_rows.proofs.reached.Reached.pass.Goals as goal
 use Rattle.set_rows.proofs.reached.Reached.pass.Goals.{then-branch, else-branch}
 

@@ -1,5 +1,5 @@
 use Rattle.std.proofs.Common.{length, ◌-◌}
-use Rattle.set_rows.proofs.Marking.{PassesFrom}
+use Rattle.set_rows.proofs.MarksOfReached.{PassesFrom}
 use Rattle.set_rows.proofs.reached.Reached.pass.Given as goal
 
 abbrev pub invariant-loop-behind : goal.invariant-loop-behind

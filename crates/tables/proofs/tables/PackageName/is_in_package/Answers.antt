@@ -1,4 +1,4 @@
-use Rattle.tables.proofs.Names.{tells-behind}
+use Rattle.tables.proofs.TextsComparedByParts.{tells-behind}
 use Rattle.tables.proofs.tables.PackageName.is_in_package.Goals as goal
 
 pub returns-in-Some : goal.returns-in-Some

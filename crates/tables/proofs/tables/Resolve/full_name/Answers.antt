@@ -1,6 +1,6 @@
 use Rattle.std.proofs.Common.{◌≡◌, List, ℕ, [], length, get_or, IfOk, ap, sym, subst, ◌∙◌}
 use Rattle.std.proofs.lemmas.List.{get_or-map}
-use Rattle.tables.proofs.Earlier.{grouped-at}
+use Rattle.tables.proofs.NamesEarlierTypes.{grouped-at}
 use Rattle.tables.specs.PackageNames.{own_name}
 use Rattle.tables.specs.Names.{full_name, full_name_in}
 use Rattle.tables.specs.Package.{interface_names}

@@ -1,5 +1,5 @@
 use Rattle.std.proofs.Common.{List, length, get_or, ap, sym, ◌∙◌, arith}
-use Rattle.tables.proofs.Earlier.{grouped-at}
+use Rattle.tables.proofs.NamesEarlierTypes.{grouped-at}
 use Rattle.tables.specs.declared.tables.Interface.{Interface}
 use Rattle.tables.proofs.tables.Resolve.function.Goals as goal
 

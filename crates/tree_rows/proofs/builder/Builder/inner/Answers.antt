@@ -1,4 +1,4 @@
-use Rattle.tree_rows.proofs.MoreRows.{inner-lowers, is-inner}
+use Rattle.tree_rows.proofs.OneRowMore.{inner-lowers, is-inner}
 use Rattle.tree_rows.proofs.builder.Builder.inner.Goals as goal
 
 pub returns-in_ok-id-in_default : goal.returns-in_ok-id-in_default

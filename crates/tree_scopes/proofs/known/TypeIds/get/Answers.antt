@@ -3,7 +3,7 @@ use Rattle.std.specs.Map.{lookup}
 use Rattle.std.specs.Str.{bytes_eq}
 use Rattle.std.specs.String.{string_bytes}
 use Rattle.package_form.specs.Scoped.{NameEntry}
-use Rattle.tree_scopes.proofs.Places.{entry-found, entry-missed}
+use Rattle.tree_scopes.proofs.PlacesOfNamesByMap.{entry-found, entry-missed}
 use Rattle.tree_scopes.proofs.known.TypeIds.get.Goals as goal
 
 pub unreachable-requires : goal.unreachable-requires

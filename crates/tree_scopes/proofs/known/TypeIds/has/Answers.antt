@@ -3,8 +3,8 @@ use Rattle.std.specs.Map.{lookup}
 use Rattle.std.specs.Str.{bytes_eq}
 use Rattle.std.specs.String.{string_bytes}
 use Rattle.package_form.specs.Scoped.{NameEntry}
-use Rattle.package_form.proofs.Lists.{contains-map}
-use Rattle.tree_scopes.proofs.Places.{entry-found, entry-missed}
+use Rattle.package_form.proofs.AllAndContains.{contains-map}
+use Rattle.tree_scopes.proofs.PlacesOfNamesByMap.{entry-found, entry-missed}
 use Rattle.tree_scopes.proofs.known.TypeIds.has.Goals as goal
 
 pub returns-in-Some : goal.returns-in-Some

@@ -7,16 +7,16 @@ use Rattle.canonical_abi.specs.Values.{payload_value}
 use Rattle.serde_json.specs.Data.{array}
 use Rattle.serde_json.specs.View.{view, items_of, members_view}
 use Rattle.values.specs.Val.{value_of}
-use Rattle.values.proofs.Views.{value_of-List, value_of-Some}
+use Rattle.values.proofs.ValueOfEachVariant.{value_of-List, value_of-Some}
 use Rattle.tables.specs.Labelled.{labelled_type, labelled_types, labelled_val, labelled_payload, labelled_members, labelled_fields}
 use Rattle.value_json.specs.Json.{Json, HasNone, EachJson, MembersJson, PayloadJson, HasFields}
-use Rattle.value_json.proofs.Runs.{Continues, ItemStands, MemberStands, starts, more, ends, refuted, more-at, refuted-at, each-of, of-each, members-of, of-members}
-use Rattle.value_json.proofs.Objects.{array-is, object-is, only_items, same-members}
-use Rattle.value_json.proofs.Fields.{FieldStands, fields-of, of-fields, sorted-view}
+use Rattle.value_json.proofs.ValuesMadeOneByOne.{Continues, ItemStands, MemberStands, starts, more, ends, refuted, more-at, refuted-at, each-of, of-each, members-of, of-members}
+use Rattle.value_json.proofs.JsonAsData.{array-is, object-is, only_items, same-members}
+use Rattle.value_json.proofs.MembersBesideFields.{FieldStands, fields-of, of-fields, sorted-view}
 use Rattle.serde_json.specs.Events.{members_len}
 use Rattle.serde_json.specs.Find.{get, get_member}
 use Rattle.serde_json.proofs.Views.{members_len-members_view}
-use Rattle.value_json.proofs.Cases.{found}
+use Rattle.value_json.proofs.CasesTriedOneByOne.{found}
 use Rattle.value_json.proofs.reading.Reader.+reading.Goals as goal
 
 either-none : {A B : Type 0} → (A → ⊥) → (B → ⊥) → A ⊎ B → ⊥

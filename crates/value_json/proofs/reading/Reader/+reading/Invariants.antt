@@ -3,11 +3,11 @@ use Rattle.serde_json.specs.View.{view}
 use Rattle.values.specs.Val.{value_of}
 use Rattle.tables.specs.Labelled.{labelled_type, labelled_types}
 use Rattle.value_json.specs.Json.{Json}
-use Rattle.value_json.proofs.Runs.{Continues, ItemStands, MemberStands}
-use Rattle.value_json.proofs.Fields.{FieldStands}
+use Rattle.value_json.proofs.ValuesMadeOneByOne.{Continues, ItemStands, MemberStands}
+use Rattle.value_json.proofs.MembersBesideFields.{FieldStands}
 use Rattle.serde_json.specs.Data.{Members, object}
-use Rattle.value_json.proofs.Cases.{LeavesRest}
-use Rattle.value_json.proofs.Ranks.{rank}
+use Rattle.value_json.proofs.CasesTriedOneByOne.{LeavesRest}
+use Rattle.value_json.proofs.RanksOfTypes.{rank}
 use Rattle.value_json.proofs.reading.Reader.+reading.Given as goal
 
 abbrev pub decreases-read_case : goal.decreases-read_case

@@ -11,20 +11,20 @@ use Rattle.values.specs.Val.{value_of}
 use Rattle.values.specs.declared.val.Val.{Val}
 use Rattle.tables.specs.declared.tables.ValType.{ValType}
 use Rattle.tables.specs.declared.tables.Field.{Field}
-use Rattle.values.proofs.Views.{value_of-List, value_of-Record}
-use Rattle.values.proofs.Typings.{typed-list, typed-record}
+use Rattle.values.proofs.ValueOfEachVariant.{value_of-List, value_of-Record}
+use Rattle.values.proofs.ValuesOfTypesByShape.{typed-list, typed-record}
 use Rattle.tables.specs.Labelled.{labelled_type, labelled_types, labelled_val, labelled_kind, labelled_payload, labelled_members, labelled_fields, labelled_cases}
 use Rattle.value_json.specs.Json.{Json, EachJson, MembersJson, FieldsJson, PayloadJson, CasesJson}
 use Rattle.value_json.specs.Writing.{HasPayload}
 use Rattle.tables.specs.Tables.{is_below, is_type, option_all}
 use Rattle.tables.specs.declared.tables.Case.{Case}
-use Rattle.value_json.proofs.Ranks.{rank-below}
-use Rattle.value_json.proofs.Rows.{all-at as every}
+use Rattle.value_json.proofs.RanksOfTypes.{rank-below}
+use Rattle.value_json.proofs.LabelledTypesRowByRow.{all-at as every}
 use Rattle.tables.specs.declared.tables.ValType.TheVariants as val
 use Rattle.tables.specs.declared.tables.Primitive.TheVariants as primitive
-use Rattle.value_json.proofs.Runs.{get-same}
-use Rattle.value_json.proofs.Cases.{found}
-use Rattle.value_json.proofs.Writes.{item-typed, items-next, member-count, member-at, members-next, field-count, field-at, fields-next, case-found, case-known, same-case, one-case, result-case, result-second, ok-map}
+use Rattle.value_json.proofs.ValuesMadeOneByOne.{get-same}
+use Rattle.value_json.proofs.CasesTriedOneByOne.{found}
+use Rattle.value_json.proofs.WrittenStandsForValue.{item-typed, items-next, member-count, member-at, members-next, field-count, field-at, fields-next, case-found, case-known, same-case, one-case, result-case, result-second, ok-map}
 use Rattle.value_json.proofs.writing.Writer.+writing.Goals as goal
 
 -- ---- records

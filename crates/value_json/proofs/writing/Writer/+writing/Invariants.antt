@@ -3,7 +3,7 @@ use Rattle.serde_json.specs.View.{view, members_view}
 use Rattle.values.specs.Val.{value_of}
 use Rattle.value_json.specs.Json.{Json, EachJson, MembersJson, FieldsJson}
 use Rattle.tables.specs.Labelled.{labelled_type, labelled_types, labelled_members, labelled_fields}
-use Rattle.value_json.proofs.Ranks.{rank}
+use Rattle.value_json.proofs.RanksOfTypes.{rank}
 use Rattle.value_json.proofs.writing.Writer.+writing.Given as goal
 
 abbrev pub decreases-write_case : goal.decreases-write_case

@@ -1,4 +1,4 @@
-use Rattle.values.proofs.Fields.{have-rows}
+use Rattle.values.proofs.FieldsFromAPlace.{have-rows}
 use Rattle.values.proofs.types.Types.count_within.Goals as goal
 
 pub flat_count-requires : goal.flat_count-requires

@@ -3,14 +3,14 @@ use Rattle.std.specs.Int.{next_multiple_of}
 use Rattle.canonical_abi.specs.Guest.{IsAlignment}
 use Rattle.canonical_abi.specs.Types.{record_type, field_count}
 use Rattle.canonical_abi.specs.Layout.{size, align, field_extents}
-use Rattle.canonical_abi.proofs.Sizes.{is-alignment}
+use Rattle.canonical_abi.proofs.Layouts.AlignmentsAndSizes.{is-alignment}
 use Rattle.tables.specs.Closed.{closed_type}
 use Rattle.tables.specs.declared.tables.Primitive.TheVariants as primitive
 use Rattle.tables.specs.declared.tables.Resolve.{Resolve}
 use Rattle.tables.specs.declared.tables.ValType.{ValType}
 use Rattle.tables.specs.declared.tables.ValType.TheVariants as val
 use Rattle.values.specs.Members.{fields_of_types}
-use Rattle.values.proofs.Fields.{nth-type, count-types, align-next, end-last, align-last, fields_from, fields_end, fields-inside, fields-end}
+use Rattle.values.proofs.FieldsFromAPlace.{nth-type, count-types, align-next, end-last, align-last, fields_from, fields_end, fields-inside, fields-end}
 use Rattle.values.proofs.TypesExtents.{fields-fit}
 use Rattle.values.proofs.types.Types.extent_within.Goals as goal
 

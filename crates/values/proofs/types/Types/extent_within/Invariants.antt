@@ -1,7 +1,7 @@
 use Rattle.std.proofs.Common.{◌≡◌, ◌≤◌, max, fold}
 use Rattle.canonical_abi.specs.Layout.{field_extents, greatest_align}
 use Rattle.values.specs.Members.{fields_of_types}
-use Rattle.values.proofs.Fields.{fields_from, fields_end}
+use Rattle.values.proofs.FieldsFromAPlace.{fields_from, fields_end}
 use Rattle.values.proofs.types.Types.extent_within.Given as goal
 
 abbrev pub invariant-loop-index : goal.invariant-loop-index

@@ -1,6 +1,6 @@
 use Rattle.std.proofs.Common.{◌≡◌, List, ℕ, sym, ap, ◌∙◌}
 use Rattle.wit_component.specs.Rows.{Place, defined_of}
-use Rattle.wit_component.proofs.Pushing.{definition-pushed}
+use Rattle.wit_component.proofs.AppendedDeclarations.{definition-pushed}
 use Rattle.wit_component.proofs.rows.RowPlace.push_definition.Goals as goal
 
 pub returns-in_ok-push-2 : goal.returns-in_ok-push-2

@@ -1,7 +1,7 @@
 use Rattle.std.proofs.Common.{◌≡◌, ◌++◌, ◌+◌, map, take, append_assoc, sym, ap, ◌∙◌, arith}
 use Rattle.ctype_format.specs.View.{decl_view}
 use Rattle.wit_component.specs.Rows.{Place, row_declarations, place_after, declarations_of}
-use Rattle.wit_component.proofs.Declared.{places-more, declarations-more, labels-more}
+use Rattle.wit_component.proofs.DeclarationsRowByRow.{places-more, declarations-more, labels-more}
 use Rattle.wit_component.proofs.rows.RowPlace.push_rows.Goals as goal
 
 pub loop-row-preserved : goal.loop-row-preserved

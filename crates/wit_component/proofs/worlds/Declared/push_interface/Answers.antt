@@ -1,5 +1,5 @@
 use Rattle.std.proofs.Common.{List, length, get_or, ap, sym, ◌∙◌}
-use Rattle.tables.proofs.Earlier.{grouped-at}
+use Rattle.tables.proofs.NamesEarlierTypes.{grouped-at}
 use Rattle.tables.specs.declared.tables.Interface.{Interface}
 use Rattle.wit_component.proofs.worlds.Declared.push_interface.Goals as goal
 

@@ -1,4 +1,4 @@
-use Rattle.wit_hints.proofs.source_lines.Parts.{front_part, whole_front}
+use Rattle.wit_hints.proofs.source_lines.BeforeAndAfterLineEnds.{front_part, whole_front}
 use Rattle.wit_hints.proofs.source_lines.place.first_line.Goals as goal
 
 pub returns-in-Some : goal.returns-in-Some

@@ -1,4 +1,4 @@
-use Rattle.wit_hints.proofs.source_lines.Parts.{back_part, whole_back}
+use Rattle.wit_hints.proofs.source_lines.BeforeAndAfterLineEnds.{back_part, whole_back}
 use Rattle.wit_hints.proofs.source_lines.place.last_line.Goals as goal
 
 pub returns-in-Some : goal.returns-in-Some

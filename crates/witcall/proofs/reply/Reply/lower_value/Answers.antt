@@ -6,8 +6,8 @@ use Rattle.layout.specs.Layout.{AreWithin}
 use Rattle.values.specs.Members.{fields_of_types}
 use Rattle.tables.specs.Closed.{function_type}
 use Rattle.tables.specs.Standard.{IsTypeOf}
-use Rattle.witcall.proofs.Replied.{lent, no-room, result-small}
-use Rattle.adapter.proofs.Within.{type-small}
+use Rattle.witcall.proofs.AnswersOfTheBody.{lent, no-room, result-small}
+use Rattle.adapter.proofs.PackageTypesWithinLimits.{type-small}
 use Rattle.witcall.proofs.reply.Reply.lower_value.Goals as goal
 
 pub lower_answer-requires-clause-small : goal.lower_answer-requires-clause-small

@@ -9,9 +9,9 @@ use Rattle.values.specs.Members.{fields_of_types}
 use Rattle.values.specs.Val.{value_of}
 use Rattle.witcall.specs.Json.{IsArrayTextOf}
 use Rattle.witcall.specs.Signature.{function_signature}
-use Rattle.witcall.proofs.Functions.{own_params, same_function, same_is_function}
-use Rattle.witcall.proofs.Replied.{lent}
-use Rattle.witcall.proofs.Results.{popped, at_most_one}
+use Rattle.witcall.proofs.FunctionTypesAsFields.{own_params, same_function, same_is_function}
+use Rattle.witcall.proofs.AnswersOfTheBody.{lent}
+use Rattle.witcall.proofs.ScalarResults.{popped, at_most_one}
 use Rattle.witcall.proofs.reply.Reply.of.Goals as goal
 
 pub invariant_of-result : goal.invariant_of-result

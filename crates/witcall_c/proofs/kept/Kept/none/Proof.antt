@@ -11,7 +11,7 @@ use denote.Steps.{nothing}
 use denote.Triple.Entry.{on_entry}
 use denote.Triple.Walked.{walk_of, says, ends_at}
 use Rattle.std.proofs.raw_atomic.Walks.{proved}
-use Rattle.witcall_c.proofs.Handles.{handle_value, handle_in}
+use Rattle.witcall_c.proofs.HandlesAsMachineValues.{handle_value, handle_in}
 use Rattle.witcall_c.specs.contracts.kept.Kept.none as f
 use Rattle.witcall_c.proofs.kept.Kept.none.Statement.{statement}
 use Rattle.witcall_c.proofs.kept.Kept.none.Code as code

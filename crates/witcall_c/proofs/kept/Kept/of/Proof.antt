@@ -38,7 +38,7 @@ use Rattle.std_alloc.specs.contracts.boxed.Box as box
 use Rattle.std_alloc.proofs.boxed.Box.TheLaws as box_laws
 use Rattle.std_alloc.specs.contracts.boxed.Box.into_raw as g
 use Rattle.std_alloc.proofs.boxed.Box.into_raw.Met.{met}
-use Rattle.witcall_c.proofs.Handles.{handle_value, handle_in, Item, item_laws, item_drop, item_glue, Heap, heap_laws, no_drop, no_glue}
+use Rattle.witcall_c.proofs.HandlesAsMachineValues.{handle_value, handle_in, Item, item_laws, item_drop, item_glue, Heap, heap_laws, no_drop, no_glue}
 use Rattle.witcall_c.specs.contracts.held.Held as held
 use Rattle.witcall_c.proofs.held.Held.TheLaws as held_laws
 use Rattle.witcall_c.specs.contracts.kept.Kept.of as f

@@ -10,13 +10,13 @@ use Rattle.canonical_abi.specs.Requests.{request, requests, each_request, fields
 use Rattle.tables.specs.Closed.{closed_type}
 use Rattle.values.specs.Members.{members_fields}
 use Rattle.values.proofs.TypesExtents.{member-depth, case-depth, payload-place, payload-fits}
-use Rattle.lift_lower.proofs.Loadings.{listed, list-opened}
-use Rattle.lift_lower.proofs.Texts.{block-stands}
-use Rattle.lift_lower.proofs.Steps.{with_front, each-more, each-done, fields-more, fields-done, case-none, case-plain, case-payload}
-use Rattle.values.proofs.Fields.{fields-end, fields-inside, nth_field-some}
+use Rattle.lift_lower.proofs.ListsAreLoaded.{listed, list-opened}
+use Rattle.lift_lower.proofs.TextsAndBlocksStand.{block-stands}
+use Rattle.lift_lower.proofs.ReadingStepByStep.{with_front, each-more, each-done, fields-more, fields-done, case-none, case-plain, case-payload}
+use Rattle.values.proofs.FieldsFromAPlace.{fields-end, fields-inside, nth_field-some}
 use Rattle.adapter.specs.Asking.{IsFew, fields_size}
-use Rattle.adapter.proofs.asking.Few.{few-none, few-both, few-more, few-block, list-few, record-few, variant-few, member-standard, case-standard, sizes-next}
-use Rattle.adapter.proofs.asking.Told.{told-none, told-both, told-as, each-asks, fields-ask, fields-ask-none, plain-asks, payload-asks, asks-made, list-told, record-told, front-none, each-start, nothing-asked, fields-stop, list-stops, each-stops, block-stops}
+use Rattle.adapter.proofs.asking.VisitedNodesAreFew.{few-none, few-both, few-more, few-block, list-few, record-few, variant-few, member-standard, case-standard, sizes-next}
+use Rattle.adapter.proofs.asking.RequestsOfParts.{told-none, told-both, told-as, each-asks, fields-ask, fields-ask-none, plain-asks, payload-asks, asks-made, list-told, record-told, front-none, each-start, nothing-asked, fields-stop, list-stops, each-stops, block-stops}
 use Rattle.adapter.proofs.asking.walk.Walk.+ask.Goals as goal
 
 pub ask_at-returns-in-Record-clause-asks : goal.ask_at-returns-in-Record-clause-asks

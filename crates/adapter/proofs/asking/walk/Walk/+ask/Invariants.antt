@@ -5,8 +5,8 @@ use Rattle.canonical_abi.specs.Reading.{reading, each_at, reading_fields}
 use Rattle.canonical_abi.specs.Requests.{requests, each_request, fields_requests}
 use Rattle.tables.specs.Closed.{closed_type}
 use Rattle.values.specs.Members.{members_fields}
-use Rattle.lift_lower.proofs.Steps.{with_front}
-use Rattle.values.proofs.Fields.{fields_from, fields_end}
+use Rattle.lift_lower.proofs.ReadingStepByStep.{with_front}
+use Rattle.values.proofs.FieldsFromAPlace.{fields_from, fields_end}
 use Rattle.adapter.specs.Asking.{IsTold, IsFew, fields_size}
 use Rattle.adapter.proofs.asking.walk.Walk.+ask.Given as goal
 

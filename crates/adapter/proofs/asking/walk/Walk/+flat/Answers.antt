@@ -8,10 +8,10 @@ use Rattle.canonical_abi.specs.Requests.{requests, fields_requests, case_request
 use Rattle.tables.specs.Closed.{closed_type}
 use Rattle.values.specs.Members.{members_fields}
 use Rattle.values.proofs.TypesExtents.{member-depth, case-depth}
-use Rattle.lift_lower.proofs.FlatSteps.{lifting-more, lifting-done, kinds-next, lifts-none, lifts-plain, lifts-payload, payload-kinds, rest-numbers, rest-length}
-use Rattle.values.proofs.Fields.{nth_field-some}
-use Rattle.adapter.proofs.asking.Few.{few-none, few-both, few-more, list-flat-few, record-flat-few, variant-flat-few, member-standard, case-standard}
-use Rattle.adapter.proofs.asking.Told.{told-none, told-both, told-as, fields-ask, fields-ask-none, plain-asks, payload-asks, asks-made, record-told, front-none, lifting-stops}
+use Rattle.lift_lower.proofs.LiftingStepByStep.{lifting-more, lifting-done, kinds-next, lifts-none, lifts-plain, lifts-payload, payload-kinds, rest-numbers, rest-length}
+use Rattle.values.proofs.FieldsFromAPlace.{nth_field-some}
+use Rattle.adapter.proofs.asking.VisitedNodesAreFew.{few-none, few-both, few-more, list-flat-few, record-flat-few, variant-flat-few, member-standard, case-standard}
+use Rattle.adapter.proofs.asking.RequestsOfParts.{told-none, told-both, told-as, fields-ask, fields-ask-none, plain-asks, payload-asks, asks-made, record-told, front-none, lifting-stops}
 use Rattle.adapter.proofs.asking.walk.Walk.+flat.Goals as goal
 
 pub ask_flat-returns-in-Primitive-clause-asks : goal.ask_flat-returns-in-Primitive-clause-asks

@@ -6,8 +6,8 @@ use Rattle.canonical_abi.specs.Reading.{number_of, lifting_fields}
 use Rattle.canonical_abi.specs.Requests.{fields_requests}
 use Rattle.tables.specs.Closed.{closed_type}
 use Rattle.values.specs.Members.{members_fields}
-use Rattle.lift_lower.proofs.Steps.{with_front}
-use Rattle.values.proofs.Fields.{fields_from}
+use Rattle.lift_lower.proofs.ReadingStepByStep.{with_front}
+use Rattle.values.proofs.FieldsFromAPlace.{fields_from}
 use Rattle.adapter.specs.Asking.{IsTold, IsFew}
 use Rattle.adapter.proofs.asking.walk.Walk.+flat.Given as goal
 

@@ -6,10 +6,10 @@ use Rattle.canonical_abi.specs.Layout.{size, align, max_flat_params, fits_flat, 
 use Rattle.canonical_abi.specs.Requests.{request, fields_requests, params_requests}
 use Rattle.canonical_abi.specs.Types.{record_type, record_fields}
 use Rattle.adapter.specs.Asking.{total, fields_size}
-use Rattle.adapter.proofs.asking.Few.{few-within, record-le}
+use Rattle.adapter.proofs.asking.VisitedNodesAreFew.{few-within, record-le}
 use Rattle.tables.specs.Closed.{closed_type}
-use Rattle.adapter.proofs.asking.Told.{told-as, told-both}
-use Rattle.adapter.proofs.asking.Whole.{flat-denotes, flat-untold, spilled-denotes, spilled-untold, flat-asks, spilled-asks, told-ahead}
+use Rattle.adapter.proofs.asking.RequestsOfParts.{told-as, told-both}
+use Rattle.adapter.proofs.asking.RequestsOfWholeWays.{flat-denotes, flat-untold, spilled-denotes, spilled-untold, flat-asks, spilled-asks, told-ahead}
 use Rattle.adapter.proofs.asking.walk.Walk.ask_params.Goals as goal
 
 pub returns-in_err-ask_fields-clause-fault : goal.returns-in_err-ask_fields-clause-fault

@@ -6,11 +6,11 @@ use Rattle.canonical_abi.specs.Layout.{max_flat_results, size, field_kinds}
 use Rattle.canonical_abi.specs.Requests.{fields_requests}
 use Rattle.canonical_abi.specs.Types.{record_type}
 use Rattle.values.specs.Members.{fields_of_types}
-use Rattle.values.proofs.Fields.{count-types}
+use Rattle.values.proofs.FieldsFromAPlace.{count-types}
 use Rattle.values.proofs.TypesExtents.{align-pos}
 use Rattle.adapter.specs.Asking.{fields_size}
-use Rattle.adapter.proofs.asking.Few.{few-within, record-le}
-use Rattle.adapter.proofs.asking.Whole.{flat-denotes, flat-untold, spilled-denotes, spilled-untold, told-ahead}
+use Rattle.adapter.proofs.asking.VisitedNodesAreFew.{few-within, record-le}
+use Rattle.adapter.proofs.asking.RequestsOfWholeWays.{flat-denotes, flat-untold, spilled-denotes, spilled-untold, told-ahead}
 use Rattle.adapter.proofs.asking.walk.Walk.ask_result.Goals as goal
 
 pub test_block-requires-clause-aligned : goal.test_block-requires-clause-aligned

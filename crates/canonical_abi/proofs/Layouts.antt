@@ -1,0 +1,3 @@
+-- Sizes, alignments and the places of fields.
+pub mod LeastPlaces
+pub mod AlignmentsAndSizes

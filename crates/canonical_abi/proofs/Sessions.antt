@@ -1,0 +1,9 @@
+-- A list of calls: what stays held, and what values tell of the memories.
+pub mod TracesOfSameValues
+pub mod CalleeKeepsHeld
+pub mod ValuesTellTraces
+pub mod HeldStaysHeld
+pub mod RunsWithOneStepMore
+pub mod OnlyValuesCross
+pub mod PlacedIsHeld
+pub mod CalleeIsTold

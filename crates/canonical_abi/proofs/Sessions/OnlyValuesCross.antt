@@ -1,0 +1,219 @@
+-- Values tell what two ways into one memory leave there; and what a way that broke off leaves is what its events tell.
+use Rattle.std.proofs.Common.{◌≡◌, ◌⊎◌, inl, inr, ℕ, ◌+◌, ◌-◌, ◌<◌, ◌≤◌, List, [], ◌∷◌, ◌++◌, length, drop, Option, Some, refl, sym, ap, ◌∙◌, subst, arith}
+use Rattle.std.specs.Prelude.{slice_get, slice_range}
+use Rattle.std.proofs.lemmas.Bool.{cases_lt}
+use Rattle.std.proofs.lemmas.Option.{slice_get_within}
+use Rattle.canonical_abi.specs.Types.{FunctionType, result_fields}
+use Rattle.canonical_abi.specs.Layout.{max_flat_params, max_flat_results}
+use Rattle.canonical_abi.specs.Guest.{Memory, Allocation, Release, IsGrant, IsHonest, IsWithin, IsOutside, overwrite}
+use Rattle.canonical_abi.specs.Trace.{Grant, Event, node, grant, write, TraceLeads, LeavesOutWrites, RequestFails}
+use Rattle.canonical_abi.specs.Stands.{AreAligned}
+use Rattle.canonical_abi.specs.Lowering.{PassesResult}
+use Rattle.canonical_abi.specs.Call.{Run, PostRun, Parties, World, Ways, exact, Answered, ArgumentsFaulty, ArgumentsFail, ResultFaulty, ResultFails, Traps, argument_flats, area_of}
+use Rattle.canonical_abi.specs.Headline.{AreHonest, IsBeforeBody}
+use Rattle.canonical_abi.specs.OnlyValues.{OnlyValuesCross, ShowsAlone, TrapsShowValues}
+use Rattle.canonical_abi.specs.declared.flat.Flat.{Flat}
+use Rattle.canonical_abi.specs.declared.trap.Step.{Step}
+use Rattle.canonical_abi.specs.declared.trap.Step.TheVariants as step
+use Rattle.canonical_abi.specs.declared.trap.TrapKind.{TrapKind}
+use Rattle.canonical_abi.proofs.Traces.TracesLeaveImages.{byte_over-before, byte_over-within, byte_over-after, overwrite-get, slice_get-drop, slice_get-take}
+use Rattle.canonical_abi.proofs.Traces.WhatTracesKeep.{runs-keep, aligned-first, aligned-second}
+use Rattle.canonical_abi.proofs.Traces.StoppedTracesAreConfined.{aligned-left, made-leaves, leaves-none}
+use Rattle.canonical_abi.proofs.Traces.ConfinedTraces.{request-failed}
+use Rattle.canonical_abi.proofs.FlatValues.LoweredIsDenoted.{passes-aligned}
+use Rattle.canonical_abi.proofs.Sessions.ValuesTellTraces.{same-entry, same-return}
+use Rattle.canonical_abi.proofs.Calls.LinkKeepsPromise.{answered-same, returned-fine, passes-result-aligned, until-result-aligned, script-aligned, until-params-fine, script-params-fine}
+
+-- ---- ways that were taken to their end
+
+pub only-values-cross : (target one two : Allocation) (runs : Run) (posts : PostRun) → OnlyValuesCross target one two runs posts
+only-values-cross target one two runs posts = λ one_way ignores. record {
+  there = λ f flats others old past values handed given es fs new last e x same.
+      let leads = subst (λ m. TraceLeads target m fs last.callee) (sym same) x.leads in
+      let both = same-entry target one_way ignores max_flat_params f.params values es fs handed given old.callee new.callee last.callee
+      (passes-aligned max_flat_params f.params values es handed e.passes) e.passes x.passes e.leads leads in
+      (both.1, both.0);
+  back = λ f flats others old past answer reply values handed given es fs new last e x area same.
+      let leads = subst (λ m. TraceLeads target m fs last.caller) (sym same) x.leads in
+      let passes = subst (λ a. PassesResult max_flat_results (result_fields f.result) a values fs given) (sym area) x.passes in
+      let both = same-return target one_way ignores max_flat_results (result_fields f.result) (area_of f flats) values es fs handed given old.caller new.caller last.caller
+      (passes-result-aligned (result_fields f.result) (area_of f flats) values es handed e.passes) e.passes passes e.leads leads in
+      (both.1, both.0);
+}
+
+-- ---- ways that broke off
+
+module _ (allocates : Allocation) (releases : Release) (honest : IsHonest allocates releases) where
+  -- a byte of a memory that a block was granted in
+  granted-shows : (g : Grant) (old mid : Memory) → AreAligned (grant g ∷ []) → TraceLeads allocates old (grant g ∷ []) mid → (a b : ℕ) → slice_get mid.bytes a ≡ Some b
+      → (slice_get old.bytes a ≡ Some b) ⊎ ((IsWithin a g.at g.size × (slice_get g.contents (a - g.at) ≡ Some b)) ⊎ ((length old.bytes ≤ a) × (b ≡ 0)))
+  granted-shows g old mid al (between, (step, placed, contents), last) a b e =
+      elim (cases_lt a g.at) [
+        | inl l ↦ outside (inl l)
+        | inr h ↦
+            elim (cases_lt a (g.at + g.size)) [
+              | inl l ↦
+                  let size : g.at + g.size - g.at ≡ g.size = omega arith in
+                  let there : g.at + (a - g.at) ≡ a = omega (arith, h) in
+                  let short : a - g.at < g.size = omega (arith, h, l) in
+                  let part : slice_get (slice_range between.bytes g.at (g.at + g.size)) (a - g.at) ≡ slice_get between.bytes a =
+                  rw size (slice_get-take g.size (drop g.at between.bytes) (a - g.at) short ∙ slice_get-drop g.at between.bytes (a - g.at) ∙ ap (λ i. slice_get between.bytes i) there) in
+                  inr (inl ((h, l), ap (λ bs. slice_get bs (a - g.at)) contents ∙ part ∙ here))
+              | inr q ↦ outside (inr q)
+            ]
+      ]
+    where
+      granted : IsGrant old g.align g.size g.at between
+      granted = honest.granted old g.align g.size g.at between al.0 step
+
+      here : slice_get between.bytes a ≡ Some b
+      here = ap (λ m. slice_get m.bytes a) (sym last) ∙ e
+
+      some-one : (x y : ℕ) → ◌≡◌ {A = Option ℕ} (Some x) (Some y) → x ≡ y
+      some-one x y p = cc
+
+      outside : IsOutside a g.at g.size → (slice_get old.bytes a ≡ Some b) ⊎ ((IsWithin a g.at g.size × (slice_get g.contents (a - g.at) ≡ Some b)) ⊎ ((length old.bytes ≤ a) × (b ≡ 0)))
+      outside out =
+          elim (cases_lt a (length old.bytes)) [
+            | inl l ↦ inl (sym (granted.same_outside a l out) ∙ here)
+            | inr q ↦ inr (inr (q, some-one b 0 (sym here ∙ granted.added a q (slice_get_within between.bytes a b here) out)))
+          ]
+
+  -- a byte of a memory that was written to
+  written-shows : (at : ℕ) (part old new : List ℕ) → at + length part ≤ length old → new ≡ overwrite old at part → (a b : ℕ) → slice_get new a ≡ Some b
+      → (slice_get old a ≡ Some b) ⊎ (IsWithin a at (length part) × (slice_get part (a - at) ≡ Some b))
+  written-shows at part old new fits is a b e =
+      let here = sym (overwrite-get old part at a fits) ∙ ap (λ bs. slice_get bs a) (sym is) ∙ e in
+      elim (cases_lt a at) [
+        | inl l ↦ inl (sym (byte_over-before at part a (slice_get old a) l) ∙ here)
+        | inr h ↦
+            elim (cases_lt a (at + length part)) [
+              | inl l ↦ inr ((h, l), sym (byte_over-within at part a (slice_get old a) h l) ∙ here)
+              | inr q ↦ inl (sym (byte_over-after at part a (slice_get old a) h q) ∙ here)
+            ]
+      ]
+
+  trace-shows : (es made : List Event) (old new : Memory) → AreAligned made → LeavesOutWrites es made → TraceLeads allocates old made new → ShowsAlone old.bytes es new.bytes
+  trace-shows [] made old new al is t =
+      let same : new ≡ old = subst (λ l. TraceLeads allocates old l new) is t in
+      λ a b e. inl (ap (λ m. slice_get m.bytes a) (sym same) ∙ e)
+  trace-shows (node ∷ es) made old new al (rest, is, left) t =
+      let (mid, same, more) = subst (λ l. TraceLeads allocates old l new) is t in
+      trace-shows es rest old new (subst AreAligned is al) left (subst (λ m. TraceLeads allocates m rest new) same more)
+  trace-shows (grant g ∷ es) made old new al (rest, is, left) t =
+      let (mid, step, more) = subst (λ l. TraceLeads allocates old l new) is t in
+      let aligned : AreAligned (grant g ∷ rest) = subst AreAligned is al in
+      let one : TraceLeads allocates old (grant g ∷ []) mid = (mid, step, refl) in
+      let keeps = runs-keep allocates releases honest (grant g ∷ []) old mid (aligned.0, tt) one in
+      by mid keeps.no_shorter (granted-shows g old mid (aligned.0, tt) one) (trace-shows es rest mid new aligned.1 left more)
+    where
+      by : (mid : Memory) → length old.bytes ≤ length mid.bytes
+          → ((a b : ℕ) → slice_get mid.bytes a ≡ Some b → (slice_get old.bytes a ≡ Some b) ⊎ ((IsWithin a g.at g.size × (slice_get g.contents (a - g.at) ≡ Some b)) ⊎ ((length old.bytes ≤ a) × (b ≡ 0))))
+          → ShowsAlone mid.bytes es new.bytes → ShowsAlone old.bytes (grant g ∷ es) new.bytes
+      by mid longer first then a b e = elim (then a b e) [
+        | inl m ↦ elim (first a b m) [ inl o ↦ inl o | inr n ↦ elim n [ inl c ↦ inr (inl (inl c)) | inr z ↦ inr (inr z) ] ]
+        | inr n ↦ elim n [ inl told ↦ inr (inl (inr told)) | inr z ↦ inr (inr (omega (arith, z.0, longer), z.1)) ]
+      ]
+  trace-shows (write at part ∷ es) made old new al (inl left) t =
+      let rest = trace-shows es made old new al left t in
+      λ a b e. elim (rest a b e) [ inl o ↦ inl o | inr n ↦ elim n [ inl told ↦ inr (inl (inr told)) | inr z ↦ inr (inr z) ] ]
+  trace-shows (write at part ∷ es) made old new al (inr (rest, is, left)) t =
+      let (mid, step, more) = subst (λ l. TraceLeads allocates old l new) is t in
+      by mid (runs-keep allocates releases honest (write at part ∷ []) old mid tt (mid, step, refl)).no_shorter (written-shows at part old.bytes mid.bytes step.0 (ap (λ m. m.bytes) step.1))
+      (trace-shows es rest mid new (subst AreAligned is al) left more)
+    where
+      by : (mid : Memory) → length old.bytes ≤ length mid.bytes
+          → ((a b : ℕ) → slice_get mid.bytes a ≡ Some b → (slice_get old.bytes a ≡ Some b) ⊎ (IsWithin a at (length part) × (slice_get part (a - at) ≡ Some b)))
+          → ShowsAlone mid.bytes es new.bytes → ShowsAlone old.bytes (write at part ∷ es) new.bytes
+      by mid longer first then a b e = elim (then a b e) [
+        | inl m ↦ elim (first a b m) [ inl o ↦ inl o | inr c ↦ inr (inl (inl c)) ]
+        | inr n ↦ elim n [ inl told ↦ inr (inl (inr told)) | inr z ↦ inr (inr (omega (arith, z.0, longer), z.1)) ]
+      ]
+
+  same-shows : (old new : Memory) → new ≡ old → (es : List Event) → ShowsAlone old.bytes es new.bytes
+  same-shows old new same es = λ a b e. inl (ap (λ m. slice_get m.bytes a) (sym same) ∙ e)
+
+  -- a trace that broke off: the request that failed was refused, and changed nothing
+  broken-shows : (done made rest : List Event) (next : Grant) (es : List Event) (old asked new : Memory) (k : TrapKind) → AreAligned es → es ≡ done ++ grant next ∷ rest → LeavesOutWrites done made → TraceLeads allocates old made asked
+      → RequestFails allocates asked next.align next.size k new → ShowsAlone old.bytes done new.bytes
+  broken-shows done made rest next es old asked new k al is left leads fails =
+      let whole = subst AreAligned is al in
+      let front = aligned-first done (grant next ∷ rest) whole in
+      let behind = aligned-second done (grant next ∷ rest) whole in
+      let same = request-failed allocates releases honest asked next.align next.size k new behind.0 fails in
+      subst (λ m. ShowsAlone old.bytes done m.bytes) (sym same) (trace-shows done made old asked (aligned-left done made left front) left leads)
+
+-- ---- calls
+
+module _ (parties : Parties) (caller_releases callee_releases : Release) (honest : AreHonest parties caller_releases callee_releases) (f : FunctionType) (flats : List Flat) where
+  abbrev CalleeShows : World → List Event → World → Type 0
+  CalleeShows old es new = ShowsAlone old.callee.bytes es new.callee.bytes
+
+  abbrev CallerShows : World → List Event → World → Type 0
+  CallerShows old es new = ShowsAlone old.caller.bytes es new.caller.bytes
+
+  arguments-faulty : (old : World) (k : TrapKind) (done : List Event) (new : World) → ArgumentsFaulty parties exact f flats old k done new → CalleeShows old done new
+  arguments-faulty old k done new (inl (other, is, none, same)) = same-shows parties.callee_allocates callee_releases honest.callee old.callee new.callee (ap (λ w. w.callee) same) done
+  arguments-faulty old k done new (inr (inl (kinds, faulty, none, same))) = same-shows parties.callee_allocates callee_releases honest.callee old.callee new.callee (ap (λ w. w.callee) same) done
+  arguments-faulty old k done new (inr (inr (kinds, es, until, is, (made, left, leads), caller, body))) =
+      let al = (until-params-fine f.params old.caller.bytes (argument_flats f flats) k es until).0 in
+      trace-shows parties.callee_allocates callee_releases honest.callee done made old.callee new.callee (aligned-left done made (made-leaves exact done made left) (subst AreAligned (sym is) al)) (made-leaves exact done made left) leads
+
+  arguments-fail : (old : World) (k : TrapKind) (done : List Event) (new : World) → ArgumentsFail parties exact f flats old k done new → CalleeShows old done new
+  arguments-fail old k done new (kinds, es, script, (front, made, rest, next, asked, is, left, leads, fails), same, caller, body) =
+      let al = (script-params-fine f.params old.caller.bytes (argument_flats f flats) es script).0 in
+      subst (λ l. CalleeShows old l new) (sym same) (broken-shows parties.callee_allocates callee_releases honest.callee front made rest next es old.callee asked new.callee k al is (made-leaves exact front made left) leads fails)
+
+  result-faulty : (answered : World) (answer : List Flat) (k : TrapKind) (done : List Event) (new : World) → ResultFaulty parties exact f flats answered answer k done new → CallerShows answered done new
+  result-faulty answered answer k done new (inl (faulty, none, same)) = same-shows parties.caller_allocates caller_releases honest.caller answered.caller new.caller (ap (λ w. w.caller) same) done
+  result-faulty answered answer k done new (inr (tested, es, until, is, (made, left, leads), callee, body)) =
+      let al = until-result-aligned (result_fields f.result) answered.callee.bytes answer (area_of f flats) k es until in
+      trace-shows parties.caller_allocates caller_releases honest.caller done made answered.caller new.caller (aligned-left done made (made-leaves exact done made left) (subst AreAligned (sym is) al)) (made-leaves exact done made left) leads
+
+  result-fails : (answered : World) (answer : List Flat) (k : TrapKind) (done : List Event) (new : World) → ResultFails parties exact f flats answered answer k done new → CallerShows answered done new
+  result-fails answered answer k done new (inl (tested, faulty, none, same)) = same-shows parties.caller_allocates caller_releases honest.caller answered.caller new.caller (ap (λ w. w.caller) same) done
+  result-fails answered answer k done new (inr (stands, es, script, (front, made, rest, next, asked, is, left, leads, fails), same, callee, body)) =
+      let al = script-aligned (result_fields f.result) answered.callee.bytes answer (area_of f flats) es script in
+      subst (λ l. CallerShows answered l new) (sym same) (broken-shows parties.caller_allocates caller_releases honest.caller front made rest next es answered.caller asked new.caller k al is (made-leaves exact front made left) leads fails)
+
+  -- where the caller is as it was
+  caller-same : (old new : World) (es : List Event) → new.caller ≡ old.caller → CallerShows old es new
+  caller-same old new es same = same-shows parties.caller_allocates caller_releases honest.caller old.caller new.caller same es
+
+  since : (old answered new : World) (answer : List Flat) (there es : List Event) → Answered parties f flats old answer there answered → CallerShows answered es new → CallerShows old es new
+  since old answered new answer there es a shows =
+      subst (λ m. ShowsAlone m.bytes es new.caller.bytes) (answered-same parties caller_releases callee_releases exact f flats honest old answer there answered a) shows
+
+  shows-there : (old : World) (s : Step) (k : TrapKind) (ways : Ways) (new : World) → IsBeforeBody s → Traps parties exact f flats old s k ways new → CalleeShows old ways.there new
+  shows-there old step.Place k ways new before t = absurd t
+  shows-there old step.LiftArgs k ways new before (faulty, none) = arguments-faulty old k ways.there new faulty
+  shows-there old step.LowerArgs k ways new before (fails, none) = arguments-fail old k ways.there new fails
+  shows-there old step.Body k ways new before t = absurd before
+  shows-there old step.LiftResult k ways new before t = absurd before
+  shows-there old step.LowerResult k ways new before t = absurd before
+  shows-there old step.Post k ways new before t = absurd before
+  shows-there old step.Take k ways new before t = absurd before
+
+  argued : (old : World) (k : TrapKind) (done : List Event) (new : World) → ArgumentsFaulty parties exact f flats old k done new → new.caller ≡ old.caller
+  argued old k done new (inl (other, is, none, same)) = ap (λ w. w.caller) same
+  argued old k done new (inr (inl (kinds, faulty, none, same))) = ap (λ w. w.caller) same
+  argued old k done new (inr (inr (kinds, es, until, is, begun, caller, body))) = caller
+
+  shows-back : (old : World) (s : Step) (k : TrapKind) (ways : Ways) (new : World) → Traps parties exact f flats old s k ways new → CallerShows old ways.back new
+  shows-back old step.Place k ways new t = absurd t
+  shows-back old step.Take k ways new t = absurd t
+  shows-back old step.LiftArgs k ways new (faulty, none) = caller-same old new ways.back (argued old k ways.there new faulty)
+  shows-back old step.LowerArgs k ways new ((kinds, es, script, breaks, same, caller, body), none) = caller-same old new ways.back caller
+  shows-back old step.Body k ways new (values, handed, entered, is, enters, runs, none) = caller-same old new ways.back (runs.same_caller ∙ enters.same_caller)
+  shows-back old step.LiftResult k ways new (answer, answered, a, faulty) = since old answered new answer ways.there ways.back a (result-faulty answered answer k ways.back new faulty)
+  shows-back old step.LowerResult k ways new (answer, answered, a, fails) = since old answered new answer ways.there ways.back a (result-fails answered answer k ways.back new fails)
+  shows-back old step.Post k ways new (answer, given, last, is, r, finishes) =
+      let fine = returned-fine parties caller_releases callee_releases exact f flats honest old answer given ways last r in
+      subst (λ m. ShowsAlone old.caller.bytes ways.back m.bytes) (sym finishes.same_caller)
+      (trace-shows parties.caller_allocates caller_releases honest.caller ways.back ways.back old.caller last.caller fine.aligned (leaves-none ways.back) fine.leads)
+
+pub traps-show-values : (parties : Parties) (caller_releases callee_releases : Release) → TrapsShowValues parties caller_releases callee_releases
+traps-show-values parties caller_releases callee_releases = record {
+  there = λ f flats old s k ways new honest before t. shows-there parties caller_releases callee_releases honest f flats old s k ways new before t;
+  back = λ f flats old s k ways new honest t. shows-back parties caller_releases callee_releases honest f flats old s k ways new t;
+}

@@ -1,0 +1,4 @@
+-- What a package or an interface reaches of a set.
+pub mod ReachedByUsedNames
+pub mod ReachesEarlierPackages
+pub mod ReachedIsPart
