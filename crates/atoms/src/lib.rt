@@ -1,4 +1,4 @@
-//! LEB128 numbers, labels, and readers and writers of bytes: what both formats stand on.
+//! LEB128 numbers, labels, readers and writers of bytes, and the productions of grammars: what both formats stand on.
 #![tactic(auto)]
 
 mod error;

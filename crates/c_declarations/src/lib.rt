@@ -3,7 +3,7 @@
 //!
 //! `Header` is what is written so far, with the names that are taken. `Header::put_types` writes types of an interface, and
 //! `Header::put_inners` those without a name that come first. It writes nothing of functions or of packages. It stands on `c_types`,
-//! which has the numbers, and on `c_names` and `tables`.
+//! which has the numbers and the names, and on `tables`.
 #![tactic(auto)]
 
 mod accessors;

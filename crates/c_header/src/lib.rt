@@ -2,8 +2,8 @@
 //! the core values of a call and one that reads its result.
 //!
 //! `header_of` writes the header of a table of packages. It asserts sizes, alignments and offsets, so that a compiler with other
-//! layouts refuses it. It stands on `c_declarations`, which writes the types, on `c_types`, which has the numbers, and on `c_names`
-//! and `tables`.
+//! layouts refuses it. It stands on `c_declarations`, which writes the types, on `c_types`, which has the numbers and the
+//! names, and on `tables`.
 #![tactic(auto)]
 
 mod calls;

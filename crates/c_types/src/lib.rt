@@ -1,7 +1,8 @@
 //! Types in C: their forms, names and parts, how their core values are made, and how one core value is read.
 //!
 //! `Types` has what each row of a table is in C. Sizes, alignments, offsets and core values are those of `Laid`, whose contracts speak
-//! of `canonical_abi`. It writes no definitions. It stands on `layout` and `tables`, and on `c_names`.
+//! of `canonical_abi`. It writes no definitions. Names in C are those of its module
+//! `c_names`. It stands on `layout` and `tables`.
 #![tactic(auto)]
 
 pub mod c_names;

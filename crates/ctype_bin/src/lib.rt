@@ -1,6 +1,6 @@
 //! Component types in the component model's binary format (Binary.md). `decode` carries the promise: it answers the raw
 //! component exactly where the productions of the format spell all the bytes, and else the first fault with its place.
-//! Stands on `ctype_format`, which has the format and its items, and on `productions` and `atoms`.
+//! Stands on `ctype_format`, which has the format and its items, and on `atoms`.
 #![tactic(auto)]
 
 mod component;
