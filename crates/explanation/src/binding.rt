@@ -26,9 +26,8 @@ fn text_of(alloc: Global, set: &PackageSet, id: PackageId) -> Result<String, Tex
 /// The canonical text of each package of a set.
 fn texts_of(alloc: Global, set: &PackageSet) -> Result<Vec<String>, TextError> {
     let mut texts = Vec::new(alloc);
-    let Ok(count) = u32::try_from(set.resolve().packages.len()) else {
-        return Err(TextError::NoMemory);
-    };
+    // A set has at most 64 packages.
+    let count = set.resolve().packages.len() as u32;
     for place in 0..count {
         let text = text_of(alloc, set, PackageId(place))?;
         texts.push(text).map_err(AllocError::from)?;

@@ -14,7 +14,7 @@ use ctype_bin::decode;
 use package_adding::PackageSet;
 use std::alloc::Global;
 use tables::Resolve;
-use wit_text::{parse, texts_have_full_names};
+use wit_text::parse;
 
 /// Adds the package of a text to a set.
 fn add_text(alloc: Global, set: &mut PackageSet, bytes: &[u8]) -> Result<(), OpenError>
@@ -24,7 +24,6 @@ fn add_text(alloc: Global, set: &mut PackageSet, bytes: &[u8]) -> Result<(), Ope
     ensures only { (closed r : Resolve) → AddsMember set.old.resolve bytes.now closed r → MatchResult result (λ _. IsSamePackage set.new.resolve r) IsWantOfMemory }
     ensures err { IfErr result (MemberRefuses set.old.resolve bytes.now) }
 {
-    texts_have_full_names();
     let text = text_of(bytes)?;
     let ast = parse(alloc, text)?;
     set.add_ast(alloc, &ast)?;

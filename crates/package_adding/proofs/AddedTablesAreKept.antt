@@ -1,5 +1,6 @@
 -- A set with a package more stays in the tower; what was attached is the table of its last package, and the others keep theirs.
-use Rattle.std.proofs.Common.{ℕ, subst, All}
+use Rattle.std.proofs.Common.{◌≤◌, ℕ, [], ◌∷◌, ◌++◌, length, subst, ap, All, arith}
+use Rattle.std.proofs.lemmas.List.{length-append}
 use Rattle.std.proofs.Math.Logic.{∥∥₁_elim, ∥∥₁_map, ∥∥₁_prop}
 use Rattle.package_form.specs.Form.{IsInPackageForm}
 use Rattle.package_form.specs.Naming.{package_scopes}
@@ -25,3 +26,7 @@ module _ (s closed r : Resolve) (id : ℕ) (a : IsAttached s closed r id) (tower
 
   pub keeps-tables : KeepsTables s r
   keeps-tables k l then was t now = ∥∥₁_elim stays (same-is-prop t then) (λ x. x.earlier k l t then now was)
+
+-- a set with a package more has at most 64
+pub attached-few : (s closed r : Resolve) (id : ℕ) → IsAttached s closed r id → length r.packages ≤ 64
+attached-few s closed r id a = omega (arith, ap length a.packages_are, length-append s.packages (a.fits.own ∷ []), a.room)

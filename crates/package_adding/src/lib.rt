@@ -7,17 +7,16 @@
 #![tactic(auto)]
 
 mod error;
+mod full_names;
 mod imported;
 mod marking;
 mod named;
-mod names;
 mod set;
 mod single;
 mod tree;
 mod written;
 
 pub use error::AddError;
-pub use names::has_full_names;
 pub use package_sets::AttachError;
 pub use set::PackageSet;
 pub use single::{from_ast, from_raw};

@@ -1,5 +1,5 @@
 //! Sets of packages.
-ghost use Rattle.std.specs.Prelude.{◌≡◌, ◌<◌, ◌⊎◌, ℕ, true, All, IsTrue, IfOk, IfErr, OnOk, OnErr, MatchResult, length};
+ghost use Rattle.std.specs.Prelude.{◌≡◌, ◌<◌, ◌≤◌, ◌⊎◌, ℕ, true, All, IsTrue, IfOk, IfErr, OnOk, OnErr, MatchResult, length};
 ghost use Rattle.ctype_bin.specs.FileView.{raw_component_view};
 ghost use Rattle.ctype_format.specs.File.{component_file};
 ghost use Rattle.package_form.specs.Closed.{IsAlone};
@@ -18,7 +18,6 @@ ghost use Rattle.tree_meaning.specs.Resolves.{file_fits};
 ghost use Rattle.tables.specs.Same.{IsSamePackage};
 ghost use Rattle.tables.specs.declared.tables.Resolve.{Resolve};
 ghost use Rattle.tree_meaning.specs.Declarations.{package_named};
-ghost use Rattle.wit_tokens.specs.FullNames.{file_has_full_names};
 ghost use Rattle.wit_tokens.specs.View.{file_view};
 
 use crate::error::AddError;
@@ -40,6 +39,7 @@ use wit_tokens::wit_syntax::Ast;
 pub struct PackageSet {
     resolve: Resolve,
     ghost tower: { ∥ IsInTower resolve ∥₁ },
+    pub ghost few: { length resolve.packages ≤ 64 },
 }
 
 /// A table of nothing.
@@ -241,7 +241,6 @@ impl PackageSet {
     /// that the paths name, with what these reach; 46 where memory is wanting. 47 also where a use of a package names no type, as in no text,
     /// and nothing else is used of it. The set is as it was then. (WIT.md)
     pub fn add_ast(&mut self, alloc: Global, ast: &Ast) -> Result<PackageId, AddError>
-        requires names { IsTrue (file_has_full_names (file_view ast.now)) }
         ensures ok { IfOk result (λ id. TreeIsAdded (file_view ast.now) self.old.resolve self.new.resolve id.0) }
         ensures known { IfOk result (λ id. id.0 < length self.new.resolve.packages) }
         ensures earlier { OnOk result (KeepsTables self.old.resolve self.new.resolve) }

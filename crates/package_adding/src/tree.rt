@@ -1,8 +1,7 @@
 //! The closed table of a tree over the packages of a set.
-ghost use Rattle.std.specs.Prelude.{◌≡◌, true, [], All, IsTrue, IfOk, OnOk, IfErr, MatchResult};
+ghost use Rattle.std.specs.Prelude.{◌≡◌, true, [], All, IfOk, OnOk, IfErr, MatchResult};
 ghost use Rattle.atoms.specs.Label.{IsLabel};
 ghost use Rattle.wit_tokens.specs.View.{file_view};
-ghost use Rattle.wit_tokens.specs.FullNames.{file_has_full_names};
 ghost use Rattle.package_form.specs.Form.{IsInPackageForm};
 ghost use Rattle.package_form.specs.Laws.{IsLabelled};
 ghost use Rattle.package_form.specs.Naming.{package_scopes};
@@ -17,6 +16,7 @@ ghost use Rattle.package_adding.specs.Added.{AreImportsFrom, IsOfTree, IsNewName
 ghost use Rattle.tables.specs.Same.{IsSamePackage};
 ghost use Rattle.tables.specs.declared.tables.Resolve.{Resolve};
 
+use crate::full_names::names_are_full;
 use crate::named::named_by_paths;
 use package_sets::imports;
 use package_sets::laws::imports_one;
@@ -63,7 +63,6 @@ fn imports_from(alloc: Global, set: &Resolve, ast: &Ast) -> Result<Resolve, Allo
 pub fn closed_over(alloc: Global, set: &Resolve, ast: &Ast) -> Result<Resolve, ResolveError>
     requires form { ∥ IsInSetForm set.now ∥₁ }
     requires room { HasRoom set.now }
-    requires names { IsTrue (file_has_full_names (file_view ast.now)) }
     requires new { IsNewName (file_view ast.now) set.now }
     ensures ok { IfOk result (IsOfTree (file_view ast.now) set.now) }
     ensures form { IfOk result (λ r. ∥ IsInPackageForm r ∥₁) }
@@ -77,6 +76,7 @@ pub fn closed_over(alloc: Global, set: &Resolve, ast: &Ast) -> Result<Resolve, R
 {
     imports_one();
     tree_has_one_closed_table();
+    names_are_full(ast);
     are_labelled(set.interfaces.as_slice());
     let imports = imports_from(alloc, set, ast)?;
     let closed = closed_table(alloc, ast, &imports)?;

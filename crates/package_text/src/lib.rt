@@ -3,7 +3,7 @@
 //! `print` appends what `specs/Text.antt` defines by `specs/Tree.antt`: an entry for each name of an own interface, in the
 //! order of the table, and for each item of a world. Interfaces of other packages, the imports of a closed table, are named
 //! by their paths alone. `laws` says that the tree and its text stand for the package, behind its imports. Stands on
-//! `tables` and `package_form` (packages), `tree_meaning` (what trees stand for), `wit_syntax` (trees) and `wit_print`
+//! `tables` and `package_form` (packages), `tree_meaning` (what trees stand for), `wit_tokens` (trees) and `wit_print`
 //! (their text).
 #![tactic(auto)]
 

@@ -1,15 +1,11 @@
 //! Packages whose files were read.
-ghost use Rattle.std.specs.Prelude.{◌≡◌, ◌+◌, ◌≤◌, length, IsTrue, IfOk, OnOk};
+ghost use Rattle.std.specs.Prelude.{◌≡◌, ◌+◌, ◌≤◌, length, IfOk, OnOk};
 ghost use Rattle.std.specs.List.{sum_by};
-ghost use Rattle.wit_tokens.specs.FullNames.{file_has_full_names};
-ghost use Rattle.wit_tokens.specs.View.{file_view};
 
 use crate::sources::Source;
 use crate::texts::{Header, Text, headers_of, texts_of, tree_of};
-use package_adding::has_full_names;
 use std::alloc::{AllocError, Global};
-use tables::ResolveError;
-use wit_faults::{Around, Cause, Lexed, PackageRef, Report};
+use wit_faults::{Lexed, PackageRef, Report};
 use wit_text::Ast;
 use wit_tokens::wit_syntax::Item;
 
@@ -20,7 +16,6 @@ pub struct Member<'a> {
     pub files: Vec<Lexed<'a>>,
     pub is_dependency: bool,
     pub tree: Ast,
-    pub ghost full: { IsTrue (file_has_full_names (file_view tree)) },
 }
 
 impl Member<'_> {
@@ -45,10 +40,10 @@ struct Joined<'a> {
     tree: Ast,
 }
 
-/// Adds items after others.
-fn append(items: &mut Vec<Item>, more: Vec<Item>) -> Result<(), AllocError> {
+/// Adds items after those of a tree.
+fn append(tree: &mut Ast, more: Vec<Item>) -> Result<(), AllocError> {
     for item in more {
-        items.push(item)?;
+        tree.items.push(item)?;
     }
     Ok(())
 }
@@ -84,7 +79,7 @@ impl<'a> Joined<'a> {
         let Part { text, tree } = part;
         let Text { source: _, lexed } = text;
         let Ast { package: _, items } = tree;
-        append(&mut self.tree.items, items)?;
+        append(&mut self.tree, items)?;
         self.files.push(lexed)?;
         Ok(())
     }
@@ -133,24 +128,9 @@ fn join<'a>(alloc: Global, first: Part<'a>, more: Vec<Part<'a>>) -> Result<Split
     Ok(Split { joined, others })
 }
 
-/// Reports a package whose names make no full names, as those of no text do.
-fn refuse(alloc: Global, report: &mut Report, files: &[Lexed<'_>]) -> Result<(), AllocError>
-    ensures { OnOk result (report.new.status ≡ 1) }
-{
-    let around = Around { files, known: &[] };
-    let cause = Cause::Resolve(ResolveError::NotThisShape);
-    report.add_package(alloc, around, &cause)
-}
-
-/// Adds a package, if its names make full names, as those of each text do.
-fn push_member<'a>(
-    alloc: Global,
-    report: &mut Report,
-    members: &mut Vec<Member<'a>>,
-    joined: Joined<'a>,
-) -> Result<(), AllocError>
-    ensures status { OnOk result (report.new.status ≡ 0 → report.old.status ≡ 0) }
-    ensures files { OnOk result (report.new.status ≡ 0 → sum_by (λ m. length m.files.items) members.new.items ≡ sum_by (λ m. length m.files.items) members.old.items + length joined.entry.files.items) }
+/// Adds a package.
+fn push_member<'a>(members: &mut Vec<Member<'a>>, joined: Joined<'a>) -> Result<(), AllocError>
+    ensures { OnOk result (sum_by (λ m. length m.files.items) members.new.items ≡ sum_by (λ m. length m.files.items) members.old.items + length joined.entry.files.items) }
 {
     let Joined {
         folder: _,
@@ -158,9 +138,6 @@ fn push_member<'a>(
         files,
         tree,
     } = joined;
-    if !has_full_names(alloc, &tree)? {
-        return refuse(alloc, report, files.as_slice());
-    }
     members.push(Member {
         files,
         is_dependency,
@@ -169,14 +146,9 @@ fn push_member<'a>(
     Ok(())
 }
 
-/// The packages of these files. No file is dropped: if the status is 0, each is one of a package.
-fn packages_of<'a>(
-    alloc: Global,
-    report: &mut Report,
-    parts: Vec<Part<'a>>,
-) -> Result<Vec<Member<'a>>, AllocError>
-    ensures status { IfOk result (λ _. report.new.status ≡ 0 → report.old.status ≡ 0) }
-    ensures files { IfOk result (λ members. report.new.status ≡ 0 → sum_by (λ m. length m.files.items) members.items ≡ length parts.entry.items) }
+/// The packages of these files. No file is dropped: each is one of a package.
+fn packages_of<'a>(alloc: Global, parts: Vec<Part<'a>>) -> Result<Vec<Member<'a>>, AllocError>
+    ensures { IfOk result (λ members. sum_by (λ m. length m.files.items) members.items ≡ length parts.entry.items) }
 {
     let mut members = Vec::new(alloc);
     let mut left = parts;
@@ -184,7 +156,7 @@ fn packages_of<'a>(
         let first = left.remove(0);
         let split = join(alloc, first, left)?;
         left = split.others;
-        push_member(alloc, report, &mut members, split.joined)?;
+        push_member(&mut members, split.joined)?;
     }
     Ok(members)
 }
@@ -201,5 +173,5 @@ pub fn members_of<'a>(
     let texts = texts_of(alloc, sources)?;
     let headers = headers_of(alloc, texts.as_slice())?;
     let parts = parts_of(alloc, report, texts, headers.as_slice())?;
-    packages_of(alloc, report, parts)
+    packages_of(alloc, parts)
 }

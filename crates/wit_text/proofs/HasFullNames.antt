@@ -1,6 +1,9 @@
 -- The names in the header of a text.
-use Rattle.std.proofs.Common.{◌≡◌, IsTrue, ℕ, zero, suc, Bool, true, false, ◌&&◌, List, [], ◌∷◌, length, Option, None, Some, refl, sym, subst}
+use Rattle.std.proofs.Common.{◌≡◌, IsTrue, ℕ, zero, suc, Bool, true, false, ◌&&◌, List, [], ◌∷◌, length, Option, None, Some, Ok, Global, refl, sym, subst}
 use Rattle.std.specs.List.{list_all}
+use Rattle.std.specs.Option.{option_map}
+use Rattle.std.specs.String.{string_bytes}
+use Rattle.std.specs.declared.string.String.{String}
 use Rattle.std.specs.Str.{is_utf8}
 use Rattle.atoms.specs.Label.{is_label}
 use Rattle.atoms.specs.FullName.{is_package_label, is_version, is_version_or_none}
@@ -12,9 +15,11 @@ use Rattle.wit_tokens.specs.declared.token.Span.{Span}
 use Rattle.wit_tokens.specs.Lexing.{limit}
 use Rattle.wit_tokens.specs.Syntax.{FileEntry, HeaderNames, File}
 use Rattle.wit_tokens.specs.FullNames.{has_label, file_has_full_names}
+use Rattle.wit_tokens.specs.View.{version_view}
 use Rattle.wit_grammar.specs.Faults.{is as is-kind}
 use Rattle.wit_grammar.specs.Grammar as g
 use Rattle.wit_text.specs.Laws.{HasFullNames}
+use Rattle.wit_text.proofs.ProductionsReadExactly.{exact-header}
 
 both : (a b : Bool) → a ≡ true → b ≡ true → (a && b) ≡ true
 both true b h q = q
@@ -44,6 +49,20 @@ header-names end ts x (f0, b0, word, e0, word-is, (f1, b1, namespace, e1, namesp
     subst (λ (y : HeaderNames). IsTrue (is_package_label y.namespace && (is_package_label y.name && is_version_or_none y.version))) (sym given)
     (both (is_package_label namespace) (is_package_label name && is_version_or_none version) (lower-id end f1 namespace namespace-is)
     (both (is_package_label name) (is_version_or_none version) (lower-id end f3 name name-is) (read-version f4 version version-is)))
+
+-- what was read as a header has the names of full names
+pub read-names : (end : ℕ) (ts : List Lexeme) (x : HeaderNames) (rest : List Lexeme) → (g.header end).read ts ≡ Ok (x, rest)
+    → IsTrue (is_package_label x.namespace) × (IsTrue (is_package_label x.name) × IsTrue (is_version_or_none x.version))
+read-names end ts x rest h =
+    let t = (exact-header end).sound ts x rest tt h in
+    let names = header-names end t.text x t.spelt in
+    let version = second (is_package_label x.namespace) (is_package_label x.name && is_version_or_none x.version) names in
+    (first (is_package_label x.namespace) (is_package_label x.name && is_version_or_none x.version) names, (first (is_package_label x.name) (is_version_or_none x.version) version, second (is_package_label x.name) (is_version_or_none x.version) version))
+
+-- a version of SemVer, as a tree's type has it
+pub version-kept : (v : Option (String Global)) → IsTrue (is_version_or_none (version_view v)) → IsTrue (is_version_or_none (option_map string_bytes v))
+version-kept None h = h
+version-kept (Some s) h = h
 
 id-label : (end : ℕ) (ts : List Lexeme) (x : List ℕ) → (g.id end).spells ts x → is_label x ≡ true
 unfolding g.id g.is_name

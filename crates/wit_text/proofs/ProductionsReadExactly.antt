@@ -110,7 +110,7 @@ unfolding g.is_version_token
 version_ends p (Some v) t h = tt
 version_ends p None t h = let e : is kind.Version t ≡ false = apart (kind.Punctuation p) kind.Version t h in rw e refl
 
-exact-header : (end : ℕ) → look end (g.header end)
+pub exact-header : (end : ℕ) → look end (g.header end)
 unfolding g.header g.header_end
 exact-header end =
     exact-then (lookahead end) (g.package_word end) _ (exact-package_word end) (λ a. exact-then (lookahead end) (g.lower_id end) _ (exact-lower_id end) (λ namespace.

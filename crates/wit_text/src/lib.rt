@@ -1,7 +1,7 @@
 //! WIT texts: how tokens are read as syntax trees. `parse` carries the promise: it answers the tree exactly where the text's
 //! tokens spell it by the grammar, and else the first fault with its span. The whole profile is read: interfaces with uses,
-//! types and functions, and worlds. Stands on `productions`, in which the grammar is written, on `wit_tokens` and
-//! `wit_syntax`, and on `atoms` for labels and versions.
+//! types and functions, and worlds. Stands on `wit_grammar`, on `wit_tokens` for tokens and trees, and on
+//! `atoms` for labels and versions.
 #![tactic(auto)]
 
 mod definitions;

@@ -2,6 +2,7 @@ pub mod BlankRuns
 pub mod OpenComments
 pub mod Examples
 pub mod MarksAtTheFront
+pub mod FullNames
 pub mod LowerWords
 pub mod KeywordsBySpelling
 pub mod TextsHaveOneReading

@@ -1,20 +1,60 @@
 //! The syntax of a WIT text. Names stand as they were written, without the `%` of an escaped word.
-use crate::Span;
-use atoms::Label;
+ghost use Rattle.std.specs.Prelude.{◌≡◌, ◌⊎◌, ◌&&◌, [], false, IsTrue, IfOk, IfErr, string_bytes, option_map};
+ghost use Rattle.atoms.specs.FullName.{is_package_label, is_version_or_none};
+ghost use Rattle.atoms.specs.declared.error.AtomError.TheVariants as error;
 
-/// A whole text.
+use crate::Span;
+use atoms::{AtomError, Label, is_package_label, is_version};
+use std::alloc::{AllocError, Global};
+
+/// A whole text. The names of its package make full names: the namespace and the name have lower-case words alone, and the
+/// version is one of SemVer.
 #[derive(Debug, Drop)]
 pub struct Ast {
     pub package: PackageId,
     pub items: Vec<Item>,
+    ghost namespace_is: { IsTrue (is_package_label «package».namespace) },
+    ghost name_is: { IsTrue (is_package_label «package».name) },
+    ghost version_is: { IsTrue (is_version_or_none (option_map string_bytes «package».version)) },
 }
 
+impl Ast {
+    /// The tree of a package without items, which are put into `items`. 4 `BadName` exactly where its names make no full names.
+    pub fn new(alloc: Global, package: PackageId) -> Result<Ast, AtomError>
+        ensures ok { IfOk result (λ a. (a.«package» ≡ «package») × (a.items.items ≡ [])) }
+        ensures err { IfErr result (λ e. (e ≡ error.NoMemory) ⊎ ((e ≡ error.BadName)
+            × ((is_package_label «package».namespace && (is_package_label «package».name && is_version_or_none (option_map string_bytes «package».version))) ≡ false))) }
+    {
+        if !package.makes_full_names(alloc)? {
+            return Err(AtomError::BadName);
+        }
+        let items = Vec::new(alloc);
+        Ok(Ast { package, items })
+    }
+}
+
+/// The names of a package, as a text's own line or a path has them.
 #[derive(Debug, Drop)]
 pub struct PackageId {
     pub namespace: Label,
     pub name: Label,
     /// What stands behind the `@`.
     pub version: Option<String>,
+}
+
+impl PackageId {
+    /// Whether the names make full names, as those of a text's own package do. (WIT.md, "Package Names")
+    pub fn makes_full_names(&self, alloc: Global) -> Result<bool, AllocError>
+        ensures { IfOk result (λ full. full ≡ (is_package_label self.now.namespace && (is_package_label self.now.name && is_version_or_none (option_map string_bytes self.now.version)))) }
+    {
+        if !is_package_label(self.namespace.as_bytes()) || !is_package_label(self.name.as_bytes()) {
+            return Ok(false);
+        }
+        match &self.version {
+            Some(version) => is_version(alloc, version.as_str()),
+            None => Ok(true),
+        }
+    }
 }
 
 #[derive(Debug, Drop)]

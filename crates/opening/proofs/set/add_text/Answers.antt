@@ -7,9 +7,6 @@ use Rattle.opening.proofs.OneInputAdded.{adds-text, of-member, tree-added, text-
 use Rattle.opening.proofs.LastPackageAsText.{read-tree, only-memory}
 use Rattle.opening.proofs.set.add_text.Goals as goal
 
-pub add_ast-requires : goal.add_ast-requires
-add_ast-requires c = record { names = c.texts_have_full_names.ensures _ (file_view c.in_ok-ast.ast) c.in_ok-ast.ensures.found }
-
 pub returns-in_err-text-clause-err : goal.returns-in_err-text-clause-err
 returns-in_err-text-clause-err c =
     let p = err_from_is_err_and c.from_residual.result c.from_residual.ensures.1 in

@@ -18,14 +18,14 @@ returns-clause-ok c =
     subst (IsFileAlone f) (sym c.into_resolve-package.ensures) (file-alone c.new-set.result.resolve c.new-set.ensures f a.closed c.add_ast.new.self.resolve c.in_ok-add_ast.field-0.0 a.adds a.behind a.writable a.fits labels)
 
 pub returns-clause-writable : goal.returns-clause-writable
-returns-clause-writable c = file-writable c.new-set.result.resolve c.new-set.ensures (file_view c.args.ast.now) c.into_resolve-package.result c.requires.names (returns-clause-ok c)
+returns-clause-writable c = file-writable c.new-set.result.resolve c.new-set.ensures (file_view c.args.ast.now) c.into_resolve-package.result c.names_are_full.ensures (returns-clause-ok c)
 
 pub returns-clause-only : goal.returns-clause-only
 returns-clause-only c = λ r h.
     let f = file_view c.args.ast.now in
     let none = c.new-set.result.resolve in
     let e = c.new-set.ensures in
-    subst (λ (x : Resolve). IsSamePackage x r) (sym c.into_resolve-package.ensures) (c.in_ok-add_ast.ensures.only r r 0 (file-added none e f r c.requires.names h) (file-writable none e f r c.requires.names h) h.fits)
+    subst (λ (x : Resolve). IsSamePackage x r) (sym c.into_resolve-package.ensures) (c.in_ok-add_ast.ensures.only r r 0 (file-added none e f r c.names_are_full.ensures h) (file-writable none e f r c.names_are_full.ensures h) h.fits)
 
 pub returns-in_err-add_ast-clause-err : goal.returns-in_err-add_ast-clause-err
 returns-in_err-add_ast-clause-err c =
@@ -38,4 +38,4 @@ returns-in_err-add_ast-clause-only c = λ r h.
     let none = c.new-set.result.resolve in
     let e = c.new-set.ensures in
     let p = err_from_is_err_and c.from_residual.result c.from_residual.ensures.1 in
-    rw (p.1, p.2) (c.in_err-add_ast.ensures.only r r 0 (file-added none e f r c.requires.names h) (file-writable none e f r c.requires.names h) h.fits)
+    rw (p.1, p.2) (c.in_err-add_ast.ensures.only r r 0 (file-added none e f r c.names_are_full.ensures h) (file-writable none e f r c.names_are_full.ensures h) h.fits)

@@ -28,12 +28,12 @@ returns-clause-ok c = record {
 pub returns-clause-form : goal.returns-clause-form
 returns-clause-form c =
     let labels = subst (λ (is : List Interface). All IsLabelled is) c.as_slice.ensures c.are_labelled.ensures in
-    in-form (file_view c.args.ast.now) c.args.set.now c.in_ok-imports.imports c.in_ok-imports.ensures.from c.requires.form c.in_ok-imports.ensures.labels c.requires.names c.requires.new labels c.requires.room
+    in-form (file_view c.args.ast.now) c.args.set.now c.in_ok-imports.imports c.in_ok-imports.ensures.from c.requires.form c.in_ok-imports.ensures.labels c.names_are_full.ensures c.requires.new labels c.requires.room
     c.in_ok-closed.closed c.in_ok-closed.ensures.faults c.in_ok-closed.ensures.closed c.in_ok-closed.ensures.form
 
 pub returns-clause-distinct : goal.returns-clause-distinct
 returns-clause-distinct c =
-    distinct-scopes (file_view c.args.ast.now) c.args.set.now c.in_ok-imports.imports c.in_ok-imports.ensures.from c.requires.form c.in_ok-imports.ensures.labels c.requires.names c.requires.new
+    distinct-scopes (file_view c.args.ast.now) c.args.set.now c.in_ok-imports.imports c.in_ok-imports.ensures.from c.requires.form c.in_ok-imports.ensures.labels c.names_are_full.ensures c.requires.new
     c.in_ok-closed.closed c.in_ok-closed.ensures.distinct
 
 pub returns-clause-only : goal.returns-clause-only

@@ -1,20 +1,29 @@
-use Rattle.std.proofs.Common.{◌≡◌, ◌<◌, ℕ, List, ◌++◌, length, map, get_or, sym, ap, ◌∙◌, arith}
-use Rattle.std.specs.List.{filter}
+use Rattle.std.proofs.Common.{◌≡◌, ◌<◌, IsTrue, true, ◌&&◌, ℕ, zero, suc, List, [], ◌∷◌, ◌++◌, length, map, get_or, sym, ap, subst, ◌∙◌, arith}
+use Rattle.std.specs.List.{filter, list_all}
+use Rattle.std.proofs.lemmas.Bool.{and_parts}
 use Rattle.std.proofs.lemmas.List.{get_or_default}
+use Rattle.atoms.specs.FullName.{is_package_label, is_version_or_none}
 use Rattle.wit_tokens.specs.Syntax.{FileEntry}
 use Rattle.wit_tokens.specs.View.{item_view}
 use Rattle.wit_tokens.specs.declared.wit_syntax.ast.Item.{Item}
 use Rattle.tables.specs.PackageNames.{PackageParts}
 use Rattle.package_form.specs.Closed.{own_package}
+use Rattle.package_form.specs.Form.{is_package_name}
 use Rattle.package_form.specs.Reached.{is_interface_of}
 use Rattle.package_form.proofs.FullNamesStandForInterfaces.{some-package}
 use Rattle.tree_meaning.specs.Imports.{nameless}
+use Rattle.wit_text.proofs.HasFullNames.{version-kept}
 use Rattle.package_text.specs.Tree.{interface_entry, world_written, interfaces_of_package, own_parts}
 use Rattle.package_text.proofs.file.tree.Goals as goal
 
 own-parts : (ps qs : List PackageParts) (k : ℕ) (p : PackageParts) → qs ≡ ps → k ≡ own_package qs → k < length qs → p ≡ get_or qs k p → own_parts ps ≡ p
 own-parts ps qs k p e o l is =
     ap (λ (xs : List PackageParts). get_or xs (own_package xs) nameless) (sym e) ∙ (ap (λ n. get_or qs n nameless) (sym o) ∙ (get_or_default qs k nameless p l ∙ sym is))
+
+named : (ps : List PackageParts) (k : ℕ) (p : PackageParts) → list_all is_package_name ps ≡ true → k < length ps → p ≡ get_or ps k p → is_package_name p ≡ true
+named [] k p h l is = absurd (omega (arith, l))
+named (q ∷ ps) zero p h l is = subst (λ (x : PackageParts). is_package_name x ≡ true) (sym is) (and_parts (is_package_name q) (list_all is_package_name ps) h).0
+named (q ∷ ps) (suc k) p h l is = named ps k p (and_parts (is_package_name q) (list_all is_package_name ps) h).1 (omega (arith, l)) is
 
 pub bounds-packages-own : goal.bounds-packages-own
 bounds-packages-own c =
@@ -37,3 +46,19 @@ returns c =
     let name = c.in_ok-package.ensures.name ∙ sym (ap (λ (q : PackageParts). q.name) p) in
     let version = c.in_ok-package.ensures.version ∙ sym (ap (λ (q : PackageParts). q.version) p) in
     λ j. record { namespace = namespace j; name = name j; version = version j; entries = entries j }
+
+pub invariant_of-result : goal.invariant_of-result
+invariant_of-result c =
+    let some = some-package c.args.resolve.now c.requires.closed in
+    let within : c.own_package-own.result < length c.as_slice-packages.result.now = omega (arith, some, c.own_package-own.ensures, ap length c.as_slice-packages.ensures) in
+    let names = subst (λ (ps : List PackageParts). list_all is_package_name ps ≡ true) (sym c.as_slice-packages.ensures) c.requires.names in
+    let p = c.index-packages-own.result in
+    let full = named c.as_slice-packages.result.now c.own_package-own.result p names within c.index-packages-own.is in
+    let front = and_parts (is_package_label p.namespace) (is_package_label p.name && is_version_or_none p.version) full in
+    let back = and_parts (is_package_label p.name) (is_version_or_none p.version) front.1 in
+    let told = c.in_ok-package.ensures in
+    record {
+      namespace_is = subst (λ t. IsTrue (is_package_label t)) (sym told.namespace) front.0;
+      name_is = subst (λ t. IsTrue (is_package_label t)) (sym told.name) back.0;
+      version_is = version-kept c.in_ok-package.«package».version (subst (λ v. IsTrue (is_version_or_none v)) (sym told.version) back.1);
+    }

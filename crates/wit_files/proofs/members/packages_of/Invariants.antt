@@ -6,4 +6,4 @@ abbrev pub decreases-packages : goal.decreases-packages
 decreases-packages l = vec_len l.left
 
 abbrev pub invariant-packages : goal.invariant-packages
-invariant-packages l = (l.report.status ≡ 0 → l.initial.report.status ≡ 0) × (l.report.status ≡ 0 → sum_by (λ m. length m.files.items) l.members.items + length l.left.items ≡ length l.initial.left.items)
+invariant-packages l = sum_by (λ m. length m.files.items) l.members.items + length l.left.items ≡ length l.initial.left.items

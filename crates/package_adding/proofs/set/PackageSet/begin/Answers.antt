@@ -1,12 +1,12 @@
 -- The set of the first package is in the tower, and the package has its table.
 use Rattle.package_sets.specs.One.{StandsAlone}
-use Rattle.package_adding.proofs.AddedTablesAreKept.{stays-in-tower, has-table, keeps-tables}
+use Rattle.package_adding.proofs.AddedTablesAreKept.{attached-few, stays-in-tower, has-table, keeps-tables}
 use Rattle.package_adding.proofs.set.PackageSet.begin.Goals as goal
 
 pub invariant_of-self : goal.invariant_of-self
 invariant_of-self c =
     let there : StandsAlone c.args.self.now.resolve c.args.closed = c.attaches_alone.ensures c.args.self.now.resolve c.args.closed c.args.self.now.tower c.requires.first c.requires.form c.requires.alone in
-    record { tower = stays-in-tower c.args.self.now.resolve c.args.closed c.args.closed 0 there.attached c.args.self.now.tower c.requires.form c.requires.distinct }
+    record { tower = stays-in-tower c.args.self.now.resolve c.args.closed c.args.closed 0 there.attached c.args.self.now.tower c.requires.form c.requires.distinct; few = attached-few c.args.self.now.resolve c.args.closed c.args.closed 0 there.attached }
 
 pub returns-clause-ok : goal.returns-clause-ok
 returns-clause-ok c = (c.attaches_alone.ensures c.args.self.now.resolve c.args.closed c.args.self.now.tower c.requires.first c.requires.form c.requires.alone).attached
