@@ -1,35 +1,10 @@
 -- What the header says of a status.
 use Rattle.std.specs.Prelude.{ℕ, min, Result, Ok, Err}
 use Rattle.canonical_abi.specs.declared.trap.Fault.TheVariants.{Trap, NoMemory}
-use Rattle.canonical_abi.specs.declared.trap.Step.{Step}
-use Rattle.canonical_abi.specs.declared.trap.Step.TheVariants.{Place, Take, LiftArgs, LowerArgs, Body, LiftResult, LowerResult, Post}
-use Rattle.canonical_abi.specs.declared.trap.TrapKind.{TrapKind}
-use Rattle.canonical_abi.specs.declared.trap.TrapKind.TheVariants as kind
+use Rattle.error_numbers.specs.Numbers.{kind_number, step_number}
 use Rattle.host_calls.specs.declared.error.CallError.{CallError}
 use Rattle.host_calls.specs.declared.error.CallError.TheVariants as error
 use Rattle.host_calls.specs.declared.status.Status.{Status}
-
--- K1 to K8
-abbrev pub kind_number : TrapKind → ℕ
-kind_number kind.Char = 1
-kind_number kind.Case = 2
-kind_number kind.Align = 3
-kind_number kind.Bounds = 4
-kind_number kind.Utf8 = 5
-kind_number kind.Full = 6
-kind_number kind.Body = 7
-kind_number kind.CoreSignature = 8
-
--- the steps of a call in their order, behind those of a host of this library's own
-abbrev pub step_number : Step → ℕ
-step_number Place = 0
-step_number Take = 1
-step_number LiftArgs = 2
-step_number LowerArgs = 3
-step_number Body = 4
-step_number LiftResult = 5
-step_number LowerResult = 6
-step_number Post = 7
 
 -- a count, as far as 32 bits go
 abbrev pub told : ℕ → ℕ

@@ -1,10 +1,11 @@
 //! What an export answers.
 ghost use Rattle.std.specs.Prelude.{◌≡◌, Some};
 ghost use Rattle.host_calls.specs.Lines.{numbered_kind, numbered_step, numbered_error, status_words, line_of};
-ghost use Rattle.host_calls.specs.Status.{kind_number, step_number, told, status_of, refused, out_of_memory};
+ghost use Rattle.host_calls.specs.Status.{told, status_of, refused, out_of_memory};
 
 use crate::error::CallError;
 use canonical_abi::{Fault, Step, Trap, TrapKind};
+use error_numbers::Numbered;
 use std::fmt;
 
 /// Whether it was done, and how many things were told; or why not. `code` is 0 where it was done, 1 where it was refused, with the number of
@@ -17,38 +18,6 @@ pub struct Status {
     pub number: u32,
     pub step: u32,
     pub count: u32,
-}
-
-/// The number of a kind of trap, as its words have it.
-fn kind_number(kind: TrapKind) -> u32
-    ensures { result ≡ kind_number kind }
-{
-    match kind {
-        TrapKind::Char => 1,
-        TrapKind::Case => 2,
-        TrapKind::Align => 3,
-        TrapKind::Bounds => 4,
-        TrapKind::Utf8 => 5,
-        TrapKind::Full => 6,
-        TrapKind::Body => 7,
-        TrapKind::CoreSignature => 8,
-    }
-}
-
-/// The number of a step, as the header counts them.
-fn step_number(step: Step) -> u32
-    ensures { result ≡ step_number step }
-{
-    match step {
-        Step::Place => 0,
-        Step::Take => 1,
-        Step::LiftArgs => 2,
-        Step::LowerArgs => 3,
-        Step::Body => 4,
-        Step::LiftResult => 5,
-        Step::LowerResult => 6,
-        Step::Post => 7,
-    }
 }
 
 /// A count as C is told it: the greatest number of 32 bits where it is more.
@@ -108,8 +77,8 @@ impl Status {
             Err(CallError::NoMemory | CallError::Fault(Fault::NoMemory)) => out_of_memory(66),
             Err(CallError::Fault(Fault::Trap(trap))) => Status {
                 code: 2,
-                number: kind_number(trap.kind),
-                step: step_number(trap.step),
+                number: trap.number(),
+                step: trap.step.number(),
                 count: 0,
             },
         }

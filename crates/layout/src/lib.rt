@@ -17,6 +17,7 @@ mod rows;
 mod signature;
 mod work;
 
+pub use canonical_abi::CoreKind;
 pub use error::LayoutError;
 pub use kind_list::KindList;
 pub use kinds::{Kinds, MAX_FLAT};

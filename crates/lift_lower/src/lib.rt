@@ -17,6 +17,7 @@ pub mod nodes;
 mod placing;
 mod storing;
 
+pub use canonical_abi::{CoreKind, Fault, Flat, Step, Trap, TrapKind};
 pub use heads::{Head, head_at, head_of, put_head};
 pub use layout::are_kinds;
 pub use lift_flat::low_word;
