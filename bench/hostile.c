@@ -4,9 +4,11 @@
  * usage: hostile
  *
  * - Lists within each other, 6 levels of 64 elements at one address in 512 bytes, and what they ask for within limits.
- * - Numbers in 60 tuples each, a node for each tuple: what a list of them asks for, and the first half with its block.
+ * - Numbers, and cases of an enum, in 60 tuples each: what a list of them asks for, and the first half with its block.
+ *   A case is tested, so that each tuple around it is a node that is visited.
  * - Texts of about 1 MiB: the time that opening takes, and the most memory of its process besides.
  * - A package of 60,000 functions: finding the last one, listing it, writing it.
+ * - Sets of 1,000 to 64,000 interfaces of one function each: opening them, and finding functions by name.
  */
 #include "witcall.h"
 #include <stdio.h>
@@ -19,6 +21,8 @@
 
 #define RUNS 3
 #define NUMBERS 1048576
+#define IN_PACKAGE 16000
+#define FOUND 1000
 #define BYTES(text) (const uint8_t *)(text), strlen(text)
 
 static witcall_package package = WITCALL_NONE;
@@ -54,7 +58,7 @@ static void put_within(char *out, const char *outer, int count, const char *inne
 
 static uint32_t opened(const char *types) {
     char text[2048];
-    snprintf(text, sizeof text, "package a:b; interface c { f: func(x: %s); }", types);
+    snprintf(text, sizeof text, "package a:b; interface c { enum e { a } f: func(x: %s); }", types);
     check(witcall_open(BYTES(text), &package), WITCALL_DONE, 0);
     return witcall_find(&package, BYTES("a:b/c"), BYTES("f")).count;
 }
@@ -89,11 +93,12 @@ static void lists(int levels, uint64_t limit, const char *words) {
     free(memory);
 }
 
-/* ---- numbers in tuples ---- */
+/* ---- values in tuples ---- */
 
-static void tuples(void) {
+static void tuples(const char *type, const char *words) {
     char types[1024] = "list<";
-    put_within(types, "tuple<", 60, "u8>");
+    put_within(types, "tuple<", 60, type);
+    strcat(types, ">");
     const uint32_t func = opened(types);
     uint8_t *memory = array(NUMBERS, 1), *target = array(NUMBERS, 1);
     const witcall_value flats[] = {{0, 0}, {0, NUMBERS}};
@@ -112,7 +117,7 @@ static void tuples(void) {
         asking = asked - began < asking ? asked - began : asking;
         entering = entered - asked < entering ? entered - asked : entering;
     }
-    printf("%d numbers in 60 tuples: requests %.0f ms, enter %.0f ms\n", NUMBERS, asking, entering);
+    printf("%d %s in 60 tuples: requests %.2f ms, enter %.0f ms\n", NUMBERS, words, asking, entering);
     witcall_close(&package);
     free(memory), free(target);
 }
@@ -130,6 +135,7 @@ static const shape SHAPES[] = {
     {"members of a tuple", "package a:b; interface c { type t = tuple<u8", ",u8", ">; }", 300000},
     {"labels of an enum", "package a:b; interface c { enum e { a", ",b%u", "} }", 90000},
     {"types that name each the one before", "package a:b; interface c { type t%u = u8;", "type t%u=t%u;", "}", 60000},
+    {"interfaces of one function each", "package a:b;", "interface i%u{f:func();}", "", 30000},
     {"results 63 deep", "package a:b; interface c {", "", "}", 1},
     {"comments within each other", "package a:b; ", "", "interface c { }", 1},
 };
@@ -199,6 +205,49 @@ static void functions(void) {
     free(given);
 }
 
+/* ---- many interfaces ---- */
+
+/* The texts of packages `a:p0`, `a:p1` and so on, one after another, of so many interfaces together. */
+static char *texts_of(uint32_t count, size_t *lengths) {
+    char *given = array(count, 32), *to = given;
+    for (uint32_t i = 0; i < count; i++) {
+        if (i % IN_PACKAGE == 0)
+            to += lengths[i / IN_PACKAGE] = (size_t)sprintf(to, "package a:p%u;", i / IN_PACKAGE);
+        const int added = sprintf(to, "interface i%u{f:func();}", i);
+        to += added, lengths[i / IN_PACKAGE] += (size_t)added;
+    }
+    return given;
+}
+
+/* Finds FOUND of the functions, which stand as far from each other. */
+static void find_some(uint32_t count) {
+    char name[32];
+    for (uint32_t i = 0; i < FOUND; i++) {
+        const uint32_t at = i * (count / FOUND);
+        snprintf(name, sizeof name, "a:p%u/i%u", at / IN_PACKAGE, at);
+        check(witcall_find(&package, BYTES(name), BYTES("f")), WITCALL_DONE, 0);
+    }
+}
+
+static void interfaces(uint32_t count) {
+    size_t lengths[5] = {0};
+    const size_t inputs = (count + IN_PACKAGE - 1) / IN_PACKAGE;
+    char *given = texts_of(count, lengths);
+    double opening = 1e18, finding = 1e18;
+    for (int run = 0; run < RUNS; run++) {
+        double began = milliseconds();
+        check(witcall_open_set(BYTES(given), lengths, inputs, &package), WITCALL_DONE, 0);
+        double opened = milliseconds();
+        find_some(count);
+        double found = milliseconds();
+        opening = opened - began < opening ? opened - began : opening;
+        finding = found - opened < finding ? found - opened : finding;
+        witcall_close(&package);
+    }
+    printf("%u interfaces: open %.0f ms, find %.2f us each\n", count, opening, finding / FOUND * 1e3);
+    free(given);
+}
+
 int main(void) {
     lists(4, 0, "of the sum ");
     lists(5, 0, "of the sum ");
@@ -206,9 +255,12 @@ int main(void) {
     lists(6, 16 << 20, "");
     lists(6, 256 << 20, "");
     lists(6, UINT32_MAX, "");
-    tuples();
+    tuples("u8", "numbers");
+    tuples("e", "cases of an enum");
     for (size_t i = 0; i < sizeof SHAPES / sizeof *SHAPES; i++)
         text(&SHAPES[i]);
     functions();
+    for (uint32_t count = 1000; count <= 64000; count *= 4)
+        interfaces(count);
     return 0;
 }

@@ -19,6 +19,7 @@ mod signature;
 
 pub use crate::asking::Request;
 pub use body::{Body, BoxedBody, Export, Stopped};
+pub use canonical_abi::{CoreKind, Fault, Flat, Step, Trap, TrapKind};
 pub use invocation::Invocation;
 pub use link::Link;
 pub use plain::{are_plain, is_plain_answer};

@@ -59,7 +59,9 @@ impl Walk<'_> {
         }
     }
 
-    /// Crosses elements of a type that has a plan, up to a fault at most, and answers how many.
+    /// Crosses elements of a type that has a plan, up to a fault at most, and answers how many. Apart, so that its frame, which holds
+    /// the plan, is not one of those of lists within each other.
+    #[inline(never)]
     fn front_of_plan<G: Guest>(
         &self,
         element: ValType,

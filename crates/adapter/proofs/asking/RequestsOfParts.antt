@@ -4,7 +4,7 @@ use Rattle.std.specs.Prelude.{min}
 use Rattle.std.specs.Char.{IsScalar}
 use Rattle.std.proofs.lemmas.Bool.Decides.{nat_tests}
 use Rattle.std.proofs.lemmas.Option.{same_Some}
-use Rattle.canonical_abi.specs.Types.{scalar_value, ClosedType, Fields, no_field, field, Cases, no_case, plain_case, case_with, nth_field, nth_case, list_type, record_type, string_type, prim_type, flags_type}
+use Rattle.canonical_abi.specs.Types.{scalar_value, ClosedType, Fields, no_field, field, Cases, no_case, plain_case, case_with, nth_field, field_count, nth_case, list_type, record_type, string_type, prim_type, flags_type}
 use Rattle.canonical_abi.specs.Values.{Value, values_of, is_scalar, char_value, string_value, list_value, record_value}
 use Rattle.canonical_abi.specs.Layout.{align, size, prim_width}
 use Rattle.canonical_abi.specs.Memory.{TextHolds}
@@ -27,7 +27,7 @@ use Rattle.tables.specs.declared.tables.Primitive.TheVariants as primitive
 use Rattle.lift_lower.proofs.ListsAreLoaded.{listed}
 use Rattle.lift_lower.proofs.ReadingStepByStep.{with_front, each-more, each-fault, fields-more, fields-fault}
 use Rattle.lift_lower.proofs.LiftingStepByStep.{lifting-more, lifting-fault}
-use Rattle.values.proofs.FieldsFromAPlace.{fields_from}
+use Rattle.values.proofs.FieldsFromAPlace.{fields_from, fields-next, fields-last}
 use Rattle.std.specs.Int.{next_multiple_of}
 
 -- ---- slots
@@ -300,6 +300,30 @@ plain-asks-nothing p h m a = let (v, e) = reads-number p (number_at m a (prim_wi
 
 pub flags-ask-nothing : (n : ℕ) → AsksNothing (flags_type n)
 flags-ask-nothing n m a = (_, refl, refl)
+
+-- all of these fields ask for nothing
+abbrev pub AskNothing : Fields → Type 0
+AskNothing no_field = Unit {0}
+AskNothing (field t fs) = AsksNothing t × AskNothing fs
+
+fields-ask-nothing : (fs : Fields) (m : List ℕ) (a from : ℕ) → AskNothing fs → (vs : List Value) × (reading_fields fs m a from ≡ Ok vs) × (fields_requests fs vs ≡ [])
+fields-ask-nothing no_field m a from h = ([], refl, refl)
+fields-ask-nothing (field t fs) m a from h =
+    let (v, e, none) = h.0 m (a + next_multiple_of from (align t)) in
+    let (vs, es, nones) = fields-ask-nothing fs m a (next_multiple_of from (align t) + size t) h.1 in
+    (v ∷ vs, rw (e, es) refl, rw (none, nones) refl)
+
+pub record-asks-nothing : (fs : Fields) → AskNothing fs → AsksNothing (record_type fs)
+record-asks-nothing fs h m a =
+    let (vs, e, none) = fields-ask-nothing fs m a 0 h in
+    (record_value (values_of vs), rw e refl, sym (record-told fs vs) ∙ none)
+
+-- a field and those behind it, as the fields from its place on
+pub nothing-more : (fs : Fields) (i : ℕ) (t : ClosedType) → nth_field fs i ≡ Some t → AsksNothing t → (AskNothing (fields_from i fs) → AskNothing fs) → AskNothing (fields_from (i + 1) fs) → AskNothing fs
+nothing-more fs i t found one all h = all (subst AskNothing (sym (fields-next fs i t found)) (one, h))
+
+pub nothing-all : (fs : Fields) (i : ℕ) → field_count fs ≡ i → (AskNothing (fields_from i fs) → AskNothing fs) → AskNothing fs
+nothing-all fs i counted all = all (subst AskNothing (sym (fields-last fs i counted)) tt)
 
 -- so many of them are read, and ask for nothing
 pub nothing-asked : (t : ClosedType) (m : List ℕ) → AsksNothing t → (step a n : ℕ)

@@ -1,6 +1,6 @@
 //! The walk over values that stand in a memory.
 ghost use Rattle.std.specs.Prelude.{◌≡◌, ◌+◌, ◌-◌, ◌^◌, ◌<◌, ◌≤◌, ℕ, length, min, IsTrue};
-ghost use Rattle.canonical_abi.specs.Types.{prim_type, string_type, list_type, variant_type, variant_cases, field_count, case_count, depth, fields_depth, cases_depth, IsStandard, AreStandardFields, AreStandardCases};
+ghost use Rattle.canonical_abi.specs.Types.{prim_type, string_type, list_type, record_type, record_fields, variant_type, variant_cases, field_count, case_count, depth, fields_depth, cases_depth, IsStandard, AreStandardFields, AreStandardCases};
 ghost use Rattle.canonical_abi.specs.Layout.{size, align, payload_place, end_from, field_extents};
 ghost use Rattle.canonical_abi.specs.Reading.{reading, text_at, list_at, reading_fields, reading_case, case_number};
 ghost use Rattle.canonical_abi.specs.Requests.{requests, fields_requests};
@@ -47,16 +47,43 @@ fn ask_primitive(
     }
 }
 
-/// Whether the values of a type stand whatever their bytes are, and ask for nothing: numbers, bools and flags.
-fn asks_nothing(table: &Types, ty: ValType) -> bool
+/// Whether the values of a type stand whatever their bytes are, and ask for nothing: numbers, bools, flags, and records
+/// of these. It looks at `most` types at most, and then answers no.
+#[cycle(nothing)]
+fn asks_nothing(table: &Types, ty: ValType, most: &mut usize) -> bool
     requires { IsInside table.now ty }
     ensures { IsTrue result → AsksNothing (closed_type table.now ty) }
 {
+    if *most == 0 {
+        return false;
+    }
+    *most -= 1;
     match table.shape_of(ty) {
         Shape::Primitive(primitive) => is_plain(primitive),
         Shape::Flags(_) => true,
+        Shape::Record(fields) => fields_ask_nothing(table, ty, fields, most),
         _ => false,
     }
+}
+
+/// The same of the fields of a record.
+#[cycle(nothing)]
+fn fields_ask_nothing(table: &Types, ty: ValType, fields: usize, most: &mut usize) -> bool
+    requires inside { IsInside table.now ty }
+    requires record { record_type (record_fields (closed_type table.now ty)) ≡ closed_type table.now ty }
+    requires counted { field_count (record_fields (closed_type table.now ty)) ≡ fields }
+    ensures { IsTrue result → AsksNothing (closed_type table.now ty) }
+{
+    let members = Members::Of(ty);
+    for index in 0..fields {
+        let Some(member) = table.member_type(&members, index) else {
+            unreachable!()
+        };
+        if !asks_nothing(table, member, most) {
+            return false;
+        }
+    }
+    true
 }
 
 /// Whether a primitive is a number or a bool.
@@ -180,7 +207,9 @@ impl Walk<'_> {
             return Err(Untold::AboveLimit);
         }
         tell(slots, count, left, align, size);
-        if asks_nothing(self.types, element) {
+        // No more types than elements, so that this takes no longer than they would.
+        let mut most = len;
+        if asks_nothing(self.types, element, &mut most) {
             return Ok(());
         }
         for index in 0..len {
