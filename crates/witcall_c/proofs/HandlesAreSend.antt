@@ -12,6 +12,8 @@ use Rattle.layout.specs.contracts.kinds.Kinds as kinds
 use Rattle.layout.specs.contracts.layouts.Layouts as layouts
 use Rattle.layout.specs.contracts.parts.Parts as parts
 use Rattle.layout.specs.contracts.rows.Row as row
+use Rattle.witcall_c.proofs.IndexSent.{index-send}
+use Rattle.opening.specs.contracts.indexed.IndexedPackage as indexed
 use Rattle.opening.specs.contracts.package.OpenError as open_error
 use Rattle.opening.specs.contracts.package.Package as opened
 use Rattle.package_sets.specs.contracts.error.AttachError as attach_error
@@ -126,8 +128,11 @@ layouts-field = let a = Vec-send row.the_row row-send in let b = Vec-send kinds.
 
 -- ---- a package, and why there is none
 
-opened-send : IsSend opened.the_row
-opened-send = let a = resolve-field in let b = layouts-field in search sendable depth 60 fits 20000
+opened-field : IsSend (opened.the_field).row
+opened-field = let a = resolve-field in let b = layouts-field in search sendable depth 60 fits 20000
+
+indexed-send : IsSend indexed.the_row
+indexed-send = let a = opened-field in let b = index-send in search sendable depth 60 fits 20000
 
 layout_error-field : IsSend (layout_error.the_field).row
 layout_error-field = search sendable depth 80 fits 20000
@@ -150,7 +155,7 @@ open_error-send = let a = text_error-field in let b = bin_error-field in let c =
 -- ---- what a handle owns
 
 pub held-send : IsSend held.the_row
-held-send = let a = opened-send in let b = open_error-send in search sendable depth 80 fits 20000
+held-send = let a = indexed-send in let b = open_error-send in search sendable depth 80 fits 20000
 
 box-Keyless : (p : Ptr) (h : Held) → Keyless (boxes p h)
 box-Keyless p h = λ from. (lies held.the_row held-send p h, frees.frees from (raw (lone held.the_row.mir)) p)

@@ -1,3 +1,4 @@
 pub mod HandlesAsMachineValues
+mod IndexSent
 mod InputsStandInOrder
 mod HandlesAreSend

@@ -2,7 +2,9 @@
 use Rattle.std.specs.Prelude.{length, ◌≡◌, ◌⊎◌, ◌<◌, ◌≤◌, ℕ, List, Result, Ok, Err, Option, Some, None, MatchResult, if◌then◌else◌}
 use Rattle.std.specs.Option.{option_map}
 use Rattle.std.specs.Str.{IsUtf8}
+use Rattle.canonical_abi.specs.Layout.{lifted_signature, lowered_signature}
 use Rattle.canonical_abi.specs.Types.{FunctionType}
+use Rattle.canonical_abi.specs.declared.flat.CoreKind.{CoreKind}
 use Rattle.layout.specs.Layout.{AreWithin}
 use Rattle.tables.specs.Closed.{IsFunction, function_type}
 use Rattle.tables.specs.Names.{IsNamed}
@@ -15,20 +17,23 @@ use Rattle.host_calls.specs.declared.error.CallError.TheVariants as error
 use Rattle.host_calls.specs.declared.status.Status.{Status}
 use Rattle.opening.specs.Numbers.{open_number, is_out_of_memory}
 use Rattle.opening.specs.Opening.{IsOpened, OpenRefuses}
+use Rattle.opening.specs.declared.indexed.IndexedPackage.{IndexedPackage}
 use Rattle.opening.specs.declared.package.OpenError.{OpenError}
 use Rattle.opening.specs.declared.package.Package.{Package}
 use Rattle.witcall_c.specs.Inputs.{ArePieces, AreNoPieces}
+use Rattle.witcall_c.specs.declared.calls.SignaturePart.{SignaturePart}
+use Rattle.witcall_c.specs.declared.calls.SignaturePart.TheVariants as part
 use Rattle.witcall_c.specs.declared.handle.Handle.{Handle}
 use Rattle.witcall_c.specs.declared.held.Held.{Held}
 use Rattle.world_functions.specs.Named.{IsNamedOfWorld}
 
--- what opening inputs gives: a package, or why they are refused
+-- what opening inputs gives: a package with an index of its functions, or why they are refused
 abbrev pub Opening : Type 0
-Opening = Result Package OpenError
+Opening = Result IndexedPackage OpenError
 
 -- these inputs are opened as this package, or refused for this reason
 abbrev pub IsOpening : List (List ℕ) → Opening → Type 0
-IsOpening inputs opened = MatchResult opened (λ p. IsOpened inputs p.resolve) (OpenRefuses inputs)
+IsOpening inputs opened = MatchResult opened (λ p. IsOpened inputs p.«package».resolve) (OpenRefuses inputs)
 
 -- the status of an opening: done, out of memory, or refused; the last two have the error's number
 abbrev pub opening_status : Opening → Status
@@ -43,15 +48,19 @@ numbered n = record { 0 = n }
 abbrev pub stands_for : Handle → Option Held
 stands_for h = h.kept.held
 
--- the package that was opened, or none if the inputs were refused
-abbrev pub opened_package : Opening → Option Package
+-- the package that was opened, with its index, or none if the inputs were refused
+abbrev pub opened_package : Opening → Option IndexedPackage
 opened_package (Ok p) = Some p
 opened_package (Err e) = None
 
--- the package that a handle holds, or none if it holds a refusal or nothing
+-- the package that a handle holds, with its index, or none if it holds a refusal or nothing
+abbrev pub held_indexed : Option Held → Option IndexedPackage
+held_indexed None = None
+held_indexed (Some held) = opened_package held.opened
+
+-- the package itself
 abbrev pub held_package : Option Held → Option Package
-held_package None = None
-held_package (Some held) = opened_package held.opened
+held_package held = option_map (λ p. p.«package») (held_indexed held)
 
 -- the table of the package of a handle, if one is open
 abbrev pub held_table : Option Held → Option Resolve
@@ -120,3 +129,10 @@ abbrev pub OpensPieces : List ℕ → List ℕ → Option Held → Status → Ty
 OpensPieces bytes lengths new status =
     ((inputs : List (List ℕ)) × ArePieces bytes lengths inputs × Opens inputs new status)
     ⊎ ((new ≡ None) × ((e : CallError) × AreNoPieces bytes lengths e × (status ≡ status_of (Err e))))
+
+-- the kinds of a part of the core signatures of a function
+abbrev pub kinds_of_part : SignaturePart → FunctionType → List CoreKind
+kinds_of_part part.LiftedParams f = (lifted_signature f).params
+kinds_of_part part.LiftedResult f = (lifted_signature f).results
+kinds_of_part part.LoweredParams f = (lowered_signature f).params
+kinds_of_part part.LoweredResult f = (lowered_signature f).results

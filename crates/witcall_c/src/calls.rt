@@ -1,13 +1,12 @@
 //! Calls of the package that a handle stands for.
 ghost use Rattle.std.specs.Prelude.{◌≡◌, Result};
 ghost use Rattle.std.specs.Option.{option_map};
-ghost use Rattle.canonical_abi.specs.Layout.{lifted_signature, lowered_signature};
 ghost use Rattle.canonical_abi.specs.Types.{result_fields};
 ghost use Rattle.host_calls.specs.Calling.{EnterDone, LeaveDone, EnterAsks, LeaveAsks};
 ghost use Rattle.host_calls.specs.Parts.{PartsDone};
 ghost use Rattle.host_calls.specs.Signatures.{KindsDone};
 ghost use Rattle.witcall_c.specs.CallObject.{BeginsCall};
-ghost use Rattle.witcall_c.specs.Calls.{CallsFunction, held_package};
+ghost use Rattle.witcall_c.specs.Calls.{CallsFunction, held_package, kinds_of_part};
 
 use crate::call::Call;
 use crate::held::{Target, function};
@@ -141,34 +140,30 @@ pub fn result_part(held: &Target, number: u32, out: &mut [Part]) -> Result<usize
     host_calls::result_part(&types, func, out)
 }
 
-/// The kinds of the parameters of the callee's core function.
-pub fn lifted_params(held: &Target, number: u32, out: &mut [u32]) -> Result<usize, CallError>
-    ensures { CallsFunction (held_package (option_map (λ held. held.value) held.now)) number (λ f done. KindsDone (lifted_signature f).params out.old done out.new) (out.new ≡ out.old) result }
-{
-    let (types, func) = function(held, number)?;
-    host_calls::lifted_params(&types, func, out)
+/// A part of the core signatures of a function: of the callee's core function, or of the caller's import.
+#[derive(Drop)]
+pub enum SignaturePart {
+    LiftedParams,
+    LiftedResult,
+    LoweredParams,
+    LoweredResult,
 }
 
-/// The kind of its result, if it has one.
-pub fn lifted_result(held: &Target, number: u32, out: &mut [u32]) -> Result<usize, CallError>
-    ensures { CallsFunction (held_package (option_map (λ held. held.value) held.now)) number (λ f done. KindsDone (lifted_signature f).results out.old done out.new) (out.new ≡ out.old) result }
+/// The kinds of a part of the core signatures.
+pub fn kinds(
+    held: &Target,
+    number: u32,
+    part: SignaturePart,
+    out: &mut [u32],
+) -> Result<usize, CallError>
+    ensures { CallsFunction (held_package (option_map (λ held. held.value) held.now)) number
+        (λ f done. KindsDone (kinds_of_part part f) out.old done out.new) (out.new ≡ out.old) result }
 {
     let (types, func) = function(held, number)?;
-    host_calls::lifted_result(&types, func, out)
-}
-
-/// The kinds of the parameters of the caller's import.
-pub fn lowered_params(held: &Target, number: u32, out: &mut [u32]) -> Result<usize, CallError>
-    ensures { CallsFunction (held_package (option_map (λ held. held.value) held.now)) number (λ f done. KindsDone (lowered_signature f).params out.old done out.new) (out.new ≡ out.old) result }
-{
-    let (types, func) = function(held, number)?;
-    host_calls::lowered_params(&types, func, out)
-}
-
-/// The kind of its result, if it has one.
-pub fn lowered_result(held: &Target, number: u32, out: &mut [u32]) -> Result<usize, CallError>
-    ensures { CallsFunction (held_package (option_map (λ held. held.value) held.now)) number (λ f done. KindsDone (lowered_signature f).results out.old done out.new) (out.new ≡ out.old) result }
-{
-    let (types, func) = function(held, number)?;
-    host_calls::lowered_result(&types, func, out)
+    match part {
+        SignaturePart::LiftedParams => host_calls::lifted_params(&types, func, out),
+        SignaturePart::LiftedResult => host_calls::lifted_result(&types, func, out),
+        SignaturePart::LoweredParams => host_calls::lowered_params(&types, func, out),
+        SignaturePart::LoweredResult => host_calls::lowered_result(&types, func, out),
+    }
 }

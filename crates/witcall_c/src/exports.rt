@@ -20,7 +20,7 @@ ghost use Rattle.witcall_c.specs.Version.{abi, library_version};
 ghost use Rattle.witcall_c.specs.Written.{WritesBinary, WritesText};
 
 use crate::call::Call;
-use crate::calls::NumberedHalf;
+use crate::calls::{NumberedHalf, SignaturePart};
 use crate::handle::Handle;
 use crate::held::{Held, find, find_of_world, line_of, types};
 use crate::line::tell_line;
@@ -442,7 +442,7 @@ pub extern "C" fn witcall_lifted_params(
         (λ f d. KindsDone (lifted_signature f).params kinds.old d kinds.new) (kinds.new ≡ kinds.old) }
 {
     let held = handle.take(alloc);
-    let done = calls::lifted_params(&held, func, kinds);
+    let done = calls::kinds(&held, func, SignaturePart::LiftedParams, kinds);
     handle.give(held);
     Status::of(done)
 }
@@ -459,7 +459,7 @@ pub extern "C" fn witcall_lifted_result(
         (λ f d. KindsDone (lifted_signature f).results kinds.old d kinds.new) (kinds.new ≡ kinds.old) }
 {
     let held = handle.take(alloc);
-    let done = calls::lifted_result(&held, func, kinds);
+    let done = calls::kinds(&held, func, SignaturePart::LiftedResult, kinds);
     handle.give(held);
     Status::of(done)
 }
@@ -476,7 +476,7 @@ pub extern "C" fn witcall_lowered_params(
         (λ f d. KindsDone (lowered_signature f).params kinds.old d kinds.new) (kinds.new ≡ kinds.old) }
 {
     let held = handle.take(alloc);
-    let done = calls::lowered_params(&held, func, kinds);
+    let done = calls::kinds(&held, func, SignaturePart::LoweredParams, kinds);
     handle.give(held);
     Status::of(done)
 }
@@ -493,7 +493,7 @@ pub extern "C" fn witcall_lowered_result(
         (λ f d. KindsDone (lowered_signature f).results kinds.old d kinds.new) (kinds.new ≡ kinds.old) }
 {
     let held = handle.take(alloc);
-    let done = calls::lowered_result(&held, func, kinds);
+    let done = calls::kinds(&held, func, SignaturePart::LoweredResult, kinds);
     handle.give(held);
     Status::of(done)
 }

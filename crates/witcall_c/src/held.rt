@@ -2,20 +2,20 @@
 ghost use Rattle.std.specs.Prelude.{◌≡◌, ◌<◌, IfOk, IfErr, length};
 ghost use Rattle.std.specs.Option.{option_map};
 ghost use Rattle.opening.specs.Sets.{all_bytes};
-ghost use Rattle.witcall_c.specs.Calls.{IsOpening, opening_status, FindsFunction, FindsOfWorld, HasFunction, HasNoFunction, LineOf, held_package, held_table};
+ghost use Rattle.witcall_c.specs.Calls.{IsOpening, opening_status, FindsFunction, FindsOfWorld, HasFunction, HasNoFunction, LineOf, held_indexed, held_package, held_table};
 
 use crate::line::tell_line;
 use error_numbers::Numbered;
 use host_calls::{CallError, Status, function_of, out_of_memory, refused};
 use lift_lower::Types;
-use opening::{OpenError, Package, is_out_of_memory, open_set};
+use opening::{IndexedPackage, OpenError, Package, is_out_of_memory, open_indexed};
 use std::alloc::Global;
 use tables::{Direction, FunctionId};
 
-/// A package, or why the bytes are none.
+/// A package with an index of its functions, or why the bytes are none.
 #[derive(Drop)]
 pub struct Held {
-    opened: Result<Package, OpenError>,
+    opened: Result<IndexedPackage, OpenError>,
 }
 
 impl Held {
@@ -25,7 +25,7 @@ impl Held {
         ensures { IsOpening (all_bytes inputs.now) result.opened }
     {
         Held {
-            opened: open_set(alloc, inputs),
+            opened: open_indexed(alloc, inputs),
         }
     }
 
@@ -64,13 +64,13 @@ pub fn line_of(held: &Target, line: &mut [u8]) -> Result<usize, CallError>
 pub fn find(held: &Target, interface: &[u8], name: &[u8]) -> Result<usize, CallError>
     ensures { FindsFunction (held_package (option_map (λ held. held.value) held.now)) interface.now name.now result }
 {
-    let Some(package) = package(held) else {
+    let Some(package) = indexed(held) else {
         return Err(CallError::NotOpen);
     };
     let (Ok(interface), Ok(name)) = (str::from_utf8(interface), str::from_utf8(name)) else {
         return Err(CallError::NoFunction);
     };
-    match package.resolve().function(interface, name) {
+    match package.function(interface, name) {
         Some(func) => Ok(func.0 as usize),
         None => Err(CallError::NoFunction),
     }
@@ -98,15 +98,25 @@ pub fn find_of_world(
     }
 }
 
-/// The package, if one is open.
-pub fn package(held: &Target) -> Option<&Package>
-    ensures { option_map (λ p. p.now) result ≡ held_package (option_map (λ held. held.value) held.now) }
+/// The package with its index, if one is open.
+fn indexed(held: &Target) -> Option<&IndexedPackage>
+    ensures { option_map (λ p. p.now) result ≡ held_indexed (option_map (λ held. held.value) held.now) }
 {
     match held {
         Some(held) => match &held.opened {
             Ok(package) => Some(package),
             Err(_) => None,
         },
+        None => None,
+    }
+}
+
+/// The package, if one is open.
+pub fn package(held: &Target) -> Option<&Package>
+    ensures { option_map (λ p. p.now) result ≡ held_package (option_map (λ held. held.value) held.now) }
+{
+    match indexed(held) {
+        Some(indexed) => Some(indexed.package()),
         None => None,
     }
 }
