@@ -12,6 +12,7 @@ ghost use Rattle.tables.specs.Labelled.{labelled_type};
 ghost use Rattle.tables.specs.declared.tables.ValType.{ValType};
 ghost use Rattle.package_form.specs.Laws.{HasOneOfEachName};
 ghost use Rattle.value_json.specs.Apart.{HasApartLabels};
+ghost use Rattle.value_json.specs.ByNames.{IsLabelledByNames};
 ghost use Rattle.value_json.specs.Json.{HasDistinctLabels};
 ghost use Rattle.witcall.specs.Laws.{PlacesHeld, StepsKeepHeld, StepsReadHeld, StepsReadPlaced, StepsTellCallee};
 
@@ -22,6 +23,7 @@ use canonical_abi::Guest;
 use opening::Package;
 use package_text::names_are_labels;
 use tables::laws::closes_alike;
+use value_json::labels_alike;
 
 /// A function of a package, or of one before it, that is found by its names is the only one of these names.
 pub fn has_one_function_of_each_name(package: &Package)
@@ -36,6 +38,14 @@ pub fn is_closed_by_names(package: &Package)
 {
     names_are_labels(package.resolve());
     closes_alike(package.resolve());
+}
+
+/// The labelled types of a package, by which values are JSON, are what its names alone tell.
+pub fn is_labelled_by_names(package: &Package)
+    ensures { ∥ IsLabelledByNames «package».now.resolve ∥₁ }
+{
+    names_are_labels(package.resolve());
+    labels_alike(package.resolve());
 }
 
 /// The labels of a type of a package differ: no record has one twice, and no variant, enum or flags.

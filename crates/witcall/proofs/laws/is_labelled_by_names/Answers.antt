@@ -1,0 +1,17 @@
+use Rattle.std.proofs.Common.{subst}
+use Rattle.std.proofs.Math.Logic.{∥∥₁_map}
+use Rattle.atoms.specs.Label.{IsLabel}
+use Rattle.package_adding.proofs.BeginningsAreImports.{interfaces-labelled}
+use Rattle.package_text.specs.Writable.{package_labels}
+use Rattle.std.specs.Prelude.{All}
+use Rattle.value_json.specs.ByNames.{LabelsAlike}
+use Rattle.tables.specs.declared.tables.Resolve.{Resolve}
+use Rattle.witcall.proofs.SetNamesStandForOne.{types-apart}
+use Rattle.witcall.proofs.laws.is_labelled_by_names.Goals as goal
+
+pub returns : goal.returns
+returns c =
+    let p = c.args.«package».now in
+    let labels = subst (λ (r : Resolve). All IsLabel (package_labels r)) c.resolve.ensures c.names_are_labels.ensures in
+    let law = subst LabelsAlike c.resolve-2.ensures c.labels_alike.ensures in
+    ∥∥₁_map p.tower (λ t. law (types-apart p.resolve t.form (interfaces-labelled p.resolve labels)))
