@@ -1,14 +1,17 @@
 //! What a row's calls over a link did, and what its values became that are lifted from core values or lowered to them, as JSON.
 //!
-//! `Calls` makes the calls of a row, and `conversion_told` converts a value of one. Packages are opened by `vectors`, which answers rows.
-//! docs/FORMATS.md has the form of rows. It stands on `vector_sides`, on `adapter` and on `value_json`.
+//! `Calls` makes the calls of a row, `conversion_told` converts a value of one, and `head_row_told` reads and writes a
+//! head. Packages are opened by `vectors`, which answers rows. docs/FORMATS.md has the form of rows. It stands on
+//! `adapter` and on `value_json`.
 #![tactic(auto)]
 
 mod calls;
 mod conversions;
 mod functions;
+mod heads;
 pub mod vector_sides;
 
 pub use calls::Calls;
 pub use conversions::conversion_told;
 pub use functions::{fault_told, function, parameter};
+pub use heads::head_row_told;

@@ -1,5 +1,5 @@
-//! Answers rows of JSON, one a line, with what they did, one a line: calls over a link, steps of a session, and values that are lifted or
-//! lowered. docs/FORMATS.md has the form. It shows implementers of other runtimes the answers of calls that carry the promise.
+//! Answers rows of JSON, one a line, with what they did, one a line: calls over a link, steps of a session, values that are lifted or
+//! lowered, and heads. docs/FORMATS.md has the form. It shows implementers of other runtimes the answers of calls that carry the promise.
 #![tactic(auto)]
 
 mod sessions;
@@ -7,7 +7,7 @@ mod sessions;
 use serde_json::Value;
 use std::alloc::Global;
 use vector_calls::vector_sides::package_bytes;
-use vector_calls::{Calls, conversion_told};
+use vector_calls::{Calls, conversion_told, head_row_told};
 use witcall::laws::has_labels_apart;
 use witcall::open;
 
@@ -29,6 +29,13 @@ fn value_told(alloc: Global, row: &Value) -> anyhow::Result<String> {
     conversion_told(alloc, row, &package.types())
 }
 
+/// What is told of a head that a row asks for.
+fn head_told(alloc: Global, row: &Value) -> anyhow::Result<String> {
+    let bytes = package_bytes(alloc, row)?;
+    let package = open(alloc, bytes.as_slice())?;
+    head_row_told(alloc, row, &package.types())
+}
+
 /// What is told of a row.
 fn told_of(alloc: Global, line: &str) -> anyhow::Result<String> {
     let row = Value::from_str(alloc, line)?;
@@ -37,6 +44,9 @@ fn told_of(alloc: Global, line: &str) -> anyhow::Result<String> {
     }
     if row.get("lift").is_some() || row.get("lower").is_some() {
         return value_told(alloc, &row);
+    }
+    if row.get("head_at").is_some() || row.get("head_of").is_some() {
+        return head_told(alloc, &row);
     }
     calls_told(alloc, &row)
 }

@@ -1,0 +1,188 @@
+//! Heads of nodes that are read from the caller's memory or from core values, and written into the callee's memory.
+
+ghost use Rattle.std.specs.Prelude.{◌≡◌, ◌+◌, ◌≤◌, IfOk, OnOk};
+ghost use Rattle.canonical_abi.specs.Layout.{size};
+ghost use Rattle.lift_lower.specs.Heads.{IsHeadOf, head_flats};
+ghost use Rattle.tables.specs.Closed.{closed_type};
+ghost use Rattle.values.specs.Types.{IsInside};
+
+use crate::functions::{fault_told, function, parameter};
+use crate::vector_sides::{
+    Logged, field, flats, guest, list, number, object_of, push_memories, text,
+};
+use canonical_abi::{Fault, Flat, Guest, Step, Trap, TrapKind};
+use layout::Shape;
+use lift_lower::{Head, Types, head_at, head_of, put_head};
+use serde_json::Value;
+use std::alloc::Global;
+use tables::ValType;
+use values::Scalar;
+use values::bytes::test_block;
+
+/// The type of the first parameter of the row's function.
+#[tactic(auto, using(crate::proofs::HeadsAreOfTheirTypes::inside))]
+fn type_of(types: &Types<'_>, row: &Value) -> anyhow::Result<ValType>
+    ensures { IfOk result (IsInside «types».now) }
+{
+    let resolve = types.resolve();
+    let f = function(resolve, "a:b/c", text(row.get("func"))?)?;
+    let ty = parameter(resolve, f)?;
+    if resolve.is_type(ty) {
+        return Ok(ty);
+    }
+    Err(anyhow::anyhow!("no type"))
+}
+
+/// Tests that a memory has the bytes of a value of a type at an address.
+fn test_value(types: &Types<'_>, ty: ValType, length: u32, at: u32) -> Result<(), TrapKind>
+    requires { IsInside «types».now ty }
+    ensures { OnOk result (at + size (closed_type «types».now ty) ≤ length) }
+{
+    test_block(
+        length as usize,
+        at as usize,
+        types.align_of(ty),
+        types.size_of(ty),
+    )
+}
+
+/// The head of the value at an address of a memory.
+#[tactic(auto, using(crate::proofs::HeadsAreOfTheirTypes::stored_head))]
+fn stored_head(types: &Types<'_>, ty: ValType, memory: &Logged, at: u32) -> Result<Head, TrapKind>
+    requires { IsInside «types».now ty }
+    ensures { IfOk result (IsHeadOf (closed_type «types».now ty)) }
+{
+    test_value(types, ty, memory.len(), at)?;
+    head_at(types, ty, memory.bytes(), at as usize)
+}
+
+/// How many core values the head of a value takes.
+fn count_of_flats(types: &Types<'_>, ty: ValType) -> usize
+    requires { IsInside «types».now ty }
+    ensures { result ≡ head_flats (closed_type «types».now ty) }
+{
+    match types.shape_of(ty) {
+        Shape::Record(_) => 0,
+        Shape::String | Shape::List(_) => 2,
+        Shape::Primitive(_) | Shape::Variant(_) | Shape::Flags(_) => 1,
+    }
+}
+
+/// The head of the value that core values begin with.
+#[tactic(auto, using(crate::proofs::HeadsAreOfTheirTypes::flat_head))]
+fn flat_head(
+    types: &Types<'_>,
+    ty: ValType,
+    memory: &Logged,
+    flats: &[Flat],
+) -> Result<Head, TrapKind>
+    requires { IsInside «types».now ty }
+    ensures { IfOk result (IsHeadOf (closed_type «types».now ty)) }
+{
+    if flats.len() < count_of_flats(types, ty) {
+        return Err(TrapKind::CoreSignature);
+    }
+    head_of(types, ty, memory.bytes(), flats)
+}
+
+/// Writes a head at an address that has the bytes of a value of its type.
+fn put(
+    types: &Types<'_>,
+    ty: ValType,
+    head: Head,
+    target: (&mut Logged, u32),
+) -> Result<(), TrapKind>
+    requires inside { IsInside «types».now ty }
+    requires known { IsHeadOf (closed_type «types».now ty) head }
+{
+    let (memory, at) = target;
+    test_value(types, ty, memory.len(), at)?;
+    put_head(types, ty, head, memory, at as usize);
+    Ok(())
+}
+
+/// The trap of this kind, in this step.
+fn trap(kind: TrapKind, step: Step) -> Fault {
+    Fault::Trap(Trap { kind, step })
+}
+
+/// A scalar as JSON: a char is its number.
+fn scalar_told(alloc: Global, scalar: Scalar) -> anyhow::Result<String> {
+    Ok(match scalar {
+        Scalar::Bool(value) => format!(in alloc; "{value}")?,
+        Scalar::S8(number) => format!(in alloc; "{number}")?,
+        Scalar::U8(number) => format!(in alloc; "{number}")?,
+        Scalar::S16(number) => format!(in alloc; "{number}")?,
+        Scalar::U16(number) => format!(in alloc; "{number}")?,
+        Scalar::S32(number) => format!(in alloc; "{number}")?,
+        Scalar::U32(number) => format!(in alloc; "{number}")?,
+        Scalar::S64(number) => format!(in alloc; "{number}")?,
+        Scalar::U64(number) => format!(in alloc; "{number}")?,
+        Scalar::Char(c) => format!(in alloc; "{}", u32::from(c))?,
+    })
+}
+
+/// A head as JSON.
+fn head_told(alloc: Global, head: Head) -> anyhow::Result<String> {
+    Ok(match head {
+        Head::Scalar(scalar) => {
+            format!(in alloc; "{{\"scalar\":{}}}", scalar_told(alloc, scalar)?)?
+        }
+        Head::Block(at, count) => format!(in alloc; "{{\"block\":[{at},{count}]}}")?,
+        Head::Case(number) => format!(in alloc; "{{\"case\":{number}}}")?,
+        Head::Flags(bits) => format!(in alloc; "{{\"flags\":{bits}}}")?,
+        Head::Nothing => String::from_str(alloc, "\"nothing\"")?,
+    })
+}
+
+/// The head that a row asks for: at an address, or of core values.
+fn asked_head(
+    alloc: Global,
+    row: &Value,
+    types: &Types<'_>,
+    memory: &Logged,
+) -> anyhow::Result<(ValType, Result<Head, TrapKind>)>
+    ensures inside { IfOk result (λ r. IsInside «types».now r.0) }
+    ensures known { IfOk result (λ r. IfOk r.1 (IsHeadOf (closed_type «types».now r.0))) }
+{
+    let ty = type_of(types, row)?;
+    let head = match field(row, "head_of") {
+        None => stored_head(types, ty, memory, number(row.get("head_at"))?),
+        values => {
+            let flats = flats(alloc, list(values))?;
+            flat_head(types, ty, memory, flats.as_slice())
+        }
+    };
+    Ok((ty, head))
+}
+
+/// What is told of the head that a row asks for, which is written at an address of the other memory if the row has one.
+fn answer_told(
+    alloc: Global,
+    row: &Value,
+    types: &Types<'_>,
+    (source, target): (&Logged, &mut Logged),
+) -> anyhow::Result<String> {
+    let (ty, head) = asked_head(alloc, row, types, source)?;
+    let head = match head {
+        Ok(head) => head,
+        Err(kind) => return fault_told(alloc, trap(kind, Step::Take)),
+    };
+    if let Some(at) = field(row, "put_at") {
+        let at = number(Some(at))?;
+        if let Err(kind) = put(types, ty, head, (target, at)) {
+            return fault_told(alloc, trap(kind, Step::Place));
+        }
+    }
+    Ok(format!(in alloc; "{{\"head\":{}}}", head_told(alloc, head)?)?)
+}
+
+/// What is told of a row that asks for a head, and of the memories.
+pub fn head_row_told(alloc: Global, row: &Value, types: &Types<'_>) -> anyhow::Result<String> {
+    let (caller, mut callee) = (guest(alloc, row, 0)?, guest(alloc, row, 1)?);
+    let told = answer_told(alloc, row, types, (&caller, &mut callee))?;
+    let mut members = Vec::new(alloc);
+    members.push(format!(in alloc; "\"answers\":[{told}]")?)?;
+    push_memories(alloc, &mut members, &caller, &callee, true)?;
+    Ok(object_of(alloc, members.as_slice())?)
+}
