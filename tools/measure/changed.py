@@ -12,8 +12,10 @@ from . import texts
 
 COMMENT = re.compile(r"//[^\n]*")
 LINE = re.compile(rb"error [0-9]+ [^\n]*\n")
-FRONTS = re.compile(r"(\d+) fronts: \d+ opened, \d+ refused, \d+ within a character; the whole: ")
-CHANGES = re.compile(r"(\d+) fronts told as cut, (\d+) changed: (\d+) packages")
+ERRORS = r"(?:, \d+ error \d+)*"
+COUNTS = rf"\d+ (?:opened|error \d+){ERRORS}"
+FRONTS = re.compile(rf"(\d+) fronts: {COUNTS}; the whole: ")
+CHANGES = re.compile(rf"(\d+) fronts, \1 told as cut: {COUNTS}; (\d+) changed: (\d+) packages{ERRORS}")
 EARLIER = [f"--with={ROOT}/examples/wasi/{name}.wit" for name in ("clocks", "random", "cli")]
 
 

@@ -14,6 +14,7 @@ runs and of rows, and nothing in them comes from the program's sources.
 | `calls` | calls by core values |
 | `json_values` | values as JSON |
 | `sessions` | typed calls, and what is placed, read and released |
+| `heads` | what one value has of its own |
 | `jobs`, `layouts`, `rows`, `text_rows` | lines that ask, and lines that answer |
 | `reading_rows`, `atoms`, `memory_rows` | the same of numbers, names, command lines and memories |
 | `cases` | the lines that are asked: stored ones and random ones |

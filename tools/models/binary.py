@@ -174,6 +174,18 @@ def split_name(full):
     return PackageName(*package.split(":"), version or None), name
 
 
+class Again(str):
+    """A name that its scope has before, and that is another one all the same: the bytes tell them apart by their indices."""
+
+    def __eq__(self, other):
+        return self is other
+
+    def __ne__(self, other):
+        return self is not other
+
+    __hash__ = object.__hash__
+
+
 class Bytes:
     """Bytes that are read from the left."""
 
@@ -218,6 +230,7 @@ class InstanceReader:
     def __init__(self, data, used):
         self.data, self.used = data, used
         self.types, self.uses, self.typedefs, self.functions = [], [], [], []
+        self.names = set()
 
     def value_type(self):
         """A type inside a definition."""
@@ -285,6 +298,8 @@ class InstanceReader:
             self.functions.append(wit.Function(name, *self.types[self.data.number()]))
             return
         self.data.bytes(0)
+        name = Again(name) if name in self.names else name
+        self.names.add(name)
         self.typed(name, self.types[self.data.number()])
         self.types.append(Name(name))
 
@@ -305,7 +320,7 @@ class InstanceReader:
 
 
 class WorldReader(InstanceReader):
-    """Reads the declarations of a world's component type; `used` has the names of the interfaces, by the indices of their types."""
+    """Reads the declarations of a world's component type; `used` has the packages and names of the interfaces, by the indices of their types."""
 
     def __init__(self, data, used):
         super().__init__(data, used)
@@ -318,7 +333,7 @@ class WorldReader(InstanceReader):
             self.types.append(self.definition())
         elif begin == ALIAS:
             self.data.bytes(3, 2, 1)
-            self.types.append(self.data.number())
+            self.types.append(self.used[self.data.number()])
         else:
             self.item("import" if begin == IMPORT else "export", self.data.extern())
 
@@ -327,8 +342,15 @@ class WorldReader(InstanceReader):
         is_function = self.data.byte() == 1
         index = self.data.number()
         function = wit.Function(name, *self.types[index]) if is_function else None
-        path = None if is_function else split_name(name)
-        self.items.append(wit.WorldItem(direction, path and Path(*path), function))
+        path = None if is_function else self.path(name, self.types[index])
+        self.items.append(wit.WorldItem(direction, path, function))
+
+    def path(self, name, there):
+        """The path of an interface of this full name, which is the one there."""
+        package, own = there
+        if package.full(own) != name:
+            raise ValueError(f"{name} is another interface")
+        return Path(package, own)
 
     def world(self, name):
         """The world that the declarations are."""
@@ -343,6 +365,8 @@ class PackageReader:
         self.data = data
         # by type index what an alias uses; by instance index the full name of an interface
         self.types, self.instances = [], []
+        # by type index the package and the name of an interface
+        self.interfaces = {}
         self.imports, self.items, self.name = [], [], None
 
     def declaration(self):
@@ -361,19 +385,22 @@ class PackageReader:
         """An instance type, or a world's component type, whose name comes later."""
         if code == INSTANCE:
             return InstanceReader(self.data, self.types).interface(None)
-        return WorldReader(self.data, self.types).world(None)
+        return WorldReader(self.data, self.interfaces).world(None)
 
     def named(self, direction, package, name):
         """An import or export of an interface, or the export of a world."""
         self.data.byte()
-        item = self.types[self.data.number()]
+        index = self.data.number()
+        item = self.types[index]
+        if isinstance(item, wit.Interface):
+            name = Again(name) if (package, name) in self.instances else name
+            self.instances.append((package, name))
+            self.interfaces[index] = package, name
         if direction == IMPORT:
             self.imports.append((package, replace(item, name=name)))
         else:
             self.name = package
             self.items.append(replace(item, name=name))
-        if isinstance(item, wit.Interface):
-            self.instances.append((package, name))
 
     def package(self):
         """The package, and its imports: each the name of a package and an interface."""

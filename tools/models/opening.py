@@ -17,15 +17,36 @@ MOST_DEPTH, MOST_SIZE = 64, 16777216
 
 def opened(inputs):
     """The set of these texts and binaries."""
+    return with_layouts(begun(inputs))
+
+
+def begun(inputs):
+    """The set of these texts and binaries, whose layouts aren't tested yet."""
     packages = Set()
     for data in inputs:
-        if len(packages.packages) == MOST_PACKAGES:
-            raise Refused("49 set limit")
-        data = data.encode() if isinstance(data, str) else data
-        add = add_binary if data.startswith(MARK) else add_text
         add(packages, data)
+    return packages
+
+
+def opened_behind(before, data):
+    """The set of one more text or binary behind those of a set, whose layouts aren't tested yet."""
+    packages = before.copy()
+    add(packages, data)
+    return with_layouts(packages)
+
+
+def with_layouts(packages):
+    """A set, if nothing in it is past the limits of layouts."""
     test_layouts(packages)
     return packages
+
+
+def add(packages, data):
+    """Opens one more package."""
+    if len(packages.packages) == MOST_PACKAGES:
+        raise Refused("49 set limit")
+    data = data.encode() if isinstance(data, str) else data
+    (add_binary if data.startswith(MARK) else add_text)(packages, data)
 
 
 def add_text(packages, data):

@@ -1,8 +1,8 @@
 """Reading rows (docs/FORMATS.md): numbers, names, texts, command lines, binaries and memories, each alone."""
-from . import atoms, component, memory_rows
+from . import atoms, changed, component, memory_rows
 
 COMMANDS = {**{command: lambda rest, command=command: atoms.answer(command, rest) for command in atoms.COMMANDS}}
-COMMANDS |= component.COMMANDS | memory_rows.COMMANDS
+COMMANDS |= component.COMMANDS | changed.COMMANDS | memory_rows.COMMANDS
 
 
 def answers(lines):

@@ -1,7 +1,7 @@
 """Sessions: typed values placed, read, released and passed by calls, and the rows of crates/vectors that are lists of such steps."""
 import json
 
-from . import calls, json_values
+from . import calls, heads, json_values
 from .calls import Acting, Link, guests_of, line_of, memories_told, package_of
 from .crossing import Flat, Given, Stored, Way, value_at
 from .faults import Stopped, Trap
@@ -207,5 +207,7 @@ def call_answers(lines):
         row = json.loads(line)
         if "steps" in row:
             yield line_of(told(row))
+        elif "head_at" in row or "head_of" in row:
+            yield line_of(heads.row_told(row))
         else:
             yield line_of(converted_told(row) if "lift" in row or "lower" in row else calls.told(row))

@@ -39,6 +39,13 @@ class Set:
     def __init__(self):
         self.packages, self.closed_names, self.owned = [], {}, {}
 
+    def copy(self):
+        """The same set, to which others can be added."""
+        other = Set()
+        other.packages = list(self.packages)
+        other.closed_names, other.owned = dict(self.closed_names), dict(self.owned)
+        return other
+
     def keep(self, package):
         """Takes one more package, which nothing refuses but a cycle."""
         self.packages.append(ordered(package))

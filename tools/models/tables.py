@@ -2,6 +2,7 @@
 from dataclasses import dataclass
 
 from . import abi, wit
+from .faults import Refused
 from .wit import Built, Name
 
 
@@ -35,20 +36,40 @@ def count(types):
     return sum(ty is not None for ty in types)
 
 
-def own_rows(packages, number):
-    """The rows of one package: those of its interfaces, and then those of its worlds."""
-    package = packages.packages[number]
-    for interface in package.interfaces:
-        yield from Rows(packages, number, interface).all()
-    for world in package.worlds:
+def world_rows(packages, number):
+    """The rows of the functions of a package's worlds."""
+    for world in packages.packages[number].worlds:
         functions = tuple(item.function for item in world.items if item.function)
         yield from Rows(packages, number, wit.Interface(world.name, (), (), functions)).all()
+
+
+def own_rows(packages, number):
+    """The rows of one package: those of its interfaces, and then those of its worlds."""
+    for interface in packages.packages[number].interfaces:
+        yield from Rows(packages, number, interface).all()
+    yield from world_rows(packages, number)
 
 
 def set_rows(packages):
     """The rows of a set's table, package by package."""
     for number in range(len(packages.packages)):
         yield from own_rows(packages, number)
+
+
+def named_rows(packages):
+    """The rows of a set's table, each with the full name of its interface; with None, of a world."""
+    for number, package in enumerate(packages.packages):
+        for interface in package.interfaces:
+            yield from ((package.name.full(interface.name), row) for row in Rows(packages, number, interface).all())
+        yield from ((None, row) for row in world_rows(packages, number))
+
+
+def function_number(packages, full_name, name):
+    """The number of the row of a function, by its interface's full name and its own."""
+    for number, (owner, row) in enumerate(named_rows(packages)):
+        if row.is_function and (owner, row.name) == (full_name, name):
+            return number
+    raise Refused("63 no function")
 
 
 def definitions(packages):

@@ -8,12 +8,15 @@ from . import changed, reading, rows, sessions
 from .faults import Refused, Trap
 from .jobs import JOBS
 from .opening import opened
-from .tables import set_rows, work
+from .tables import function_number, set_rows, work
 
 TOKEN = re.compile(r'"([^"]*)"|([^\s",]+)|(,)')
 STATUS = {Trap: " (3)"}
+CHANGED = {"fronts": changed.fronts, "changes": changed.changes}
 # opening a package of so many bytes again takes minutes
 NOT_COMPUTED = ("entries-65535-again",)
+# the commands that name a function, and how many words stand before the inputs
+NAMING = {"call": 4, "find": 2}
 
 
 def letters(number):
@@ -74,32 +77,6 @@ def again(inputs):
     return all({name: job(opened([*inputs[:-1], data])) for name, job in JOBS.items()} == made for data in written)
 
 
-def told(inputs):
-    """What opening a set answers."""
-    try:
-        opened(inputs)
-        return "opened"
-    except Refused as refused:
-        return str(refused)
-
-
-def cuts(inputs):
-    """What each front of a text answers, with its length."""
-    *earlier, data = inputs
-    return [f"{length} {told([*earlier, data[:length]])}" for length in range(len(data))]
-
-
-def fronts(inputs):
-    """How many fronts of a text are opened, are refused, and end within a character; and what the whole answers."""
-    *earlier, data = inputs
-    answers = [told([*earlier, data[:length]]) for length in range(len(data))]
-    opened_fronts = answers.count("opened")
-    within = sum(answer.startswith("error 60 ") for answer in answers)
-    refused = len(answers) - opened_fronts - within
-    counts = f"{opened_fronts} opened, {refused} refused, {within} within a character"
-    return [f"{len(answers)} fronts: {counts}; the whole: {told(inputs)}"]
-
-
 def short(lines, room):
     """What is written of an output where there is so much room, in hexadecimal digits, and how that ends."""
     data = "".join(f"{line}\n" for line in lines).encode() if isinstance(lines, list) else lines
@@ -136,8 +113,8 @@ def answer_to(command, inputs):
     if command == "parse":
         reading.read(inputs[-1])
         return ["read"]
-    if command in ("cuts", "fronts"):
-        return {"cuts": cuts, "fronts": fronts}[command](inputs)
+    if command == "cuts":
+        return changed.cuts(inputs)
     if command == "again":
         return ["the same" if again(inputs) else "something else"]
     packages = opened(inputs)
@@ -152,17 +129,19 @@ def answer(kept, asked):
     if command in rows.COMMANDS:
         return [rows.answer(command, rest)], True
     words = []
-    if command == "call":
-        *words, rest = rest.split(" ", 4)
+    if command in NAMING:
+        *words, rest = rest.split(" ", NAMING[command])
     try:
         if command in ("streamed", "short-call"):
             return [stream_answer(kept, command, rest)], True
         inputs = kept.of(rest)
+        if command == "find":
+            return [str(function_number(opened(inputs), *words))], True
         if words:
             return [called(inputs, words)], True
-        if command == "changes":
-            return [changed.told(inputs)], True
-        return answer_to(command, inputs), command in ("parse", "open", "bin", "again", "work", "fronts")
+        if command in CHANGED:
+            return [CHANGED[command](inputs)], True
+        return answer_to(command, inputs), command in ("parse", "open", "bin", "again", "work")
     except (Refused, Trap) as fault:
         return [f"{fault}{STATUS.get(type(fault), '')}"], True
 

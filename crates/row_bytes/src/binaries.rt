@@ -1,7 +1,7 @@
 //! Component type binaries: at once and by a reader that gives a byte at a time, may fail, or never ends.
 
 use ctype_bin::{BinError, Fault, RawComponent, decode, decode_from, encode};
-use row_inputs::{Drip, Zeros, first_word};
+use row_inputs::{Drip, Tally, Zeros, decoded_number, first_word};
 use std::alloc::Global;
 
 /// What decoding by a reader answers that gives a byte at a time, and fails after so many.
@@ -17,17 +17,22 @@ fn told(alloc: Global, component: &RawComponent) -> anyhow::Result<String> {
 
 /// The shortest bytes of a component.
 fn written(alloc: Global, component: &RawComponent) -> anyhow::Result<Vec<u8>> {
-    let mut out = Vec::new(alloc);
-    encode(alloc, component, &mut out)?;
-    Ok(out)
+    put_behind(alloc, component, &[])
+}
+
+/// The bytes of a component behind those of a front, which are left alone where it is refused.
+fn put_behind(alloc: Global, component: &RawComponent, front: &[u8]) -> anyhow::Result<Vec<u8>> {
+    let mut out = front.to_vec(alloc)?;
+    match encode(alloc, component, &mut out) {
+        Ok(()) => Ok(out),
+        Err(error) if out.as_slice() == front => Err(anyhow::anyhow!("{error}")),
+        Err(_) => Err(anyhow::anyhow!("written where it is refused")),
+    }
 }
 
 /// The bytes of the component that these bytes are, behind those of a front.
 fn encoded(alloc: Global, bytes: &[u8], front: &[u8]) -> anyhow::Result<Vec<u8>> {
-    let component = decode(alloc, bytes)?;
-    let mut out = front.to_vec(alloc)?;
-    encode(alloc, &component, &mut out)?;
-    Ok(out)
+    put_behind(alloc, &decode(alloc, bytes)?, front)
 }
 
 /// Whether two readings are alike: the same component, or the same error.
@@ -50,99 +55,117 @@ fn decoded(alloc: Global, bytes: &[u8]) -> anyhow::Result<String> {
 
 /// What is told of a component that is read byte by byte, which has to be the one that is read at once.
 fn drip(alloc: Global, bytes: &[u8]) -> anyhow::Result<String> {
-    let slow = dripped(alloc, bytes, usize::MAX);
-    if !are_alike(alloc, &decode(alloc, bytes), &slow)? {
-        return Err(anyhow::anyhow!("byte by byte something else"));
-    }
-    told(alloc, &slow?)
+    told(alloc, &read_twice(alloc, bytes)??)
 }
 
-/// Whether the bytes are a component that is written as what decodes to the same. Fails where they are refused with a fault that is not
-/// within them, unless it is at the end of a section that is too long for them, or where a reader's answer is another.
-fn is_component(alloc: Global, bytes: &[u8]) -> anyhow::Result<bool> {
+/// What decoding answers, which a reader's answer has to be too.
+fn read_twice(alloc: Global, bytes: &[u8]) -> anyhow::Result<Result<RawComponent, BinError>> {
     let fast = decode(alloc, bytes);
     if !are_alike(alloc, &fast, &dripped(alloc, bytes, usize::MAX))? {
         return Err(anyhow::anyhow!("byte by byte something else"));
     }
-    match fast {
-        Ok(_) => {}
-        Err(BinError::At(fault, place)) if place <= bytes.len() || fault == Fault::SizeMismatch => {
-            return Ok(false);
-        }
-        Err(error) => return Err(anyhow::anyhow!("{error}")),
-    }
-    let first = encoded(alloc, bytes, &[])?;
+    Ok(fast)
+}
+
+/// Fails if a component is not written as what decodes to the same.
+fn test_kept(alloc: Global, component: &RawComponent) -> anyhow::Result<()> {
+    let first = written(alloc, component)?;
     if encoded(alloc, first.as_slice(), &[])? != first {
         return Err(anyhow::anyhow!("written as something else"));
     }
-    Ok(true)
+    Ok(())
 }
 
-/// How many of the 256 values of a byte give a component.
-fn components_at(alloc: Global, bytes: &[u8], place: usize) -> anyhow::Result<usize> {
+/// The number of the error that bytes are refused with, or 0 for a component. Fails where the error is not within them, unless it is at
+/// the end of a section that is too long for them.
+fn kept_number(alloc: Global, bytes: &[u8]) -> anyhow::Result<u32> {
+    let answer = read_twice(alloc, bytes)?;
+    match &answer {
+        Ok(component) => test_kept(alloc, component)?,
+        Err(BinError::At(fault, place)) if *place <= bytes.len() || *fault == Fault::SizeMismatch =>
+            {}
+        Err(error) => return Err(anyhow::anyhow!("{error}")),
+    }
+    Ok(decoded_number(&answer))
+}
+
+/// Counts what the 256 values of a byte answer.
+fn take_values(alloc: Global, bytes: &[u8], place: usize, tally: &mut Tally) -> anyhow::Result<()> {
     let mut changed = bytes.to_vec(alloc)?;
-    let mut count: usize = 0;
     for byte in 0..=255 {
         if let Some(old) = changed.as_mut_slice().get_mut(place) {
             *old = byte;
         }
-        if is_component(alloc, changed.as_slice())? {
-            count = count.saturating_add(1);
-        }
+        tally.take(kept_number(alloc, changed.as_slice())?);
     }
-    Ok(count)
+    Ok(())
 }
 
-/// How many of the bytes that differ in one byte are components.
-fn changes(alloc: Global, bytes: &[u8]) -> anyhow::Result<String> {
-    let mut count: usize = 0;
-    for place in 0..bytes.len() {
-        count = count.saturating_add(components_at(alloc, bytes, place)?);
+/// How often each answer comes of the bytes that differ in one of so many first ones.
+fn changed(alloc: Global, bytes: &[u8], count: usize) -> anyhow::Result<String> {
+    let count = count.min(bytes.len());
+    let mut tally = Tally::new();
+    for place in 0..count {
+        take_values(alloc, bytes, place, &mut tally)?;
     }
-    Ok(format!(in alloc;
-        "{} changed: {count} components",
-        bytes.len().saturating_mul(256)
-    )?)
+    let (changed, counts) = (count.saturating_mul(256), tally.told(alloc, "components")?);
+    Ok(format!(in alloc; "{changed} changed: {counts}")?)
 }
 
-/// Whether each front is told as cut at its end, at once and byte by byte.
+/// Counts what a front answers, and tells whether it is told as cut at its end.
+fn is_cut(alloc: Global, front: &[u8], tally: &mut Tally) -> anyhow::Result<bool> {
+    let answer = read_twice(alloc, front)?;
+    tally.take(decoded_number(&answer));
+    Ok(matches!(answer, Err(BinError::At(Fault::Truncated, place)) if place == front.len()))
+}
+
+/// How many fronts are told as cut at their end, and how often each answer comes of them.
 fn cuts(alloc: Global, bytes: &[u8]) -> anyhow::Result<String> {
+    let mut tally = Tally::new();
+    let mut cut: usize = 0;
     for length in 0..bytes.len() {
-        let front = bytes.get(..length).unwrap_or(&[]);
-        let fast = decode(alloc, front);
-        let is_cut =
-            matches!(&fast, Err(BinError::At(Fault::Truncated, place)) if *place == length);
-        if !is_cut || !are_alike(alloc, &fast, &dripped(alloc, front, usize::MAX))? {
-            return Err(anyhow::anyhow!("another answer at {length}"));
+        if is_cut(alloc, bytes.get(..length).unwrap_or(&[]), &mut tally)? {
+            cut = cut.saturating_add(1);
         }
     }
-    Ok(format!(in alloc; "{} fronts told as cut", bytes.len())?)
+    let (count, counts) = (bytes.len(), tally.told(alloc, "components")?);
+    Ok(format!(in alloc; "{count} fronts, {cut} told as cut: {counts}")?)
+}
+
+/// The number that begins words, and the bytes of the digits behind it.
+fn numbered(alloc: Global, words: &str) -> anyhow::Result<(usize, Vec<u8>)> {
+    let (number, digits) = first_word(words)?;
+    Ok((number.parse::<usize>()?, hex::decode(alloc, digits)?))
 }
 
 /// What a reader that fails after so many bytes is told as.
 fn failing(alloc: Global, words: &str) -> anyhow::Result<String> {
-    let (place, digits) = first_word(words)?;
-    let bytes = hex::decode(alloc, digits)?;
-    let component = dripped(alloc, bytes.as_slice(), place.parse::<usize>()?)?;
-    told(alloc, &component)
+    let (place, bytes) = numbered(alloc, words)?;
+    told(alloc, &dripped(alloc, bytes.as_slice(), place)?)
+}
+
+fn changes(alloc: Global, words: &str) -> anyhow::Result<String> {
+    let (count, bytes) = numbered(alloc, words)?;
+    changed(alloc, bytes.as_slice(), count)
+}
+
+/// What a command about bytes is answered.
+fn done_with(alloc: Global, word: &str, bytes: &[u8]) -> anyhow::Result<String> {
+    match word {
+        "decode" => decoded(alloc, bytes),
+        "drip" => drip(alloc, bytes),
+        "encode" => Ok(hex::encode(alloc, encoded(alloc, bytes, &[0xaa, 0xbb])?.as_slice())?),
+        "component-cuts" => cuts(alloc, bytes),
+        _ => Err(anyhow::anyhow!("no such command: {word}")),
+    }
 }
 
 /// What a command is answered.
 pub fn done(alloc: Global, word: &str, rest: &str) -> anyhow::Result<String> {
-    if word == "failing" {
-        return failing(alloc, rest);
-    }
-    if word == "endless" {
-        return told(alloc, &decode_from(alloc, &mut Zeros)?);
-    }
-    let bytes = hex::decode(alloc, rest)?;
-    let bytes = bytes.as_slice();
     match word {
-        "decode" => decoded(alloc, bytes),
-        "drip" => drip(alloc, bytes),
-        "encode" => Ok(hex::encode(alloc, encoded(alloc, bytes, b"ab")?.as_slice())?),
-        "component-changes" => changes(alloc, bytes),
-        "component-cuts" => cuts(alloc, bytes),
-        _ => Err(anyhow::anyhow!("no such command: {word}")),
+        "failing" => failing(alloc, rest),
+        "component-changes" => changes(alloc, rest),
+        "endless" => told(alloc, &decode_from(alloc, &mut Zeros)?),
+        _ => done_with(alloc, word, hex::decode(alloc, rest)?.as_slice()),
     }
 }

@@ -54,12 +54,15 @@ fn tree(alloc: Global, text: &str) -> anyhow::Result<String> {
     )?)
 }
 
-/// The canonical text of a tree, behind a letter that is there.
+/// The canonical text of a tree, behind a letter that is there, and is left alone where the text is refused.
 fn printed(alloc: Global, text: &str) -> anyhow::Result<String> {
     let ast = parse(alloc, text)?;
     let mut out = String::from_str(alloc, "x")?;
-    print_file(alloc, &ast, &mut out)?;
-    Ok(format!(in alloc; "{out:?}")?)
+    match print_file(alloc, &ast, &mut out) {
+        Ok(()) => Ok(format!(in alloc; "{out:?}")?),
+        Err(error) if out.as_str() == "x" => Err(anyhow::anyhow!("{error}")),
+        Err(_) => Err(anyhow::anyhow!("printed where it is refused")),
+    }
 }
 
 /// What the words of a command line ask for, which single spaces part.

@@ -5,4 +5,4 @@
 pub mod changes;
 mod opened;
 
-pub use opened::{Wanted, opened_behind, parsed, told_of};
+pub use opened::{Wanted, indexed_behind, opened_behind, parsed, told_of};

@@ -2,7 +2,7 @@
 
 ghost use Rattle.std.specs.Prelude.{◌<◌, IfOk, length};
 
-use opening::{OpenError, Package, open_set};
+use opening::{IndexedPackage, OpenError, Package, open_indexed, open_set};
 use row_inputs::Set;
 use std::alloc::{AllocError, Global};
 use wit_text::parse;
@@ -39,6 +39,16 @@ pub fn opened_behind(
 ) -> Result<Package, OpenError> {
     let inputs = inputs(alloc, earlier, last)?;
     open_set(alloc, inputs.as_slice())
+}
+
+/// The same package, with an index of its functions.
+pub fn indexed_behind(
+    alloc: Global,
+    earlier: &[Vec<u8>],
+    last: &[u8],
+) -> Result<IndexedPackage, OpenError> {
+    let inputs = inputs(alloc, earlier, last)?;
+    open_indexed(alloc, inputs.as_slice())
 }
 
 /// The text of a copy of the package.

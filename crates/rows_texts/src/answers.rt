@@ -1,6 +1,7 @@
 //! What a row is answered.
 
 use crate::calls::{called, job_of, short_call, streamed};
+use crate::finding::found;
 use crate::json;
 use crate::opened::{line_of, package, told};
 use atoms::Watched;
@@ -10,7 +11,7 @@ use row_inputs::{Inputs, Set, inputs_in};
 use row_sets::changes::{changes, cuts, fronts, is_opened_alone};
 use row_sets::{Wanted, parsed, told_of};
 use std::alloc::Global;
-use witcall::{Refused, run_set};
+use witcall::{Refused, run, run_set};
 use words::asked::Job;
 
 /// What is wanted of the package of a set, or the line of its refusal.
@@ -30,11 +31,14 @@ fn opened(alloc: Global, set: &Set) -> anyhow::Result<String> {
     Ok(answer)
 }
 
-/// What a job makes of a set.
+/// What a job makes of a set. A set of one input is given to `run`.
 fn made(alloc: Global, job: Job, set: &Set) -> Result<Vec<u8>, Refused> {
     let mut output = Watched::new(Vec::new(alloc));
     let mut input = Watched::new(set.last.as_slice());
-    run_set(alloc, job, set.earlier.as_slice(), &mut input, &mut output)?;
+    match set.earlier.as_slice() {
+        [] => run(alloc, job, &mut input, &mut output)?,
+        earlier => run_set(alloc, job, earlier, &mut input, &mut output)?,
+    }
     Ok(output.into_inner())
 }
 
@@ -108,6 +112,7 @@ pub fn answer_of(alloc: Global, kept: &Inputs, asked: &str) -> anyhow::Result<St
     let (word, rest) = asked.split_once(' ').unwrap_or((asked, ""));
     match word {
         "call" => called(alloc, kept, rest),
+        "find" => found(alloc, kept, rest),
         "short-call" => short_call(alloc, kept, rest),
         "streamed" => streamed(alloc, kept, rest),
         "json" => json::answer_of(alloc, false, rest),

@@ -6,7 +6,7 @@ use crate::opened::{line_of, package, told};
 use atoms::{Sink, Watched};
 use row_inputs::{Drip, Inputs, Set, Short, first_word, inputs_in};
 use std::alloc::Global;
-use witcall::{Package, Refused, Reply, run_call, run_set};
+use witcall::{Package, Refused, Reply, run, run_call, run_set};
 use words::asked::Job;
 
 /// The words of a call.
@@ -135,7 +135,10 @@ fn short_made(
 ) -> anyhow::Result<String> {
     let mut output = Short::new(Vec::new(alloc), room);
     let mut input = Drip::new(set.last.as_slice(), fails_at);
-    let ended = run_set(alloc, job, set.earlier.as_slice(), &mut input, &mut output);
+    let ended = match set.earlier.as_slice() {
+        [] => run(alloc, job, &mut input, &mut output),
+        earlier => run_set(alloc, job, earlier, &mut input, &mut output),
+    };
     taken(alloc, &output, &ended)
 }
 

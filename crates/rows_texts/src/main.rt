@@ -5,6 +5,7 @@
 
 mod answers;
 pub mod calls;
+mod finding;
 pub mod json;
 pub mod opened;
 mod rows;

@@ -88,7 +88,7 @@ fn scripted_answers_in_turn(rt: HostRuntime) -> Result<(), Fail> {
     Ok(())
 }
 
-/// A text of the memory is lent.
+/// A text of the memory is lent; what is no UTF-8, or ends past the memory or past 2^32, is not.
 #[test]
 fn texts_are_lent(rt: HostRuntime) -> Result<(), Fail> {
     let mut guest = Bump::new(rt.alloc(), 16)?;
@@ -96,8 +96,15 @@ fn texts_are_lent(rt: HostRuntime) -> Result<(), Fail> {
         guest.write(0, b"hi\xc0\x80");
     }
     assert!(rt; str_at(&guest, 0, 2) == Ok("hi"));
-    let (kind, step) = (TrapKind::Utf8, Step::Take);
-    assert!(rt; str_at(&guest, 2, 2) == Err(Trap { kind, step }));
+    assert!(rt; str_at(&guest, 16, 0) == Ok(""));
+    for (kind, at, len) in [
+        (TrapKind::Utf8, 2, 2),
+        (TrapKind::Bounds, 16, 1),
+        (TrapKind::Bounds, 4_294_967_295, 1),
+    ] {
+        let step = Step::Take;
+        assert!(rt; str_at(&guest, at, len) == Err(Trap { kind, step }));
+    }
     Ok(())
 }
 

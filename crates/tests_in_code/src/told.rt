@@ -4,7 +4,7 @@ use atoms::Watched;
 use canonical_abi::{Step, Trap, TrapKind};
 use std::alloc::Global;
 use std::process::Abort;
-use witcall::{JsonError, OpenError, Refused, report};
+use witcall::{JsonError, MemoryError, OpenError, Refused, report};
 use words::WordsError;
 
 /// The line and the status of a refusal.
@@ -80,12 +80,13 @@ fn refusal(number: usize) -> Refused {
         6 => Refused::NoMemory,
         7 => Refused::Words(WordsError::NoMemory),
         8 => Refused::Open(OpenError::NoMemory),
+        9 => Refused::Memory(MemoryError::NoMemory),
         _ => Refused::Json(JsonError::NoMemory),
     }
 }
 
 /// The line and the status of each.
-const REFUSALS: [(&str, u8); 10] = [
+const REFUSALS: [(&str, u8); 11] = [
     (USAGE, 2),
     ("error 64 file\n", 1),
     ("error 63 no function\n", 1),
@@ -95,6 +96,7 @@ const REFUSALS: [(&str, u8); 10] = [
     (NO_MEMORY, 1),
     (NO_MEMORY, 1),
     (NO_MEMORY, 1),
+    ("error 54 no memory\n", 1),
     (NO_MEMORY, 1),
 ];
 

@@ -206,6 +206,9 @@ def scalar_rows():
     for name, answer in (("nothing", []), ("an i64", [("i64", 0)]), ("a surrogate", [0xDFFF])):
         yield session(f"answered, {name}", "f: func(x: u64) -> char;", [call(1 << 63)], [8, 8], [answering(*answer, **top)])
     yield session("answered, a char", "f: func(x: u64) -> char;", [call(0)], [8, 8], [answering(0xE000)])
+    unused = [answering(255), answering(0, data=hex_of(8, 1, "ff"))]
+    flags = "flags t { a, b, c } f: func() -> t; h: func() -> list<t>;"
+    yield session("answered, flags with unused bits", flags, [call(), call(name="h")], [16, 32], unused)
 
 
 SPEAKING = "record r { name: string, tags: list<string> } f: func(s: string) -> string; h: func(x: r);"
@@ -288,6 +291,7 @@ def flat_rows():
     """Values of every shape as core values."""
     numbers, text = "type t = list<u32>;", "type t = string;"
     yield lifted("unused bits", "type t = u8;", [511])
+    yield lifted("flags with unused bits", "flags t { a, b, c }", [255])
     yield lifted("a negative number beside a wide one", "variant t { a(s32), b(u64) }", [0, ("i64", 0xFFFFFFFF)])
     for name, definition, flat in (("a surrogate", "type t = char;", 0xD800), ("a case", "enum t { a, b, c }", 3), ("an i32 for an i64", "type t = u64;", 3)):
         yield lifted(name, definition, [flat])
@@ -314,7 +318,73 @@ def flat_rows():
     yield lowered("a list of two texts without room", "type t = list<string>;", ["a", "bc"], 18)
 
 
+# ---- heads of values
+
+
+def head(name, definition, *flats, at=None, caller="", put=4, length=16):
+    """The head of a value of a type `t`, of core values or at an address, which is written over bytes ee."""
+    line = row(f"heads: {name}", f"{definition} f: func(x: t);", [], caller, "ee" * 16, lens=[length, 16])
+    where = {"head_at": at} if at is not None else {"head_of": [flat if isinstance(flat, tuple) else ("i32", flat) for flat in flats]}
+    return {**line, **where, "put_at": put}
+
+
+def stored_heads():
+    """Heads of values of every shape at an address, and the faults of each shape."""
+    number, text, numbers = "type t = u32;", "type t = string;", "type t = list<u32>;"
+    for name, word, data in (("a bool of 2", "bool", "02"), ("a negative number", "s16", "feff"), ("a wide number", "u64", "0807060504030201"), ("a char", "char", "ac200000")):
+        yield head(name, f"type t = {word};", at=8, caller=zeros(8) + data, put=8)
+    yield head("a surrogate", "type t = char;", at=0, caller="00d8")
+    yield head("a text", text, at=0, caller=hex_of(8, 2, b"hi"))
+    yield head("a text that is no UTF-8", text, at=0, caller=hex_of(8, 2, "c080"))
+    yield head("a text without bytes at the end", text, at=0, caller=hex_of(16, 0))
+    yield head("a text past the end", text, at=0, caller=hex_of(15, 2))
+    yield head("a text that ends past 2^32", text, at=0, caller=hex_of(0xFFFFFFFF, 1))
+    yield head("a list of two numbers", numbers, at=0, caller=hex_of(8, 2))
+    yield head("a list without elements at the end", numbers, at=0, caller=hex_of(16, 0))
+    yield head("a list without elements at an odd address", numbers, at=0, caller=hex_of(2, 0))
+    yield head("a list past the end", numbers, at=0, caller=hex_of(12, 2))
+    yield head("a list that ends past 2^32", "type t = list<u64>;", at=0, caller=hex_of(8, 1 << 29))
+    yield head("a record", "record t { a: u32, b: char }", at=0, caller=hex_of(1, "00d8"))
+    variant, many = "variant t { a, b(u64), c(string) }", "enum t { %s }" % ", ".join(f"e{place}" for place in range(257))
+    yield head("a case whose payload is no text", variant, at=0, caller=hex_of("02000000", 0, 99, 99), put=0)
+    yield head("a case that is not there", variant, at=0, caller="03", put=0)
+    yield head("a case of two bytes", many, at=2, caller="00000001ff")
+    yield head("a case of two bytes that is not there", many, at=2, caller="00000101")
+    for name, byte in (("none", "00"), ("some", "01"), ("no option", "02")):
+        yield head(name, "type t = option<u32>;", at=0, caller=f"{byte}ffffff07")
+    yield head("flags with unused bits", "flags t { a, b, c }", at=1, caller="00fd")
+    yield head("flags of two bytes", "flags t { %s }" % ", ".join("abcdefghi"), at=0, caller="01ff")
+    for name, at, put in (("an odd address", 2, 4), ("an address past the end", 16, 4), ("an address to write that is odd", 0, 2), ("an address to write past the end", 0, 16)):
+        yield head(f"a number at {name}" if put == 4 else f"a number with {name}", number, at=at, caller=hex_of(7), put=put)
+    yield head("a text at the last eight bytes", text, at=8, put=8)
+    yield head("a text at the last four bytes", text, at=12)
+
+
+def flat_heads():
+    """Heads of core values of every shape, and the faults of each shape."""
+    text, numbers, variant = "type t = string;", "type t = list<u32>;", "variant t { a, b(u64), c(string) }"
+    yield head("flat, a bool of 2", "type t = bool;", 2)
+    yield head("flat, unused bits", "type t = u8;", 511)
+    yield head("flat, a negative number", "type t = s8;", 255)
+    yield head("flat, a wide number", "type t = u64;", ("i64", 1 << 63), put=8)
+    yield head("flat, a surrogate", "type t = char;", 0xD800)
+    yield head("flat, a text", text, 8, 2)
+    yield head("flat, a text past the end", text, 15, 2)
+    yield head("flat, a list of two numbers", numbers, 8, 2)
+    yield head("flat, a list at an odd address", numbers, 2, 0)
+    yield head("flat, a list past the end", numbers, 12, 2)
+    yield head("flat, a record", "record t { a: u32, b: char }", 1, 0xD800)
+    yield head("flat, a record of no core value", "record t { a: u32, b: char }")
+    yield head("flat, a case with a wide payload", variant, 1, ("i64", 1 << 40), 0, put=0)
+    yield head("flat, a case that is not there", variant, 3, ("i64", 0), 0, put=0)
+    yield head("flat, some", "type t = option<u32>;", 1, 7)
+    yield head("flat, no option", "type t = option<u32>;", 2, 7)
+    yield head("flat, flags with unused bits", "flags t { a, b, c }", 0xFFFFFFFD)
+    yield head("flat, one core value of a text", text, 8)
+    yield head("flat, no core value of a number", "type t = u8;")
+
+
 def rows():
     """All of them."""
-    for part in (trap_rows, scalar_traps, crossing_rows, link_rows, request_rows, limit_rows, text_rows, followed_rows, compound_rows, scalar_rows, step_rows, value_rows, flat_rows):
+    for part in (trap_rows, scalar_traps, crossing_rows, link_rows, request_rows, limit_rows, text_rows, followed_rows, compound_rows, scalar_rows, step_rows, value_rows, flat_rows, stored_heads, flat_heads):
         yield from part()

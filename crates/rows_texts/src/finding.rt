@@ -1,0 +1,27 @@
+//! Functions that are found by their names.
+
+use crate::opened::line_of;
+use row_inputs::{Inputs, Set, first_word, inputs_in};
+use row_sets::indexed_behind;
+use std::alloc::Global;
+use witcall::Refused;
+
+/// The number of a function of a set, by the full name of its interface and its own.
+fn number_of(alloc: Global, set: &Set, interface: &str, function: &str) -> Result<u32, Refused> {
+    let package = indexed_behind(alloc, set.earlier.as_slice(), set.last.as_slice())?;
+    match package.function(interface, function) {
+        Some(function) => Ok(function.0),
+        None => Err(Refused::NoFunction),
+    }
+}
+
+/// The number of the function that a row asks for.
+pub fn found(alloc: Global, kept: &Inputs, words: &str) -> anyhow::Result<String> {
+    let (interface, words) = first_word(words)?;
+    let (function, inputs) = first_word(words)?;
+    let set = inputs_in(alloc, kept, inputs)?;
+    match number_of(alloc, &set, interface, function) {
+        Ok(number) => Ok(format!(in alloc; "{number}")?),
+        Err(refused) => line_of(alloc, &refused),
+    }
+}
