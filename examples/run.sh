@@ -1,11 +1,11 @@
 #!/bin/sh
 # Installs witcall into a folder, and builds and runs hosts over what is there. What each prints is compared with its expected file.
 #
-# usage: examples/run.sh [--all | --c] [--released | --built] [BUILD]
+# usage: examples/run.sh [--all | --c | --bindings] [--released | --built] [BUILD]
 #
 # BUILD is the folder that it builds in, else a temporary one. --released and --built are those of tools/install.sh.
 # With --c only those hosts are run that need a C compiler alone, with its sanitizers and pkg-config if these are there:
-# host, faults, threads, moved, lists and vectors.
+# host, faults, threads, moved, lists and vectors. With --bindings only python and crate are run.
 #
 # | host           | is                                                | needs                                               |
 # |----------------|---------------------------------------------------|-----------------------------------------------------|
@@ -22,17 +22,20 @@
 # | engine         | core modules in Node's engine, their traps        | clang, lld, Node with its headers                   |
 # | js             | the same modules, linked by bindings/js           | clang, lld, Node, the module of the release         |
 # | js-tests       | the tests of bindings/js, and the stored calls    | Node, python3, the module of the release            |
+# | python         | the tests of bindings/python, and the stored calls | Python 3.9 or newer                                |
+# | languages      | the programs of docs/LANGUAGES.md                 | python3, and the tools of each language             |
+# | crate          | the tests of bindings/rust, and the stored calls  | cargo, python3; clippy and rustfmt if they are there |
 #
 # Debian's packages are gcc, pkg-config, cmake, make, cargo, valgrind, python3, clang, lld, nodejs and libnode-dev. A host whose tools are
 # missing is skipped, which is a failure with --all. CC names the C compiler. Each step says `ok`; the exit status is 1 if one fails.
 set -eu
 root=$(cd "$(dirname "$0")/.." && pwd)
 here="$root/examples"
-all='' only_c='' origin=''
+all='' only='' origin=''
 while :; do
     case "${1-}" in
         --all) all=yes ;;
-        --c) only_c=yes ;;
+        --c | --bindings) only=$1 ;;
         --released | --built) origin=$1 ;;
         *) break ;;
     esac
@@ -85,12 +88,15 @@ skipped() {
     [ -z "$all" ] || failed=1
 }
 
-# Whether a host's tools are there, and it is not left out by --c.
+# Whether a host's tools are there, and it is not left out by --c or --bindings.
 has() {
     name=$1
     shift
-    case "$only_c $name" in
-        'yes cmake' | 'yes rust' | 'yes helgrind' | 'yes bindings' | 'yes engine' | 'yes js' | 'yes js-tests') return 1 ;;
+    case "$only $name" in
+        ' '* | '--bindings python' | '--bindings crate') ;;
+        '--bindings '*) return 1 ;;
+        *' cmake' | *' rust' | *' helgrind' | *' bindings' | *' engine' | *' js' | *' js-tests') return 1 ;;
+        *' python' | *' crate' | *' language-'*) return 1 ;;
     esac
     for tool; do
         command -v "$tool" >/dev/null && continue
@@ -117,7 +123,7 @@ flags() {
     if command -v pkg-config >/dev/null; then
         pkg-config --cflags --libs witcall
     else
-        echo "-I$prefix/include -L$prefix/lib -lwitcall"
+        echo "-I$prefix/include -L$prefix/lib -l:libwitcall.a"
     fi
 }
 
@@ -155,6 +161,29 @@ has_module() {
 
 js_tests() {
     (cd "$root/bindings/js" && node --test)
+}
+
+# Whether python3 is new enough for bindings/python.
+has_new_python() {
+    python3 -c 'import sys; sys.exit(sys.version_info < (3, 9))' && return 0
+    skipped "$1" 'python3 is older than 3.9'
+    return 1
+}
+
+python_tests() {
+    (cd "$root/bindings/python" && WITCALL_LIBRARY="$prefix/lib/libwitcall.so" python3 -B -m unittest discover -s tests -t .)
+}
+
+python_vectors() {
+    WITCALL_LIBRARY="$prefix/lib/libwitcall.so" python3 -B "$here/c/vectors.py" "$root/bindings/python/tests/vectors.py"
+}
+
+# Runs cargo for bindings/rust.
+crate() {
+    what=$1
+    shift
+    WITCALL_LIB_DIR="$prefix/lib" cargo "$what" --quiet --offline --manifest-path "$root/bindings/rust/Cargo.toml" \
+        --target-dir "$build/crate" "$@"
 }
 
 node_addon() {
@@ -226,4 +255,33 @@ if has js-tests node python3 && has_module js-tests; then
     step js-tests js_tests
     same js-vectors "$here/c/vectors.expected" python3 "$here/c/vectors.py" "$root/bindings/js/tests/vectors.mjs"
 fi
+if has python python3 && has_new_python python; then
+    step python-tests python_tests
+    same python-vectors "$here/c/vectors.expected" python_vectors
+fi
+if has crate cargo python3; then
+    step crate-tests crate test
+    step crate-example crate build --example vectors
+    same crate-vectors "$here/c/vectors.expected" python3 -B "$here/c/vectors.py" "$build/crate/debug/examples/vectors"
+    if command -v cargo-clippy >/dev/null; then
+        step crate-clippy crate clippy --all-targets -- -D warnings
+    fi
+    if command -v rustfmt >/dev/null; then
+        step crate-format cargo fmt --manifest-path "$root/bindings/rust/Cargo.toml" --check
+    fi
+fi
+for language in c cpp rust python js; do
+    case "$language" in
+        c) tool=$CC ;;
+        cpp) tool=${CXX:-c++} ;;
+        rust) tool=cargo ;;
+        python) tool=python3 ;;
+        js) tool='node clang wasm-ld' ;;
+    esac
+    # shellcheck disable=SC2086 # the tools are words
+    if has "language-$language" python3 $tool; then
+        [ "$language" != js ] || has_module language-js || continue
+        same "language-$language" "$here/languages.expected" python3 -B "$here/languages.py" "$language" "$prefix" "$build/languages"
+    fi
+done
 exit $failed

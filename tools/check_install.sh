@@ -4,7 +4,8 @@
 # usage: tools/check_install.sh [--released | --built]
 #
 # Run by root in a git checkout, it makes a root with this machine's compilers and nothing else of it. There a user with an empty home installs
-# witcall, and builds the hosts of docs/C.md, and that of examples/rust if cargo is there. The Debian package is installed and removed in a
+# witcall, and builds the hosts of docs/C.md, that of examples/rust if cargo is there, and the package for Python if Debian's python3-venv,
+# python3-setuptools and python3-wheel are there. The Debian package is installed and removed in a
 # folder as the root. Without lintian the script looks itself for what lintian asks of such a package.
 #
 # It needs a C compiler, pkg-config and dpkg; also unshare, CMake and make if it is run by root, and otherwise fakeroot. With --built,
@@ -66,9 +67,26 @@ builds() {
         "$work/host" && [ "$(PKG_CONFIG_PATH="$1/lib/pkgconfig" pkg-config --modversion witcall)" = "$version" ]
 }
 
+# Whether the shared library has its SONAME, and exports the functions of the header and nothing else.
+is_shared() {
+    abi=$(sed -n 's/^#define WITCALL_ABI //p' include/witcall.h)
+    [ "$(readlink "$1/libwitcall.so")" = "libwitcall.so.$abi" ] || return 1
+    objdump -p "$1/libwitcall.so" | grep -q "SONAME  *libwitcall.so.$abi\$" || return 1
+    sed -nE 's/^(witcall_status|void|uint32_t) (witcall_[a-z_]+)\(.*/\2/p' include/witcall.h | LC_ALL=C sort >"$work/declared"
+    nm -D --defined-only "$1/libwitcall.so" | sed 's/.* //' | LC_ALL=C sort | diff "$work/declared" -
+}
+
+# Whether a program in C is built over the shared library, and finds it when it is run.
+builds_shared() {
+    # shellcheck disable=SC2046 # the flags are words
+    "${CC:-cc}" -o "$work/shared-host" "$work/host.c" \
+        $(PKG_CONFIG_PATH="$1/lib/pkgconfig" pkg-config --cflags --libs witcall-shared) || return 1
+    objdump -p "$work/shared-host" | grep -q 'NEEDED  *libwitcall' && LD_LIBRARY_PATH="$1/lib" "$work/shared-host"
+}
+
 # Whether the manifest lists what is there, and nothing else.
 is_listed() {
-    (cd "$1" && find . -type f | sed 's|^\./||' | LC_ALL=C sort) >"$work/found"
+    (cd "$1" && find . ! -type d | sed 's|^\./||' | LC_ALL=C sort) >"$work/found"
     grep -v '/$' "$1/share/doc/witcall/manifest" | LC_ALL=C sort | diff - "$work/found"
 }
 
@@ -95,6 +113,8 @@ check wit-explain-man cmp packaging/wit-explain.1 "$work/prefix/share/man/man1/w
 check wit-explain-zsh cmp packaging/completions/_wit-explain "$work/prefix/share/zsh/site-functions/_wit-explain"
 check wit-explain-fish cmp packaging/completions/wit-explain.fish "$work/prefix/share/fish/vendor_completions.d/wit-explain.fish"
 check library builds "$work/prefix"
+check shared-library is_shared "$work/prefix/lib"
+check shared-library-host builds_shared "$work/prefix"
 check manifest is_listed "$work/prefix"
 check again is_same_again
 check uninstall tools/install.sh --uninstall --prefix "$work/prefix"
@@ -120,8 +140,17 @@ cc -o host examples/c/host.c $(pkg-config --cflags --libs witcall)
 cmake -S examples/c -B build
 cmake --build build
 build/host | diff examples/c/host.expected -
+sed -i 's/witcall::witcall/witcall::shared/' examples/c/CMakeLists.txt
+cmake -S examples/c -B shared
+cmake --build shared
+shared/host | diff examples/c/host.expected -
 if command -v cargo; then
     cargo run --quiet --offline --manifest-path examples/rust/Cargo.toml | diff examples/rust/host.expected -
+fi
+if python3 -c 'import ensurepip, setuptools, venv, wheel'; then
+    python3 -m venv --system-site-packages python
+    python/bin/pip install --quiet --no-index --no-build-isolation ./bindings/python
+    [ "$(cd / && "$HOME/witcall/python/bin/python" -c 'import witcall; print(witcall.version())')" = "$(cat VERSION)" ]
 fi
 tools/install.sh --uninstall --prefix "$prefix"
 [ ! -e "$prefix" ]
@@ -143,7 +172,7 @@ done
 exec chroot --userspec=1000:1000 "$clean" /usr/bin/env -i HOME=/home/user PATH=/opt/rust/bin:/usr/bin:/bin "$@"
 END
 
-# The user's steps, in less than a minute.
+# The user's steps, in less than two minutes.
 works_in_clean_root() {
     clean="$work/clean"
     rust=$(rustc --print sysroot || true)
@@ -157,7 +186,7 @@ works_in_clean_root() {
     chown -R 1000:1000 "$clean/home/user"
     chmod 1777 "$clean/tmp"
     # shellcheck disable=SC2086 # no word where none was given
-    timeout 60 unshare --mount --pid --fork sh "$work/enter.sh" "$clean" "$rust" sh /home/user/first.sh $origin
+    timeout 120 unshare --mount --pid --fork sh "$work/enter.sh" "$clean" "$rust" sh /home/user/first.sh $origin
 }
 
 if [ "$(id -u)" = 0 ] && git rev-parse --git-dir >"$work/log" 2>&1; then
@@ -193,7 +222,9 @@ mkdir -p "$root/var/lib/dpkg/info" "$root/var/lib/dpkg/updates" "$root/var/lib/d
 # Whether each file has the mode that it is to have, and belongs to root.
 has_modes() {
     dpkg-deb -c "$deb" | awk '
-        { wanted = $1 ~ /^d/ ? "drwxr-xr-x" : $6 ~ /^\.\/usr\/bin\// ? "-rwxr-xr-x" : "-rw-r--r--" }
+        { wanted = $6 ~ /^\.\/usr\/bin\// ? "-rwxr-xr-x" : "-rw-r--r--" }
+        $1 ~ /^d/ { wanted = "drwxr-xr-x" }
+        $1 ~ /^l/ { wanted = "lrwxrwxrwx" }
         $1 != wanted || $2 != "root/root" { print; wrong = 1 }
         END { exit wrong }'
 }
@@ -216,9 +247,20 @@ is_packed() {
     gzip -dc "$root/usr/share/$1" | gzip -9nc | cmp - "$root/usr/share/$1"
 }
 
-# Whether the package depends on the C library that the programs need.
+shared_library() {
+    echo "$root/usr/lib/x86_64-linux-gnu/libwitcall.so"
+}
+
+# Whether other packages can depend on the shared library, and the system's loader is told of it.
+has_shlibs() {
+    is_shared "$root/usr/lib/x86_64-linux-gnu" || return 1
+    grep -q '^libwitcall [0-9]* witcall (>= ' "$root/var/lib/dpkg/info/witcall.shlibs" || return 1
+    grep -q '^activate-noawait ldconfig$' "$root/var/lib/dpkg/info/witcall.triggers"
+}
+
+# Whether the package depends on the C library that the programs and the shared library need.
 needs_libc() {
-    needed=$(objdump -T "$root/usr/bin/witcall" "$root/usr/bin/wit-explain" | grep -o 'GLIBC_[0-9.]*' | sort -uV | tail -n 1)
+    needed=$(objdump -T "$root/usr/bin/witcall" "$root/usr/bin/wit-explain" "$(shared_library)" | grep -o 'GLIBC_[0-9.]*' | sort -uV | tail -n 1)
     [ "$(dpkg-deb -f "$deb" Depends)" = "libc6 (>= ${needed#GLIBC_})" ]
 }
 
@@ -253,6 +295,7 @@ check deb-fields has_fields
 check deb-modes has_modes
 check deb-sums has_sums
 check deb-libc needs_libc
+check deb-shlibs has_shlibs
 for file in doc/witcall/changelog.gz doc/witcall/changelog.Debian.gz man/man1/witcall.1.gz man/man1/wit-explain.1.gz; do
     check "deb-${file##*/}" is_packed "$file"
 done

@@ -1,6 +1,6 @@
 #!/bin/sh
-# Compares the version in VERSION with those that stand in other files: the header, the library's sources, the man pages, the changelog,
-# the pages that show what an installation prints, and the release if it was built from these sources. The other files of an installation
+# Compares the version in VERSION with those that stand in other files: the header, the library's sources, the man pages, the changelog, the
+# bindings, the pages that show what an installation prints, and the release if it was built from these sources. The other files of an installation
 # take it from VERSION (tools/install.sh). The number of the binary interface is compared too: the header's, and the library's.
 #
 # usage: tools/check_version.sh
@@ -28,6 +28,10 @@ for program in witcall wit-explain; do
     compare "packaging/$program.1" "$(sed -n "s/^\.TH .*\"$program \([^\"]*\)\".*/\1/p" "packaging/$program.1" | grep . || echo none)"
 done
 compare CHANGELOG.md "$(sed -n 's/^## \([0-9][0-9.]*\).*/\1/p' CHANGELOG.md | head -n 1 | grep . || echo none)"
+for file in bindings/python/pyproject.toml bindings/rust/Cargo.toml; do
+    compare "$file" "$(sed -n 's/^version = "\(.*\)"$/\1/p' "$file" | grep . || echo none)"
+done
+compare bindings/js/package.json "$(sed -n 's/^  "version": "\(.*\)",$/\1/p' bindings/js/package.json | grep . || echo none)"
 # what tools/install.sh and tools/deb.sh print and make
 for page in README.md docs/INSTALL.md; do
     compare "$page" "$(sed -nE 's/^# witcall ([0-9][0-9.]*),.*/\1/p; s/.*witcall_([0-9][0-9.]*)-1_.*/\1/p' "$page" | grep . || echo none)"

@@ -65,10 +65,14 @@ Description: typed calls of WebAssembly components between two memories
  the Canonical ABI, and carries typed calls from one linear memory into
  another. wit-explain shows the faults of WIT files and the bytes of types.
  This package has both programs, and the library for hosts in C with its
- header. Each contract of its code is proved for all inputs.
+ header, as an archive and as a shared library. Each contract of its code is
+ proved for all inputs.
 END
+abi=$(sed -n 's/^#define WITCALL_ABI \([0-9]*\)$/\1/p' include/witcall.h)
+echo "libwitcall $abi witcall (>= $(cat VERSION))" >"$stage/DEBIAN/shlibs"
+echo "activate-noawait ldconfig" >"$stage/DEBIAN/triggers"
 (cd "$stage" && find usr -type f -print0 | LC_ALL=C sort -z | xargs -0 md5sum) >"$stage/DEBIAN/md5sums"
-chmod 644 "$stage/DEBIAN/control" "$stage/DEBIAN/md5sums"
+chmod 644 "$stage/DEBIAN"/*
 package="$folder/witcall_${version}_amd64.deb"
 dpkg-deb --root-owner-group --build "$stage" "$package" >&2
 echo "$package"

@@ -1,5 +1,6 @@
 #!/bin/sh
-# Installs witcall: the programs witcall and wit-explain, the library for C in one archive, its header, and what finds and documents them.
+# Installs witcall: the programs witcall and wit-explain, the library for C in one archive and as a shared library, its header, and what
+# finds and documents them.
 #
 # usage: tools/install.sh [--prefix DIR] [--libdir NAME] [--destdir DIR] [--released | --built]
 #        tools/install.sh --uninstall [--prefix DIR] [--destdir DIR]
@@ -95,7 +96,7 @@ is_built() {
 
 # Unpacks what is installed of the release, which is all but the WebAssembly module, and compares the checksums.
 take_release() {
-    for file in witcall wit-explain libwitcall_c.a liblibc_c.a; do
+    for file in witcall wit-explain libwitcall_c.a liblibc_c.a libwitcall.so; do
         gzip -dc "release/$file.gz" >"$work/$file" || fail "release/$file.gz can't be unpacked"
     done
     (cd "$work" && grep -v '  witcall\.wasm$' "$root/release/SHA256SUMS" | sha256sum --quiet -c -) ||
@@ -109,6 +110,7 @@ take_built() {
     cp crates/program/out/program "$work/witcall"
     [ ! -x crates/explain/out/explain ] || cp crates/explain/out/explain "$work/wit-explain"
     cp crates/witcall_c/out/libwitcall_c.a "$(dirname "$(rt doc)")/c/liblibc_c.a" "$work"
+    tools/shared.sh "$work" || fail "the shared library can't be linked"
 }
 
 if [ -z "$origin" ]; then
@@ -128,6 +130,7 @@ esac
 # The library and the part of the kit that it calls, in one archive.
 (cd "$work" && printf '%s\n' 'create libwitcall.a' 'addlib libwitcall_c.a' 'addlib liblibc_c.a' save end | "${AR:-ar}" -M)
 version=$(cat VERSION)
+abi=$(sed -n 's/^#define WITCALL_ABI \([0-9]*\)$/\1/p' include/witcall.h)
 
 # A text as what sed puts for another.
 quoted() {
@@ -136,10 +139,11 @@ quoted() {
 
 # Fills the places of a template.
 filled() {
-    sed "s|@PREFIX@|$(quoted "$prefix")|g; s|@LIBDIR@|$(quoted "$libdir")|g; s|@VERSION@|$version|g" "packaging/$1.in" >"$work/$1"
+    sed "s|@PREFIX@|$(quoted "$prefix")|g; s|@LIBDIR@|$(quoted "$libdir")|g; s|@VERSION@|$version|g; s|@ABI@|$abi|g" "packaging/$1.in" >"$work/$1"
 }
 
 filled witcall.pc
+filled witcall-shared.pc
 filled witcall-config.cmake
 filled witcall-config-version.cmake
 
@@ -160,6 +164,13 @@ put() {
     echo "$3" >>"$work/manifest"
 }
 
+# Makes a link: the name that it stands for in its own folder, and its path in the prefix.
+put_link() {
+    make_folder "$(dirname "$2")"
+    ln -sf "$1" "$to/$2"
+    echo "$2" >>"$work/manifest"
+}
+
 [ ! -f "$to/$manifest" ] || remove
 : >"$work/manifest"
 put 755 "$work/witcall" bin/witcall
@@ -171,15 +182,18 @@ if [ -f "$work/wit-explain" ]; then
     put 644 packaging/completions/wit-explain.fish share/fish/vendor_completions.d/wit-explain.fish
 fi
 put 644 "$work/libwitcall.a" "$libdir/libwitcall.a"
+put 644 "$work/libwitcall.so" "$libdir/libwitcall.so.$abi"
+put_link "libwitcall.so.$abi" "$libdir/libwitcall.so"
 put 644 include/witcall.h include/witcall.h
 put 644 "$work/witcall.pc" "$libdir/pkgconfig/witcall.pc"
+put 644 "$work/witcall-shared.pc" "$libdir/pkgconfig/witcall-shared.pc"
 put 644 "$work/witcall-config.cmake" "$libdir/cmake/witcall/witcall-config.cmake"
 put 644 "$work/witcall-config-version.cmake" "$libdir/cmake/witcall/witcall-config-version.cmake"
 put 644 packaging/witcall.1 share/man/man1/witcall.1
 put 644 packaging/completions/witcall.bash share/bash-completion/completions/witcall
 put 644 packaging/completions/_witcall share/zsh/site-functions/_witcall
 put 644 packaging/completions/witcall.fish share/fish/vendor_completions.d/witcall.fish
-for page in README.md CHANGELOG.md docs/*.md docs/guarantees/*.md docs/pictures/*.svg; do
+for page in README.md CHANGELOG.md CONTRIBUTING.md SECURITY.md docs/*.md docs/guarantees/*.md docs/pictures/*.svg; do
     put 644 "$page" "share/doc/witcall/$page"
 done
 echo "$manifest" >>"$work/manifest"

@@ -1,0 +1,37 @@
+"""WIT packages of WebAssembly's component model, their layouts, and calls between two memories.
+
+>>> with open("package a:b; interface c { f: func(x: u32) -> u32; }") as package:
+...     print(package.functions[0].name)
+f
+"""
+
+from ._calls import Block, Call, CoreValue, Request
+from ._errors import OutOfMemory, Refused, Status, Trap, WitcallError
+from ._library import version
+from ._link import ArrayMemory, Memory, Stopped, grant, link
+from ._package import Package, open
+from ._table import CoreSignature, Function, Member, Type
+
+__all__ = [
+    "ArrayMemory",
+    "Block",
+    "Call",
+    "CoreSignature",
+    "CoreValue",
+    "Function",
+    "Member",
+    "Memory",
+    "OutOfMemory",
+    "Package",
+    "Refused",
+    "Request",
+    "Status",
+    "Stopped",
+    "Trap",
+    "Type",
+    "WitcallError",
+    "grant",
+    "link",
+    "open",
+    "version",
+]

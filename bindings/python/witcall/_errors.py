@@ -1,0 +1,56 @@
+"""What the library says if it does not do what it was asked for."""
+
+from __future__ import annotations
+
+import re
+from typing import NamedTuple
+
+# A line such as `trap K5 utf8 in lift-args`: the word of the kind, and that of the step.
+_TRAP = re.compile(r"trap K\d (\S+) in (\S+)")
+
+
+class Status(NamedTuple):
+    """The status of a call of the library, as include/witcall.h has it."""
+
+    code: int
+    number: int
+    step: int
+    count: int
+
+
+class WitcallError(Exception):
+    """The library did not do what it was asked for. Its text is the library's line.
+
+    Attributes:
+        status: the library's status
+        number: the number of the error in docs/ERRORS.md, or of the kind of a trap
+        line: the library's line, as `error 41 unknown size`
+    """
+
+    def __init__(self, status: Status, line: str) -> None:
+        super().__init__(line)
+        self.status = status
+        self.number = status.number
+        self.line = line
+
+
+class Refused(WitcallError):
+    """A package, a name, or blocks that the library refuses."""
+
+
+class OutOfMemory(WitcallError, MemoryError):
+    """The library is out of memory."""
+
+
+class Trap(WitcallError):
+    """The end of a call between two components. The callee is not run again after it.
+
+    Attributes:
+        kind: the word of the kind, as `utf8`
+        step: the step in which it was found, as `lift-args`
+    """
+
+    def __init__(self, status: Status, line: str) -> None:
+        super().__init__(status, line)
+        found = _TRAP.fullmatch(line)
+        self.kind, self.step = found.groups() if found else ("", "")

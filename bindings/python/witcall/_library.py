@@ -1,0 +1,180 @@
+"""The shared library: where it is, what it declares, and how its calls fail."""
+
+from __future__ import annotations
+
+import ctypes
+import functools
+import os
+import pathlib
+from ctypes import POINTER, Structure, c_size_t, c_uint32, c_uint64, c_void_p
+from typing import Any, Callable
+
+from ._errors import OutOfMemory, Refused, Status, Trap, WitcallError
+
+# The binary interface that this package is written for (WITCALL_ABI of include/witcall.h).
+ABI = 2
+
+MAX_VALUES = 17
+MAX_STATUS_LINE = 64
+
+# Codes of a status, and numbers of refusals.
+DONE, REFUSED, TRAP = 0, 1, 2
+NOT_OPEN, NO_ROOM, NOT_THERE = 70, 71, 75
+
+# Bytes that most names and lines have room in.
+_ROOM = 256
+
+
+class CStatus(Structure):
+    _fields_ = [(name, c_uint32) for name in Status._fields]
+
+
+class Handle(Structure):
+    _fields_ = [("at", c_void_p), ("is_open", c_uint32)]
+
+
+class CRequest(Structure):
+    _fields_ = [("align", c_uint32), ("size", c_uint32)]
+
+
+class CBlock(Structure):
+    _fields_ = [("align", c_uint32), ("size", c_uint32), ("at", c_uint32)]
+
+
+class CValue(Structure):
+    _fields_ = [("kind", c_uint32), ("bits", c_uint64)]
+
+
+class CCall(Structure):
+    _fields_ = [("func", c_uint32), ("count", c_uint32), ("flats", CValue * MAX_VALUES)]
+
+
+class TypeInfo(Structure):
+    _fields_ = [("kind", c_uint32), ("row", c_uint32), ("size", c_uint32), ("align", c_uint32)]
+
+
+class RowInfo(Structure):
+    _fields_ = [
+        ("type", TypeInfo),
+        ("target", TypeInfo),
+        ("owner_kind", c_uint32),
+        ("owner", c_uint32),
+        ("members", c_uint32),
+    ]
+
+
+class MemberInfo(Structure):
+    _fields_ = [("type", TypeInfo), ("offset", c_uint32)]
+
+
+# Arrays of bytes are addresses, and each is followed by its length.
+_BYTES = [c_void_p, c_size_t]
+_VALUES = [POINTER(CValue), c_size_t]
+_BLOCKS = [POINTER(CBlock), c_size_t]
+_KINDS = [POINTER(c_uint32), c_size_t]
+_HANDLE = [POINTER(Handle)]
+_OF_FUNCTION = [*_HANDLE, c_uint32]
+_OF_CALL = [*_HANDLE, POINTER(CCall)]
+_REQUESTS = [POINTER(CRequest), c_size_t, c_uint64]
+
+# The parameters of each function that returns a status.
+PARAMETERS: dict[str, list[Any]] = {
+    "witcall_version": _BYTES,
+    "witcall_open_set": [*_BYTES, POINTER(c_size_t), c_size_t, *_HANDLE],
+    "witcall_line": [*_HANDLE, *_BYTES],
+    "witcall_status_line": [CStatus, *_BYTES],
+    "witcall_find": [*_HANDLE, *_BYTES, *_BYTES],
+    "witcall_find_import": [*_HANDLE, *_BYTES, *_BYTES],
+    "witcall_find_export": [*_HANDLE, *_BYTES, *_BYTES],
+    "witcall_row": [*_OF_FUNCTION, POINTER(RowInfo)],
+    "witcall_member": [*_HANDLE, c_uint32, c_uint32, POINTER(MemberInfo)],
+    "witcall_row_name": [*_OF_FUNCTION, *_BYTES],
+    "witcall_member_name": [*_HANDLE, c_uint32, c_uint32, *_BYTES],
+    "witcall_owner_name": [*_HANDLE, c_uint32, c_uint32, *_BYTES],
+    "witcall_to_binary": [*_HANDLE, *_BYTES],
+    "witcall_to_text": [*_HANDLE, *_BYTES],
+    "witcall_lifted_params": [*_OF_FUNCTION, *_KINDS],
+    "witcall_lifted_result": [*_OF_FUNCTION, *_KINDS],
+    "witcall_lowered_params": [*_OF_FUNCTION, *_KINDS],
+    "witcall_lowered_result": [*_OF_FUNCTION, *_KINDS],
+    "witcall_begin": [*_OF_FUNCTION, *_VALUES, POINTER(CCall)],
+    "witcall_call_enter_requests": [*_OF_CALL, *_BYTES, *_REQUESTS],
+    "witcall_call_enter": [*_OF_CALL, *_BYTES, *_BYTES, *_BLOCKS, *_VALUES],
+    "witcall_call_leave_requests": [*_OF_CALL, *_VALUES, *_BYTES, *_REQUESTS],
+    "witcall_call_leave": [*_OF_CALL, *_VALUES, *_BYTES, *_BYTES, *_BLOCKS, *_VALUES],
+}
+
+
+def _path() -> str:
+    """Where the library is: what WITCALL_LIBRARY names, a file of this package, or the system's."""
+    named = os.environ.get("WITCALL_LIBRARY")
+    own = pathlib.Path(__file__).with_name("libwitcall.so")
+    return named or (str(own) if own.exists() else f"libwitcall.so.{ABI}")
+
+
+@functools.lru_cache(maxsize=None)
+def library() -> ctypes.PyDLL:
+    """The library, which is loaded once.
+
+    It holds the interpreter's lock while it runs, so no other thread changes a memory then.
+
+    Raises:
+        ImportError: if it is not found, or has another binary interface
+    """
+    path = _path()
+    try:
+        found = ctypes.PyDLL(path)
+    except OSError as error:
+        raise ImportError(f"{error}; WITCALL_LIBRARY may have the path of libwitcall.so") from error
+    found.witcall_abi.restype = c_uint32
+    abi = found.witcall_abi()
+    if abi != ABI:
+        raise ImportError(f"the binary interface of {path} is {abi}, and this package needs {ABI}")
+    found.witcall_close.argtypes = _HANDLE
+    found.witcall_close.restype = None
+    for name, parameters in PARAMETERS.items():
+        function = getattr(found, name)
+        function.argtypes = parameters
+        function.restype = CStatus
+    return found
+
+
+def status_of(status: CStatus) -> Status:
+    """A status that is no memory of the library's."""
+    return Status(status.code, status.number, status.step, status.count)
+
+
+def error_of(status: Status) -> WitcallError:
+    """A refusal or a trap as an error, with the library's line."""
+    line = ctypes.create_string_buffer(MAX_STATUS_LINE)
+    told = library().witcall_status_line(CStatus(*status), line, MAX_STATUS_LINE)
+    return typed(status, line.raw[: told.count].decode())
+
+
+def typed(status: Status, line: str) -> WitcallError:
+    """An error of the class that its code has."""
+    classes = {REFUSED: Refused, TRAP: Trap}
+    return classes.get(status.code, OutOfMemory)(status, line)
+
+
+def checked(status: CStatus) -> int:
+    """The count of a status that is done. Any other one is raised."""
+    if status.code != DONE:
+        raise error_of(status_of(status))
+    return int(status.count)
+
+
+def bytes_of(ask: Callable[[Any, int], CStatus]) -> bytes:
+    """What a call writes into an array, which has as much room as it needs."""
+    room = _ROOM
+    while True:
+        array = ctypes.create_string_buffer(room)
+        status = ask(array, room)
+        if status.number != NO_ROOM or status.count <= room:
+            return array.raw[: checked(status)]
+        room = status.count
+
+
+def version() -> str:
+    """The version of the library, as `0.1.0`."""
+    return bytes_of(library().witcall_version).decode()

@@ -1,0 +1,181 @@
+//! What the library says if it does not do what it was asked for.
+
+#![forbid(unsafe_code)]
+
+use crate::sys::{self, Status};
+use std::error;
+use std::fmt;
+
+/// The room that the line of a status needs.
+const MAX_STATUS_LINE: usize = 64;
+/// Bytes that most names and lines have room in.
+const ROOM: usize = 256;
+const NO_MEMORY: u32 = 66;
+
+/// Why a trap came: its kinds are K1 to K8 of docs/ERRORS.md.
+#[derive(Clone, Copy, Debug, PartialEq, Eq, Hash)]
+pub enum TrapKind {
+    /// K1: a `char` that is no Unicode scalar value
+    Char,
+    /// K2: a case that a variant doesn't have
+    Case,
+    /// K3: an address that is not aligned
+    Align,
+    /// K4: an address outside its memory
+    Bounds,
+    /// K5: a text that is not UTF-8
+    Utf8,
+    /// K6: an allocator without room
+    Full,
+    /// K7: a component that stopped
+    Body,
+    /// K8: core values that are not those of the signature
+    CoreSignature,
+}
+
+/// In which step a trap came.
+#[derive(Clone, Copy, Debug, PartialEq, Eq, Hash)]
+pub enum Step {
+    /// The arguments are read in the caller.
+    LiftArguments,
+    /// The arguments are written in the callee.
+    LowerArguments,
+    /// The callee's core function runs.
+    Body,
+    /// The answer is read in the callee.
+    LiftResult,
+    /// The answer is written in the caller.
+    LowerResult,
+    /// The callee's post-return runs.
+    PostReturn,
+}
+
+const KINDS: [TrapKind; 8] = [
+    TrapKind::Char,
+    TrapKind::Case,
+    TrapKind::Align,
+    TrapKind::Bounds,
+    TrapKind::Utf8,
+    TrapKind::Full,
+    TrapKind::Body,
+    TrapKind::CoreSignature,
+];
+
+/// The steps, of which the first one has the number 2.
+const STEPS: [Step; 6] =
+    [Step::LiftArguments, Step::LowerArguments, Step::Body, Step::LiftResult, Step::LowerResult, Step::PostReturn];
+const FIRST_STEP: usize = 2;
+
+/// The end of a call between two components. The callee is not to run again after it.
+#[derive(Clone, Copy, Debug, PartialEq, Eq, Hash)]
+pub struct Trap {
+    /// Why it came.
+    pub kind: TrapKind,
+    /// Where it came.
+    pub step: Step,
+}
+
+/// Why the library did not do what it was asked for. It is displayed as the library's line.
+#[derive(Clone, Debug, PartialEq, Eq)]
+#[non_exhaustive]
+pub enum Error {
+    /// A refusal, by its number in docs/ERRORS.md, and its line.
+    Refused {
+        /// the number of the error
+        number: u32,
+        /// the library's line, as `error 41 unknown size`
+        line: String,
+    },
+    /// A trap of a call.
+    Trap(Trap),
+    /// The library is out of memory.
+    OutOfMemory,
+    /// The library that was linked has another binary interface, of this number.
+    OtherInterface(u32),
+}
+
+impl Error {
+    /// A status that is not done.
+    pub(crate) fn of(status: Status) -> Error {
+        let refused = || Error::Refused { number: status.number, line: status_line(status) };
+        match status.code {
+            sys::REFUSED => refused(),
+            sys::TRAP => trap_of(status).map_or_else(refused, Error::Trap),
+            _ => Error::OutOfMemory,
+        }
+    }
+
+    /// The trap of a component that stopped in a step.
+    pub(crate) fn stopped(step: Step) -> Error {
+        Error::Trap(Trap { kind: TrapKind::Body, step })
+    }
+}
+
+fn trap_of(status: Status) -> Option<Trap> {
+    let kind = *KINDS.get((status.number as usize).checked_sub(1)?)?;
+    let step = *STEPS.get((status.step as usize).checked_sub(FIRST_STEP)?)?;
+    Some(Trap { kind, step })
+}
+
+/// The status that the library has for a trap.
+fn status_of(trap: Trap) -> Status {
+    let place = |found: Option<usize>| found.unwrap_or_default() as u32;
+    let number = place(KINDS.iter().position(|it| *it == trap.kind)) + 1;
+    let step = place(STEPS.iter().position(|it| *it == trap.step)) + FIRST_STEP as u32;
+    Status { code: sys::TRAP, number, step, count: 0 }
+}
+
+fn status_line(status: Status) -> String {
+    let mut line = [0; MAX_STATUS_LINE];
+    let count = sys::status_line(status, &mut line).count as usize;
+    String::from_utf8_lossy(&line[..count.min(MAX_STATUS_LINE)]).into_owned()
+}
+
+impl fmt::Display for Trap {
+    fn fmt(&self, out: &mut fmt::Formatter<'_>) -> fmt::Result {
+        out.write_str(&status_line(status_of(*self)))
+    }
+}
+
+impl fmt::Display for Error {
+    fn fmt(&self, out: &mut fmt::Formatter<'_>) -> fmt::Result {
+        match self {
+            Error::Refused { line, .. } => out.write_str(line),
+            Error::Trap(trap) => trap.fmt(out),
+            Error::OutOfMemory => write!(out, "error {NO_MEMORY} no memory"),
+            Error::OtherInterface(abi) => {
+                write!(out, "the library's binary interface is {abi}, and this crate needs {}", sys::ABI)
+            }
+        }
+    }
+}
+
+impl error::Error for Trap {}
+
+impl error::Error for Error {}
+
+/// The count of a status that is done.
+pub(crate) fn checked(status: Status) -> Result<usize, Error> {
+    if status.code == sys::DONE {
+        Ok(status.count as usize)
+    } else {
+        Err(Error::of(status))
+    }
+}
+
+/// The bytes that a call writes into an array, which has as much room as it needs.
+pub(crate) fn told(mut ask: impl FnMut(&mut [u8]) -> Status) -> Result<Vec<u8>, Error> {
+    let mut bytes = vec![0; ROOM];
+    let mut status = ask(&mut bytes);
+    if status.number == sys::NO_ROOM {
+        bytes.resize(status.count as usize, 0);
+        status = ask(&mut bytes);
+    }
+    bytes.truncate(checked(status)?);
+    Ok(bytes)
+}
+
+/// A text that a call writes.
+pub(crate) fn told_text(ask: impl FnMut(&mut [u8]) -> Status) -> Result<String, Error> {
+    told(ask).map(|bytes| String::from_utf8_lossy(&bytes).into_owned())
+}

@@ -1,0 +1,130 @@
+//! Packages: they are opened, asked for what they have, and written.
+
+#![forbid(unsafe_code)]
+
+use crate::call::{Call, Value};
+use crate::error::{checked, told, told_text, Error};
+use crate::sys::{self, Handle, Place, Status};
+use crate::table::{self, Definition, Function, Type};
+use std::cell::RefCell;
+use std::fmt;
+
+/// The version of the library, as `0.1.0`.
+pub fn version() -> Result<String, Error> {
+    told_text(sys::version)
+}
+
+/// A package that is open, with those that it depends on. It may go to another thread, and one thread at a time
+/// uses it.
+///
+/// ```
+/// let package = witcall::Package::open("package a:b; interface c { f: func(x: u32) -> u32; }")?;
+/// assert_eq!(package.functions()?[0].name, "f");
+/// assert_eq!(witcall::Package::open(package.to_binary()?)?.to_text()?, package.to_text()?);
+/// # Ok::<(), witcall::Error>(())
+/// ```
+pub struct Package {
+    handle: RefCell<Handle>,
+}
+
+impl fmt::Debug for Package {
+    fn fmt(&self, out: &mut fmt::Formatter<'_>) -> fmt::Result {
+        out.debug_struct("Package").finish_non_exhaustive()
+    }
+}
+
+impl Package {
+    /// Opens a package that depends on no other, from its text or its binary.
+    ///
+    /// ```
+    /// let refused = witcall::Package::open("package a:b; interface c { f: func(x: size); }").unwrap_err();
+    /// assert_eq!(refused.to_string(), "error 41 unknown size");
+    /// ```
+    pub fn open(input: impl AsRef<[u8]>) -> Result<Package, Error> {
+        Package::open_set(&[input])
+    }
+
+    /// Opens the last of several packages, which may use those before it.
+    pub fn open_set<Input: AsRef<[u8]>>(inputs: &[Input]) -> Result<Package, Error> {
+        if sys::abi() != sys::ABI {
+            return Err(Error::OtherInterface(sys::abi()));
+        }
+        let bytes: Vec<&[u8]> = inputs.iter().map(AsRef::as_ref).collect();
+        let lengths: Vec<usize> = bytes.iter().map(|input| input.len()).collect();
+        let (handle, status) = Handle::open(&bytes.concat(), &lengths);
+        match checked(status) {
+            Ok(_) => Ok(Package { handle: RefCell::new(handle) }),
+            Err(error) => Err(refusal(handle, error)),
+        }
+    }
+
+    /// Makes a call of the library with the handle.
+    pub(crate) fn ask<Answer>(&self, ask: impl FnOnce(&mut Handle) -> Answer) -> Answer {
+        ask(&mut self.handle.borrow_mut())
+    }
+
+    /// A text that a call of the library writes of this package.
+    pub(crate) fn text(&self, mut ask: impl FnMut(&mut Handle, &mut [u8]) -> Status) -> Result<String, Error> {
+        told_text(|room| self.ask(|handle| ask(handle, room)))
+    }
+
+    fn found(&self, place: Place, owner: &str, name: &str) -> Result<Function, Error> {
+        let number = checked(self.ask(|handle| handle.find(place, owner, name)))?;
+        table::function(self, number as u32)
+    }
+
+    /// The function of this name, by the full name of its interface, as `a:b/c@1.0.0`.
+    pub fn find(&self, interface: &str, name: &str) -> Result<Function, Error> {
+        self.found(Place::Interface, interface, name)
+    }
+
+    /// The function that a world itself imports, by the full name of the world.
+    pub fn find_import(&self, world: &str, name: &str) -> Result<Function, Error> {
+        self.found(Place::Import, world, name)
+    }
+
+    /// The function that a world itself exports, by the full name of the world.
+    pub fn find_export(&self, world: &str, name: &str) -> Result<Function, Error> {
+        self.found(Place::Export, world, name)
+    }
+
+    /// The functions of the package and of those that it depends on.
+    pub fn functions(&self) -> Result<Vec<Function>, Error> {
+        table::functions(self)
+    }
+
+    /// Their types, each with its layout.
+    pub fn types(&self) -> Result<Vec<Definition>, Error> {
+        table::types(self)
+    }
+
+    /// What a type of this package is made of; none if it is a primitive or `string`.
+    pub fn definition(&self, ty: Type) -> Result<Option<Definition>, Error> {
+        ty.row.map(|row| table::definition(self, row)).transpose()
+    }
+
+    /// The package as a text. Of several it is the last one, which opens again after the others.
+    pub fn to_text(&self) -> Result<String, Error> {
+        self.text(Handle::write_text)
+    }
+
+    /// The package as a binary. Of several it is the last one, which opens again after the others.
+    pub fn to_binary(&self) -> Result<Vec<u8>, Error> {
+        told(|room| self.ask(|handle| handle.write_binary(room)))
+    }
+
+    /// Begins a call of a function with the core values that the caller hands in.
+    pub fn call(&self, function: &Function, values: &[Value]) -> Result<Call<'_>, Error> {
+        Call::begin(self, function, values)
+    }
+}
+
+/// Why a package was refused: the whole line, if the handle stands for the refusal.
+fn refusal(mut handle: Handle, error: Error) -> Error {
+    let Error::Refused { number, line } = error else { return error };
+    match told_text(|room| handle.line(room)) {
+        Ok(line) => Error::Refused { number, line },
+        Err(Error::Refused { number: sys::NOT_OPEN, .. }) => Error::Refused { number, line },
+        Err(other) => other,
+    }
+}

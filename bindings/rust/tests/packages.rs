@@ -1,0 +1,81 @@
+//! Packages, and what they have.
+
+use std::path::Path;
+use std::{fs, thread};
+use witcall::{CoreType, Error, Kind, Owner, Package};
+
+const TEXT: &str = "package a:b;\n\ninterface c {\n  f: func(x: u32) -> u32;\n}\n";
+
+fn file(path: &str) -> Vec<u8> {
+    fs::read(Path::new("../..").join(path)).unwrap()
+}
+
+#[test]
+fn a_package_is_written_and_opened_again() -> Result<(), Error> {
+    let package = Package::open(TEXT)?;
+    let again = Package::open(package.to_binary()?)?;
+    assert_eq!([package.to_text()?, again.to_text()?], [TEXT, TEXT]);
+    assert_eq!(witcall::version()?, env!("CARGO_PKG_VERSION"));
+    assert_eq!(file("VERSION"), format!("{}\n", env!("CARGO_PKG_VERSION")).as_bytes());
+    Ok(())
+}
+
+#[test]
+fn what_is_refused_has_its_number_and_its_line() {
+    let refused = Package::open("package a:b; interface c { f: func(x: size); }").unwrap_err();
+    assert_eq!(refused, Error::Refused { number: 41, line: "error 41 unknown size".to_owned() });
+    let none: [&[u8]; 0] = [];
+    assert_eq!(Package::open_set(&none).unwrap_err().to_string(), "error 74 bad lengths");
+    let name = format!("{}:{}", "a".repeat(200), "b".repeat(200));
+    let line = Package::open(format!("package a:b; interface c {{ use {name}/d.{{t}}; }}")).unwrap_err().to_string();
+    assert!(line.starts_with(&format!("error 47 no package {name}")), "{line}");
+}
+
+#[test]
+fn a_long_text_is_written_whole() -> Result<(), Error> {
+    let functions: String = (0..1000).map(|number| format!("  g{number}: func();\n")).collect();
+    let text = format!("package a:b;\n\ninterface c {{\n{functions}}}\n");
+    assert_eq!(Package::open(&text)?.to_text()?, text);
+    Ok(())
+}
+
+#[test]
+fn types_have_their_layouts() -> Result<(), Error> {
+    let package = Package::open(file("examples/c/shop.wit"))?;
+    let types = package.types()?;
+    let line = types.iter().find(|it| it.name.as_deref() == Some("line")).unwrap();
+    assert_eq!(line.owner, Some(Owner::Interface("demo:shop/desk".to_owned())));
+    assert_eq!((line.ty.kind, line.ty.size, line.ty.alignment), (Kind::Record, 12, 4));
+    let members: Vec<_> = line.members.iter().map(|it| (it.name.as_str(), it.offset, it.ty.unwrap().kind)).collect();
+    assert_eq!(members, [("item", 0, Kind::String), ("count", 8, Kind::U16)]);
+
+    let order = package.find("demo:shop/desk", "order")?;
+    let lines = package.definition(order.parameters[1].ty.unwrap())?.unwrap();
+    assert_eq!((lines.ty.kind, lines.target), (Kind::List, Some(line.ty)));
+    assert_eq!(package.definition(order.parameters[0].ty.unwrap())?, None);
+    assert_eq!(order.lifted.parameters, [CoreType::I32; 4]);
+    assert_eq!(package.functions()?, [order]);
+    Ok(())
+}
+
+#[test]
+fn functions_of_worlds_and_of_sets_are_found() -> Result<(), Error> {
+    let package = Package::open("package a:b; world w { import f: func(); export f: func(x: u64) -> u64; }")?;
+    let [import, export] = [package.find_import("a:b/w", "f")?, package.find_export("a:b/w", "f")?];
+    assert_eq!(import.owner, Owner::World("a:b/w".to_owned()));
+    assert_eq!(export.lowered.results, [CoreType::I64]);
+    assert_eq!(package.find("a:b/w", "f").unwrap_err().to_string(), "error 63 no function");
+
+    let set =
+        Package::open_set(&["clocks", "random", "cli", "app"].map(|name| file(&format!("examples/wasi/{name}.wit"))))?;
+    let has_notes = |owner: &Owner| *owner == Owner::Interface("demo:diary/notes@1.0.0".to_owned());
+    assert!(set.functions()?.iter().any(|it| has_notes(&it.owner)));
+    Ok(())
+}
+
+#[test]
+fn a_package_goes_to_another_thread() -> Result<(), Error> {
+    let package = Package::open(TEXT)?;
+    assert_eq!(thread::spawn(move || package.to_text()).join().unwrap()?, TEXT);
+    Ok(())
+}
