@@ -89,10 +89,10 @@ def wrapped(text, first="", rest=""):
     return textwrap.fill(kept, WIDTH, initial_indent=first, subsequent_indent=rest, break_long_words=False, break_on_hyphens=False).replace("\0", " ")
 
 
-def held(name):
-    """A head as paragraphs, with blocks of code as they are."""
+def laid_out(lines):
+    """Lines of comments as paragraphs, with blocks of code as they are."""
     out, paragraph, code = [], [], False
-    for line in [*head(name), ""]:
+    for line in [*lines, ""]:
         if line.startswith("```") or code:
             code = code != line.startswith("```")
             out.append(line)
@@ -109,7 +109,7 @@ def held(name):
 def section(name, below, found):
     """What the page says of a crate."""
     names = ", ".join(f"`{it}`" for it in below)
-    parts = [f"### `{name}`", held(name), wrapped(f"Depends on {names}." if below else "Depends on no other crate.")]
+    parts = [f"### `{name}`", laid_out(head(name)), wrapped(f"Depends on {names}." if below else "Depends on no other crate.")]
     rows = []
     for sentence, *calls in found:
         by = f" ({calls[0]})" if calls else ""

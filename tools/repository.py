@@ -28,9 +28,17 @@ def place(path):
 # ---- pages
 
 
+TOP = ("README.md", "CONTRIBUTING.md", "SECURITY.md")
+
+
 def pages(*more):
-    """README.md, other files, and the pages of docs/."""
-    return [ROOT / "README.md", *(ROOT / name for name in more), *sorted((ROOT / "docs").rglob("*.md"))]
+    """The pages at the top that describe the present, other files, and the pages of docs/."""
+    return [*(ROOT / name for name in (*TOP, *more)), *sorted((ROOT / "docs").rglob("*.md"))]
+
+
+def is_reference(page):
+    """Whether a page says what sources say: one of docs/api but its index."""
+    return page.parent == ROOT / "docs" / "api" and page.name != "README.md"
 
 
 def line_at(text, position):
@@ -225,6 +233,20 @@ def keep_page(doc, page, made):
         sys.exit(doc)
     else:
         page.write_text(made())
+
+
+def keep_pages(doc, folder, made):
+    """The same for all pages of a folder, whose texts are made by their files."""
+    if sys.argv[1:] not in ([], ["--check"]):
+        sys.exit(doc)
+    texts, there = made(), {path: path.read_text() for path in folder.glob("*.md")}
+    changed = sorted(path for path in {*texts, *there} if texts.get(path) != there.get(path))
+    if sys.argv[1:] and changed:
+        script = place(pathlib.Path(sys.argv[0]).resolve())
+        sys.exit(f"{script}: {', '.join(map(place, changed))} not current: run {script}")
+    for path in changed:
+        path.parent.mkdir(exist_ok=True)
+        path.write_text(texts[path]) if path in texts else path.unlink()
 
 
 def finish(faults):
