@@ -9,11 +9,18 @@
 # would prove the crates below it again. So the library is compared if `rt lib` left one here that no source of it is
 # newer than. With --library it prints nothing, and the exit status is 0 if the released library is of these sources.
 # The same goes for the WebAssembly module (tools/wasm.sh), with --module. A release may have none, which is said.
+# The shared library is compared with what tools/shared.sh links of the released archives, by the toolchain of the release.
 set -eu
 cd "$(dirname "$0")/.."
 
 is_of_library() {
     [ "$(cat release/library-sources 2>/dev/null)" = "$(tools/sources.sh witcall_c)" ]
+}
+
+# Whether the released shared library is what the released archives are linked to.
+is_linked() {
+    sum=$(tools/shared.sh --archives | sha256sum | cut -d ' ' -f 1)
+    grep -q "^$sum  libwitcall.so\$" release/SHA256SUMS
 }
 
 is_of_module() {
@@ -50,7 +57,7 @@ if [ -f release/witcall.wasm.gz ]; then
         [ -s "release/$file" ] || { echo "release/ has no $file: tools/wasm.sh was not run to its end"; exit 1; }
     done
 fi
-for file in witcall wit-explain libwitcall_c.a liblibc_c.a $has_module; do
+for file in witcall wit-explain libwitcall_c.a liblibc_c.a libwitcall.so $has_module; do
     sum=$(gzip -dc "release/$file.gz" | sha256sum | cut -d ' ' -f 1)
     grep -q "^$sum  $file\$" release/SHA256SUMS || { echo "release/$file.gz isn't what release/SHA256SUMS says"; exit 1; }
 done
@@ -77,6 +84,14 @@ elif ! is_built crates/witcall_c/out/libwitcall_c.a; then
 elif gzip -dc release/libwitcall_c.a.gz | cmp - crates/witcall_c/out/libwitcall_c.a; then
     echo "the released library is what was built here"
 else
+    exit 1
+fi
+if [ "$(cat release/toolchain)" != "$(rt version 2>/dev/null)" ]; then
+    echo "the released shared library was linked by another toolchain, so it is not compared"
+elif is_linked; then
+    echo "the released shared library is what the released archives are linked to"
+else
+    echo "release/libwitcall.so.gz is not what the released archives are linked to"
     exit 1
 fi
 if [ -z "$has_module" ]; then

@@ -8,8 +8,9 @@
 #   witcall.gz, wit-explain.gz            the programs
 #   libwitcall_c.a.gz                     the library
 #   liblibc_c.a.gz                        the toolchain's archive that the library calls; tools/install.sh makes one archive of both
+#   libwitcall.so.gz                      both as a shared library, of tools/shared.sh
 #   witcall.wasm.gz                       the library as a WebAssembly module, of tools/wasm.sh
-#   SHA256SUMS                            the checksums of these five, unpacked
+#   SHA256SUMS                            the checksums of these six, unpacked
 #   sources, explain-sources,             the checksums of what the first three were built from, as tools/sources.sh prints them
 #   library-sources
 #   wasm-sources, wasm-toolchain          the checksums of what the module was built from, and the versions of what built it
@@ -27,6 +28,7 @@ gzip -9nc crates/explain/out/explain >release/wit-explain.gz
 gzip -9nc crates/witcall_c/out/libwitcall_c.a >release/libwitcall_c.a.gz
 kit=$(dirname "$(rt doc)")
 gzip -9nc "$kit/c/liblibc_c.a" >release/liblibc_c.a.gz
+tools/shared.sh --release
 tools/sources.sh program >release/sources
 tools/sources.sh explain >release/explain-sources
 tools/sources.sh witcall_c >release/library-sources
@@ -37,6 +39,7 @@ cp VERSION release/version
     sha256sum <crates/explain/out/explain | sed 's/-$/wit-explain/'
     sha256sum <crates/witcall_c/out/libwitcall_c.a | sed 's/-$/libwitcall_c.a/'
     sha256sum <"$kit/c/liblibc_c.a" | sed 's/-$/liblibc_c.a/'
+    gzip -dc release/libwitcall.so.gz | sha256sum | sed 's/-$/libwitcall.so/'
 } >release/SHA256SUMS
 tools/wasm.sh
 cat release/SHA256SUMS
