@@ -6,7 +6,7 @@ usage: tools/check_explain.py [--program WIT-EXPLAIN]..
 tests/explain/runs has one run after another: a line `$ wit-explain WORDS`, what the program prints, and a line `status NUMBER`. Words are
 parted by single spaces. A run reads the files of tests/explain/files, and has no input. If the status is 2, the text is what goes to
 standard error, and nothing may go to standard output; otherwise it is the other way round. Each program named is run, by default those that the
-gate built by both compilers, both of which have to be there. Each block of `console` of README.md and docs/ has to be a stored run, and
+gate built by both compilers, both of which have to be there. Each block of `console` of the pages has to be a stored run, and
 docs/pictures/shapes.svg what the run of PICTURE prints. The exit status is 1 if one of them differs.
 """
 import collections

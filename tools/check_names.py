@@ -1,5 +1,5 @@
 #!/usr/bin/env python3
-"""Tells which names of README.md and docs/ stand nowhere in the repository.
+"""Tells which names of the pages at the top (TOP of tools/repository.py) and of docs/ stand nowhere in the repository.
 
 usage: tools/check_names.py
 
@@ -66,7 +66,7 @@ NOTE = re.compile(r"\(\d+\)")
 # what pages count
 COUNTS = {
     "calls": re.compile(r"stored run is ([\d,]+) calls of every kind"),
-    "calls and values": re.compile(r"([\d,]+) rows of calls and values \(`vectors`\)"),
+    "calls, values and heads": re.compile(r"([\d,]+) rows of calls, values and heads \(`vectors`\)"),
     "random steps": re.compile(r"steps of sessions \| ([\d,]+) random lists of each"),
     "random requests": re.compile(r"requests to a memory, and steps of sessions \| ([\d,]+) random lists"),
     "laws": re.compile(r"([\d,]+) laws of them are\s+proved"),
@@ -85,9 +85,10 @@ def known():
     for path in (it for folder in FOLDERS for it in (ROOT / folder).rglob("*")):
         if "out" not in path.parts:
             files.append(path.name)
-        # what the programs of hosts name, and what they are given in JavaScript
+        # what the programs of hosts name, and what they are given in JavaScript, Python and Rust
         is_example = ROOT / "examples" in path.parents and path.suffix in (".c", ".h", ".mjs", ".rs", ".txt")
-        if is_example or path.suffix == ".js":
+        is_binding = ROOT / "bindings" in path.parents and path.suffix in (".js", ".py", ".rs")
+        if (is_example or is_binding) and "target" not in path.parts:
             files.append(path.read_text())
     return {word for text in files for word in WORD.findall(text)}
 
@@ -240,8 +241,8 @@ def all_counts():
     to_believe, of_two = (believed.believed(definitions, calls) for calls in (believed.CALLS, TWO))
     lines_of = lambda places: sum(len(definitions[module].definitions[name]) for module, name in places)  # noqa: E731
     return {
-        "calls": sum(not row.keys() & {"steps", "lift", "lower"} for row in rows.values()),
-        "calls and values": len(rows) - steps,
+        "calls": sum(not row.keys() & {"steps", "lift", "lower", "head_at", "head_of"} for row in rows.values()),
+        "calls, values and heads": len(rows) - steps,
         "random steps": steps,
         "random requests": sum(bool(re.fullmatch(r"random-\d+", name)) for name in text_rows()),
         "laws": len(re.findall(r"^ *pub (?:const )?fn ", laws, re.M)),

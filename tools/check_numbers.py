@@ -15,7 +15,8 @@ usage: tools/check_numbers.py
 - docs/GATE.md: the sums of the table of seconds, and the seconds of the longest chain. `rt ci` passes each crate and
   each must-fail edit of the gate, of which there are as many as PASSED finds.
 - The numbers that each group of ALIKE finds on several pages are one.
-- The limits that LIMITS finds on pages are those of the models, and the keywords of docs/FORMATS.md too.
+- The limits that LIMITS finds on pages are those of the models, and the keywords of docs/FORMATS.md too. The pages of docs/api are left out:
+  their numbers are those of sources.
 
 It prints each place that is wrong; the exit status is 1 then, and if nothing of a page is compared.
 """
@@ -24,7 +25,7 @@ import re
 import sys
 
 from models import opening, tokens
-from repository import ROOT, SPAN, all_crates, blocks, columns, counted, edits, pages, place, text_rows, vectors
+from repository import ROOT, SPAN, all_crates, blocks, columns, counted, edits, is_reference, pages, place, text_rows, vectors
 
 CODE = ("tests_in_code", "tests_of_formats", "tests_of_hosts")
 ROWS = ("rows_texts", "vectors", *CODE)
@@ -265,7 +266,7 @@ def wrong_passes(counts):
 
 def wrong_limits(counts):
     """The limits on pages that are none of the models, and the keywords."""
-    for page in pages():
+    for page in (it for it in pages() if not is_reference(it)):
         text = " ".join(page.read_text().split())
         for pattern, limits in LIMITS.items():
             for found in re.findall(pattern, text, re.I):

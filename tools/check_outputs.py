@@ -1,5 +1,5 @@
 #!/usr/bin/env python3
-"""Runs the commands of README.md and docs/ whose output a page shows, and compares the two to the letter.
+"""Runs the commands of the pages whose output a page shows, and compares the two to the letter.
 
 usage: tools/check_outputs.py [--program WITCALL] [--verbose]
 

@@ -3,10 +3,12 @@
 
 usage: tools/check_pages.py
 
-- Each link of README.md, CHANGELOG.md and docs/ that isn't one to another site names a file of the repository, and a heading or an anchor of it.
-- Each page of docs/ is one that links lead to from README.md.
+- Each link of the pages at the top, of CHANGELOG.md and of docs/ that isn't one to another site names a file of the repository, and a heading or an
+  anchor of it.
+- Each page is one that links lead to from README.md.
 - A block of code is of a language of LANGUAGES, by which other scripts find what they compare.
-- No sentence of these pages has more than 30 words, but of those of LONG: what they say comes of the heads of crates, or is names of rows.
+- No sentence of these pages has more than 30 words, but of those of LONG and of docs/api: what they say comes of the sources, or is names of
+  rows.
 - No line has more than 120 columns, but of tables, headings and blocks.
 - No cell of a table of docs/guarantees and of the pages of TABLES has more than 25 words.
 
@@ -14,11 +16,11 @@ Blocks of code are left out. It prints each place that is wrong; the exit status
 """
 import re
 
-from repository import ROOT, finish, line_at, pages, place, without_blocks
+from repository import ROOT, TOP, finish, is_reference, line_at, pages, place, without_blocks
 
 LONG = ("docs/CRATES.md", "docs/EXAMPLES.md")
-TABLES = ("README.md", "docs/GUARANTEES.md", "docs/PROMISE.md", "docs/ERRORS.md", "docs/LIBRARY.md", "docs/INSTALL.md", "docs/PROGRAM.md")
-LANGUAGES = {"", "c", "console", "js", "json", "rust", "sh", "text", "wit"}
+TABLES = (*TOP, "docs/GUARANTEES.md", "docs/PROMISE.md", "docs/ERRORS.md", "docs/LIBRARY.md", "docs/INSTALL.md", "docs/PROGRAM.md")
+LANGUAGES = {"", "c", "console", "cpp", "js", "json", "python", "rust", "sh", "text", "wit"}
 FENCE = re.compile(r"^ *(?:```|~~~)(.*)$", re.M)
 # a link, a reference, and what an element of HTML names
 LINK = re.compile(r"\]\(([^)\s]+)[^)]*\)|^ *\[[^\]]+\]: (\S+)|(?:href|src)=\"([^\"]+)\"")
@@ -125,7 +127,7 @@ def long_lines(path):
 def main():
     """Prints what is wrong with each page."""
     all_pages = pages("CHANGELOG.md")
-    short = [path for path in all_pages if place(path) not in LONG]
+    short = [path for path in all_pages if place(path) not in LONG and not is_reference(path)]
     tables = [path for path in all_pages if place(path) in TABLES or path.parent.name == "guarantees"]
     checks = [(path, check) for check in (wrong_links, wrong_blocks, long_lines) for path in all_pages]
     checks += [(path, long_sentences) for path in short] + [(path, long_cells) for path in tables]
