@@ -193,7 +193,7 @@ put 644 packaging/witcall.1 share/man/man1/witcall.1
 put 644 packaging/completions/witcall.bash share/bash-completion/completions/witcall
 put 644 packaging/completions/_witcall share/zsh/site-functions/_witcall
 put 644 packaging/completions/witcall.fish share/fish/vendor_completions.d/witcall.fish
-for page in README.md CHANGELOG.md CONTRIBUTING.md SECURITY.md docs/*.md docs/guarantees/*.md docs/pictures/*.svg; do
+for page in README.md CHANGELOG.md CONTRIBUTING.md SECURITY.md docs/*.md docs/api/*.md docs/guarantees/*.md docs/pictures/*.svg; do
     put 644 "$page" "share/doc/witcall/$page"
 done
 echo "$manifest" >>"$work/manifest"

@@ -2,6 +2,7 @@
 //! lowered, and heads. docs/FORMATS.md has the form. It shows implementers of other runtimes the answers of calls that carry the promise.
 #![tactic(auto)]
 
+mod alone;
 mod sessions;
 
 use serde_json::Value;

@@ -3,6 +3,7 @@
 ghost use Rattle.std.specs.Prelude.{◌≡◌, IfOk};
 ghost use Rattle.tables.specs.Closed.{IsFunction};
 
+use crate::alone::taken_alone;
 use canonical_abi::Fault;
 use lift_lower::Val;
 use serde_json::Value;
@@ -209,12 +210,17 @@ fn session_of<'a>(
     Ok(Session::new(package, caller, callee, body(alloc, row)?))
 }
 
-/// Takes the steps, and takes them once more behind these answers if the row says so.
+/// Takes the steps, one by one or as a list, and takes them once more behind these answers if the row says so.
 fn taken(alloc: Global, row: &Value, package: &Package, steps: &[Step]) -> anyhow::Result<String> {
     if !takes_steps(package, steps) {
         return Err(anyhow::anyhow!("no steps of the package"));
     }
     let mut session = session_of(alloc, row, package)?;
+    if row.get("alone").is_some() {
+        let answers = taken_alone(alloc, package, &mut session, steps)?;
+        let memories = (session.caller(), session.callee());
+        return taken_told(alloc, package, steps, answers.as_slice(), memories);
+    }
     let mut answers = Vec::new(alloc);
     session.run(alloc, steps, &mut answers)?;
     if row.get("twice").is_some() {

@@ -224,12 +224,14 @@ def step_rows():
     """Values that are placed, read and released, one after the other."""
     hello = [["place", "f", "hello"], ["release", 8, 5], ["place", "f", "xy"], ["release", 0, 8], ["release", 0, 8], ["read", 2], ["read", 1], ["read", 9]]
     yield session("one step after the other", SPEAKING, hello, [64, 256], **FITS)
+    yield session("each step by its own call", SPEAKING, hello, [64, 256], alone=True, **FITS)
     yield session("steps behind other answers", SPEAKING, [["read", 1], ["place", "f", "hello"]], [64, 256], twice=True, **FITS)
     record = {"name": "name", "tags": ["a", "bc"]}
     steps = [["place", "h", record], ["read", 0], *(call("x" * count) for count in (600, 300)), *(call(letter) for letter in "blrpx")]
     acts = [answering(stop="body"), answering(2), answering(240, at=240, data=hex_of(0, 200)), {**text_at(232, b"ok"), "stop": "post"}, text_at(232, b"ok")]
     steps += [["place", "f", "x" * 600], ["read", 9], ["read", 0]]
     yield session("a value that is held through traps", SPEAKING, steps, [512, 256], acts, **FITS)
+    yield session("the same, each step by its own call", SPEAKING, steps, [512, 256], acts, alone=True, **FITS)
     bump = [["place", "f", "abc"], ["release", 8, 3], ["place", "f", ""], ["place", "f", "abcdefg"], ["place", "f", "a"]]
     yield session("a bump goes up and takes nothing back", "f: func(x: string);", bump, [32, 0], [answering()])
     four = [["place", "f", "abcdefgh"], ["read", 0], ["release", 0, 8], ["release", 8, 8]]
