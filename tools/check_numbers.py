@@ -46,9 +46,7 @@ SECONDS = re.compile(r"^```\n([a-z_ ]+)\n([\d ]+)\n```$", re.M)
 MINUTES = re.compile(r"Up to `(\w+)` they are (\d+) minutes")
 # what several pages say: of each page a pattern
 ALIKE = (
-    {"README.md": r"From nothing it took (\d+) minutes", "docs/INSTALL.md": r"From nothing it took (\d+) minutes",
-     "docs/GATE.md": r"beside\s+it, it took (\d+) minutes"},
-    {"README.md": r"earlier sources took (\d+) minutes", "docs/GATE.md": r"Together they took (\d+) minutes"},
+    {"docs/INSTALL.md": r"From nothing it took (\d+) minutes", "docs/GATE.md": r"beside\s+it, it took (\d+) minutes"},
     {"docs/GATE.md": r"would have taken (\d+) minutes", "docs/BENCHMARKS.md": r"in minutes, computed \| (\d+) \|"},
     {"docs/GATE.md": MINUTES.pattern.replace(r"`(\w+)`", r"`\w+`"),
      "docs/BENCHMARKS.md": r"up to `witcall`, in minutes of processor time \| (\d+) \|"},

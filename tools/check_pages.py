@@ -11,6 +11,7 @@ usage: tools/check_pages.py
   rows.
 - No line has more than 120 columns, but of tables, headings and blocks.
 - No cell of a table of docs/guarantees and of the pages of TABLES has more than 25 words.
+- README.md has at most MOST_LINES lines.
 
 Blocks of code are left out. It prints each place that is wrong; the exit status is 1 then.
 """
@@ -18,6 +19,7 @@ import re
 
 from repository import ROOT, TOP, finish, is_reference, line_at, pages, place, without_blocks
 
+MOST_LINES = 110
 LONG = ("docs/CRATES.md", "docs/EXAMPLES.md")
 TABLES = (*TOP, "docs/GUARANTEES.md", "docs/PROMISE.md", "docs/ERRORS.md", "docs/LIBRARY.md", "docs/INSTALL.md", "docs/PROGRAM.md")
 LANGUAGES = {"", "c", "console", "cpp", "js", "json", "python", "rust", "sh", "text", "wit"}
@@ -134,6 +136,9 @@ def main():
     wrong = [(path, *fault) for path, check in checks for fault in check(path)]
     there = reached(ROOT / "README.md", {ROOT / "CHANGELOG.md"})
     wrong += [(path, 1, "no link leads here from README.md") for path in all_pages if path not in there]
+    lines = len((ROOT / "README.md").read_text(encoding="utf-8").splitlines())
+    if lines > MOST_LINES:
+        wrong.append((ROOT / "README.md", lines, f"{lines} lines, and at most {MOST_LINES} are wanted"))
     finish(f"{place(path)}:{number}: {fault}" for path, number, fault in wrong)
 
 
