@@ -21,7 +21,7 @@ What is checked of the pages:
 - The numbers of COUNTS are those of the stored rows, of the laws and of tools/believed.py. So are the lines of each
   subject of DEFINITIONS.md.
 - Each script of tools/ and bench/ is named on a page, in the gate or in another script. What `python3 -m tools.measure`
-  measures is named in docs/GROWTH.md, and what bench/run.py does in docs/BENCHMARKS.md, and nothing else as such.
+  and bench/run.py measure is named in docs/BENCHMARKS.md, and nothing else as such.
 
 In the tables of docs/guarantees/ the cells of the column `clause` hold functions and clauses alone, as `open_set`:
 ok, only; `Package::takes`, each of which has to be there; a function without a clause has one that has no name. Those
@@ -287,7 +287,7 @@ def unnamed_scripts():
 
 def wrong_measures():
     """What pages and the gate say of `tools.measure` and bench/run.py that these don't do, and what isn't named."""
-    parts = {"tools.measure": ("GROWTH.md", [*MEASURES]), "bench/run.py": ("BENCHMARKS.md", [it.__name__ for it in benchmarks.BENCHMARKS])}
+    parts = {"tools.measure": ("BENCHMARKS.md", [*MEASURES]), "bench/run.py": ("BENCHMARKS.md", [it.__name__ for it in benchmarks.BENCHMARKS])}
     for program, (own, names) in parts.items():
         for page in [*pages(), ROOT / ".ci" / "run"]:
             said = re.findall(rf"{re.escape(program)} ([a-z][a-z-]*)", page.read_text())

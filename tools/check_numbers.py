@@ -8,7 +8,7 @@ usage: tools/check_numbers.py
   in the test's file. PHRASES has the parts of answers that no row has as they are. Each word in backquotes in the
   column `example` is in the input of such a row, unless it is one of OTHERWISE.
 - Blocks of bytes of docs/EXAMPLES.md and docs/FORMATS.md, the first words of their lines: these are in a stored answer.
-- docs/WORKED_EXAMPLES.md: what stands in the columns of examples is a theorem of an Examples.antt below proofs/ of the section's
+- The same page: what stands in the columns of examples is a theorem of an Examples.antt below proofs/ of the section's
   crates, or of the crate that follows it in parentheses. The numbers in the column `examples` are those of theorems.
 - docs/DEFINITIONS.md: what stands in the columns `tested by` and `refused by` is a theorem of the crate canonical_abi,
   or one of its laws or must-fail edits.
@@ -186,7 +186,7 @@ def section_crates(text):
 
 
 def wrong_theorems(text, counts):
-    """The names on docs/WORKED_EXAMPLES.md that nothing in the examples has, and the numbers that differ."""
+    """The names on docs/EXAMPLES.md that nothing in the examples has, and the numbers that differ."""
     all_theorems, parts = found_in_examples(THEOREM), found_in_examples(PART)
     crates, of_row = list(section_crates(text)), []
     for number, head, cell in columns(text):
@@ -292,7 +292,7 @@ def main():
         ("EXAMPLES", lambda text: wrong_examples(text, counts)),
         ("EXAMPLES", lambda text: wrong_bytes(text, counts)),
         ("FORMATS", lambda text: wrong_bytes(text, counts)),
-        ("WORKED_EXAMPLES", lambda text: wrong_theorems(text, counts)),
+        ("EXAMPLES", lambda text: wrong_theorems(text, counts)),
         ("DEFINITIONS", lambda text: wrong_tests(text, counts)),
         ("GATE", lambda text: ((1, fault) for fault in wrong_times(text, counts))),
     ):
