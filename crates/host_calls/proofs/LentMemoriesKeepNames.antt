@@ -44,7 +44,7 @@ pub named_lent : (old : Memory) (name : ℕ) (bytes : List ℕ) (blocks : List B
 named_lent old name bytes blocks is = (0, ap (λ memory. memory.state) is)
 
 -- which blocks are left
-left_are : (name other : ℕ) (bytes : List ℕ) (blocks rest : List Block) → IsNamed name blocks (lent other bytes rest) → (name ≡ other) × ((k : ℕ) × (rest ≡ drop k blocks))
+pub left_are : (name other : ℕ) (bytes : List ℕ) (blocks rest : List Block) → IsNamed name blocks (lent other bytes rest) → (name ≡ other) × ((k : ℕ) × (rest ≡ drop k blocks))
 left_are name other bytes blocks rest (k, is) =
     let same = same_state other name rest (drop k blocks) is in
     (sym same.0, (k, same.1))
@@ -56,7 +56,7 @@ left_fit name other bytes blocks rest named =
     omega (arith, count)
 
 -- the memory under its own name, with the bytes that the host has
-own : (name other : ℕ) (bytes now : List ℕ) (blocks rest : List Block) → IsNamed name blocks (lent other bytes rest) → (name ≡ other → now ≡ bytes)
+pub own : (name other : ℕ) (bytes now : List ℕ) (blocks rest : List Block) → IsNamed name blocks (lent other bytes rest) → (name ≡ other → now ≡ bytes)
     → lent other bytes rest ≡ lent name now rest
 own name other bytes now blocks rest named same =
     let e = (left_are name other bytes blocks rest named).0 in
@@ -67,7 +67,7 @@ no_blocks [] e = refl
 no_blocks (b ∷ rest) e = cc
 
 -- a fault that leaves the last blocks is told so
-broken : (blocks rest : List Block) (fault : Fault) (told : HalfError) → ((k : ℕ) × (rest ≡ drop k blocks)) → IsHalfError (length blocks) (length rest) fault told
+pub broken : (blocks rest : List Block) (fault : Fault) (told : HalfError) → ((k : ℕ) × (rest ≡ drop k blocks)) → IsHalfError (length blocks) (length rest) fault told
     → (Fails : Fault → List Block → Type 0) → Fails fault rest → IsBrokenOff blocks Fails told
 broken blocks rest fault (error.OtherBlock index) (k, are) (sum, below, by) Fails h =
     let count = ap length are ∙ length-drop k blocks in

@@ -1,4 +1,4 @@
 pub mod ReturnAreaIsLive
 mod FieldsAsLists
 mod BrokenHalvesAreRefused
-mod LentMemoriesKeepNames
+pub mod LentMemoriesKeepNames

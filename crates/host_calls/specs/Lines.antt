@@ -23,6 +23,8 @@ error_words error.NotThere = codes "error 75 not there"
 error_words error.LongBinary = codes "error 17 limit"
 error_words error.LongText = codes "error 36 limit"
 error_words error.AboveLimit = codes "error 76 above the limit"
+error_words error.BadJson = codes "error 61 bad JSON"
+error_words error.NotThisType = codes "error 62 not this type"
 error_words (error.Fault fault) = fault_words fault
 
 -- the kinds of traps in the order of their numbers, from 1
@@ -46,7 +48,8 @@ abbrev pub numbered_error : ℕ → ℕ → Option CallError
 numbered_error number count =
     if number == 63 then Some error.NoFunction else (if number == 70 then Some error.NotOpen else (if number == 71 then Some (error.NoRoom count) else (
     if number == 72 then Some error.BadBlock else (if number == 73 then Some (error.OtherBlock count) else (if number == 74 then Some error.BadLengths else (
-    if number == 75 then Some error.NotThere else (if number == 76 then Some error.AboveLimit else None)))))))
+    if number == 75 then Some error.NotThere else (if number == 76 then Some error.AboveLimit else (if number == 61 then Some error.BadJson else (
+    if number == 62 then Some error.NotThisType else None)))))))))
 
 -- the line of a refusal, of which a number may be all that is known
 abbrev pub refusal_words : ℕ → Option CallError → List ℕ

@@ -35,6 +35,8 @@ status_of (Err error.NotThere) = refused 75 0
 status_of (Err error.LongBinary) = refused 17 0
 status_of (Err error.LongText) = refused 36 0
 status_of (Err error.AboveLimit) = refused 76 0
+status_of (Err error.BadJson) = refused 61 0
+status_of (Err error.NotThisType) = refused 62 0
 status_of (Err error.NoMemory) = no_memory
 status_of (Err (error.Fault NoMemory)) = no_memory
 status_of (Err (error.Fault (Trap t))) = record { code = 2; number = kind_number t.kind; step = step_number t.step; count = 0 }

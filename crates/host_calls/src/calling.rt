@@ -62,7 +62,7 @@ fn put_values(values: &[Value], flats: &mut Flats, step: Step) -> Result<(), Cal
 }
 
 /// Why a half was broken off.
-fn of_half(error: HalfError) -> CallError
+pub fn of_half(error: HalfError) -> CallError
     ensures { result ≡ of_half error }
 {
     match error {
@@ -110,7 +110,7 @@ pub fn begin(types: &Types, func: FunctionId, flats: &[Value]) -> Result<(), Cal
 }
 
 /// Tests that an array has room for all core values of a function.
-fn room_in(values: &[Value]) -> Result<(), CallError>
+pub fn room_in(values: &[Value]) -> Result<(), CallError>
     ensures ok { IfOk result (λ _. 17 ≤ length values.now) }
     ensures room { IfErr result (λ e. (e ≡ CallError.NoRoom 17) × (length values.now < 17)) }
 {

@@ -29,6 +29,10 @@ pub enum CallError {
     LongText,
     /// The requests ask for more bytes than they may.
     AboveLimit,
+    /// The text of values is no JSON, or nests deeper than 127.
+    BadJson,
+    /// The JSON stands for no values of the types.
+    NotThisType,
     Fault(Fault),
 }
 
@@ -48,6 +52,8 @@ impl fmt::Display for CallError {
             CallError::LongBinary => f.write_str("error 17 limit"),
             CallError::LongText => f.write_str("error 36 limit"),
             CallError::AboveLimit => f.write_str("error 76 above the limit"),
+            CallError::BadJson => f.write_str("error 61 bad JSON"),
+            CallError::NotThisType => f.write_str("error 62 not this type"),
             CallError::Fault(fault) => write!(f, "{fault}"),
         }
     }

@@ -6,7 +6,7 @@ ghost use Rattle.memory.specs.Blocks.{are_good};
 ghost use Rattle.tables.specs.Closed.{IsFunction, function_type};
 ghost use Rattle.host_calls.specs.Halves.{EntersLent, EntryOfLentFails, ReturnsLent, ReturnOfLentFails};
 
-use crate::half_error::{HalfError, half_error};
+use crate::half_error::{HalfError, broken_off};
 use adapter::{Invocation, Link};
 use canonical_abi::{Fault, Flat};
 use lift_lower::{Flats, Types};
@@ -67,7 +67,7 @@ impl Half<'_> {
         let left = target.left().len();
         match done {
             Ok(()) => Ok(()),
-            Err(fault) => Err(half_error(fault, self.blocks.len(), left)),
+            Err(fault) => Err(broken_off(fault, self.blocks.len(), left)),
         }
     }
 
@@ -108,7 +108,7 @@ impl Half<'_> {
         let left = target.left().len();
         match done {
             Ok(()) => Ok(()),
-            Err(fault) => Err(half_error(fault, self.blocks.len(), left)),
+            Err(fault) => Err(broken_off(fault, self.blocks.len(), left)),
         }
     }
 }

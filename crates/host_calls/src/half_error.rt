@@ -14,7 +14,7 @@ pub enum HalfError {
 }
 
 /// The error of a fault after which so many of these blocks are left.
-pub(crate) fn half_error(fault: Fault, blocks: usize, left: usize) -> HalfError
+pub fn broken_off(fault: Fault, blocks: usize, left: usize) -> HalfError
     requires { left ≤ blocks }
     ensures { IsHalfError blocks left fault result }
 {

@@ -19,11 +19,11 @@ mod status;
 mod value;
 
 pub use area::return_area;
-pub use calling::{begin, enter_requests, function_of, leave_requests};
+pub use calling::{begin, enter_requests, function_of, leave_requests, of_half, room_in};
 pub use error::CallError;
 pub use half::{Half, NOWHERE};
-pub use half_error::HalfError;
+pub use half_error::{HalfError, broken_off};
 pub use parts::{Part, parameter_parts, result_part};
 pub use signature::{lifted_params, lifted_result, lowered_params, lowered_result};
 pub use status::{Status, out_of_memory, refused, told};
-pub use value::{MAX_VALUES, Value};
+pub use value::{MAX_VALUES, Value, put_flats, tell};

@@ -74,6 +74,8 @@ impl Status {
             Err(CallError::LongBinary) => refused(17, 0),
             Err(CallError::LongText) => refused(36, 0),
             Err(CallError::AboveLimit) => refused(76, 0),
+            Err(CallError::BadJson) => refused(61, 0),
+            Err(CallError::NotThisType) => refused(62, 0),
             Err(CallError::NoMemory | CallError::Fault(Fault::NoMemory)) => out_of_memory(66),
             Err(CallError::Fault(Fault::Trap(trap))) => Status {
                 code: 2,
@@ -124,6 +126,8 @@ fn numbered_error(number: u32, count: u32) -> Option<CallError>
     ensures { result ≡ numbered_error number count }
 {
     match number {
+        61 => Some(CallError::BadJson),
+        62 => Some(CallError::NotThisType),
         63 => Some(CallError::NoFunction),
         70 => Some(CallError::NotOpen),
         71 => Some(CallError::NoRoom(count as usize)),

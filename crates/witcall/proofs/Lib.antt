@@ -1,17 +1,13 @@
-pub mod FunctionTypesAsFields
 pub mod InputsAfterEarlierOnes
 pub mod MadeFromReaders
 pub mod PlacedValues
 pub mod CallerBeforeTypedCalls
 pub mod PrintedCalls
 pub mod TypedCallsKeepPromise
-pub mod WrittenTextsAreReadBack
 pub mod AnswersOfTheBody
 pub mod ScalarResults
 pub mod SameRuns
 pub mod SessionRuns
-pub mod SetLabelsAreApart
-pub mod SetNamesStandForOne
 pub mod StandardSteps
 pub mod TypedCalls
 pub mod TypedLists

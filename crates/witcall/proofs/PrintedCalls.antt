@@ -14,8 +14,8 @@ use Rattle.tables.specs.declared.tables.FunctionId.{FunctionId}
 use Rattle.tables.specs.declared.tables.Resolve.{Resolve}
 use Rattle.memory.specs.Space.{spaces}
 use Rattle.witcall.specs.Calling.{NamesCall, CallAnswers, RunCallRefuses, IsBeforeCall, fresh}
-use Rattle.witcall.specs.Json.{IsArrayTextOf}
-use Rattle.witcall.specs.Signature.{function_signature}
+use Rattle.package_values.specs.Json.{IsArrayTextOf}
+use Rattle.package_values.specs.Signature.{function_signature}
 use Rattle.witcall.specs.Status.{refusal_of}
 
 -- the words ask for the call of this function with the values that were read and handed on

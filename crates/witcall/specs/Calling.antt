@@ -16,8 +16,8 @@ use Rattle.canonical_abi.specs.declared.trap.Fault.TheVariants as fault
 use Rattle.memory.specs.declared.error.MemoryError.TheVariants as memory
 use Rattle.witcall.specs.declared.refused.Refused.{Refused}
 use Rattle.witcall.specs.declared.refused.Refused.TheVariants as refused
-use Rattle.witcall.specs.Json.{IsCompactTextOf, IsArrayTextOf, RefusesArray}
-use Rattle.witcall.specs.Signature.{function_signature, IsMissing}
+use Rattle.package_values.specs.Json.{IsCompactTextOf, IsArrayTextOf, RefusesArray}
+use Rattle.package_values.specs.Signature.{function_signature, IsMissing}
 
 -- a memory of so many zeros that may grow to so many, and takes blocks back; all that is usable is one hole
 unfoldable pub fresh : ℕ → ℕ → Memory

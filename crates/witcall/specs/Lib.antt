@@ -1,9 +1,7 @@
 pub mod Calling
-pub mod Json
 pub mod Laws
 pub mod Replying
 pub mod Running
 pub mod Session
-pub mod Signature
 pub mod Status
 pub mod Steps

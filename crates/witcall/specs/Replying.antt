@@ -15,8 +15,8 @@ use Rattle.tables.specs.Names.{IsNamed}
 use Rattle.tables.specs.Same.{IsSamePackage}
 use Rattle.tables.specs.declared.tables.FunctionId.{FunctionId}
 use Rattle.tables.specs.declared.tables.Resolve.{Resolve}
-use Rattle.witcall.specs.Json.{IsArrayTextOf, RefusesArray}
-use Rattle.witcall.specs.Signature.{function_signature, IsMissing}
+use Rattle.package_values.specs.Json.{IsArrayTextOf, RefusesArray}
+use Rattle.package_values.specs.Signature.{function_signature, IsMissing}
 use Rattle.witcall.specs.declared.refused.Refused.{Refused}
 use Rattle.witcall.specs.declared.refused.Refused.TheVariants as refused
 use Rattle.witcall.specs.declared.reply.Reply.{Reply}

@@ -4,8 +4,7 @@ use Rattle.error_numbers.specs.Numbers.{trap_number}
 use Rattle.memory.specs.declared.error.MemoryError.{MemoryError}
 use Rattle.memory.specs.declared.error.MemoryError.TheVariants as memory_error
 use Rattle.opening.specs.Numbers.{binary_number, open_number, text_number}
-use Rattle.witcall.specs.declared.json.JsonError.{JsonError}
-use Rattle.witcall.specs.declared.json.JsonError.TheVariants as json_error
+use Rattle.package_values.specs.Numbers.{json_number}
 use Rattle.witcall.specs.declared.refused.Refused.{Refused}
 use Rattle.witcall.specs.declared.refused.Refused.TheVariants as refused
 use Rattle.witcall.specs.declared.refused.Refused.TheVariants.{Words, Trap, NoMemory}
@@ -25,12 +24,7 @@ abbrev pub refusal_of : Fault → Refused
 refusal_of (fault.Trap t) = Trap t
 refusal_of fault.NoMemory = NoMemory
 
--- the numbers of JSON that is refused, and of why no memory was made
-abbrev pub json_number : JsonError → ℕ
-json_number json_error.BadJson = 61
-json_number json_error.NotThisType = 62
-json_number json_error.NoMemory = 66
-
+-- the numbers of why no memory was made
 abbrev pub memory_number : MemoryError → ℕ
 memory_number memory_error.MemoryLimit = 53
 memory_number memory_error.NoMemory = 54

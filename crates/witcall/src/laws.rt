@@ -8,12 +8,8 @@ ghost use Rattle.canonical_abi.specs.Keeping.{CalleeKeepsHeld};
 ghost use Rattle.canonical_abi.specs.OnlyValues.{OnlyValuesCross, TrapsShowValues};
 ghost use Rattle.memory.specs.Space.{SpaceAllocates, SpaceReleases, spaces};
 ghost use Rattle.tables.specs.Package.{IsClosedByNames};
-ghost use Rattle.tables.specs.Labelled.{labelled_type};
-ghost use Rattle.tables.specs.declared.tables.ValType.{ValType};
 ghost use Rattle.package_form.specs.Laws.{HasOneOfEachName};
-ghost use Rattle.value_json.specs.Apart.{HasApartLabels};
 ghost use Rattle.value_json.specs.ByNames.{IsLabelledByNames};
-ghost use Rattle.value_json.specs.Json.{HasDistinctLabels};
 ghost use Rattle.witcall.specs.Laws.{PlacesHeld, StepsKeepHeld, StepsReadHeld, StepsReadPlaced, StepsTellCallee};
 
 use crate::reply::Reply;
@@ -22,6 +18,7 @@ use adapter::{Body, Export};
 use canonical_abi::Guest;
 use opening::Package;
 use package_text::names_are_labels;
+pub use package_values::laws::has_labels_apart;
 use tables::laws::closes_alike;
 use value_json::labels_alike;
 
@@ -47,12 +44,6 @@ pub fn is_labelled_by_names(package: &Package)
     names_are_labels(package.resolve());
     labels_alike(package.resolve());
 }
-
-/// The labels of a type of a package differ: no record has one twice, and no variant, enum or flags.
-pub fn has_labels_apart(_package: &Package)
-    ensures records { HasApartLabels _package.now.resolve }
-    ensures types { (ty : ValType) → HasDistinctLabels (labelled_type _package.now.resolve ty) }
-{}
 
 /// What is placed is held in live blocks of its own, and nothing else is changed. Over every list of steps of a session,
 /// traps among them, a value that a component holds at some moment is held with the same footprint, and is read as that value, or the host has no memory: in the caller while its footprint is live, so that what was

@@ -7,7 +7,6 @@
 #![tactic(auto)]
 
 mod calling;
-mod json;
 pub mod laws;
 mod line;
 mod output;
@@ -53,11 +52,6 @@ pub use ctype_bin::BinError;
 pub use ctype_bin::Fault as BinFault;
 pub use ctype_bin::Feature as BinFeature;
 pub use error_numbers::Numbered;
-pub use json::JsonError;
-pub use json::arguments_from_json;
-pub use json::from_json;
-pub use json::to_json;
-pub use json::values_from_json;
 pub use layout::CaseInfo;
 pub use layout::CoreSignature;
 pub use layout::FieldInfo;
@@ -92,6 +86,11 @@ pub use opening::text_number;
 pub use package_adding::AddError;
 pub use package_adding::AttachError;
 pub use package_adding::PackageSet;
+pub use package_values::JsonError;
+pub use package_values::arguments_from_json;
+pub use package_values::from_json;
+pub use package_values::to_json;
+pub use package_values::values_from_json;
 pub use reading::read_all;
 pub use refused::Refused;
 pub use refused::memory_number;

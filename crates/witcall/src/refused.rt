@@ -3,7 +3,6 @@
 ghost use Rattle.std.specs.Prelude.{◌≡◌, false};
 ghost use Rattle.witcall.specs.Status.{exit_status, memory_number};
 
-use crate::json::JsonError;
 use crate::line::Line;
 use atoms::Sink;
 use canonical_abi::{Fault, Trap};
@@ -11,6 +10,7 @@ use ctype_bin::BinError;
 use error_numbers::Numbered;
 use memory::MemoryError;
 use opening::{OpenError, binary_number, text_number};
+use package_values::JsonError;
 use std::alloc::AllocError;
 use std::fmt::Write;
 use thiserror::Error;

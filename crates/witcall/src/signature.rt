@@ -1,16 +1,13 @@
-//! The functions of a package, and the types of their results.
+//! The functions of a package by their names.
 
-ghost use Rattle.std.specs.Prelude.{◌≡◌, option_to_list, IfOk, IfErr, IfSome, OnErr};
-ghost use Rattle.canonical_abi.specs.Types.{result_fields};
-ghost use Rattle.values.specs.Members.{fields_of_types, AreTypesOf};
-ghost use Rattle.tables.specs.Closed.{IsFunction, function_at, function_type};
+ghost use Rattle.std.specs.Prelude.{◌≡◌, IfOk, IfErr, OnErr};
+ghost use Rattle.tables.specs.Closed.{IsFunction};
 ghost use Rattle.tables.specs.Names.{IsNamed};
-ghost use Rattle.tables.specs.Standard.{IsTypeOf};
-ghost use Rattle.witcall.specs.Signature.{function_signature, IsMissing};
+ghost use Rattle.package_values.specs.Signature.{IsMissing};
 
 use crate::refused::Refused;
 use opening::Package;
-use tables::{FunctionId, Resolve, ValType};
+use tables::FunctionId;
 
 /// The function of a name: 63 where there is none.
 pub fn function_named(package: &Package, iface: &str, func: &str) -> Result<FunctionId, Refused>
@@ -23,15 +20,4 @@ pub fn function_named(package: &Package, iface: &str, func: &str) -> Result<Func
         Some(found) => Ok(found),
         None => Err(Refused::NoFunction),
     }
-}
-
-/// The type of a function's result, if it has one.
-pub fn result_type(resolve: &Resolve, func: FunctionId) -> Option<ValType>
-    requires { IsFunction resolve.now func }
-    ensures ty { result ≡ (function_signature (function_at resolve.now func)).result }
-    ensures known { IfSome result (IsTypeOf resolve.now) }
-    ensures all_known { AreTypesOf resolve.now (option_to_list result) }
-    ensures fields { fields_of_types resolve.now (option_to_list result) ≡ result_fields (function_type resolve.now func).result }
-{
-    resolve.signature(func).result
 }

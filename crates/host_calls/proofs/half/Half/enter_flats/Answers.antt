@@ -6,8 +6,8 @@ use Rattle.host_calls.specs.Halves.{EntersLent, EntryOfLentFails}
 use Rattle.host_calls.proofs.LentMemoriesKeepNames.{entered, not_entered, failed_entry_keeps, named_lent, left_fit}
 use Rattle.host_calls.proofs.half.Half.enter_flats.Goals as goal
 
-pub half_error-requires : goal.half_error-requires
-half_error-requires c =
+pub broken_off-requires : goal.broken_off-requires
+broken_off-requires c =
     let now = c.enter-done.new.callee in
     let f = function_type c.new-link.result.resolve c.args.self.now.func in
     let named = failed_entry_keeps f c.args.flats.now _ _ _ _ c.enter-done.new.self.there c.args.self.now.blocks.now c.in-Err.fault c.in-Err.ensures.fault (named_lent _ _ _ _ c.new-target.ensures.memory) in
@@ -26,7 +26,7 @@ pub returns-in-Err-clause-error : goal.returns-in-Err-clause-error
 returns-in-Err-clause-error c =
     let now = c.enter-done.new.callee in (
       c.new-arg-4-1.given,
-      subst (λ r. EntryOfLentFails c.new-arg-4-1.given (function_type r c.args.self.now.func) c.args.flats.now c.args.caller.now c.args.callee.now c.args.self.now.blocks.now c.half_error.result c.callee-1.given.0) (c.new-link.ensures.«package» ∙ c.resolve-resolve.ensures)
+      subst (λ r. EntryOfLentFails c.new-arg-4-1.given (function_type r c.args.self.now.func) c.args.flats.now c.args.caller.now c.args.callee.now c.args.self.now.blocks.now c.broken_off.result c.callee-1.given.0) (c.new-link.ensures.«package» ∙ c.resolve-resolve.ensures)
           (not_entered (function_type c.new-link.result.resolve c.args.self.now.func) c.args.flats.now c.args.caller.now _ _ _ now.bytes.ghost_name c.enter-done.new.self.there c.args.callee.now now.bytes.now _ c.args.self.now.blocks.now c.left-left.result.now
-          (ap (λ memory. memory.bytes) c.new-source.ensures.memory) c.new-target.ensures.memory c.callee-1.given.1.1 _ c.left-left.ensures c.in-Err.fault c.half_error.result c.half_error.ensures c.in-Err.ensures.fault),
+          (ap (λ memory. memory.bytes) c.new-source.ensures.memory) c.new-target.ensures.memory c.callee-1.given.1.1 _ c.left-left.ensures c.in-Err.fault c.broken_off.result c.broken_off.ensures c.in-Err.ensures.fault),
     )

@@ -10,7 +10,7 @@ use Rattle.values.specs.Val.{value_of}
 use Rattle.values.proofs.PackageTypesAreStandard.{all-known-inside}
 use Rattle.memory.specs.SpaceView.{space_memory}
 use Rattle.tables.specs.Closed.{closed_types, function_at, function_type, is_scalar_function}
-use Rattle.witcall.proofs.FunctionTypesAsFields.{params_are_fields, params_are_known, params_are_scalar, params_are_small}
+use Rattle.package_values.proofs.FunctionTypesAsFields.{params_are_fields, params_are_known, params_are_scalar, params_are_small}
 use Rattle.witcall.proofs.AnswersOfTheBody.{arguments-denoted, arguments-faulty}
 use Rattle.witcall.proofs.reply.Reply.lift_arguments.Goals as goal
 

@@ -1,0 +1,3 @@
+pub mod FilledMemoriesKeepNames
+pub mod WhatIsToldCanBeRead
+pub mod RequestsOfValues

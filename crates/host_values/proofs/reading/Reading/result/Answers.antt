@@ -1,0 +1,11 @@
+-- What is told ahead of an answer can be read, so its reading fails only for want of memory.
+use Rattle.std.proofs.Common.{[], refl, sym, ◌∙◌}
+use Rattle.tables.specs.Closed.{function_type}
+use Rattle.host_values.proofs.WhatIsToldCanBeRead.{only-memory}
+use Rattle.host_values.proofs.reading.Reading.result.Goals as goal
+
+pub returns-in-Err-clause-err : goal.returns-in-Err-clause-err
+returns-in-Err-clause-err c =
+    let f = function_type c.args.self.now.types.now c.args.self.now.func in
+    only-memory f c.args.answer.now c.args.memory.now c.args.self.now.limit [] c.leave_requests.new.requests c.in_ok-leave_requests.field-0 _ _ c.in-Err.fault
+    c.in_ok-leave_requests.ensures.done (sym c.in_ok-leave_requests.ensures.same_callee) (c.as_slice.ensures.value ∙ c.if-not-put_flats.ensures.flats refl) c.in-Err.ensures.fault

@@ -1,0 +1,4 @@
+pub mod FunctionTypesAsFields
+pub mod WrittenTextsAreReadBack
+pub mod SetLabelsAreApart
+pub mod SetNamesStandForOne

@@ -1,0 +1,4 @@
+pub mod Calls
+pub mod Json
+pub mod Numbers
+pub mod Signature
