@@ -22,7 +22,7 @@ from public_items import IMPL, block, files, find, given, members, type_name
 from repository import ROOT, keep_pages, place
 
 FOLDER = ROOT / "docs" / "api"
-CRATES = ("witcall", "opening", "lift_lower", "layout", "memory", "adapter", "host_calls")
+CRATES = ("witcall", "package_values", "opening", "lift_lower", "layout", "memory", "adapter", "host_calls", "host_values")
 CLAUSE = re.compile(r"(?:requires|ensures|ghost)\b")
 # what ends the first statement of docs
 END = re.compile(r"(?:[.?!](?= [A-Z`])|[:;](?= )|\.$)")

@@ -1,13 +1,15 @@
 -- CanonicalABI.md, "Lifting and Lowering Values": what the core values of an answer say, in a memory of a host's own.
-use Rattle.std.specs.Prelude.{◌≡◌, ◌⊎◌, ℕ, List, map}
+use Rattle.std.specs.Prelude.{◌≡◌, ◌≤◌, ℕ, List, map}
 use Rattle.canonical_abi.specs.Flat.{Denotes, DenotesFault}
 use Rattle.canonical_abi.specs.Layout.{max_flat_results}
+use Rattle.canonical_abi.specs.Requests.{fields_requests}
 use Rattle.canonical_abi.specs.Types.{FunctionType, result_fields}
 use Rattle.canonical_abi.specs.Values as Semantic
 use Rattle.canonical_abi.specs.declared.flat.Flat.{Flat}
 use Rattle.canonical_abi.specs.declared.trap.Fault.{Fault}
 use Rattle.canonical_abi.specs.declared.trap.Fault.TheVariants.{Trap, NoMemory}
 use Rattle.canonical_abi.specs.declared.trap.Step.TheVariants.{Take}
+use Rattle.adapter.specs.Asking.{total}
 use Rattle.host_calls.specs.Calling.{AnswerCanBeRead, LeaveAsksNot}
 use Rattle.host_calls.specs.Values.{flat_of}
 use Rattle.host_calls.specs.declared.error.CallError.{CallError}
@@ -18,6 +20,12 @@ use Rattle.host_calls.specs.declared.value.Value.{Value}
 abbrev pub IsReadResult : FunctionType → List Value → List ℕ → List Semantic.Value → Type 0
 IsReadResult f answer memory vs =
     AnswerCanBeRead f answer memory × Denotes max_flat_results (result_fields f.result) memory (map flat_of answer) vs
+
+-- the values that the answer denotes ask for at most so many bytes
+abbrev pub AsksWithin : FunctionType → List Value → List ℕ → ℕ → Type 0
+AsksWithin f answer memory limit =
+    (vs : List Semantic.Value) × Denotes max_flat_results (result_fields f.result) memory (map flat_of answer) vs
+    × (total (fields_requests (result_fields f.result) vs) ≤ limit)
 
 -- a fault of the answer, found in `take`, or want of the host's memory
 abbrev pub IsResultFault : FunctionType → List Flat → List ℕ → Fault → Type 0

@@ -8,7 +8,7 @@ ghost use Rattle.canonical_abi.specs.Values.{HaveTypes};
 ghost use Rattle.layout.specs.Layout.{AreWithin};
 ghost use Rattle.tables.specs.Closed.{IsFunction, function_type};
 ghost use Rattle.values.specs.Val.{value_of};
-ghost use Rattle.host_values.specs.Reading.{IsReadResult, IsResultFault, ResultIsNotRead};
+ghost use Rattle.host_values.specs.Reading.{IsReadResult, IsResultFault, AsksWithin, ResultIsNotRead};
 
 use canonical_abi::{Fault, Flat};
 use host_calls::{CallError, Value, leave_requests, put_flats};
@@ -39,6 +39,7 @@ impl Reading<'_> {
             (option_to_list (option_map value_of v))) }
         ensures typed { IfOk result (λ v. HaveTypes (option_to_list (option_map value_of v))
             (result_fields (function_type self.now.types.now self.now.func).result)) }
+        ensures few { IfOk result (λ _. AsksWithin (function_type self.now.types.now self.now.func) answer.now memory.old self.now.limit) }
         ensures err { IfErr result (ResultIsNotRead (function_type self.now.types.now self.now.func) answer.now memory.old self.now.limit) }
         ensures same { memory.new ≡ memory.old }
     {

@@ -9,3 +9,8 @@ returns-in-Err-clause-err c =
     let f = function_type c.args.self.now.types.now c.args.self.now.func in
     only-memory f c.args.answer.now c.args.memory.now c.args.self.now.limit [] c.leave_requests.new.requests c.in_ok-leave_requests.field-0 _ _ c.in-Err.fault
     c.in_ok-leave_requests.ensures.done (sym c.in_ok-leave_requests.ensures.same_callee) (c.as_slice.ensures.value ∙ c.if-not-put_flats.ensures.flats refl) c.in-Err.ensures.fault
+
+pub returns-in-Ok-clause-few : goal.returns-in-Ok-clause-few
+returns-in-Ok-clause-few c =
+    let told = c.in_ok-leave_requests.ensures.done.1 in
+    (told.0, told.1, told.4)
