@@ -88,6 +88,31 @@ static void *leaves(void *data) {
     return data;
 }
 
+/* The same lists as JSON: each has one element, and the innermost one has the number 0. */
+static char json[2 * LISTS + 4];
+
+static void write_json(void) {
+    memset(json, '[', LISTS + 1);
+    json[LISTS + 1] = '0';
+    memset(json + LISTS + 2, ']', LISTS + 1);
+}
+
+static void *json_requests(void *data) {
+    check(witcall_json_requests(&package, take, BYTES(json), asked, LISTS, sizeof target));
+    return data;
+}
+
+static void *fills(void *data) {
+    check(witcall_fill_json(
+        &package, take, BYTES(json), target, sizeof target, blocks, LISTS, handed, WITCALL_MAX_VALUES));
+    return data;
+}
+
+static void *reads(void *data) {
+    check(witcall_read_json(&package, give, &ANSWER, 1, source, sizeof source, out, sizeof out, sizeof target));
+    return data;
+}
+
 /* ---- stacks ---- */
 
 /* The bytes of a thread's stack that a call used. */
@@ -144,6 +169,10 @@ static void calls(size_t base) {
     print("witcall_enter", used(enters), base);
     print("witcall_leave_requests", used(leave_requests), base);
     print("witcall_leave", used(leaves), base);
+    write_json();
+    print("witcall_json_requests", used(json_requests), base);
+    print("witcall_fill_json", used(fills), base);
+    print("witcall_read_json", used(reads), base);
     witcall_close(&package);
 }
 

@@ -1,5 +1,5 @@
 #!/usr/bin/env python3
-"""Builds and runs a program of docs/LANGUAGES.md, which is the block of its language there.
+"""Builds and runs a program of docs/LANGUAGES.md, which is the block of its language there, or examples/cpp/upper.cpp.
 
 usage: examples/languages.py c|cpp|rust|python|js PREFIX BUILD
 
@@ -105,7 +105,8 @@ def main():
     if len(sys.argv) != 4 or sys.argv[1] not in LANGUAGES:
         sys.exit(__doc__)
     language = sys.argv[1]
-    (code,) = (text for _, _, text in blocks((ROOT / "docs/LANGUAGES.md").read_text(encoding="utf-8"), language))
+    page = (ROOT / "docs/LANGUAGES.md").read_text(encoding="utf-8")
+    (code,) = [text for _, _, text in blocks(page, language)] or [(ROOT / "examples/cpp/upper.cpp").read_text(encoding="utf-8")]
     runner, name = LANGUAGES[language]
     folder = pathlib.Path(sys.argv[3]).resolve() / language
     folder.mkdir(parents=True, exist_ok=True)

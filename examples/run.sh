@@ -5,7 +5,7 @@
 #
 # BUILD is the folder that it builds in, else a temporary one. --released and --built are those of tools/install.sh.
 # With --c only those hosts are run that need a C compiler alone, with its sanitizers and pkg-config if these are there:
-# host, faults, threads, moved, lists and vectors. With --bindings only python and crate are run.
+# host, faults, threads, moved, lists, values and vectors. With --bindings only python and crate are run.
 #
 # | host           | is                                                | needs                                               |
 # |----------------|---------------------------------------------------|-----------------------------------------------------|
@@ -17,6 +17,7 @@
 # | helgrind       | the same under helgrind                           | valgrind                                            |
 # | hostile        | memories that ask for more than they hold, in C   | the compiler's sanitizers                           |
 # | lists          | what packages have, beside examples/c/shop.h      | the compiler's sanitizers                           |
+# | values         | a call with values as JSON, in C                  | the compiler's sanitizers                           |
 # | vectors        | the stored calls of crates/vectors, in C          | python3                                             |
 # | bindings       | examples/c/shop.h, made anew                      |                                                     |
 # | engine         | core modules in Node's engine, their traps        | clang, lld, Node with its headers                   |
@@ -228,6 +229,10 @@ fi
 if has lists "$CC" && has_sanitizer lists address,undefined; then
     step build-lists checked_c_program "$here/c/lists.c" "$build/lists"
     same lists "$here/c/lists.expected" "$build/lists"
+fi
+if has values "$CC" && has_sanitizer values address,undefined; then
+    step build-values checked_c_program "$here/c/values.c" "$build/values"
+    same values "$here/c/values.expected" "$build/values"
 fi
 if has vectors python3; then
     step build-vectors c_program "$here/c/vectors.c" "$build/vectors"

@@ -10,6 +10,9 @@
  * A witcall_call keeps the function and the core values of a call from one half to the other: witcall_begin writes it, and
  * witcall_call_enter, witcall_call_leave and their requests take it in place of both.
  *
+ * A host that is the caller itself has values as texts of JSON, and one memory: witcall_json_requests and witcall_fill_json are the first half,
+ * and witcall_read_json is the second.
+ *
  * What the host owes. No test of the library can find a break of these:
  *   - Each pointer is good for its length, and of length 0 it may be null. A pointer to a handle, a call, a row or a member is not null.
  *     (A pointer doesn't tell what it points to.)
@@ -39,7 +42,7 @@
 
 /* The version of this header, and the number of the binary interface that it declares. witcall_version and witcall_abi return those of the
  * library. A host may use a library whose interface has the same number. */
-#define WITCALL_VERSION "0.1.0"
+#define WITCALL_VERSION "0.2.0"
 #define WITCALL_ABI 2
 
 #ifdef __cplusplus
@@ -61,13 +64,16 @@ extern "C" {
 #define WITCALL_TRAP 2      /* a trap of the call: number is its kind, 1 to 8 (K1 to K8), and step where it was found */
 #define WITCALL_NO_MEMORY 3 /* the library had no memory; number is 66, of witcall_open also 21, 35, 46 or 52 */
 
-/* The steps of a trap. */
+/* The steps of a trap. WITCALL_PLACE is that of witcall_json_requests and of witcall_fill_json. */
+#define WITCALL_PLACE 0
 #define WITCALL_LIFT_ARGS 2
 #define WITCALL_LOWER_ARGS 3
 #define WITCALL_LIFT_RESULT 5
 #define WITCALL_LOWER_RESULT 6
 
-/* Refusals of this library alone. */
+/* Refusals of this library alone, and of texts of JSON. */
+#define WITCALL_BAD_JSON 61      /* the text is no UTF-8, no JSON, or nests more than 127 deep */
+#define WITCALL_NOT_THIS_TYPE 62 /* the JSON is no array of the function's arguments */
 #define WITCALL_NO_FUNCTION 63 /* no function has this name or this number */
 #define WITCALL_NOT_OPEN 70    /* the handle is WITCALL_NONE, closed, or stands for a package that was refused */
 #define WITCALL_NO_ROOM 71     /* an array has less room than count */
@@ -282,6 +288,28 @@ witcall_status witcall_leave(witcall_package *package, uint32_t func, const witc
                              const witcall_value *answer, size_t answer_len, uint8_t *callee, size_t callee_len,
                              uint8_t *caller, size_t caller_len, const witcall_block *blocks, size_t blocks_len,
                              witcall_value *back, size_t back_len);
+
+/* Calls with values as texts of JSON (docs/FORMATS.md), over the memory of the component that is called. A text is UTF-8, with no end.
+ *
+ * Tells the blocks that witcall_fill_json will ask for, in order, in the same way as witcall_enter_requests. json is an array of one value
+ * for each parameter. If it is none, this is 61 or 62. If a text or a list in it needs more than 16,777,216 bytes, this is K4 in step
+ * WITCALL_PLACE. limit is the most bytes that the blocks may have together, and with more of them this is 76: pass the greatest size of the
+ * memory. If this is not done, requests is as it was. */
+witcall_status witcall_json_requests(witcall_package *package, uint32_t func, const uint8_t *json, size_t json_len,
+                                     witcall_request *requests, size_t requests_len, uint64_t limit);
+
+/* Puts the arguments that the text says into the memory's blocks: count values for the core function. handed has room for WITCALL_MAX_VALUES,
+ * whatever the function. The text is tested first, then the room, and then the blocks, before a byte is written. If there are fewer blocks
+ * than requests, this is K6 in step WITCALL_PLACE. */
+witcall_status witcall_fill_json(witcall_package *package, uint32_t func, const uint8_t *json, size_t json_len,
+                                 uint8_t *memory, size_t memory_len, const witcall_block *blocks, size_t blocks_len,
+                                 witcall_value *handed, size_t handed_len);
+
+/* The result that the core function answered, as compact JSON: count bytes, 0 if the function has no result. It is the value alone, with no
+ * array around it. The memory is only read. If there is no room, this is 71, and count is the length. limit is as that of
+ * witcall_leave_requests, and bounds the time and the memory of the call (docs/C.md). */
+witcall_status witcall_read_json(witcall_package *package, uint32_t func, const witcall_value *answer, size_t answer_len,
+                                 uint8_t *memory, size_t memory_len, uint8_t *json, size_t json_len, uint64_t limit);
 
 /* Begins a call of a function with these flats, and writes it. If their number or their kinds are not the function's, this is K8 in step
  * WITCALL_LIFT_ARGS. If it is not done, the call is as it was. */

@@ -102,7 +102,8 @@ The name after `requires` or `ensures` is the name of the clause. Other pages sa
 | `«package»` | the parameter `package`; without the quotes it is a word of the language |
 
 Numbers in contracts have no width: nothing wraps. [DEFINITIONS](../DEFINITIONS.md) has the definitions by subject, with
-the sections of the standard that they restate. [GUARANTEES](../GUARANTEES.md) says in sentences what clauses prove.
+the sections of the standard that they restate. [PROMISE](../PROMISE.md#the-clauses-by-theme) leads to pages that say in
+sentences what clauses prove.
 
 ## All names
 

@@ -7,7 +7,8 @@ tests/explain/runs has one run after another: a line `$ wit-explain WORDS`, what
 parted by single spaces. A run reads the files of tests/explain/files, and has no input. If the status is 2, the text is what goes to
 standard error, and nothing may go to standard output; otherwise it is the other way round. Each program named is run, by default those that the
 gate built by both compilers, both of which have to be there. Each block of `console` of the pages has to be a stored run, and
-docs/pictures/shapes.svg what the run of PICTURE prints. The exit status is 1 if one of them differs.
+docs/pictures/shapes.svg what the run of PICTURE prints. A run of BINARIES writes the file `out`, as `witcall` writes it on the words beside it.
+The exit status is 1 if one of them differs.
 """
 import collections
 import difflib
@@ -23,6 +24,12 @@ FOLDER = ROOT / "tests" / "explain"
 BUILT = [ROOT / "crates" / "explain" / "out" / name for name in ("explain", "explain.by-rattle")]
 PROMPT = "$ wit-explain"
 PICTURE = "layout --svg - shapes.wit"
+WITCALL = ROOT / "crates" / "program" / "out" / "program"
+BINARIES = {
+    "bin -o out shapes.wit": "bin shapes.wit",
+    "bin --output out wit": "bin --with wit/deps/clocks/wall.wit wit/app.wit",
+    "bin --output=out wit": "bin --with wit/deps/clocks/wall.wit wit/app.wit",
+}
 
 
 def stored_runs():
@@ -46,6 +53,17 @@ def printed(program, words, folder):
     return f"{said.decode()}{beside}status {done.returncode}"
 
 
+def has_other_binary(words, folder):
+    """Whether a run of BINARIES wrote another binary than `witcall` writes. It is told."""
+    if " ".join(words) not in BINARIES:
+        return False
+    made = subprocess.run([WITCALL, *BINARIES[" ".join(words)].split(" ")], cwd=folder, capture_output=True, check=True).stdout
+    if (folder / "out").read_bytes() == made:
+        return False
+    print(f"{PROMPT} {' '.join(words)}: the file is not what witcall writes")
+    return True
+
+
 def differing(program):
     """How many runs of this program differ from the stored ones. Each is told."""
     found = 0
@@ -54,6 +72,7 @@ def differing(program):
             files = pathlib.Path(room) / "files"
             shutil.copytree(FOLDER / "files", files)
             said = printed(program, words, files)
+            found += has_other_binary(words, files)
         if said != wanted:
             found += 1
             lines = difflib.unified_diff(wanted.split("\n"), said.split("\n"), "stored", "printed", lineterm="")

@@ -18,8 +18,7 @@ What is checked of the pages:
 - Words in backquotes behind a crate `rows_..` or `vectors` are names of rows. Each has to be a line of the output of
   that crate, or the name in a line of its input.
 
-- The numbers of COUNTS are those of the stored rows, of the laws and of tools/believed.py. So are the lines of each
-  subject of DEFINITIONS.md.
+- The numbers of COUNTS are those of the stored rows and of the laws.
 - Each script of tools/ and bench/ is named on a page, in the gate or in another script. What `python3 -m tools.measure`
   and bench/run.py measure is named in docs/BENCHMARKS.md, and nothing else as such.
 
@@ -29,12 +28,10 @@ of the column `edit` hold must-fail edits alone, and docs/guarantees/edits.md ha
 The text that an edit replaces has to be there once, and to change by it. The exit status is 1 where something isn't
 there.
 """
-import collections
 import json
 import re
 import sys
 
-import believed
 from check_pages import prose
 from repository import (
     ROOT, SPAN, WORD, blocks, code, columns, counted, edits, finish, functions, line_at, pages, place, sources, text_rows, vectors,
@@ -67,15 +64,11 @@ NOTE = re.compile(r"\(\d+\)")
 COUNTS = {
     "calls": re.compile(r"stored run is ([\d,]+) calls of every kind"),
     "calls, values and heads": re.compile(r"([\d,]+) rows of calls, values and heads \(`vectors`\)"),
+    "rows of a host's memory": re.compile(r"([\d,]+) rows of a host's memory \(`vectors`\)"),
     "random steps": re.compile(r"steps of sessions \| ([\d,]+) random lists of each"),
     "random requests": re.compile(r"requests to a memory, and steps of sessions \| ([\d,]+) random lists"),
     "laws": re.compile(r"([\d,]+) laws of them are\s+proved"),
-    "lines to believe": re.compile(r"follows the names and counts: ([\d,]+) lines"),
-    "definitions to believe": re.compile(r"lines in ([\d,]+) definitions"),
-    "lines of two clauses": re.compile(r"these two clauses alone\s+need: ([\d,]+) lines"),
 }
-# the two clauses, which a page gives to tools/believed.py
-TWO = ["opening/set.rt:open_set:ok", "witcall/session.rt:call:promise"]
 
 
 def known():
@@ -236,33 +229,16 @@ def all_counts():
     """The numbers of COUNTS."""
     rows = {name: json.loads(row.asked) for name, row in vectors().items()}
     steps = sum(name.startswith("steps: random ") for name in rows)
+    hosts = sum("host" in row for row in rows.values())
     laws = code(ROOT / "crates/canonical_abi/src/laws.rt")
-    definitions = believed.files()
-    to_believe, of_two = (believed.believed(definitions, calls) for calls in (believed.CALLS, TWO))
-    lines_of = lambda places: sum(len(definitions[module].definitions[name]) for module, name in places)  # noqa: E731
     return {
-        "calls": sum(not row.keys() & {"steps", "lift", "lower", "head_at", "head_of"} for row in rows.values()),
-        "calls, values and heads": len(rows) - steps,
+        "calls": sum(not row.keys() & {"steps", "lift", "lower", "head_at", "head_of", "host"} for row in rows.values()),
+        "calls, values and heads": len(rows) - steps - hosts,
+        "rows of a host's memory": hosts,
         "random steps": steps,
         "random requests": sum(bool(re.fullmatch(r"random-\d+", name)) for name in text_rows()),
         "laws": len(re.findall(r"^ *pub (?:const )?fn ", laws, re.M)),
-        "lines to believe": lines_of(to_believe),
-        "definitions to believe": len(to_believe),
-        "lines of two clauses": lines_of(of_two),
     }
-
-
-def wrong_subjects(page):
-    """The subjects of docs/DEFINITIONS.md of which other lines are to be believed, and the crates that none has."""
-    definitions, lines = believed.files(), collections.Counter()
-    for module, name in believed.believed(definitions, believed.CALLS):
-        lines[module.split(".")[1]] += len(definitions[module].definitions[name])
-    rows = re.findall(r"^\| [^|]+ \| ((?:`\w+`(?:, )?)+) \| ([\d,]+) \|$", page.read_text(), re.M)
-    for cell, number in rows:
-        there = sum(lines.pop(crate, 0) for crate in SPAN.findall(cell))
-        if counted(number) != there:
-            yield f"{place(page)}: {number} lines of {cell}, and there are {there}"
-    yield from (f"{place(page)}: no subject has {crate}" for crate in lines)
 
 
 def wrong_counts():
@@ -319,7 +295,7 @@ def faults_of(page, words, all_contracts, all_edits):
 def main():
     """Prints what isn't there, and what is wrong with the pages."""
     words, all_contracts, all_edits = known(), contracts(), {(crate, path.stem) for path, crate in edits()}
-    faults = [*stale_edits(), *wrong_counts(), *wrong_subjects(ROOT / "docs" / "DEFINITIONS.md"), *unnamed_scripts(), *wrong_measures()]
+    faults = [*stale_edits(), *wrong_counts(), *unnamed_scripts(), *wrong_measures()]
     for page in pages():
         faults += [f"{place(page)}:{number}: {fault}" for number, fault in faults_of(page, words, all_contracts, all_edits)]
     finish(faults)

@@ -8,10 +8,9 @@ usage: tools/check_numbers.py
   in the test's file. PHRASES has the parts of answers that no row has as they are. Each word in backquotes in the
   column `example` is in the input of such a row, unless it is one of OTHERWISE.
 - Blocks of bytes of docs/EXAMPLES.md and docs/FORMATS.md, the first words of their lines: these are in a stored answer.
-- The same page: what stands in the columns of examples is a theorem of an Examples.antt below proofs/ of the section's
-  crates, or of the crate that follows it in parentheses. The numbers in the column `examples` are those of theorems.
-- docs/DEFINITIONS.md: what stands in the columns `tested by` and `refused by` is a theorem of the crate canonical_abi,
-  or one of its laws or must-fail edits.
+- docs/DEFINITIONS.md: what stands in the columns of examples is a theorem of an Examples.antt below proofs/ of the
+  section's crates, or of the crate that follows it in parentheses. What stands in the columns `tested by` and `refused by`
+  is a theorem of the crate canonical_abi, or one of its laws or must-fail edits.
 - docs/GATE.md: the sums of the table of seconds, and the seconds of the longest chain. `rt ci` passes each crate and
   each must-fail edit of the gate, of which there are as many as PASSED finds.
 - The numbers that each group of ALIKE finds on several pages are one.
@@ -78,7 +77,7 @@ THEOREM = re.compile(r"^(?:pub )?([a-zA-Z0-9][^ ]*) :", re.M)
 # what else pages name of the examples: an abbreviation, or a field of a proof
 PART = re.compile(r"^(?:abbrev (?:pub )?|  )([a-zA-Z0-9][^ ]*) [:=]", re.M)
 NAME = re.compile(r"`([a-z0-9]+(?:-[a-z0-9]+)*)`(?: \(`(\w+)`\))?")
-HEADING = re.compile(r"^## (.*)$", re.M)
+HEADING = re.compile(r"^##+ (.*)$", re.M)
 LAW = re.compile(r"\bfn (\w+)")
 
 
@@ -186,19 +185,14 @@ def section_crates(text):
 
 
 def wrong_theorems(text, counts):
-    """The names on docs/EXAMPLES.md that nothing in the examples has, and the numbers that differ."""
+    """The names on docs/DEFINITIONS.md that nothing in the examples has."""
     all_theorems, parts = found_in_examples(THEOREM), found_in_examples(PART)
     crates, of_row = list(section_crates(text)), []
     for number, head, cell in columns(text):
-        if head in ("crate", "crates"):
+        if head == "crate":
             of_row = SPAN.findall(cell) or of_row
-        if head == "examples" and cell.isdigit():
-            there = sum(len(all_theorems.get(crate, [])) for crate in of_row)
-            counts["numbers of theorems"] += 1
-            if int(cell) != there:
-                yield number, f"{cell} examples of {', '.join(of_row)}, and there are {there}"
-        if head in ("example that holds", "example that must not", "refused by"):
-            allowed = of_row if head == "refused by" else crates[number - 1]
+        if head in ("example that holds", "example that must not", "refused by the examples"):
+            allowed = of_row if head == "refused by the examples" else crates[number - 1]
             for name, crate in NAME.findall(cell):
                 counts["theorems"] += 1
                 places = [crate] if crate else [it for it in allowed if it in all_theorems] or all_theorems
@@ -292,7 +286,7 @@ def main():
         ("EXAMPLES", lambda text: wrong_examples(text, counts)),
         ("EXAMPLES", lambda text: wrong_bytes(text, counts)),
         ("FORMATS", lambda text: wrong_bytes(text, counts)),
-        ("EXAMPLES", lambda text: wrong_theorems(text, counts)),
+        ("DEFINITIONS", lambda text: wrong_theorems(text, counts)),
         ("DEFINITIONS", lambda text: wrong_tests(text, counts)),
         ("GATE", lambda text: ((1, fault) for fault in wrong_times(text, counts))),
     ):
@@ -300,7 +294,7 @@ def main():
         faults += [f"{place(page)}:{number}: {fault}" for number, fault in check(page.read_text())]
     faults += [*wrong_passes(counts), *different(counts), *wrong_limits(counts)]
     print("\n".join([*faults, ", ".join(f"{number} {what}" for what, number in counts.items()) + " compared"]))
-    sys.exit(bool(faults) or len(counts) < 10 or not all(counts.values()))
+    sys.exit(bool(faults) or len(counts) < 9 or not all(counts.values()))
 
 
 if __name__ == "__main__":

@@ -11,7 +11,8 @@ usage: tools/check_pages.py
   rows.
 - No line has more than 120 columns, but of tables, headings and blocks.
 - No cell of a table of docs/guarantees and of the pages of TABLES has more than 25 words.
-- README.md has at most MOST_LINES lines.
+- README.md has at most MOST_LINES lines. All pages together, those of bindings/ among them, have at most MOST_IN_ALL lines, those that scripts make
+  left out. There are at most MOST_PAGES pages in each of these folders. A page that a script makes says so in its first lines.
 
 Blocks of code are left out. It prints each place that is wrong; the exit status is 1 then.
 """
@@ -20,8 +21,12 @@ import re
 from repository import ROOT, TOP, finish, is_reference, line_at, pages, place, without_blocks
 
 MOST_LINES = 110
-LONG = ("docs/CRATES.md", "docs/EXAMPLES.md")
-TABLES = (*TOP, "docs/GUARANTEES.md", "docs/PROMISE.md", "docs/ERRORS.md", "docs/LIBRARY.md", "docs/INSTALL.md", "docs/PROGRAM.md")
+MOST_IN_ALL = 7000
+MOST_PAGES = {"docs": 16, "docs/guarantees": 8}
+# what a page that a script makes says in its first lines
+MADE = re.compile(r"`tools/\w+\.py`\s+makes\s+(?:it|the\s+page)\b")
+LONG = ("docs/CRATES.md", "docs/DEFINITIONS.md", "docs/EXAMPLES.md")
+TABLES = (*TOP, "docs/PROMISE.md", "docs/ERRORS.md", "docs/LIBRARY.md", "docs/INSTALL.md", "docs/PROGRAM.md")
 LANGUAGES = {"", "c", "console", "cpp", "js", "json", "python", "rust", "sh", "text", "wit"}
 FENCE = re.compile(r"^ *(?:```|~~~)(.*)$", re.M)
 # a link, a reference, and what an element of HTML names
@@ -126,6 +131,23 @@ def long_lines(path):
             yield number, f"a line of {len(line)} columns"
 
 
+def is_made(path):
+    """Whether a page says in its first lines that a script makes it."""
+    return bool(MADE.search("\n".join(path.read_text(encoding="utf-8").split("\n")[:12])))
+
+
+def too_many(all_pages):
+    """The sums of pages and of lines that are above their limits, each at a page."""
+    for folder, most in MOST_PAGES.items():
+        found = [path for path in all_pages if path.parent == ROOT / folder]
+        if len(found) > most:
+            yield found[-1], 1, f"{len(found)} pages in {folder}, and at most {most} are wanted"
+    own = [path for path in (*all_pages, *(ROOT / "bindings").glob("*/README.md")) if not is_made(path)]
+    lines = sum(len(path.read_text(encoding="utf-8").splitlines()) for path in own)
+    if lines > MOST_IN_ALL:
+        yield ROOT / "README.md", 1, f"{lines} lines of all pages, and at most {MOST_IN_ALL} are wanted"
+
+
 def main():
     """Prints what is wrong with each page."""
     all_pages = pages("CHANGELOG.md")
@@ -136,6 +158,7 @@ def main():
     wrong = [(path, *fault) for path, check in checks for fault in check(path)]
     there = reached(ROOT / "README.md", {ROOT / "CHANGELOG.md"})
     wrong += [(path, 1, "no link leads here from README.md") for path in all_pages if path not in there]
+    wrong += too_many(all_pages)
     lines = len((ROOT / "README.md").read_text(encoding="utf-8").splitlines())
     if lines > MOST_LINES:
         wrong.append((ROOT / "README.md", lines, f"{lines} lines, and at most {MOST_LINES} are wanted"))

@@ -1,14 +1,15 @@
 #!/bin/sh
 # Compares the programs that the gate built with the released ones. Where the release was built from other sources there is nothing to compare.
 #
-# usage: tools/check_release.sh [--library | --module]
+# usage: tools/check_release.sh [--library | --module | --aarch64]
 #
 # The exit status is 1 if release/ has other bytes than crates/program/out/program or crates/explain/out/explain though both were built from the
 # same sources, if what is unpacked of release/ isn't what release/SHA256SUMS says, or if release/ lacks a file.
 # crates/explain/out/explain may be absent, and release/ may have no file at all. The gate builds no library, since that
 # would prove the crates below it again. So the library is compared if `rt lib` left one here that no source of it is
 # newer than. With --library it prints nothing, and the exit status is 0 if the released library is of these sources.
-# The same goes for the WebAssembly module (tools/wasm.sh), with --module. A release may have none, which is said.
+# The same goes for the WebAssembly module (tools/wasm.sh), with --module, and for the library for aarch64 (tools/aarch64.sh), with --aarch64. A
+# release may have neither, which is said.
 # The shared library is compared with what tools/shared.sh links of the released archives, by the toolchain of the release.
 set -eu
 cd "$(dirname "$0")/.."
@@ -25,6 +26,10 @@ is_linked() {
 
 is_of_module() {
     [ "$(cat release/wasm-sources 2>/dev/null)" = "$(tools/wasm.sh --sources)" ]
+}
+
+is_of_aarch64() {
+    [ "$(cat release/aarch64-sources 2>/dev/null)" = "$(tools/aarch64.sh --sources)" ]
 }
 
 # Whether a file was built here since the library's sources last changed.
@@ -45,6 +50,9 @@ case "${1-}" in
     --module)
         [ -f release/witcall.wasm.gz ] && is_of_module && exit 0
         exit 1 ;;
+    --aarch64)
+        [ -f release/libwitcall-aarch64.a.gz ] && is_of_aarch64 && exit 0
+        exit 1 ;;
 esac
 [ -n "$(find release -maxdepth 1 -type f 2>/dev/null)" ] || { echo "no release"; exit 0; }
 for file in sources explain-sources library-sources toolchain version SHA256SUMS; do
@@ -57,7 +65,9 @@ if [ -f release/witcall.wasm.gz ]; then
         [ -s "release/$file" ] || { echo "release/ has no $file: tools/wasm.sh was not run to its end"; exit 1; }
     done
 fi
-for file in witcall wit-explain libwitcall_c.a liblibc_c.a libwitcall.so $has_module; do
+has_aarch64=''
+[ ! -f release/libwitcall-aarch64.a.gz ] || has_aarch64=libwitcall-aarch64.a
+for file in witcall wit-explain libwitcall_c.a liblibc_c.a libwitcall.so $has_module $has_aarch64; do
     sum=$(gzip -dc "release/$file.gz" | sha256sum | cut -d ' ' -f 1)
     grep -q "^$sum  $file\$" release/SHA256SUMS || { echo "release/$file.gz isn't what release/SHA256SUMS says"; exit 1; }
 done
@@ -102,6 +112,17 @@ elif ! is_built crates/witcall_c/out/witcall.wasm; then
     echo "the WebAssembly module was not built here, so it is not compared"
 elif gzip -dc release/witcall.wasm.gz | cmp - crates/witcall_c/out/witcall.wasm; then
     echo "the released WebAssembly module is what was built here"
+else
+    exit 1
+fi
+if [ -z "$has_aarch64" ]; then
+    echo "the release has no library for aarch64"
+elif ! is_of_aarch64; then
+    echo "the released library for aarch64 was built from other sources than these"
+elif ! is_built crates/witcall_c/out/libwitcall-aarch64.a; then
+    echo "the library for aarch64 was not built here, so it is not compared"
+elif gzip -dc release/libwitcall-aarch64.a.gz | cmp - crates/witcall_c/out/libwitcall-aarch64.a; then
+    echo "the released library for aarch64 is what was built here"
 else
     exit 1
 fi

@@ -29,8 +29,8 @@ How to read what is proved:
 - Every function that allocates can also fail with out of memory. The page does not say when.
 - A text or a binary that is read has at most 1,048,576 bytes. Longer ones are refused.
 - What is read or written is proved of streams that say which bytes they have.
-- [GUARANTEES.md](GUARANTEES.md) leads to the clauses of each call. [ERRORS.md](ERRORS.md) has the words of each number
-  of an error.
+- [PROMISE.md](PROMISE.md#the-clauses-by-theme) leads to the clauses of each call. [ERRORS.md](ERRORS.md) has the words
+  of each number of an error.
 - No must-fail edit is made in the crates of tests.
 """
 

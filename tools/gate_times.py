@@ -13,6 +13,7 @@ first. What a process takes after the last look is not counted: half a second of
 of COMMAND.
 """
 import collections
+import itertools
 import json
 import os
 import subprocess
@@ -92,17 +93,20 @@ def summed(rows, key_of):
 
 
 def table(rows):
-    """The table's lines: a crate each in the order in which the proofs began, and the sums of the seconds as they are
-    shown."""
+    """The table's lines, of two crates each: those of the left half come first in the order in which the proofs began. At the end are the sums of
+    the seconds as they are shown."""
     seconds = summed(rows, lambda row: (row["crate"], row["kind"]))
     names = list(dict.fromkeys(crate for crate, _ in seconds))
     shown = {key: round(used) for key, used in seconds.items()}
     sums = {kind: sum(shown.get((name, kind), 0) for name in names) for kind in KINDS}
     shown |= {("all", kind): number for kind, number in sums.items() if number}
-    lines = ["| crate | proof | tests | edits | builds |", "|---|---|---|---|---|"]
+    found = []
     for name in [*names, "all"]:
         cells = [f"{shown[name, kind]:,}" if (name, kind) in shown else "" for kind in KINDS]
-        lines.append(f"| {name if name == 'all' else f'`{name}`'} | {' | '.join(cells)} |")
+        found.append(f"| {name if name == 'all' else f'`{name}`'} | {' | '.join(cells)} |")
+    half = (len(found) + 1) // 2
+    lines = ["| crate | proof | tests | edits | builds |" + " crate | proof | tests | edits | builds |", "|---" * 10 + "|"]
+    lines += [left + right.removeprefix("|") for left, right in itertools.zip_longest(found[:half], found[half:], fillvalue="| | | | | |")]
     whole, edits = sum(sums.values()), sums["edits"]
     parts = f"{100 * edits / max(whole, 1):.0f} of 100 parts for the edits"
     return [*lines, "", f"{whole:,} seconds of processor time, {parts}"]

@@ -10,10 +10,12 @@
 #   liblibc_c.a.gz                        the toolchain's archive that the library calls; tools/install.sh makes one archive of both
 #   libwitcall.so.gz                      both as a shared library, of tools/shared.sh
 #   witcall.wasm.gz                       the library as a WebAssembly module, of tools/wasm.sh
-#   SHA256SUMS                            the checksums of these six, unpacked
+#   libwitcall-aarch64.a.gz               the library for Linux on aarch64 with its heap, of tools/aarch64.sh
+#   SHA256SUMS                            the checksums of these seven, unpacked
 #   sources, explain-sources,             the checksums of what the first three were built from, as tools/sources.sh prints them
 #   library-sources
 #   wasm-sources, wasm-toolchain          the checksums of what the module was built from, and the versions of what built it
+#   aarch64-sources                       the checksums of what the library for aarch64 was built from
 #   toolchain, version                    the toolchain's own name for itself; the version of VERSION
 set -eu
 cd "$(dirname "$0")/.."
@@ -42,4 +44,5 @@ cp VERSION release/version
     gzip -dc release/libwitcall.so.gz | sha256sum | sed 's/-$/libwitcall.so/'
 } >release/SHA256SUMS
 tools/wasm.sh
+tools/aarch64.sh
 cat release/SHA256SUMS

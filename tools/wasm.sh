@@ -6,7 +6,7 @@
 #        tools/wasm.sh --sources
 #
 # The library is proved and built for x86-64, as tools/release.sh does, and the LLVM module that the toolchain makes on
-# the way is kept (tools/llvm_module.py). From there on nothing is proved:
+# the way is kept (tools/build_library.py). From there on nothing is proved:
 #   1. The layout of data, the target and the processor of the module become those of wasm64. Both have 64-bit pointers.
 #   2. The toolchain's clang compiles it, and the heap of bindings/js/heap.
 #   3. The toolchain's lld links them.
@@ -26,7 +26,7 @@ cd "$(dirname "$0")/.."
 # What the module is built from: the library's sources, and what is added to it.
 sources() {
     tools/sources.sh witcall_c
-    find bindings/js/heap tools/wasm.sh tools/llvm_module.py -type f | LC_ALL=C sort | tr '\n' '\0' |
+    find bindings/js/heap tools/wasm.sh tools/build_library.py -type f | LC_ALL=C sort | tr '\n' '\0' |
         xargs -0 sha256sum | sha256sum | cut -d ' ' -f 1
 }
 
@@ -68,7 +68,7 @@ versions
 if [ -n "$given" ]; then
     cp "$given" "$work/library.bc"
 else
-    python3 -B tools/llvm_module.py "$work/library.bc"
+    python3 -B tools/build_library.py --module "$work/library.bc" "$work/library.a"
 fi
 "$work/clang" --target=x86_64-unknown-linux-gnu --no-default-config -x ir -S -emit-llvm -Xclang -disable-llvm-passes \
     -o "$work/library.ll" "$work/library.bc"
@@ -84,7 +84,7 @@ wasm64='--target=wasm64-unknown-unknown -mcpu=lime1 --no-default-config -ffuncti
 # shellcheck disable=SC2086 # the flags are words
 "$work/clang" $wasm64 -Wno-override-module -O3 -mllvm -trap-unreachable -mllvm -expand-div-rem-bits=64 \
     -mllvm -expand-fp-convert-bits=64 -x ir -c -o "$work/library.o" "$work/library.ll"
-for part in heap memory multiply; do
+for part in heap memory multiply shift; do
     # shellcheck disable=SC2086 # the flags are words
     "$work/clang" $wasm64 -std=gnu11 -O2 -Wall -Wextra -Werror -ffreestanding -fno-builtin -c -o "$work/$part.o" \
         "bindings/js/heap/$part.c"

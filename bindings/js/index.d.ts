@@ -8,7 +8,7 @@ export type Input = string | BufferSource;
 export function load(source?: BufferSource | string | URL | WebAssembly.Module): Promise<Library>;
 
 export interface Library {
-  /** The library's version, as `0.1.0`. */
+  /** The library's version, as `0.2.0`. */
   readonly version: string;
 
   /**
@@ -147,6 +147,32 @@ export interface LinkOptions {
  */
 export function link(pkg: Package, options: LinkOptions): WebAssembly.Instance;
 
+/**
+ * A value of a type of a package, in the shape that its JSON has: a record is an object, a list or a tuple an array, a
+ * case without payload its label, another case an object with this one key, and flags the labels that are set. Numbers
+ * of 64 bits are BigInt. An option is `undefined` or the value itself, and one of an option has cases.
+ */
+export type Value = undefined | boolean | number | bigint | string | ArrayBufferView | readonly Value[] | { readonly [key: string]: Value };
+
+export interface LiftOptions {
+  /** The instance that exports the function, as `a:b/c#f`, its `memory` and `cabi_realloc`. */
+  callee: WebAssembly.Instance;
+
+  /**
+   * The greatest size of its memory, in bytes: blocks that have more together are refused. 16 MiB if it is left out.
+   */
+  limit?: number;
+
+  /** Who grants blocks, if it isn't `granted`. */
+  grant?: Grant;
+}
+
+/**
+ * A function that an instance exports, as a function of values. It gives the result, or `undefined` if there is none. It
+ * throws a `WitError` if the arguments are none of the function's, and a `Trap` as a linked function does.
+ */
+export function lift(pkg: Package, func: WitFunction, options: LiftOptions): (...values: Value[]) => Value;
+
 /** Has `cabi_realloc` of an instance grant blocks, up to the first one for which it traps. */
 export const granted: Grant;
 
@@ -172,7 +198,7 @@ export class Trap extends Error {
   readonly kind: "char" | "case" | "align" | "bounds" | "utf8" | "full" | "body" | "coresignature";
 
   /** The step in which it was found. */
-  readonly step: "lift-args" | "lower-args" | "body" | "lift-result" | "lower-result" | "post";
+  readonly step: "place" | "lift-args" | "lower-args" | "body" | "lift-result" | "lower-result" | "post";
 }
 
 /** The engine stopped the module itself. Packages can be used again. */

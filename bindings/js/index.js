@@ -1,3 +1,4 @@
 export { load } from "./lib/library.js";
+export { lift } from "./lib/lift.js";
 export { granted, link } from "./lib/link.js";
 export { ModuleFault, Trap, WitError } from "./lib/errors.js";

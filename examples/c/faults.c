@@ -432,6 +432,9 @@ static void each_call(const char *name, witcall_package *handle) {
     expect("its enter of a call", witcall_call_enter(handle, kept, NULL, 0, NULL, 0, NULL, 0, values, ROOM), not_open);
     expect("its requests back of a call", witcall_call_leave_requests(handle, kept, NULL, 0, NULL, 0, NULL, 0, 0), not_open);
     expect("its leave of a call", witcall_call_leave(handle, kept, NULL, 0, NULL, 0, NULL, 0, NULL, 0, values, ROOM), not_open);
+    expect("its requests of JSON", witcall_json_requests(handle, 0, NULL, 0, NULL, 0, 0), not_open);
+    expect("its fill", witcall_fill_json(handle, 0, NULL, 0, NULL, 0, NULL, 0, values, ROOM), not_open);
+    expect("its read", witcall_read_json(handle, 0, NULL, 0, NULL, 0, NULL, 0, 0), not_open);
     expect("its rows", witcall_row(handle, 0, &row), not_open);
     expect("its members", witcall_member(handle, 0, 0, &member), not_open);
     expect("its names", witcall_row_name(handle, 0, NULL, 0), not_open);
@@ -633,6 +636,117 @@ static void a_call_that_is_kept(void) {
     free(kept), free(back), free(many), free(asked), free_call(c);
 }
 
+/* ---- values as JSON ---- */
+
+static const char ARGUMENTS[] = "[\"hi\",[1,2,3]]";
+
+static witcall_status json_requests(const char *json, witcall_request *out, size_t room, uint64_t limit) {
+    return witcall_json_requests(&package, function, BYTES(json), out, room, limit);
+}
+
+static witcall_status fill(call c, const char *json, size_t blocks) {
+    return witcall_fill_json(&package, function, BYTES(json), c.callee, LENGTH, c.blocks, blocks, c.handed, ROOM);
+}
+
+static witcall_status read_json(call c, const witcall_value *answer, uint8_t *json, size_t room, uint64_t limit) {
+    return witcall_read_json(&package, function, answer, 1, c.callee, LENGTH, json, room, limit);
+}
+
+static void a_call_with_json(void) {
+    call c = new_call();
+    witcall_request *asked = array(2, sizeof *asked);
+    witcall_value *back = array(1, sizeof *back);
+    uint8_t *text = array(4, 1);
+    expect("requests of JSON", json_requests(ARGUMENTS, asked, 2, LENGTH), done(2));
+    holds("what it asks for", asked[0].align == 1 && asked[0].size == 2 && asked[1].align == 2 && asked[1].size == 6);
+    expect("fill", fill(c, ARGUMENTS, 2), done(4));
+    holds("the values", c.handed[0].bits == 50 && c.handed[1].bits == 2 && c.handed[2].bits == 40 && c.handed[3].bits == 3);
+    holds("the arguments", memcmp(c.callee + 50, "hi", 2) == 0 && memcmp(c.callee + 40, "\1\0\2\0\3\0", 6) == 0);
+    answer(c, back);
+    expect("read and room for a part of it", read_json(c, back, text, 3, LENGTH), no_room(4));
+    holds("no part of it is written", text[0] == 0);
+    expect("read", read_json(c, back, text, 4, LENGTH), done(4));
+    holds("the result", memcmp(text, "\"yo\"", 4) == 0);
+    expect("read and a limit of what it asks for", read_json(c, back, text, 4, 2), done(4));
+    expect("read and a limit of one byte less", read_json(c, back, text, 4, 1), refused(WITCALL_ABOVE_LIMIT));
+    memcpy(c.callee + 8, "\300\200", 2);
+    expect("read what is no UTF-8", read_json(c, back, text, 4, LENGTH), trap(5, WITCALL_LIFT_RESULT));
+    expect("read nothing answered", witcall_read_json(
+        &package, function, NULL, 0, c.callee, LENGTH, text, 4, LENGTH), trap(8, WITCALL_LIFT_RESULT));
+    free(asked), free(back), free(text), free_call(c);
+}
+
+/* A text that is refused asks for nothing, and puts nothing into the memory. */
+static void bad_json(const char *name, const char *json, uint32_t wanted_number) {
+    call c = new_call();
+    expect(name, json_requests(json, NULL, 0, LENGTH), refused(wanted_number));
+    expect(name, fill(c, json, 2), refused(wanted_number));
+    holds(name, is_zero(c.callee) && c.handed[0].bits == 0);
+    free_call(c);
+}
+
+static void json_that_is_refused(void) {
+    bad_json("a text that is no UTF-8", "[\"\377\",[]]", WITCALL_BAD_JSON);
+    bad_json("no text", "", WITCALL_BAD_JSON);
+    bad_json("a text that ends early", "[\"hi\",[1,2", WITCALL_BAD_JSON);
+    bad_json("one argument of two", "[\"hi\"]", WITCALL_NOT_THIS_TYPE);
+    bad_json("a number that is too large", "[\"hi\",[65536]]", WITCALL_NOT_THIS_TYPE);
+    expect("a null text", witcall_json_requests(&package, function, NULL, 0, NULL, 0, 0), refused(WITCALL_BAD_JSON));
+    expect("the arguments of no function", witcall_json_requests(&package, 4711, NULL, 0, NULL, 0, 0), refused(63));
+    call c = new_call();
+    expect("a bad text and no room", witcall_fill_json(
+        &package, function, BYTES("["), c.callee, LENGTH, c.blocks, 2, NULL, 0), refused(WITCALL_BAD_JSON));
+    free_call(c);
+}
+
+/* A text of one byte more than a typed value may have. */
+static void a_long_text(void) {
+    const size_t length = 16777217, end = strlen("[\"\",[]]");
+    char *json = array(length + end + 1, 1);
+    memcpy(json, "[\"", 2), memset(json + 2, 'a', length), strcpy(json + 2 + length, "\",[]]");
+    expect("an argument of 16,777,217 bytes", json_requests(json, NULL, 0, UINT64_MAX), trap(4, WITCALL_PLACE));
+    free(json);
+}
+
+static void blocks_of_json(void) {
+    call c = new_call();
+    witcall_request *one = array(1, sizeof *one);
+    expect("room for one request of JSON", json_requests(ARGUMENTS, one, 1, 8), done(2));
+    holds("the first of them", one[0].align == 1 && one[0].size == 2);
+    one[0].size = 4711;
+    expect("requests of JSON and a limit of one byte less", json_requests(ARGUMENTS, one, 1, 7), refused(WITCALL_ABOVE_LIMIT));
+    holds("the array is as it was", one[0].size == 4711);
+    expect("fill and room for 16 values", witcall_fill_json(
+        &package, function, BYTES(ARGUMENTS), c.callee, LENGTH, c.blocks, 2, c.handed, ROOM - 1), no_room(ROOM));
+    c.blocks[1].at = 41;
+    expect("fill a block misaligned", fill(c, ARGUMENTS, 2), refused(WITCALL_BAD_BLOCK));
+    holds("nothing is filled", is_zero(c.callee));
+    c.blocks[1].at = 40;
+    expect("fill one block for two", fill(c, ARGUMENTS, 1), trap(6, WITCALL_PLACE));
+    expect("fill with another text", fill(c, "[\"hi\",[1,2]]", 2), other_block(1));
+    free(one), free_call(c);
+}
+
+/* Numbers go flat: they need no block, and no memory. */
+static void numbers_of_json(void) {
+    witcall_value *values = array(ROOM, sizeof *values);
+    uint8_t *text = array(1, 1);
+    expect("a number: requests", witcall_json_requests(&package, number, BYTES("[7]"), NULL, 0, 0), done(0));
+    expect("a number: fill", witcall_fill_json(&package, number, BYTES("[7]"), NULL, 0, NULL, 0, values, ROOM), done(1));
+    holds("the number", values[0].kind == 0 && values[0].bits == 7);
+    expect("a number: read", witcall_read_json(&package, number, values, 1, NULL, 0, text, 1, 0), done(1));
+    holds("the number", text[0] == '7');
+    free(values), free(text);
+}
+
+static void json(void) {
+    a_call_with_json();
+    json_that_is_refused();
+    a_long_text();
+    blocks_of_json();
+    numbers_of_json();
+}
+
 /* A body runs in the host, which may have the library write the line of its trap. */
 static void a_body_that_stops(void) {
     expect("a body that stops", (witcall_status){WITCALL_TRAP, 7, 4, 0}, trap(7, 4));
@@ -738,6 +852,22 @@ static witcall_status leaves(call c) {
     return leave(c, &back, 1);
 }
 
+static witcall_status asks_json(call c) {
+    (void)c;
+    return json_requests(ARGUMENTS, NULL, 0, LENGTH);
+}
+
+static witcall_status fills(call c) {
+    return fill(c, ARGUMENTS, 2);
+}
+
+static witcall_status reads(call c) {
+    witcall_value back;
+    uint8_t text[4];
+    answer(c, &back);
+    return read_json(c, &back, text, sizeof text, LENGTH);
+}
+
 /* Each allocation of a step is refused in turn: it is done without, or out of memory, and then nothing is written. */
 static void refused_in(witcall_status (*step)(call)) {
     bool was_refused = true;
@@ -761,6 +891,9 @@ static void refused_in_calls(void) {
     refused_in(enters);
     refused_in(asks_back);
     refused_in(leaves);
+    refused_in(asks_json);
+    refused_in(fills);
+    refused_in(reads);
 }
 
 /* The first allocation of these is refused, and nothing is written. */
@@ -843,6 +976,7 @@ int main(void) {
     sets();
     lists();
     a_call_that_is_kept();
+    json();
     a_body_that_stops();
     versions();
     refused_allocations();

@@ -1,5 +1,8 @@
 # Completion of wit-explain for fish: the commands, the options, and files.
 complete -c wit-explain -n __fish_use_subcommand -f -a check -d 'show the faults of files'
+complete -c wit-explain -n __fish_use_subcommand -f -a show -d 'show what packages have'
+complete -c wit-explain -n __fish_use_subcommand -f -a text -d 'print a package as canonical text'
+complete -c wit-explain -n __fish_use_subcommand -f -a bin -d 'write a package as a binary'
 complete -c wit-explain -n __fish_use_subcommand -f -a layout -d 'draw the bytes of types'
 complete -c wit-explain -n __fish_use_subcommand -f -a call -d 'show what a call does to both memories'
 complete -c wit-explain -n __fish_use_subcommand -f -a bind -d 'write a header for C'
@@ -7,5 +10,6 @@ complete -c wit-explain -n __fish_use_subcommand -f -l version -d 'print the ver
 complete -c wit-explain -f -l help -d 'print the help'
 complete -c wit-explain -n 'not __fish_use_subcommand' -l color -x -a 'auto always never' -d 'when faults are colored'
 complete -c wit-explain -n '__fish_seen_subcommand_from check' -l json -d 'print the faults as JSON'
+complete -c wit-explain -n '__fish_seen_subcommand_from bin' -s o -l output -r -F -d 'the file of the binary'
 complete -c wit-explain -n '__fish_seen_subcommand_from layout' -l svg -r -F -d 'write an SVG picture'
 complete -c wit-explain -n '__fish_seen_subcommand_from bind; and not __fish_seen_subcommand_from c' -a c -d 'the language C'

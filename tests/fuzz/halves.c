@@ -4,8 +4,8 @@
  *
  * What has to hold: the memory that is read is as it was, and the other one outside the blocks. What is asked for is
  * asked for with any limit from its sum on, and is 76 with any less. The half is done with just these blocks. What it
- * put asks for the same blocks again. A call that was begun does the same. tests/fuzz/compare.py compares the rest with
- * the models.
+ * put asks for the same blocks again. A call that was begun does the same. An answer is read as JSON just if its requests
+ * are told. tests/fuzz/compare.py compares the rest with the models.
  */
 #include "build.h"
 
@@ -103,6 +103,30 @@ static void check_requests(half *h, asked *a) {
     HOLDS(half_of == 0 || memcmp(few, a->requests, half_of * sizeof *few) == 0);
 }
 
+static witcall_status read_json(half *h, uint8_t *text, size_t len, uint64_t limit) {
+    memory *m = &h->source;
+    return witcall_read_json(h->package, h->func, h->answer.at, h->answer.len, m->at, m->len, text, len, limit);
+}
+
+/* An answer as JSON has one length, or is refused as its requests are. */
+static void check_json(half *h, const asked *a) {
+    witcall_status told = read_json(h, NULL, 0, LIMIT);
+    check_status(told);
+    if (!is_done(a->status)) {
+        HOLDS(is_same(told, a->status));
+        return;
+    }
+    HOLDS(is_done(told) ? told.count == 0 : is_refused(told, WITCALL_NO_ROOM) && told.count > 0);
+    if (a->sum > 0)
+        HOLDS(is_refused(read_json(h, NULL, 0, a->sum - 1), WITCALL_ABOVE_LIMIT));
+    uint8_t *text = malloc(told.count + 1);
+    if (!text)
+        abort();
+    witcall_status read = read_json(h, text, told.count, a->sum);
+    HOLDS(is_done(read) && read.count == told.count);
+    free(text);
+}
+
 static asked check_ask(half *h) {
     asked a = {.requests = fenced(4, SLOTS * sizeof *a.requests, h->at_end)};
     memset(a.requests, 0xee, SLOTS * sizeof *a.requests);
@@ -120,6 +144,8 @@ static asked check_ask(half *h) {
         HOLDS(is_refused(a.status, WITCALL_ABOVE_LIMIT));
         HOLDS(is_refused(ask(h, NULL, 0, LIMIT / 2), WITCALL_ABOVE_LIMIT));
     }
+    if (h->leaves && !h->is_begun)
+        check_json(h, &a);
     HOLDS(memcmp(h->source.at, h->source.before, h->source.len) == 0);
     return a;
 }

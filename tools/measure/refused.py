@@ -45,6 +45,15 @@ ROW = {
 }
 STEPS = [["place", "f", json.loads(VALUE)], ["read", 0], ["call", "f", [json.loads(VALUE)]], ["release", 0, 12]]
 GROWN = {"lens": [65536, 65536], "max": [131072, 131072]}
+HOSTED = {
+    "iface": "a:b/c",
+    "host": [
+        ["asks", [json.loads(VALUE)]],
+        ["fills", [json.loads(VALUE)], [[4, 16, 32], [1, 1, 16], [1, 2, 20]]],
+        ["answer asks", [{"ok": json.loads(VALUE)}]],
+        ["reads", [["i32", 64]]],
+    ],
+}
 LIFTED = {"text": "package a:b; interface c { f: func(x: string); }", "lift": [["i32", 0], ["i32", 2]]}
 # Of each program its rows, and the words, by their number, that each has to tell at least once.
 WORDS = {
@@ -78,6 +87,7 @@ WORDS = {
         (json.dumps({**ROW, **GROWN, "steps": STEPS[:2]}), [*OPENED, 54, 66]),
         (json.dumps({**ROW, **LIFTED}), [*OPENED, 54, "no memory"]),
         (json.dumps({**ROW, "lower": json.loads(VALUE)}), [*OPENED, 54, 66]),
+        (json.dumps({**ROW, **HOSTED}), [*OPENED, 54, "no memory"]),
     ],
 }
 WITH = [word for name in ("clocks", "random", "cli") for word in ("--with", f"examples/wasi/{name}.wit")]

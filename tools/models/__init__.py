@@ -15,6 +15,8 @@ runs and of rows, and nothing in them comes from the program's sources.
 | `json_values` | values as JSON |
 | `sessions` | typed calls, and what is placed, read and released |
 | `heads` | what one value has of its own |
+| `hosts` | values in a memory that a host keeps |
+| `vectors` | which of these answers a row of `crates/vectors` |
 | `jobs`, `layouts`, `rows`, `text_rows` | lines that ask, and lines that answer |
 | `reading_rows`, `atoms`, `memory_rows` | the same of numbers, names, command lines and memories |
 | `cases` | the lines that are asked: stored ones and random ones |

@@ -4,7 +4,7 @@ import itertools
 import json
 import subprocess
 
-from . import calls
+from . import vectors
 
 
 def kind_of(answer):
@@ -16,7 +16,7 @@ def kind_of(answer):
 def compare(program, lines):
     """Runs calls through the program, and prints where it differs; whether it doesn't."""
     ran = subprocess.run([program], input="".join(f"{line}\n" for line in lines), capture_output=True, text=True, check=True)
-    wanted, found = list(calls.answers(lines)), ran.stdout.splitlines()
+    wanted, found = list(vectors.answers(lines)), ran.stdout.splitlines()
     differing = [row for row in itertools.zip_longest(lines, wanted, found) if row[1] != row[2]]
     for line, want, other in differing:
         print(f"{line}\n  wanted {want}\n  found  {other}")

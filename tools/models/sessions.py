@@ -1,7 +1,7 @@
 """Sessions: typed values placed, read, released and passed by calls, and the rows of crates/vectors that are lists of such steps."""
 import json
 
-from . import calls, heads, json_values
+from . import calls, json_values
 from .calls import Acting, Link, guests_of, line_of, memories_told, package_of
 from .crossing import Flat, Given, Stored, Way, value_at
 from .faults import Stopped, Trap
@@ -199,15 +199,3 @@ def converted_told(row):
     caller, callee = guests_of(row)
     t = package_of(row).function("a:b/c", row["func"]).params.fields[0]
     return {"answers": [converted(row, t, caller)], **memories_told(caller, callee, True)}
-
-
-def call_answers(lines):
-    """The line that answers each row of crates/vectors."""
-    for line in lines:
-        row = json.loads(line)
-        if "steps" in row:
-            yield line_of(told(row))
-        elif "head_at" in row or "head_of" in row:
-            yield line_of(heads.row_told(row))
-        else:
-            yield line_of(converted_told(row) if "lift" in row or "lower" in row else calls.told(row))

@@ -3,8 +3,8 @@ import collections
 import itertools
 import pathlib
 
-from . import calls, reading_rows, sessions, text_rows
-from .cases import acted
+from . import calls, reading_rows, text_rows, vectors
+from .cases import acted, hosts
 from .cases import calls as call_cases
 from .cases import steps as step_cases
 
@@ -118,10 +118,13 @@ class Names:
         return [line for file in lines_of(self.folder / "stdin") for line in (f"# {file}", *self.names(file))]
 
 
+def vectors_lines():
+    """The lines of crates/vectors."""
+    return [*call_cases.stored(), *map(calls.line_of, acted.rows()), *step_cases.lines(), *map(calls.line_of, hosts.rows())]
+
+
 TEXT_ROWS = ROOT / "crates/rows_texts/data"
-RUNS = {
-    "vectors": Run("vectors", lambda: [*call_cases.stored(), *map(calls.line_of, acted.rows()), *step_cases.lines()], sessions.call_answers),
-}
+RUNS = {"vectors": Run("vectors", vectors_lines, vectors.answers)}
 # the rows of `wrong.rows` have wrong answers, of which Names has the right ones
 FILES = ("grammar", "texts", "errors", "sets", "packages", "changes", "layouts", "json")
 ALL = [*RUNS.values(), *(Rows(TEXT_ROWS / f"{name}.rows") for name in FILES), Reading(TEXT_ROWS / "reading.rows"), Names()]

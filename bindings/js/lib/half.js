@@ -3,7 +3,7 @@
 import { CODE, Space } from "./core.js";
 
 /** The most core values that a core function takes, and the sizes of structs. */
-const MAX_VALUES = 17;
+export const MAX_VALUES = 17;
 const VALUE_SIZE = 16;
 const REQUEST_SIZE = 8;
 const BLOCK_SIZE = 12;
@@ -34,7 +34,7 @@ const LONGER = 4;
  */
 
 /** The arrays of one run in an instance, which are freed together. */
-class Run {
+export class Run {
   #space;
   #arrays;
 
@@ -106,10 +106,50 @@ class Run {
     });
   }
 
+  /**
+   * Asks which blocks are needed. `ask` gets a room for requests, and how many it has.
+   * @param {(room: number, count: number) => import("./core.js").Status} ask
+   * @returns {{status: import("./core.js").Status, asked?: Request[]}}
+   */
+  asked(ask) {
+    const few = this.array(REQUESTS, FEW, REQUEST_SIZE, FEW);
+    const status = ask(few, FEW);
+    if (status.code !== CODE.DONE) return { status };
+    if (status.count <= FEW) return { status, asked: this.requestsAt(few, status.count) };
+    const all = this.array(REQUESTS, FEW, REQUEST_SIZE, status.count);
+    return { status, asked: this.requestsAt(all, ask(all, status.count).count) };
+  }
+
+  /**
+   * Runs a call over copies of blocks of a memory, and copies them back. The library writes nothing else. It leaves the
+   * padding in them as it is, so they are copied into the module too.
+   * @param {(copy: number, length: number, told: number) => import("./core.js").Status} call
+   * @returns {Flat[]} the core values that the call told
+   */
+  written(bytes, places, call) {
+    const { core } = this;
+    const end = places.reduce((most, { at, size }) => Math.max(most, at + size), 0);
+    const length = Math.min(end, bytes.length);
+    const inside = places.filter(({ at, size }) => at + size <= length);
+    const copy = this.room(length);
+    const told = this.array(TOLD, MAX_VALUES, VALUE_SIZE, MAX_VALUES);
+    for (const { at, size } of inside) core.bytes.set(bytes.subarray(at, at + size), copy + at);
+    const status = call(copy, length, told);
+    for (const { at, size } of inside) bytes.set(core.bytes.subarray(copy + at, copy + at + size), at);
+    if (status.code !== CODE.DONE) throw core.error(status);
+    return this.valuesAt(told, status.count);
+  }
+
   free() {
     this.#space.free();
   }
 }
+
+/** Whether a status says that an address is outside of the memory. */
+export const isOutside = ({ code, number }) => code === CODE.TRAP && number === BOUNDS;
+
+/** A longer front of a memory of so many bytes. */
+export const longerFront = (length, all) => Math.min(Math.max(length * LONGER, PAGE), all);
 
 /** A half of the calls of one function: `witcall_enter` or `witcall_leave`. */
 export class Half {
@@ -166,41 +206,24 @@ export class Half {
   #ask(run, values, bytes) {
     const { core, handle } = run;
     const flats = run.putValues(0, values);
-    const ask = (read, room, count) =>
-      core.call(`${this.#name}_requests`, handle, [this.#func], ...flats, ...read, room, count, this.#limit);
-    const longer = (length) => Math.min(Math.max(length * LONGER, PAGE), bytes.length);
-    for (let length = Math.min(this.#front, bytes.length); ; length = longer(length)) {
+    for (let length = Math.min(this.#front, bytes.length); ; length = longerFront(length, bytes.length)) {
       const read = run.copy(bytes.subarray(0, length));
-      const few = run.array(REQUESTS, FEW, REQUEST_SIZE, FEW);
-      const status = ask(read, few, FEW);
-      if (status.code === CODE.TRAP && status.number === BOUNDS && length < bytes.length) continue;
+      const { status, asked } = run.asked((room, count) =>
+        core.call(`${this.#name}_requests`, handle, [this.#func], ...flats, ...read, room, count, this.#limit));
+      if (isOutside(status) && length < bytes.length) continue;
       if (status.code !== CODE.DONE) throw core.error(status);
       this.#front = length;
-      if (status.count <= FEW) return { read, asked: run.requestsAt(few, status.count) };
-      const all = run.array(REQUESTS, FEW, REQUEST_SIZE, status.count);
-      return { read, asked: run.requestsAt(all, ask(read, all, status.count).count) };
+      return { read, asked };
     }
   }
 
-  /**
-   * Runs the half over copies of the blocks and of the return area, and copies them back. The library writes nothing
-   * else. It leaves the padding in them as it is, so they are copied into the module too.
-   */
+  /** Runs the half over copies of the blocks and of the return area. */
   #write(run, values, read, bytes, blocks, area) {
-    const { core, handle } = run;
-    const places = area ? [...blocks, area] : blocks;
-    const end = places.reduce((most, { at, size }) => Math.max(most, at + size), 0);
-    const length = Math.min(end, bytes.length);
-    const inside = places.filter(({ at, size }) => at + size <= length);
-    const copy = run.room(length);
     const flats = values.flatMap((some, which) => run.putValues(which * ANSWER, some));
     const granted = run.putBlocks(blocks);
-    const told = run.array(TOLD, MAX_VALUES, VALUE_SIZE, MAX_VALUES);
-    for (const { at, size } of inside) core.bytes.set(bytes.subarray(at, at + size), copy + at);
-    const words = [...flats, ...read, copy, length, ...granted, told, MAX_VALUES];
-    const status = core.call(this.#name, handle, [this.#func], ...words);
-    for (const { at, size } of inside) bytes.set(core.bytes.subarray(copy + at, copy + at + size), at);
-    if (status.code !== CODE.DONE) throw core.error(status);
-    return run.valuesAt(told, status.count);
+    return run.written(bytes, area ? [...blocks, area] : blocks, (copy, length, told) => {
+      const words = [...flats, ...read, copy, length, ...granted, told, MAX_VALUES];
+      return run.core.call(this.#name, run.handle, [this.#func], ...words);
+    });
   }
 }

@@ -66,7 +66,7 @@ export class Library {
     return this.#core;
   }
 
-  /** The library's version, as `0.1.0`. */
+  /** The library's version, as `0.2.0`. */
   get version() {
     const { core } = this;
     const room = 64;

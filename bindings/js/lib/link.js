@@ -1,16 +1,17 @@
 // Two core instances, of which the one calls functions of the other. The library carries the values between their
 // memories.
+import { CODE } from "./core.js";
 import { Half } from "./half.js";
 
 /** Bytes that the blocks of one half may have together, if `link` is not told another limit. */
-const LIMIT = 2 ** 24;
+export const LIMIT = 2 ** 24;
 
 /** K7, a component that stops, and the steps in which it can. */
 const STOPPED = 7;
-const STEP = { BODY: 4, POST: 7 };
+export const STEP = { BODY: 4, POST: 7 };
 
 /** Runs code of a component. If the engine traps in it, the result is that of `stopped`. */
-function ran(core, values, stopped) {
+export function ran(core, values, stopped) {
   try {
     return core(...values);
   } catch (error) {
@@ -55,10 +56,15 @@ class Side {
 }
 
 /** What a core function answered: no value, one, or several of a function that is none of the Canonical ABI. */
-function valuesOf(answer) {
+export function valuesOf(answer) {
   if (answer === undefined) return [];
   return Array.isArray(answer) ? answer : [answer];
 }
+
+/** Throws the trap of a component that the engine stopped in a step. */
+export const stopping = (pkg, step) => (cause) => {
+  throw pkg.place.core.error({ code: CODE.TRAP, number: STOPPED, step, count: 0 }, { cause });
+};
 
 /**
  * A function of the callee as the caller imports it.
@@ -75,20 +81,17 @@ export function lowered(pkg, func, { caller, callee, exports, limit }) {
   const leave = new Half(pkg, func.number, "witcall_leave", limit);
   // A result that is no core value goes to an address behind the arguments.
   const hasArea = func.result !== null && func.lowered.results.length === 0;
-  const stop = (step) => (cause) => {
-    throw pkg.place.core.error({ code: 2, number: STOPPED, step, count: 0 }, { cause });
-  };
   return (...flats) => {
     const handed = enter.carry([flats], caller, callee);
-    const answer = valuesOf(ran(body, handed, stop(STEP.BODY)));
+    const answer = valuesOf(ran(body, handed, stopping(pkg, STEP.BODY)));
     const area = hasArea ? { align: func.result.alignment, size: func.result.size, at: flats.at(-1) >>> 0 } : undefined;
     const [back] = leave.carry([flats, answer], callee, caller, area);
-    if (post) ran(post, answer, stop(STEP.POST));
+    if (post) ran(post, answer, stopping(pkg, STEP.POST));
     return back;
   };
 }
 
-function limitOf(limit) {
+export function limitOf(limit) {
   if (!Number.isSafeInteger(limit) || limit < 0) throw new RangeError(`${limit} is no limit in bytes`);
   return limit;
 }

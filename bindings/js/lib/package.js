@@ -56,11 +56,14 @@ function openedAs(space, inputs, handle) {
 }
 
 /** The bytes that an export writes into an array, which has as much room as it takes. */
-function told(core, name, ...words) {
+const told = (core, name, ...words) => toldBy(core, (at, room) => core.call(name, ...words, at, room));
+
+/** The bytes that a call writes into an array. */
+export function toldBy(core, call) {
   for (let room = ROOM; ;) {
     const at = core.allocate(room);
     try {
-      const status = core.call(name, ...words, at, room);
+      const status = call(at, room);
       if (status.code === CODE.DONE) return core.bytes.slice(at, at + status.count);
       if (status.number !== REFUSAL.NO_ROOM || status.count <= room) throw core.error(status);
       room = status.count;

@@ -11,6 +11,7 @@ from ._library import version
 from ._link import ArrayMemory, Memory, Stopped, grant, link
 from ._package import Package, open
 from ._table import CoreSignature, Function, Member, Type
+from ._values import bind, fill, read
 
 __all__ = [
     "ArrayMemory",
@@ -30,8 +31,11 @@ __all__ = [
     "Trap",
     "Type",
     "WitcallError",
+    "bind",
+    "fill",
     "grant",
     "link",
     "open",
+    "read",
     "version",
 ]

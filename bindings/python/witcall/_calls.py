@@ -4,9 +4,9 @@ from __future__ import annotations
 
 import ctypes
 from types import TracebackType
-from typing import TYPE_CHECKING, Any, Iterable, NamedTuple, Optional, Sequence, Union
+from typing import TYPE_CHECKING, Any, Callable, Iterable, NamedTuple, Optional, Sequence, Union
 
-from ._library import MAX_VALUES, CBlock, CCall, CRequest, CValue, checked
+from ._library import MAX_VALUES, CBlock, CCall, CRequest, CStatus, CValue, checked
 
 if TYPE_CHECKING:
     from ._package import Package
@@ -82,20 +82,33 @@ def _core_value(given: Flat, kind: str) -> CValue:
     return CValue(int(kind == "i64"), number % 2**width)
 
 
-def _core_values(given: Sequence[Flat], kinds: Sequence[str]) -> tuple[Any, int]:
+def core_values(given: Sequence[Flat], kinds: Sequence[str]) -> tuple[Any, int]:
     """An array of core values, and its length. What the signature does not have is an i32."""
     of_signature = [*kinds, *["i32"] * (len(given) - len(kinds))]
     array = (CValue * len(given))(*map(_core_value, given, of_signature))
     return array, len(given)
 
 
-def _blocks(granted: Iterable[Block]) -> tuple[Any, int]:
+def blocks_of(granted: Iterable[Block]) -> tuple[Any, int]:
+    """An array of blocks, and its length."""
     found = [CBlock(*block) for block in granted]
     return (CBlock * len(found))(*found), len(found)
 
 
-def _numbers(array: Any, count: int) -> tuple[int, ...]:
+def numbers_of(array: Any, count: int) -> tuple[int, ...]:
+    """The first core values of an array."""
     return tuple(value.bits for value in array[:count])
+
+
+def requests_of(ask: Callable[[Any, int], CStatus]) -> list[Request]:
+    """The blocks that a call asks for, which are written into an array with room for them."""
+    room = _FEW
+    while True:
+        asked = (CRequest * room)()
+        status = ask(asked, room)
+        if status.code or status.count <= room:
+            return [Request(it.align, it.size) for it in asked[: checked(status)]]
+        room = status.count
 
 
 class Call:
@@ -118,25 +131,20 @@ class Call:
         self._package = package
         self._function = function
         self._call = CCall()
-        values = _core_values(flats, function.lowered.parameters)
+        values = core_values(flats, function.lowered.parameters)
         checked(package.ask("witcall_begin", function.number, *values, self._call))
 
     def _answer(self, answer: Sequence[Flat]) -> tuple[Any, int]:
-        return _core_values(answer, self._function.lifted.results)
+        return core_values(answer, self._function.lifted.results)
 
     def _requests(
         self, name: str, values: tuple[Any, ...], data: Writable, limit: int
     ) -> list[Request]:
         with Lent(data) as memory:
-            room = _FEW
-            while True:
-                asked = (CRequest * room)()
-                words = (*values, memory.address, memory.length, asked, room, limit)
-                status = self._package.ask(name, self._call, *words)
-                if status.code or status.count <= room:
-                    break
-                room = status.count
-        return [Request(it.align, it.size) for it in asked[: checked(status)]]
+            words = (self._call, *values, memory.address, memory.length)
+            return requests_of(
+                lambda array, room: self._package.ask(name, *words, array, room, limit)
+            )
 
     def _carry(
         self,
@@ -145,7 +153,7 @@ class Call:
         memories: tuple[Writable, Writable],
         granted: Iterable[Block],
     ) -> tuple[int, ...]:
-        blocks = _blocks(granted)
+        blocks = blocks_of(granted)
         told = (CValue * MAX_VALUES)()
         source, target = memories
         with Lent(source) as read, Lent(target) as written:
@@ -154,7 +162,7 @@ class Call:
             places = (read.address, read.length, written.address, written.length)
             words = (*values, *places, *blocks, told, MAX_VALUES)
             status = self._package.ask(name, self._call, *words)
-        return _numbers(told, checked(status))
+        return numbers_of(told, checked(status))
 
     def enter_requests(self, caller: Writable, limit: int) -> list[Request]:
         """The blocks that the arguments need in the callee, in this order."""

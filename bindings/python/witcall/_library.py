@@ -97,6 +97,9 @@ PARAMETERS: dict[str, list[Any]] = {
     "witcall_lifted_result": [*_OF_FUNCTION, *_KINDS],
     "witcall_lowered_params": [*_OF_FUNCTION, *_KINDS],
     "witcall_lowered_result": [*_OF_FUNCTION, *_KINDS],
+    "witcall_json_requests": [*_OF_FUNCTION, *_BYTES, *_REQUESTS],
+    "witcall_fill_json": [*_OF_FUNCTION, *_BYTES, *_BYTES, *_BLOCKS, *_VALUES],
+    "witcall_read_json": [*_OF_FUNCTION, *_VALUES, *_BYTES, *_BYTES, c_uint64],
     "witcall_begin": [*_OF_FUNCTION, *_VALUES, POINTER(CCall)],
     "witcall_call_enter_requests": [*_OF_CALL, *_BYTES, *_REQUESTS],
     "witcall_call_enter": [*_OF_CALL, *_BYTES, *_BYTES, *_BLOCKS, *_VALUES],
@@ -176,5 +179,5 @@ def bytes_of(ask: Callable[[Any, int], CStatus]) -> bytes:
 
 
 def version() -> str:
-    """The version of the library, as `0.1.0`."""
+    """The version of the library, as `0.2.0`."""
     return bytes_of(library().witcall_version).decode()

@@ -18,7 +18,7 @@ LIMIT = 2**24
 
 # K7, a component that stops, and the steps in which it can.
 _STOPPED = 7
-_BODY, _POST = 4, 7
+BODY, POST = 4, 7
 
 _POST_RETURN = "cabi_post_"
 
@@ -96,12 +96,34 @@ def grant(memory: Memory, asked: Iterable[Request]) -> list[Block]:
     return blocks
 
 
-def _values(answer: Answer) -> Sequence[Flat]:
+def values_of(answer: Answer) -> Sequence[Flat]:
+    """The core values that a core function answered."""
     if answer is None:
         return ()
     if isinstance(answer, (int, CoreValue)):
         return (answer,)
     return answer
+
+
+def run(
+    body: Body, values: Sequence[Flat], step: int, stops: tuple[type[BaseException], ...]
+) -> Answer:
+    """Runs code of a component. If it stops, the call is a trap."""
+    try:
+        return body(*values)
+    except stops as error:
+        raise error_of(Status(TRAP, _STOPPED, step, 0)) from error
+
+
+def exported(
+    package: Package, bodies: Mapping[str, Body]
+) -> dict[str, tuple[Function, Body, Optional[Body]]]:
+    """The functions that a component exports, each with its body and its post-return."""
+    return {
+        name: (package.find(*_parts(name)), body, bodies.get(_POST_RETURN + name))
+        for name, body in bodies.items()
+        if not name.startswith(_POST_RETURN)
+    }
 
 
 @dataclass(frozen=True)
@@ -127,19 +149,12 @@ class _Import:
         call = Call(sides.package, self.function, flats)
         blocks = grant(sides.callee, call.enter_requests(sides.caller.data, sides.limit))
         handed = call.enter(sides.caller.data, sides.callee.data, blocks)
-        answer = _values(self._run(self.body, handed, _BODY))
+        answer = values_of(run(self.body, handed, BODY, sides.stops))
         blocks = grant(sides.caller, call.leave_requests(answer, sides.callee.data, sides.limit))
         back = call.leave(answer, sides.callee.data, sides.caller.data, blocks)
         if self.post_return:
-            self._run(self.post_return, answer, _POST)
+            run(self.post_return, answer, POST, sides.stops)
         return back[0] if back else None
-
-    def _run(self, body: Body, values: Sequence[Flat], step: int) -> Answer:
-        """Runs code of the callee. If it stops, the call is a trap."""
-        try:
-            return body(*values)
-        except self.sides.stops as error:
-            raise error_of(Status(TRAP, _STOPPED, step, 0)) from error
 
 
 def link(
@@ -171,12 +186,7 @@ def link(
         Refused: `63 no function`, if the package does not declare one of them
     """
     sides = _Sides(package, caller, callee, limit, (Stopped, *stops))
-    names = [name for name in bodies if not name.startswith(_POST_RETURN)]
-    functions = {name: package.find(*_parts(name)) for name in names}
-    return {
-        name: _Import(sides, function, bodies[name], bodies.get(_POST_RETURN + name))
-        for name, function in functions.items()
-    }
+    return {name: _Import(sides, *found) for name, found in exported(package, bodies).items()}
 
 
 def _parts(name: str) -> tuple[str, str]:

@@ -131,6 +131,7 @@ impl<M> Body<M> for LoggedBody<'_> {
 
 fn step_word(step: Step) -> &'static str {
     match step {
+        Step::Place => "place",
         Step::LiftArguments => "lift-args",
         Step::LowerArguments => "lower-args",
         Step::Body => "body",

@@ -4,7 +4,7 @@
 
 use crate::error::{checked, Error};
 use crate::package::Package;
-use crate::sys::{RawBlock, RawCall, RawRequest, RawValue, MAX_VALUES};
+use crate::sys::{RawBlock, RawCall, RawRequest, RawValue, Status, MAX_VALUES};
 use crate::table::Function;
 
 /// Requests that have room at first.
@@ -54,7 +54,7 @@ fn raw_value(value: &Value) -> RawValue {
     }
 }
 
-fn raw_values(values: &[Value]) -> Vec<RawValue> {
+pub(crate) fn raw_values(values: &[Value]) -> Vec<RawValue> {
     values.iter().map(raw_value).collect()
 }
 
@@ -65,6 +65,31 @@ fn value_of(raw: &RawValue) -> Value {
     } else {
         Value::I64(raw.bits)
     }
+}
+
+pub(crate) fn raw_blocks(blocks: &[Block]) -> Vec<RawBlock> {
+    let raw = |it: &Block| RawBlock { align: it.request.alignment, size: it.request.size, at: it.address };
+    blocks.iter().map(raw).collect()
+}
+
+/// The requests that a call of the library tells, in an array that has as much room as it needs.
+pub(crate) fn requests(mut ask: impl FnMut(&mut [RawRequest]) -> Status) -> Result<Vec<Request>, Error> {
+    let mut requests = vec![RawRequest::default(); FEW];
+    let count = checked(ask(&mut requests))?;
+    if count > FEW {
+        requests.try_reserve_exact(count - FEW).map_err(|_| Error::OutOfMemory)?;
+        requests.resize(count, RawRequest::default());
+        checked(ask(&mut requests))?;
+    }
+    requests.truncate(count);
+    Ok(requests.iter().map(|raw| Request { alignment: raw.align, size: raw.size }).collect())
+}
+
+/// The core values that a call of the library tells.
+pub(crate) fn values(ask: impl FnOnce(&mut [RawValue; MAX_VALUES]) -> Status) -> Result<Vec<Value>, Error> {
+    let mut told = [RawValue::default(); MAX_VALUES];
+    let count = checked(ask(&mut told))?;
+    Ok(told[..count].iter().map(value_of).collect())
 }
 
 /// A call of a function, which is made in halves (docs/C.md).
@@ -111,18 +136,7 @@ impl<'package> Call<'package> {
     }
 
     fn requests(&self, answer: Option<&[RawValue]>, memory: &mut [u8], limit: u64) -> Result<Vec<Request>, Error> {
-        let mut requests = vec![RawRequest::default(); FEW];
-        let mut ask = |room: &mut [RawRequest]| {
-            checked(self.package.ask(|handle| handle.requests(&self.raw, answer, memory, room, limit)))
-        };
-        let count = ask(&mut requests)?;
-        if count > FEW {
-            requests.try_reserve_exact(count - FEW).map_err(|_| Error::OutOfMemory)?;
-            requests.resize(count, RawRequest::default());
-            ask(&mut requests)?;
-        }
-        requests.truncate(count);
-        Ok(requests.iter().map(|raw| Request { alignment: raw.align, size: raw.size }).collect())
+        requests(|room| self.package.ask(|handle| handle.requests(&self.raw, answer, memory, room, limit)))
     }
 
     fn carry(
@@ -131,11 +145,7 @@ impl<'package> Call<'package> {
         memories: [&mut [u8]; 2],
         blocks: &[Block],
     ) -> Result<Vec<Value>, Error> {
-        let raw = |it: &Block| RawBlock { align: it.request.alignment, size: it.request.size, at: it.address };
-        let blocks: Vec<RawBlock> = blocks.iter().map(raw).collect();
-        let mut told = [RawValue::default(); MAX_VALUES];
-        let status = self.package.ask(|handle| handle.carry(&self.raw, answer, memories, &blocks, &mut told));
-        Ok(told[..checked(status)?].iter().map(value_of).collect())
+        values(|told| self.package.ask(|handle| handle.carry(&self.raw, answer, memories, &raw_blocks(blocks), told)))
     }
 
     /// The blocks that the arguments need in the callee, in this order.

@@ -36,6 +36,8 @@ pub enum TrapKind {
 /// In which step a trap came.
 #[derive(Clone, Copy, Debug, PartialEq, Eq, Hash)]
 pub enum Step {
+    /// The host's arguments are put into the memory of the component that it calls.
+    Place,
     /// The arguments are read in the caller.
     LiftArguments,
     /// The arguments are written in the callee.
@@ -61,10 +63,16 @@ const KINDS: [TrapKind; 8] = [
     TrapKind::CoreSignature,
 ];
 
-/// The steps, of which the first one has the number 2.
-const STEPS: [Step; 6] =
-    [Step::LiftArguments, Step::LowerArguments, Step::Body, Step::LiftResult, Step::LowerResult, Step::PostReturn];
-const FIRST_STEP: usize = 2;
+/// The steps with their numbers.
+const STEPS: [(u32, Step); 7] = [
+    (0, Step::Place),
+    (2, Step::LiftArguments),
+    (3, Step::LowerArguments),
+    (4, Step::Body),
+    (5, Step::LiftResult),
+    (6, Step::LowerResult),
+    (7, Step::PostReturn),
+];
 
 /// The end of a call between two components. The callee is not to run again after it.
 #[derive(Clone, Copy, Debug, PartialEq, Eq, Hash)]
@@ -92,6 +100,8 @@ pub enum Error {
     OutOfMemory,
     /// The library that was linked has another binary interface, of this number.
     OtherInterface(u32),
+    /// The library wrote this text, and it is no JSON of a value.
+    Unread(String),
 }
 
 impl Error {
@@ -113,15 +123,14 @@ impl Error {
 
 fn trap_of(status: Status) -> Option<Trap> {
     let kind = *KINDS.get((status.number as usize).checked_sub(1)?)?;
-    let step = *STEPS.get((status.step as usize).checked_sub(FIRST_STEP)?)?;
+    let (_, step) = *STEPS.iter().find(|(number, _)| *number == status.step)?;
     Some(Trap { kind, step })
 }
 
 /// The status that the library has for a trap.
 fn status_of(trap: Trap) -> Status {
-    let place = |found: Option<usize>| found.unwrap_or_default() as u32;
-    let number = place(KINDS.iter().position(|it| *it == trap.kind)) + 1;
-    let step = place(STEPS.iter().position(|it| *it == trap.step)) + FIRST_STEP as u32;
+    let number = KINDS.iter().position(|it| *it == trap.kind).unwrap_or_default() as u32 + 1;
+    let step = STEPS.iter().find(|(_, it)| *it == trap.step).map_or(0, |(number, _)| *number);
     Status { code: sys::TRAP, number, step, count: 0 }
 }
 
@@ -146,6 +155,7 @@ impl fmt::Display for Error {
             Error::OtherInterface(abi) => {
                 write!(out, "the library's binary interface is {abi}, and this crate needs {}", sys::ABI)
             }
+            Error::Unread(text) => write!(out, "the library wrote no JSON of a value: {text}"),
         }
     }
 }

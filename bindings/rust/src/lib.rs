@@ -2,7 +2,8 @@
 //!
 //! A [`Package`] is opened from texts or binaries. It says which functions and types it has, and how their values lie
 //! in memory. A [`Link`] makes calls of one function between two [`Memory`]s: it has the allocators grant blocks,
-//! carries the values, and runs the callee's core function between both halves. A [`Call`] has the steps one by one.
+//! carries the values, and runs the callee's core function between both halves. A [`Call`] has the steps one by one. An
+//! [`Export`] calls a component's function with values of the host, as [`Json`].
 //!
 //! ```
 //! use witcall::{ArrayMemory, Link, Memory, Package, Value};
@@ -35,6 +36,8 @@
 
 mod call;
 mod error;
+mod export;
+mod json;
 mod link;
 mod package;
 #[allow(unsafe_code)]
@@ -43,6 +46,8 @@ mod table;
 
 pub use call::{Block, Call, Request, Value};
 pub use error::{Error, Step, Trap, TrapKind};
+pub use export::Export;
+pub use json::{Json, NoJson};
 pub use link::{granted, ArrayMemory, Body, Link, Memory};
 pub use package::{version, Package};
 pub use table::{CoreType, Definition, Function, Kind, Member, Owner, Signature, Type};

@@ -2,14 +2,14 @@
 
 #![forbid(unsafe_code)]
 
-use crate::call::{Call, Value};
+use crate::call::{self, Block, Call, Request, Value};
 use crate::error::{checked, told, told_text, Error};
 use crate::sys::{self, Handle, Place, Status};
 use crate::table::{self, Definition, Function, Type};
 use std::cell::RefCell;
 use std::fmt;
 
-/// The version of the library, as `0.1.0`.
+/// The version of the library, as `0.2.0`.
 pub fn version() -> Result<String, Error> {
     told_text(sys::version)
 }
@@ -111,6 +111,37 @@ impl Package {
     /// The package as a binary. Of several it is the last one, which opens again after the others.
     pub fn to_binary(&self) -> Result<Vec<u8>, Error> {
         told(|room| self.ask(|handle| handle.write_binary(room)))
+    }
+
+    /// The blocks that arguments need in the memory of the component that is called. They are a JSON array of one value
+    /// for each parameter (docs/FORMATS.md). `limit` is the greatest size of that memory.
+    pub fn json_requests(&self, function: &Function, json: &str, limit: u64) -> Result<Vec<Request>, Error> {
+        call::requests(|room| self.ask(|handle| handle.json_requests(function.number, json, room, limit)))
+    }
+
+    /// Puts the same arguments into the blocks: the values for the core function.
+    pub fn fill_json(
+        &self,
+        function: &Function,
+        json: &str,
+        memory: &mut [u8],
+        blocks: &[Block],
+    ) -> Result<Vec<Value>, Error> {
+        let blocks = call::raw_blocks(blocks);
+        call::values(|told| self.ask(|handle| handle.fill_json(function.number, json, memory, &blocks, told)))
+    }
+
+    /// The result that a core function answered, as JSON; an empty text if the function has none. `limit` bounds the
+    /// time, as that of [`Call::leave_requests`].
+    pub fn read_json(
+        &self,
+        function: &Function,
+        answer: &[Value],
+        memory: &mut [u8],
+        limit: u64,
+    ) -> Result<String, Error> {
+        let answer = call::raw_values(answer);
+        self.text(|handle, room| handle.read_json(function.number, &answer, memory, room, limit))
     }
 
     /// Begins a call of a function with the core values that the caller hands in.

@@ -206,6 +206,38 @@ extern "C" {
         back: *mut RawValue,
         back_len: usize,
     ) -> Status;
+    fn witcall_json_requests(
+        package: *mut Handle,
+        func: u32,
+        json: *const u8,
+        json_len: usize,
+        requests: *mut RawRequest,
+        requests_len: usize,
+        limit: u64,
+    ) -> Status;
+    fn witcall_fill_json(
+        package: *mut Handle,
+        func: u32,
+        json: *const u8,
+        json_len: usize,
+        memory: *mut u8,
+        memory_len: usize,
+        blocks: *const RawBlock,
+        blocks_len: usize,
+        handed: *mut RawValue,
+        handed_len: usize,
+    ) -> Status;
+    fn witcall_read_json(
+        package: *mut Handle,
+        func: u32,
+        answer: *const RawValue,
+        answer_len: usize,
+        memory: *mut u8,
+        memory_len: usize,
+        json: *mut u8,
+        json_len: usize,
+        limit: u64,
+    ) -> Status;
 }
 
 /// What a name of a package is of.
@@ -367,5 +399,44 @@ impl Handle {
                 }
             }
         }
+    }
+
+    /// What arguments as JSON ask for.
+    pub fn json_requests(&mut self, func: u32, json: &str, requests: &mut [RawRequest], limit: u64) -> Status {
+        let (asked, room) = (requests.as_mut_ptr(), requests.len());
+        // SAFETY: each pointer goes with the length of its slice.
+        unsafe { witcall_json_requests(self, func, json.as_ptr(), json.len(), asked, room, limit) }
+    }
+
+    /// Puts arguments as JSON into blocks of a memory.
+    pub fn fill_json(
+        &mut self,
+        func: u32,
+        json: &str,
+        memory: &mut [u8],
+        blocks: &[RawBlock],
+        told: &mut [RawValue; MAX_VALUES],
+    ) -> Status {
+        let (to, to_len) = (memory.as_mut_ptr(), memory.len());
+        let (granted, count, told) = (blocks.as_ptr(), blocks.len(), told.as_mut_ptr());
+        // SAFETY: each pointer goes with the length of its slice, and no two slices overlap.
+        unsafe {
+            witcall_fill_json(self, func, json.as_ptr(), json.len(), to, to_len, granted, count, told, MAX_VALUES)
+        }
+    }
+
+    /// Writes the result that a core function answered as JSON.
+    pub fn read_json(
+        &mut self,
+        func: u32,
+        answer: &[RawValue],
+        memory: &mut [u8],
+        json: &mut [u8],
+        limit: u64,
+    ) -> Status {
+        let (values, count) = (answer.as_ptr(), answer.len());
+        let (from, from_len) = (memory.as_mut_ptr(), memory.len());
+        // SAFETY: each pointer goes with the length of its slice, and no two slices overlap.
+        unsafe { witcall_read_json(self, func, values, count, from, from_len, json.as_mut_ptr(), json.len(), limit) }
     }
 }

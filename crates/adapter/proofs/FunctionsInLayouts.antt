@@ -57,6 +57,10 @@ pub result-fields : (r : Resolve) (o : Option ValType) → fields_of_types r (op
 result-fields r None = refl
 result-fields r (Some t) = refl
 
+pub all-known : (r : Resolve) (o : Option ValType) → IfSome o (IsTypeOf r) → AreTypesOf r (option_to_list o)
+all-known r None h = refl
+all-known r (Some t) h = and_from (is_type r.definitions t) true h refl
+
 pub all-inside : (r : Resolve) (o : Option ValType) → IfSome o (IsInside r) → AreAllInside r (option_to_list o)
 all-inside r None h = refl
 all-inside r (Some t) h = and_from _ true h refl

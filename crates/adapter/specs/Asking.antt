@@ -58,11 +58,6 @@ IsUntold P D f limit untold.AboveLimit = (vs : List Value) → P vs → limit < 
 abbrev pub AsksNothing : ClosedType → Type 0
 AsksNothing t = (m : List ℕ) (a : ℕ) → (v : Value) × (reading t m a ≡ Ok v) × (requests t v ≡ [])
 
--- the bytes of the members of a record, without padding
-abbrev pub fields_size : Fields → ℕ
-fields_size no_field = 0
-fields_size (field t fs) = size t + fields_size fs
-
 -- at most d values were visited for each of s bytes, or core values, and for each byte that was taken of those that may be asked for: of l bytes l2 are
 -- left, and of n visited values they are n2
 pub record IsFew (d s l l2 n n2 : ℕ) : Type 0 where

@@ -5,3 +5,4 @@ pub mod Linked
 pub mod Leaving
 pub mod Plain
 pub mod Asking
+pub mod Signature

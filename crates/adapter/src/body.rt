@@ -8,7 +8,7 @@ use memory::{Guest, Space};
 use values::FlatResults;
 
 /// A core function's end without an answer.
-#[derive(Clone, Copy, Debug)]
+#[derive(Clone, Copy, Debug, PartialEq, Eq)]
 pub struct Stopped;
 
 /// A component's core function and its post-return, over a memory of the kind `G`. It may do anything that

@@ -24,4 +24,4 @@ pub use invocation::Invocation;
 pub use link::Link;
 pub use plain::{are_plain, is_plain_answer};
 pub use requests::Unasked;
-pub use signature::parameter_types;
+pub use signature::{parameter_types, result_type};

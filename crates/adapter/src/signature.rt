@@ -1,15 +1,18 @@
-//! The types of a function's parameters.
-ghost use Rattle.std.specs.Prelude.{◌≡◌, ◌≤◌, Some, map, IfOk};
-ghost use Rattle.canonical_abi.specs.Types.{record_type};
+//! The types of a function's parameters and of its result.
+ghost use Rattle.std.specs.Prelude.{◌≡◌, ◌≤◌, Some, map, option_to_list, IfOk, IfSome};
+ghost use Rattle.canonical_abi.specs.Types.{record_type, result_fields};
 ghost use Rattle.canonical_abi.specs.Layout.{size};
 ghost use Rattle.layout.specs.Layout.{AreWithin};
 ghost use Rattle.values.specs.Members.{fields_of_types, AreTypesOf};
+ghost use Rattle.values.specs.Types.{IsInside};
 ghost use Rattle.tables.specs.Closed.{IsFunction, function_at, function_type};
+ghost use Rattle.tables.specs.Standard.{IsTypeOf};
 ghost use Rattle.tables.specs.declared.tables.Function.{Function};
+ghost use Rattle.adapter.specs.Signature.{function_signature};
 
 use lift_lower::Types;
 use std::alloc::{AllocError, Global};
-use tables::{FunctionId, Parameter, ValType};
+use tables::{FunctionId, Parameter, Resolve, ValType};
 
 /// The types of a function's parameters, in their order.
 pub fn parameter_types(
@@ -36,4 +39,16 @@ fn types_of(alloc: Global, params: &[Parameter]) -> Result<Vec<ValType>, AllocEr
         types.push(parameter.ty)?;
     }
     Ok(types)
+}
+
+/// The type of a function's result, if it has one.
+pub fn result_type(resolve: &Resolve, func: FunctionId) -> Option<ValType>
+    requires { IsFunction resolve.now func }
+    ensures ty { result ≡ (function_signature (function_at resolve.now func)).result }
+    ensures known { IfSome result (IsTypeOf resolve.now) }
+    ensures inside { IfSome result (IsInside resolve.now) }
+    ensures all_known { AreTypesOf resolve.now (option_to_list result) }
+    ensures fields { fields_of_types resolve.now (option_to_list result) ≡ result_fields (function_type resolve.now func).result }
+{
+    resolve.signature(func).result
 }

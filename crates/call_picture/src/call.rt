@@ -1,20 +1,18 @@
 //! A function that is to be called, with the types of its values.
 ghost use Rattle.std.specs.Prelude.{◌≡◌, ◌≤◌, map, All, IfOk, IfSome};
 ghost use Rattle.canonical_abi.specs.Layout.{size};
-ghost use Rattle.canonical_abi.specs.Types.{record_type};
+ghost use Rattle.canonical_abi.specs.Types.{record_type, result_fields};
 ghost use Rattle.canonical_abi.specs.Values.{HaveTypes};
 ghost use Rattle.layout.specs.Layout.{AreWithin, layouts_of};
 ghost use Rattle.values.specs.Members.{fields_of_types, AreTypesOf};
-ghost use Rattle.values.specs.Types.{IsInside};
 ghost use Rattle.values.specs.Val.{value_of};
 ghost use Rattle.package_form.specs.Form.{IsInPackageForm};
 ghost use Rattle.package_form.specs.Naming.{package_scopes};
 ghost use Rattle.package_form.specs.Scope.{AreDistinct};
 ghost use Rattle.tables.specs.Closed.{IsFunction, function_type};
-ghost use Rattle.tables.specs.Standard.{IsTypeOf};
 
 use crate::json::{JsonError, read_json};
-use adapter::parameter_types;
+use adapter::{parameter_types, result_type};
 use layout::Layouts;
 use lift_lower::{Types, Val, has_arguments, has_type};
 use std::alloc::{AllocError, Global};
@@ -38,17 +36,10 @@ pub struct Call<'a> {
     ghost distinct: { ∥ All AreDistinct (package_scopes resolve.now) ∥₁ },
     pub ghost function: { IsFunction resolve.now func },
     ghost params_known: { AreTypesOf resolve.now params.items },
+    pub ghost takes: { ∥ (function_type resolve.now func).params ≡ fields_of_types resolve.now params.items ∥₁ },
     pub ghost results_known: { AreTypesOf resolve.now results.items },
+    pub ghost returns: { ∥ fields_of_types resolve.now results.items ≡ result_fields (function_type resolve.now func).result ∥₁ },
     pub ghost results_small: { size (record_type (fields_of_types resolve.now results.items)) ≤ 16777216 },
-}
-
-/// The type of a function's result, if it has one.
-pub(crate) fn result_type(resolve: &Resolve, func: FunctionId) -> Option<ValType>
-    requires { IsFunction resolve.now func }
-    ensures known { IfSome result (IsTypeOf resolve.now) }
-    ensures inside { IfSome result (IsInside resolve.now) }
-{
-    resolve.signature(func).result
 }
 
 /// The types of a function's results: one, or none.
@@ -60,6 +51,7 @@ fn result_types(
     requires function { IsFunction resolve.now func }
     requires within { ∥ AreWithin resolve.now ∥₁ }
     ensures known { IfOk result (λ ts. AreTypesOf resolve.now ts.items) }
+    ensures fields { IfOk result (λ ts. fields_of_types resolve.now ts.items ≡ result_fields (function_type resolve.now func).result) }
     ensures small { IfOk result (λ ts. size (record_type (fields_of_types resolve.now ts.items)) ≤ 16777216) }
 {
     let mut types = Vec::new(alloc);

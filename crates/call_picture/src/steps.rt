@@ -5,9 +5,9 @@ ghost use Rattle.values.specs.Members.{fields_of_types};
 ghost use Rattle.values.specs.Val.{value_of};
 ghost use Rattle.tables.specs.Closed.{function_type};
 
-use crate::call::{Call, result_type};
+use crate::call::Call;
 use crate::course::{Course, copied};
-use adapter::{Invocation, Link};
+use adapter::{Invocation, Link, result_type};
 use canonical_abi::{Fault, Flat, Step, Trap, TrapKind};
 use lift_lower::{
     FlatResults, Flats, Val, ask_area, is_area, lower_answer, lower_arguments, take_result,

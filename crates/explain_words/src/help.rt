@@ -1,12 +1,15 @@
 //! Help and version.
 
 /// The program and its version.
-pub static VERSION: &str = "wit-explain 0.1.0\n";
+pub static VERSION: &str = "wit-explain 0.2.0\n";
 
 static PROGRAM: &str = "\
 wit-explain: faults of WIT files with their lines, pictures of their types, calls step by step, and headers for C
 
 usage: wit-explain check [--json] PATH..
+       wit-explain show PATH..
+       wit-explain text PATH
+       wit-explain bin -o FILE PATH
        wit-explain layout [--svg FILE] PATH [TYPE]
        wit-explain call PATH INTERFACE FUNCTION ARGUMENTS [ANSWER]
        wit-explain bind c PATH
@@ -26,6 +29,27 @@ Checks the packages of these files, each after those that it depends on. Prints 
 file, or, if no text has one, the first fault of each package: the file, line and column, the error's number and words,
 the line with the place marked, and a hint. Prints nothing if all is well.
 With --json, prints the faults as an array of objects.
+";
+
+static SHOW: &str = "\
+usage: wit-explain show [--color WHEN] PATH..
+
+Prints what each package of these files has: its name, and for each interface and each world how many names, types and
+functions. Dependencies are read and not shown. The lines are those of `witcall show`.
+";
+
+static TEXT: &str = "\
+usage: wit-explain text [--color WHEN] PATH
+
+Prints the package of these files as one canonical text, as `witcall text` does. Comments are left out. Of several
+packages it is the last that is no dependency.
+";
+
+static BIN: &str = "\
+usage: wit-explain bin [--color WHEN] -o FILE PATH
+
+Writes the package of these files to FILE as a binary, as `witcall bin` does. Of several packages it is the last that is no
+dependency. --output FILE is the same.
 ";
 
 static LAYOUT: &str = "\
@@ -58,6 +82,9 @@ pub fn help_of(command: Option<&str>) -> Option<&'static str> {
     match command {
         None => Some(PROGRAM),
         Some("check") => Some(CHECK),
+        Some("show") => Some(SHOW),
+        Some("text") => Some(TEXT),
+        Some("bin") => Some(BIN),
         Some("layout") => Some(LAYOUT),
         Some("call") => Some(CALL),
         Some("bind") => Some(BIND),

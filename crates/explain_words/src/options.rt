@@ -15,6 +15,7 @@ pub enum ColorChoice {
 enum Pending {
     Color,
     Svg,
+    Output,
 }
 
 /// What the words say.
@@ -27,6 +28,8 @@ pub struct Options<'a> {
     pub is_help: bool,
     /// The file for a picture.
     pub svg: Option<&'a str>,
+    /// The file for a binary.
+    pub output: Option<&'a str>,
     pending: Option<Pending>,
 }
 
@@ -44,6 +47,7 @@ impl<'a> Options<'a> {
     fn take_value(&mut self, option: Pending, word: &'a str) -> bool {
         match option {
             Pending::Svg => self.svg = Some(word),
+            Pending::Output => self.output = Some(word),
             Pending::Color => match color_of(word) {
                 Some(color) => self.color = color,
                 None => return false,
@@ -59,9 +63,11 @@ impl<'a> Options<'a> {
             "--json" => self.is_json = true,
             "--color" => self.pending = Some(Pending::Color),
             "--svg" => self.pending = Some(Pending::Svg),
+            "--output" => self.pending = Some(Pending::Output),
             _ => match word.split_once('=') {
                 Some(("--color", color)) => return self.take_value(Pending::Color, color),
                 Some(("--svg", file)) => return self.take_value(Pending::Svg, file),
+                Some(("--output", file)) => return self.take_value(Pending::Output, file),
                 _ => return false,
             },
         }
@@ -73,6 +79,10 @@ impl<'a> Options<'a> {
         if let Some(option) = self.pending {
             self.pending = None;
             return Ok(self.take_value(option, word));
+        }
+        if word == "-o" {
+            self.pending = Some(Pending::Output);
+            return Ok(true);
         }
         if word.starts_with("--") && word != "--version" {
             return Ok(self.take_option(word));
@@ -90,6 +100,7 @@ pub fn options_of<'a>(alloc: Global, words: &[&'a str]) -> Result<Option<Options
         is_json: false,
         is_help: false,
         svg: None,
+        output: None,
         pending: None,
     };
     for word in words {

@@ -36,7 +36,7 @@ fn texts_of(alloc: Global, set: &PackageSet) -> Result<Vec<String>, TextError> {
 }
 
 /// The place of the last package that is no dependency.
-fn main_of(packages: &[Checked]) -> usize {
+pub(crate) fn main_of(packages: &[Checked]) -> usize {
     let mut main = 0;
     for (place, package) in packages.iter().enumerate() {
         if !package.is_dependency {

@@ -8,9 +8,11 @@ ghost use Rattle.tables.specs.Closed.{IsFunction};
 
 use crate::checking::Checked;
 use call_picture::{Call, JsonError, Picture};
+use json_faults::{Fault, first_fault};
+use serde_json::Value as Json;
 use std::alloc::{AllocError, Global};
 use std::fmt::Write;
-use tables::{FunctionId, Resolve};
+use tables::{Definition, Function, FunctionId, Interface, Resolve, ValType};
 use wit_faults::Report;
 
 /// The words of a call.
@@ -65,17 +67,71 @@ fn picture_of(
     Ok(Ok(picture))
 }
 
+/// The types of the values that a text has to say: those of the parameters, or of the result if there is one.
+fn types_of(
+    alloc: Global,
+    function: &Function,
+    refused: Refused,
+) -> Result<Vec<ValType>, AllocError> {
+    match refused {
+        Refused::Arguments(_) => function
+            .params
+            .as_slice()
+            .iter()
+            .map(|it| it.ty)
+            .collect(alloc),
+        Refused::Answer(_) => function.result.iter().copied().collect(alloc),
+    }
+}
+
+/// The first place in a text of JSON that is of another type, if it is in one of its values.
+fn fault_of(
+    alloc: Global,
+    function: (&Resolve, FunctionId),
+    refused: Refused,
+    words: &CallWords<'_>,
+) -> Result<Option<Fault>, AllocError> {
+    let text = match refused {
+        Refused::Answer(_) => words.answer,
+        Refused::Arguments(_) => words.arguments,
+    };
+    let (tables, func) = function;
+    let found = tables.definitions.as_slice().get(func.0 as usize);
+    match (found, Json::from_str(alloc, text)) {
+        (Some(Definition::Function(function)), Ok(json)) => {
+            let types = types_of(alloc, function, refused)?;
+            first_fault(alloc, tables, types.as_slice(), &json)
+        }
+        _ => Ok(None),
+    }
+}
+
 /// Reports why a call was not made.
-fn report_refused(report: &mut Report, refused: Refused) -> Result<(), AllocError> {
+fn report_refused(
+    report: &mut Report,
+    refused: Refused,
+    fault: Option<Fault>,
+) -> Result<(), AllocError> {
     let (Refused::Answer(error) | Refused::Arguments(error)) = refused;
-    let hint = hint_of(refused);
     report.status = 1;
-    writeln!(report.text, "wit-explain: {error}\n   = {hint}")?;
+    match fault {
+        Some(fault) => writeln!(
+            report.text,
+            "wit-explain: {error}\n   = at `{}`: {}",
+            fault.path.as_str(),
+            fault.words.as_str()
+        )?,
+        None => writeln!(
+            report.text,
+            "wit-explain: {error}\n   = {}",
+            hint_of(refused)
+        )?,
+    }
     Ok(())
 }
 
 /// A package that can be written is in form, and its names differ in each scope.
-fn is_in_form(_tables: &Resolve)
+pub(crate) fn is_in_form(_tables: &Resolve)
     requires { ∥ IsWritable _tables.now ∥₁ }
     ensures form { ∥ IsInPackageForm _tables.now ∥₁ }
     ensures distinct { ∥ All AreDistinct (package_scopes _tables.now) ∥₁ }
@@ -101,8 +157,82 @@ fn report_picture(
             }
             Ok(())
         }
-        Err(refused) => report_refused(report, refused),
+        Err(refused) => {
+            let fault = fault_of(alloc, (&package.tables, func), refused, words)?;
+            report_refused(report, refused, fault)
+        }
     }
+}
+
+/// The most functions that a hint names.
+const MOST_NAMED: usize = 8;
+
+/// The interface of this full name in a table.
+fn interface_in<'a>(
+    alloc: Global,
+    tables: &'a Resolve,
+    name: &str,
+) -> Result<Option<&'a Interface>, AllocError> {
+    for interface in tables.interfaces.as_slice() {
+        if let Some(package) = tables.packages.as_slice().get(interface.package.0 as usize)
+            && package.full_name(alloc, &interface.name)?.as_str() == name
+        {
+            return Ok(Some(interface));
+        }
+    }
+    Ok(None)
+}
+
+/// Appends the names of an interface's functions, the first of them.
+fn push_functions(
+    text: &mut String,
+    tables: &Resolve,
+    interface: &Interface,
+) -> Result<(), AllocError> {
+    if interface.functions.as_slice().is_empty() {
+        text.push_str("none")?;
+    }
+    for (place, func) in interface.functions.as_slice().iter().enumerate() {
+        let mark = if place == 0 { "" } else { ", " };
+        if place == MOST_NAMED {
+            writeln!(text, "{mark}..")?;
+            return Ok(());
+        }
+        if let Some(Definition::Function(function)) = tables
+            .definitions
+            .as_slice()
+            .get(func.0 as usize)
+        {
+            write!(text, "{mark}`{}`", function.name.as_str())?;
+        }
+    }
+    text.push('\n')?;
+    Ok(())
+}
+
+/// Reports that no package has the function: with those of the interface, if one has that.
+fn report_missing(
+    alloc: Global,
+    report: &mut Report,
+    packages: &[Checked],
+    words: &CallWords<'_>,
+) -> Result<(), AllocError> {
+    report.status = 1;
+    let (interface, function) = (words.interface, words.function);
+    for package in packages {
+        if let Some(found) = interface_in(alloc, &package.tables, interface)? {
+            write!(
+                report.text,
+                "wit-explain: error 63 no function\n   = `{interface}` has no function `{function}`; it has "
+            )?;
+            return push_functions(&mut report.text, &package.tables, found);
+        }
+    }
+    writeln!(
+        report.text,
+        "wit-explain: error 63 no function\n   = no package has a function `{function}` in an interface `{interface}`; its full name is `NAMESPACE:PACKAGE/NAME`, with `@VERSION` if there is one"
+    )?;
+    Ok(())
 }
 
 /// Calls the function of the first package that has it, and reports what the call did. The status is 1 if there is none, if a
@@ -118,12 +248,5 @@ pub fn report_call(
             return report_picture(alloc, report, package, func, words);
         }
     }
-    report.status = 1;
-    let interface = words.interface;
-    writeln!(
-        report.text,
-        "wit-explain: error 63 no function\n   = no package has a function `{}` in an interface `{interface}`; its full name is `NAMESPACE:PACKAGE/NAME`, with `@VERSION` if there is one",
-        words.function
-    )?;
-    Ok(())
+    report_missing(alloc, report, packages, words)
 }

@@ -1,12 +1,13 @@
 //! The commands.
 
-use crate::binding::header_for_c;
+use crate::binding::{header_for_c, main_of};
 use crate::calling::{CallWords, report_call};
 use crate::checking::{Checked, CheckedSet, check_sources};
+use crate::writing::{binary_of, push_contents, text_of};
 use explain_words::{ColorChoice, Options, VERSION, help_of, options_of, usage};
 use layout_picture::{Form, Sheet};
 use std::alloc::AllocError;
-use std::fmt::Write;
+use std::fmt::{Display, Write};
 use std::io::IsTerminal;
 use std::{env, fs};
 use wit_faults::{Paint, Report, Style};
@@ -60,6 +61,69 @@ fn check(rt: &HostRuntime, options: &Options<'_>, paths: &[&str]) -> Result<Repo
     Ok(report)
 }
 
+/// Reports that a package can't be written.
+fn refuse<E: Display>(report: &mut Report, path: &str, error: &E) -> Result<(), AllocError> {
+    report.status = 1;
+    writeln!(report.text, "{path}: {error}")?;
+    Ok(())
+}
+
+/// Tells what the packages of these paths have.
+fn contents(rt: &HostRuntime, options: &Options<'_>, paths: &[&str]) -> Result<Report, AllocError> {
+    let mut report = new_report(rt, options);
+    let packages = checked_paths(rt, &mut report, paths)?;
+    if report.status == 0 {
+        push_contents(rt.alloc(), &mut report, packages.list.as_slice())?;
+    }
+    Ok(report)
+}
+
+/// Writes the canonical text of the last package of a path that is no dependency.
+fn text(rt: &HostRuntime, options: &Options<'_>, path: &str) -> Result<Report, AllocError> {
+    let mut report = new_report(rt, options);
+    let packages = checked_paths(rt, &mut report, &[path])?;
+    let list = packages.list.as_slice();
+    if report.status == 0
+        && let Some(package) = list.get(main_of(list))
+    {
+        match text_of(rt.alloc(), package) {
+            Ok(text) => report.text.push_str(text.as_str())?,
+            Err(error) => refuse(&mut report, path, &error)?,
+        }
+    }
+    Ok(report)
+}
+
+/// Writes bytes to a file.
+fn save(rt: &HostRuntime, report: &mut Report, file: &str, bytes: &[u8]) -> Result<(), AllocError> {
+    if fs::write(rt, file, bytes).is_err() {
+        report.status = 1;
+        writeln!(report.text, "{file}: error 65 write")?;
+    }
+    Ok(())
+}
+
+/// Writes the binary of the last package of a path that is no dependency to a file.
+fn binary(
+    rt: &HostRuntime,
+    options: &Options<'_>,
+    path: &str,
+    file: &str,
+) -> Result<Report, AllocError> {
+    let mut report = new_report(rt, options);
+    let packages = checked_paths(rt, &mut report, &[path])?;
+    let list = packages.list.as_slice();
+    if report.status == 0
+        && let Some(package) = list.get(main_of(list))
+    {
+        match binary_of(rt.alloc(), package) {
+            Ok(bytes) => save(rt, &mut report, file, bytes.as_slice())?,
+            Err(error) => refuse(&mut report, path, &error)?,
+        }
+    }
+    Ok(report)
+}
+
 /// Draws the packages that are no dependencies.
 fn draw(sheet: &mut Sheet, packages: &[Checked], wanted: Option<&str>) -> Result<(), AllocError> {
     for package in packages {
@@ -78,12 +142,7 @@ fn show(
     picture: &str,
 ) -> Result<(), AllocError> {
     match file {
-        Some(file) if file != "-" => {
-            if fs::write(rt, file, picture).is_err() {
-                report.status = 1;
-                writeln!(report.text, "{file}: error 65 write")?;
-            }
-        }
+        Some(file) if file != "-" => save(rt, report, file, picture.as_bytes())?,
         _ => report.text.push_str(picture)?,
     }
     Ok(())
@@ -128,10 +187,7 @@ fn bind_c(rt: &HostRuntime, options: &Options<'_>, path: &str) -> Result<Report,
     }
     match header_for_c(rt.alloc(), &packages) {
         Ok(header) => report.text.push_str(header.as_str())?,
-        Err(cause) => {
-            report.status = 1;
-            writeln!(report.text, "{path}: {cause}")?;
-        }
+        Err(cause) => refuse(&mut report, path, &cause)?,
     }
     Ok(report)
 }
@@ -180,23 +236,41 @@ fn help(rt: &HostRuntime, words: &[&str]) -> Result<Report, AllocError> {
     }
 }
 
+/// Does what words ask for that have no other option than `--color`.
+fn run_plain(
+    rt: &HostRuntime,
+    options: &Options<'_>,
+    words: &[&str],
+) -> Result<Report, AllocError> {
+    match words {
+        ["show", paths @ ..] if !paths.is_empty() => contents(rt, options, paths),
+        ["text", path] => text(rt, options, path),
+        ["call", path, words @ ..] => run_call(rt, options, path, words),
+        ["bind", "c", path] => bind_c(rt, options, path),
+        _ => Report::said(rt.alloc(), usage(), 2),
+    }
+}
+
 /// Does what the options and words ask for.
 fn run_options(rt: &HostRuntime, options: &Options<'_>) -> Result<Report, AllocError> {
     let words = options.words.as_slice();
     if options.is_help {
         return help(rt, words);
     }
-    let has_svg = options.svg.is_some();
-    match words {
-        ["--version"] => Report::said(rt.alloc(), VERSION, 0),
-        ["check", paths @ ..] if !paths.is_empty() && !has_svg => check(rt, options, paths),
-        ["layout", path] if !options.is_json => layout(rt, options, path, None),
-        ["layout", path, wanted] if !options.is_json => { layout(rt, options, path, Some(wanted)) }
-        ["call", path, words @ ..] if !options.is_json && !has_svg => {
-            run_call(rt, options, path, words)
+    let output = options.output;
+    match (words, output) {
+        (["--version"], None) => Report::said(rt.alloc(), VERSION, 0),
+        (["check", paths @ ..], None) if !paths.is_empty() && options.svg.is_none() => {
+            check(rt, options, paths)
         }
-        ["bind", "c", path] if !options.is_json && !has_svg => bind_c(rt, options, path),
-        _ => Report::said(rt.alloc(), usage(), 2),
+        (["layout", path], None) if !options.is_json => layout(rt, options, path, None),
+        (["layout", path, wanted], None) if !options.is_json => {
+            layout(rt, options, path, Some(wanted))
+        }
+        _ if options.is_json || options.svg.is_some() => Report::said(rt.alloc(), usage(), 2),
+        (["bin", path], Some(file)) => binary(rt, options, path, file),
+        (_, Some(_)) => Report::said(rt.alloc(), usage(), 2),
+        (words, None) => run_plain(rt, options, words),
     }
 }
 

@@ -11,6 +11,7 @@ use Rattle.canonical_abi.specs.Trace
 use Rattle.canonical_abi.specs.declared.trap.Fault.{Fault}
 use Rattle.canonical_abi.specs.declared.trap.Fault.TheVariants.{Trap, NoMemory}
 use Rattle.canonical_abi.proofs.StoredValues.AsksRequests.{items-of}
+use Rattle.adapter.proofs.asking.RequestsOfParts.{plain-asks}
 use Rattle.adapter.specs.declared.asking.request.Request.{Request}
 use Rattle.std.proofs.lemmas.Option.{same_Some}
 use Rattle.values.proofs.FieldsFromAPlace.{fields_from, fields-next}
@@ -101,20 +102,6 @@ pub record-asks : (fs : Fields) (vs : List Value) → requests (record_type fs) 
 record-asks fs vs = ap (fields_requests fs) (items-of vs)
 
 -- ---- a variant
-
-pub plain-asks : (cs : Cases) (n : ℕ) → nth_case cs n ≡ Some None → case_requests cs n None ≡ []
-plain-asks no_case n e = refl
-plain-asks (plain_case cs) zero e = refl
-plain-asks (plain_case cs) (suc n) e = plain-asks cs n e
-plain-asks (case_with t cs) zero e = refl
-plain-asks (case_with t cs) (suc n) e = plain-asks cs n e
-
-pub payload-asks : (cs : Cases) (n : ℕ) (t : ClosedType) (w : Value) → nth_case cs n ≡ Some (Some t) → requests t w ≡ case_requests cs n (Some w)
-payload-asks no_case n t w e = cc
-payload-asks (plain_case cs) zero t w e = cc
-payload-asks (plain_case cs) (suc n) t w e = payload-asks cs n t w e
-payload-asks (case_with u cs) zero t w e = ap (λ x. requests x w) (sym (same_Some _ _ (same_Some _ _ e)))
-payload-asks (case_with u cs) (suc n) t w e = payload-asks cs n t w e
 
 pub plain-none : (t : ClosedType) (i : ℕ) → variant_type (variant_cases t) ≡ t → nth_case (variant_cases t) i ≡ Some None → requests t (plain_value i) ≡ []
 plain-none t i variant e = ap (λ x. requests x (plain_value i)) (sym variant) ∙ plain-asks (variant_cases t) i e

@@ -10,12 +10,10 @@ use Rattle.ctype_format.specs.Raw.{BinaryFile}
 use Rattle.package_adding.specs.Added as adding
 use Rattle.package_adding.specs.Added.{AddsComponent, ComponentNotAdded, AddsTree, TreeNotAdded}
 use Rattle.package_sets.specs.BehindImports.{IsBehindImports}
-use Rattle.package_adding.specs.declared.error.AddError.{AddError}
-use Rattle.package_adding.specs.declared.error.AddError.TheVariants as add
 use Rattle.package_sets.specs.Attached.{HasRoom}
-use Rattle.package_sets.specs.declared.error.AttachError.TheVariants as attach
 use Rattle.package_text.specs.Writable.{IsWritable}
 use Rattle.tree_meaning.specs.Resolves.{file_fits}
+use Rattle.tables.specs.declared.error.ResolveError.{ResolveError}
 use Rattle.tables.specs.declared.error.ResolveError.TheVariants as cause
 use Rattle.tables.specs.declared.tables.Resolve.{Resolve}
 use Rattle.wit_tokens.specs.Syntax.{File}
@@ -23,7 +21,7 @@ use Rattle.wit_text.specs.Reading.{IsRead, FaultyText}
 use Rattle.wit_tokens.specs.Lexing.{limit}
 use Rattle.wit_tokens.specs.declared.error.TextError.{TextError}
 use Rattle.wit_tokens.specs.declared.error.TextError.TheVariants as text_error
-use Rattle.opening.specs.Opening.{open_error, IsWantOfMemory}
+use Rattle.opening.specs.Opening.{IsWantOfMemory}
 use Rattle.opening.specs.Sets.{is_binary, IsOfTextBehind, IsBinaryOf, AddsMember, IsUtf8Behind36, IsNoText, IsNoBinary, MemberRefuses, TextNotAdded, BinaryNotAdded}
 use Rattle.opening.specs.declared.package.OpenError.{OpenError}
 use Rattle.opening.specs.declared.package.OpenError.TheVariants as error
@@ -63,19 +61,23 @@ module _ (set : Resolve) (bytes : List ℕ) (text : is_binary bytes ≡ false) w
         subst (λ (f : File). file_fits f ≡ true) (sym same) t.fits,
       )
 
-  pub text-refuses : HasRoom set → (f : File) → IsUtf8 bytes → IsRead bytes f → (e : AddError) → TreeNotAdded f set e → MemberRefuses set bytes (open_error e)
+  pub text-refuses : HasRoom set → (f : File) → IsUtf8 bytes → IsRead bytes f → (e : ResolveError) → TreeNotAdded f set e → MemberRefuses set bytes (error.Resolve e)
   text-refuses room f utf8 read e h = by e h
     where
-      told : (e : AddError) → TreeNotAdded f set e → MatchBool (is_binary bytes) (BinaryNotAdded set bytes e) (TextNotAdded set bytes e)
+      told : (e : ResolveError) → TreeNotAdded f set e → MatchBool (is_binary bytes) (BinaryNotAdded set bytes e) (TextNotAdded set bytes e)
       told e h = as-text bytes (BinaryNotAdded set bytes e) (TextNotAdded set bytes e) text (utf8, f, read, h)
 
-      by : (e : AddError) → TreeNotAdded f set e → MemberRefuses set bytes (open_error e)
-      by (add.Resolve e) h = (room, told (add.Resolve e) h)
-      by (add.Attach attach.SetLimit) h = h
-      by (add.Attach attach.NoMemory) h = (room, told (add.Attach attach.NoMemory) h)
-      by (add.Attach attach.NotThisShape) h = (room, told (add.Attach attach.NotThisShape) h)
-      by (add.Attach (attach.NoPackage p)) h = (room, told (add.Attach (attach.NoPackage p)) h)
-      by (add.Attach (attach.SamePackage p)) h = (room, told (add.Attach (attach.SamePackage p)) h)
+      by : (e : ResolveError) → TreeNotAdded f set e → MemberRefuses set bytes (error.Resolve e)
+      by cause.SetLimit h = h
+      by (cause.SamePackage p) h = (room, told (cause.SamePackage p) h)
+      by (cause.NoPackage p) h = (room, told (cause.NoPackage p) h)
+      by (cause.Duplicate n) h = (room, told (cause.Duplicate n) h)
+      by (cause.Unknown n) h = (room, told (cause.Unknown n) h)
+      by cause.Cycle h = (room, told cause.Cycle h)
+      by cause.EmptyPackage h = (room, told cause.EmptyPackage h)
+      by cause.NotThisShape h = (room, told cause.NotThisShape h)
+      by cause.Limit h = (room, told cause.Limit h)
+      by cause.NoMemory h = (room, told cause.NoMemory h)
 
   -- what is no text is not added
   pub no-text : HasRoom set → (e : OpenError) → IsNoText bytes e → MemberRefuses set bytes e
@@ -84,7 +86,6 @@ module _ (set : Resolve) (bytes : List ℕ) (text : is_binary bytes ≡ false) w
   no-text room (error.Binary e) h = absurd h
   no-text room (error.Resolve e) h = absurd h
   no-text room (error.Layout e) h = absurd h
-  no-text room (error.Attach e) h = absurd h
   no-text room (error.Read place) h = absurd h
   no-text room error.NoMemory h = absurd h
 
@@ -128,33 +129,34 @@ module _ (set : Resolve) (bytes : List ℕ) (binary : is_binary bytes ≡ true) 
         attached = h.puts.attached;
       }
 
-  pub binary-refuses : HasRoom set → (e : AddError) → ComponentNotAdded raw set e → MemberRefuses set bytes (open_error e)
+  pub binary-refuses : HasRoom set → (e : ResolveError) → ComponentNotAdded raw set e → MemberRefuses set bytes (error.Resolve e)
   binary-refuses room e h = by e h
     where
-      told : (e : AddError) → ComponentNotAdded raw set e → MatchBool (is_binary bytes) (BinaryNotAdded set bytes e) (TextNotAdded set bytes e)
+      told : (e : ResolveError) → ComponentNotAdded raw set e → MatchBool (is_binary bytes) (BinaryNotAdded set bytes e) (TextNotAdded set bytes e)
       told e h = as-binary bytes (BinaryNotAdded set bytes e) (TextNotAdded set bytes e) binary (raw, spelt, h)
 
-      by : (e : AddError) → ComponentNotAdded raw set e → MemberRefuses set bytes (open_error e)
-      by (add.Resolve e) h = (room, told (add.Resolve e) h)
-      by (add.Attach attach.SetLimit) h = h
-      by (add.Attach attach.NoMemory) h = (room, told (add.Attach attach.NoMemory) h)
-      by (add.Attach attach.NotThisShape) h = (room, told (add.Attach attach.NotThisShape) h)
-      by (add.Attach (attach.NoPackage p)) h = (room, told (add.Attach (attach.NoPackage p)) h)
-      by (add.Attach (attach.SamePackage p)) h = (room, told (add.Attach (attach.SamePackage p)) h)
+      by : (e : ResolveError) → ComponentNotAdded raw set e → MemberRefuses set bytes (error.Resolve e)
+      by cause.SetLimit h = h
+      by (cause.SamePackage p) h = (room, told (cause.SamePackage p) h)
+      by (cause.NoPackage p) h = (room, told (cause.NoPackage p) h)
+      by (cause.Duplicate n) h = (room, told (cause.Duplicate n) h)
+      by (cause.Unknown n) h = (room, told (cause.Unknown n) h)
+      by cause.Cycle h = (room, told cause.Cycle h)
+      by cause.EmptyPackage h = (room, told cause.EmptyPackage h)
+      by cause.NotThisShape h = (room, told cause.NotThisShape h)
+      by cause.Limit h = (room, told cause.Limit h)
+      by cause.NoMemory h = (room, told cause.NoMemory h)
 
 -- ---- want of memory
 
-pub wants : (e : AddError) → adding.IsWantOfMemoryToAdd e → IsWantOfMemory (open_error e)
-wants (add.Resolve cause.NoMemory) h = refl
-wants (add.Resolve cause.EmptyPackage) h = absurd h
-wants (add.Resolve cause.NotThisShape) h = absurd h
-wants (add.Resolve cause.Cycle) h = absurd h
-wants (add.Resolve cause.Limit) h = absurd h
-wants (add.Resolve (cause.Duplicate n)) h = absurd h
-wants (add.Resolve (cause.Unknown n)) h = absurd h
-wants (add.Resolve (cause.NoPackage p)) h = absurd h
-wants (add.Attach attach.NoMemory) h = refl
-wants (add.Attach attach.NotThisShape) h = absurd h
-wants (add.Attach attach.SetLimit) h = absurd h
-wants (add.Attach (attach.NoPackage p)) h = absurd h
-wants (add.Attach (attach.SamePackage p)) h = absurd h
+pub wants : (e : ResolveError) → adding.IsWantOfMemoryToAdd e → IsWantOfMemory (error.Resolve e)
+wants cause.NoMemory h = refl
+wants cause.EmptyPackage h = absurd h
+wants cause.NotThisShape h = absurd h
+wants cause.Cycle h = absurd h
+wants cause.Limit h = absurd h
+wants cause.SetLimit h = absurd h
+wants (cause.Duplicate n) h = absurd h
+wants (cause.Unknown n) h = absurd h
+wants (cause.NoPackage p) h = absurd h
+wants (cause.SamePackage p) h = absurd h

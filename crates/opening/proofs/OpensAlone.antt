@@ -7,11 +7,10 @@ use Rattle.package_text.specs.Writable.{package_labels}
 use Rattle.std.proofs.lemmas.List.{length-append}
 use Rattle.layout.specs.Layout.{AreWithin}
 use Rattle.layout.specs.declared.error.LayoutError.{LayoutError}
-use Rattle.package_adding.specs.declared.error.AddError.{AddError}
-use Rattle.package_adding.specs.declared.error.AddError.TheVariants as add
 use Rattle.package_adding.proofs.PackagesAddedAlone.{is-set, file-alone, component-alone, file-writable, component-writable, file-behind, file-added, component-added, file-refused, component-refused}
 use Rattle.package_sets.specs.SetForm.{IsEmpty}
-use Rattle.package_sets.specs.declared.error.AttachError.TheVariants as attach
+use Rattle.tables.specs.declared.error.ResolveError.{ResolveError}
+use Rattle.tables.specs.declared.error.ResolveError.TheVariants as cause
 use Rattle.tables.specs.declared.tables.Resolve.{Resolve}
 use Rattle.tree_meaning.proofs.FilesThatStandAlone.{empty}
 use Rattle.wit_text.specs.Laws.{HasFullNames}
@@ -83,18 +82,22 @@ only-one x y [] ys e = (refl, cc)
 only-one x y (z ∷ xs) ys e = absurd (omega (arith, ap length e, length-append xs (y ∷ ys)))
 
 module _ (set : Resolve) (e : IsEmpty set) (bytes : List ℕ) where
-  refused : (x : AddError) (b : Bool) → MatchBool b (BinaryNotAdded set bytes x) (TextNotAdded set bytes x) → MatchBool b (BinaryIsRefused bytes x) (TextIsRefused bytes x)
+  refused : (x : ResolveError) (b : Bool) → MatchBool b (BinaryNotAdded set bytes x) (TextNotAdded set bytes x) → MatchBool b (BinaryIsRefused bytes x) (TextIsRefused bytes x)
   refused x true (raw, spelt, h) = (raw, spelt, component-refused set e raw x h)
   refused x false (utf8, f, read, h) = (utf8, f, read, file-refused set e f x h)
 
   member-refused : (x : OpenError) → MemberRefuses set bytes x → ((y : LayoutError) → x ≢ error.Layout y) → AloneRefuses bytes x
   member-refused (error.Layout y) h other = absurd (other y refl)
-  member-refused (error.Resolve y) h other = refused (add.Resolve y) (is_binary bytes) h.1
-  member-refused (error.Attach attach.SetLimit) h other = absurd (h (omega (arith, ap length e.packages)))
-  member-refused (error.Attach (attach.SamePackage p)) h other = refused (add.Attach (attach.SamePackage p)) (is_binary bytes) h.1
-  member-refused (error.Attach (attach.NoPackage p)) h other = refused (add.Attach (attach.NoPackage p)) (is_binary bytes) h.1
-  member-refused (error.Attach attach.NotThisShape) h other = refused (add.Attach attach.NotThisShape) (is_binary bytes) h.1
-  member-refused (error.Attach attach.NoMemory) h other = refused (add.Attach attach.NoMemory) (is_binary bytes) h.1
+  member-refused (error.Resolve cause.SetLimit) h other = absurd (h (omega (arith, ap length e.packages)))
+  member-refused (error.Resolve (cause.SamePackage p)) h other = refused (cause.SamePackage p) (is_binary bytes) h.1
+  member-refused (error.Resolve (cause.NoPackage p)) h other = refused (cause.NoPackage p) (is_binary bytes) h.1
+  member-refused (error.Resolve (cause.Duplicate n)) h other = refused (cause.Duplicate n) (is_binary bytes) h.1
+  member-refused (error.Resolve (cause.Unknown n)) h other = refused (cause.Unknown n) (is_binary bytes) h.1
+  member-refused (error.Resolve cause.Cycle) h other = refused cause.Cycle (is_binary bytes) h.1
+  member-refused (error.Resolve cause.EmptyPackage) h other = refused cause.EmptyPackage (is_binary bytes) h.1
+  member-refused (error.Resolve cause.NotThisShape) h other = refused cause.NotThisShape (is_binary bytes) h.1
+  member-refused (error.Resolve cause.Limit) h other = refused cause.Limit (is_binary bytes) h.1
+  member-refused (error.Resolve cause.NoMemory) h other = refused cause.NoMemory (is_binary bytes) h.1
   member-refused (error.Text y) h other = h.1
   member-refused (error.Binary y) h other = h.1
   member-refused (error.NotUtf8 n) h other = h.1
@@ -110,7 +113,6 @@ first-refused bytes x h other =
 pub refuses-alone : (bytes : List ℕ) (x : OpenError) → OpenRefuses (bytes ∷ []) x → AloneRefuses bytes x
 refuses-alone bytes (error.Layout y) (r, set, h) = (r, of-set bytes r set, h)
 refuses-alone bytes (error.Resolve y) h = first-refused bytes (error.Resolve y) h (λ z q. absurd (cc))
-refuses-alone bytes (error.Attach y) h = first-refused bytes (error.Attach y) h (λ z q. absurd (cc))
 refuses-alone bytes (error.Text y) h = first-refused bytes (error.Text y) h (λ z q. absurd (cc))
 refuses-alone bytes (error.Binary y) h = first-refused bytes (error.Binary y) h (λ z q. absurd (cc))
 refuses-alone bytes (error.NotUtf8 n) h = first-refused bytes (error.NotUtf8 n) h (λ z q. absurd (cc))

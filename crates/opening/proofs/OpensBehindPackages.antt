@@ -49,7 +49,6 @@ first-refused inputs (error.Read n) h = h
 first-refused inputs (error.Text e) h = h
 first-refused inputs (error.Binary e) h = h
 first-refused inputs (error.Resolve e) h = h
-first-refused inputs (error.Attach e) h = h
 first-refused inputs (error.NotUtf8 n) h = h
 first-refused inputs error.NoMemory h = h
 

@@ -6,8 +6,7 @@ use Rattle.ctype_bin.specs.declared.component.RawComponent.{RawComponent}
 use Rattle.ctype_format.specs.File.{decoded}
 use Rattle.layout.specs.Layout.{AreWithin, RefusesFirst}
 use Rattle.package_adding.specs.Alone.{IsFileAlone, IsComponentAlone, FileAloneRefuses, ComponentAloneRefuses}
-use Rattle.package_adding.specs.declared.error.AddError.{AddError}
-use Rattle.package_adding.specs.declared.error.AddError.TheVariants as add
+use Rattle.tables.specs.declared.error.ResolveError.{ResolveError}
 use Rattle.tables.specs.declared.tables.Resolve.{Resolve}
 use Rattle.wit_tokens.specs.Syntax.{File}
 use Rattle.wit_text.specs.Reading.{IsRead}
@@ -41,20 +40,19 @@ pub record OpensAlone (bytes : List ℕ) (r : Resolve) : Type 0 where
 -- ---- refusals
 
 -- the bytes are a text that is read, and its file is refused by itself for this reason
-abbrev pub TextIsRefused : List ℕ → AddError → Type 0
+abbrev pub TextIsRefused : List ℕ → ResolveError → Type 0
 TextIsRefused bytes e = IsUtf8 bytes × (f : File) × IsRead bytes f × FileAloneRefuses f e
 
 -- the bytes spell a component, and it is refused by itself for this reason
-abbrev pub BinaryIsRefused : List ℕ → AddError → Type 0
+abbrev pub BinaryIsRefused : List ℕ → ResolveError → Type 0
 BinaryIsRefused bytes e = (raw : RawComponent) × (decoded bytes ≡ Ok (raw_component_view raw)) × ComponentAloneRefuses raw e
 
 -- the bytes are a binary or a text, by how they begin, and its package is refused by itself for this reason
-abbrev pub IsRefusedAlone : List ℕ → AddError → Type 0
+abbrev pub IsRefusedAlone : List ℕ → ResolveError → Type 0
 IsRefusedAlone bytes e = MatchBool (is_binary bytes) (BinaryIsRefused bytes e) (TextIsRefused bytes e)
 
 -- why one input is not opened by itself
 abbrev pub AloneRefuses : List ℕ → OpenError → Type 0
 AloneRefuses bytes (error.Layout e) = (r : Resolve) × ∥ IsOfBytes bytes r ∥₁ × RefusesFirst e r
-AloneRefuses bytes (error.Resolve e) = IsRefusedAlone bytes (add.Resolve e)
-AloneRefuses bytes (error.Attach e) = IsRefusedAlone bytes (add.Attach e)
+AloneRefuses bytes (error.Resolve e) = IsRefusedAlone bytes e
 AloneRefuses bytes e = IsNothing bytes e

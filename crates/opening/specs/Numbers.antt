@@ -6,10 +6,6 @@ use Rattle.ctype_format.specs.declared.error.Fault.{Fault}
 use Rattle.ctype_format.specs.declared.error.Fault.TheVariants as fault
 use Rattle.layout.specs.declared.error.LayoutError.{LayoutError}
 use Rattle.layout.specs.declared.error.LayoutError.TheVariants as layout_error
-use Rattle.package_adding.specs.declared.error.AddError.{AddError}
-use Rattle.package_adding.specs.declared.error.AddError.TheVariants as add
-use Rattle.package_sets.specs.declared.error.AttachError.{AttachError}
-use Rattle.package_sets.specs.declared.error.AttachError.TheVariants as attach_error
 use Rattle.tables.specs.declared.error.ResolveError.{ResolveError}
 use Rattle.tables.specs.declared.error.ResolveError.TheVariants as resolve_error
 use Rattle.wit_tokens.specs.declared.error.TextError.{TextError}
@@ -54,29 +50,19 @@ resolve_number resolve_error.NotThisShape = 44
 resolve_number resolve_error.Limit = 45
 resolve_number resolve_error.NoMemory = 46
 resolve_number (resolve_error.NoPackage n) = 47
+resolve_number (resolve_error.SamePackage n) = 48
+resolve_number resolve_error.SetLimit = 49
 
 abbrev pub layout_number : LayoutError → ℕ
 layout_number layout_error.TooLarge = 50
 layout_number layout_error.TooDeep = 51
 layout_number layout_error.NoMemory = 52
 
-abbrev pub attach_number : AttachError → ℕ
-attach_number attach_error.NotThisShape = 44
-attach_number attach_error.NoMemory = 46
-attach_number (attach_error.NoPackage n) = 47
-attach_number (attach_error.SamePackage n) = 48
-attach_number attach_error.SetLimit = 49
-
-abbrev pub add_number : AddError → ℕ
-add_number (add.Resolve e) = resolve_number e
-add_number (add.Attach e) = attach_number e
-
 abbrev pub open_number : OpenError → ℕ
 open_number (error.Read place) = 20
 open_number (error.Text e) = text_number e
 open_number (error.Binary e) = binary_number e
 open_number (error.Resolve e) = resolve_number e
-open_number (error.Attach e) = attach_number e
 open_number (error.Layout e) = layout_number e
 open_number (error.NotUtf8 place) = 60
 open_number error.NoMemory = 66

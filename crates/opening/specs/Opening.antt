@@ -9,11 +9,8 @@ use Rattle.ctype_format.specs.declared.error.BinError.TheVariants.{At}
 use Rattle.ctype_format.specs.declared.error.Fault.TheVariants.{Limit}
 use Rattle.layout.specs.Layout.{AreWithin, RefusesFirst}
 use Rattle.layout.specs.declared.error.LayoutError.TheVariants as layout_error
-use Rattle.package_adding.specs.declared.error.AddError.{AddError}
-use Rattle.package_adding.specs.declared.error.AddError.TheVariants as add
 use Rattle.package_form.specs.Closed.{own_package}
 use Rattle.package_sets.specs.Restricted.{IsRestricted}
-use Rattle.package_sets.specs.declared.error.AttachError.TheVariants as attach_error
 use Rattle.package_text.specs.Text.{text_of}
 use Rattle.tables.specs.declared.tables.Resolve.{Resolve}
 use Rattle.tables.specs.declared.error.ResolveError.TheVariants as resolve_error
@@ -64,11 +61,6 @@ pub record IsPrintedAs (bytes : List ℕ) (r : Resolve) : Type 0 where
 
 -- ---- refusals
 
--- the error of opening for an error of adding a package to a set
-abbrev pub open_error : AddError → OpenError
-open_error (add.Resolve e) = error.Resolve e
-open_error (add.Attach e) = error.Attach e
-
 -- the refusal is out of memory and nothing else: 21, 35, 46, 52 or 66
 abbrev pub IsWantOfMemory : OpenError → Type 0
 IsWantOfMemory (error.Binary e) = e ≡ binary_error.NoMemory
@@ -76,7 +68,6 @@ IsWantOfMemory (error.Resolve e) = e ≡ resolve_error.NoMemory
 IsWantOfMemory (error.Layout e) = e ≡ layout_error.NoMemory
 IsWantOfMemory error.NoMemory = Unit {0}
 IsWantOfMemory (error.Text e) = e ≡ text_error.NoMemory
-IsWantOfMemory (error.Attach e) = e ≡ attach_error.NoMemory
 IsWantOfMemory (error.NotUtf8 place) = ⊥
 IsWantOfMemory (error.Read place) = ⊥
 

@@ -10,13 +10,12 @@ use Rattle.ctype_format.specs.File as binary
 use Rattle.ctype_format.specs.File.{decoded}
 use Rattle.package_adding.specs.Added.{IsOfComponent, ComponentNotAdded, IsOfTree, TreeNotAdded}
 use Rattle.package_sets.specs.BehindImports.{IsBehindImports}
-use Rattle.package_adding.specs.declared.error.AddError.{AddError}
-use Rattle.package_adding.specs.declared.error.AddError.TheVariants as add
 use Rattle.package_sets.specs.Attached.{HasRoom, IsAttached}
 use Rattle.package_sets.specs.SetForm.{IsEmpty}
-use Rattle.package_sets.specs.declared.error.AttachError.TheVariants as attach
 use Rattle.package_text.specs.Writable.{IsWritable}
 use Rattle.tree_meaning.specs.Resolves.{file_fits}
+use Rattle.tables.specs.declared.error.ResolveError.{ResolveError}
+use Rattle.tables.specs.declared.error.ResolveError.TheVariants as cause
 use Rattle.tables.specs.declared.tables.Resolve.{Resolve}
 use Rattle.wit_tokens.specs.Syntax.{File}
 use Rattle.wit_text.specs.Reading as text
@@ -92,22 +91,21 @@ abbrev pub IsNothing : List ℕ → OpenError → Type 0
 IsNothing bytes e = MatchBool (is_binary bytes) (IsNoBinary bytes e) (IsNoText bytes e)
 
 -- the bytes are a text that is read, and its package is not added to the set for this reason
-abbrev pub TextNotAdded : Resolve → List ℕ → AddError → Type 0
+abbrev pub TextNotAdded : Resolve → List ℕ → ResolveError → Type 0
 TextNotAdded set bytes e = IsUtf8 bytes × (f : File) × IsRead bytes f × TreeNotAdded f set e
 
 -- the bytes spell a component, and its package is not added to the set for this reason
-abbrev pub BinaryNotAdded : Resolve → List ℕ → AddError → Type 0
+abbrev pub BinaryNotAdded : Resolve → List ℕ → ResolveError → Type 0
 BinaryNotAdded set bytes e = (raw : RawComponent) × (decoded bytes ≡ Ok (raw_component_view raw)) × ComponentNotAdded raw set e
 
 -- the package of the bytes, a binary or a text, is not added to the set for this reason
-abbrev pub NotAdded : Resolve → List ℕ → AddError → Type 0
+abbrev pub NotAdded : Resolve → List ℕ → ResolveError → Type 0
 NotAdded set bytes e = MatchBool (is_binary bytes) (BinaryNotAdded set bytes e) (TextNotAdded set bytes e)
 
 -- 49 comes before all, then what is wrong with the bytes alone, then what is wrong with the package in this set
 abbrev pub MemberRefuses : Resolve → List ℕ → OpenError → Type 0
-MemberRefuses set bytes (error.Attach attach.SetLimit) = ¬ HasRoom set
-MemberRefuses set bytes (error.Attach e) = HasRoom set × NotAdded set bytes (add.Attach e)
-MemberRefuses set bytes (error.Resolve e) = HasRoom set × NotAdded set bytes (add.Resolve e)
+MemberRefuses set bytes (error.Resolve cause.SetLimit) = ¬ HasRoom set
+MemberRefuses set bytes (error.Resolve e) = HasRoom set × NotAdded set bytes e
 MemberRefuses set bytes e = HasRoom set × IsNothing bytes e
 
 -- ---- sets

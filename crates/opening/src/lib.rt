@@ -17,9 +17,6 @@ mod text;
 mod typing;
 
 pub use indexed::{IndexedPackage, open_indexed};
-pub use number::{
-    add_number, attach_number, binary_number, is_out_of_memory, layout_number, resolve_number,
-    text_number,
-};
+pub use number::{binary_number, is_out_of_memory, layout_number, resolve_number, text_number};
 pub use package::{MAX_INPUT, OpenError, Package, open};
 pub use set::open_set;

@@ -1,12 +1,11 @@
 //! The numbers of errors, as their lines have them.
 ghost use Rattle.std.specs.Prelude.{◌≡◌};
-ghost use Rattle.opening.specs.Numbers.{text_number, fault_number, binary_number, resolve_number, attach_number, add_number, layout_number, is_out_of_memory};
+ghost use Rattle.opening.specs.Numbers.{text_number, fault_number, binary_number, resolve_number, layout_number, is_out_of_memory};
 
 use crate::package::OpenError;
 use ctype_bin::{BinError, Fault};
 use error_numbers::Numbered;
 use layout::LayoutError;
-use package_adding::{AddError, AttachError};
 use tables::ResolveError;
 use wit_text::TextError;
 
@@ -55,7 +54,7 @@ pub fn binary_number(error: &BinError) -> u32
     }
 }
 
-/// The number of an error of names: 40 to 47.
+/// The number of an error of names, or of a set: 40 to 49.
 pub fn resolve_number(error: &ResolveError) -> u32
     ensures { result ≡ resolve_number error.now }
 {
@@ -68,29 +67,8 @@ pub fn resolve_number(error: &ResolveError) -> u32
         ResolveError::Limit => 45,
         ResolveError::NoMemory => 46,
         ResolveError::NoPackage(_) => 47,
-    }
-}
-
-/// The number of an error of a package after others: 44, or 46 to 49.
-pub fn attach_number(error: &AttachError) -> u32
-    ensures { result ≡ attach_number error.now }
-{
-    match error {
-        AttachError::NotThisShape => 44,
-        AttachError::NoMemory => 46,
-        AttachError::NoPackage(_) => 47,
-        AttachError::SamePackage(_) => 48,
-        AttachError::SetLimit => 49,
-    }
-}
-
-/// The number of why a package is not added to a set: 40 to 49.
-pub fn add_number(error: &AddError) -> u32
-    ensures { result ≡ add_number error.now }
-{
-    match error {
-        AddError::Resolve(error) => resolve_number(error),
-        AddError::Attach(error) => attach_number(error),
+        ResolveError::SamePackage(_) => 48,
+        ResolveError::SetLimit => 49,
     }
 }
 
@@ -117,7 +95,6 @@ impl Numbered for OpenError {
             OpenError::Text(error) => text_number(error),
             OpenError::Binary(error) => binary_number(error),
             OpenError::Resolve(error) => resolve_number(error),
-            OpenError::Attach(error) => attach_number(error),
             OpenError::Layout(error) => layout_number(error),
             OpenError::NotUtf8(_) => 60,
             OpenError::NoMemory => 66,

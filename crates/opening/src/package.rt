@@ -13,7 +13,6 @@ ghost use Rattle.opening.specs.Opening.{IsOpened, IsLast, last_table, IsWantOfMe
 use crate::set::open_set;
 use ctype_bin::BinError;
 use layout::{LayoutError, Layouts};
-use package_adding::{AddError, AttachError};
 use package_form::own_package;
 use package_sets::laws::alone_is_whole;
 use package_sets::restricted;
@@ -38,13 +37,11 @@ pub enum OpenError {
     Text(TextError),
     #[error(transparent)]
     Binary(BinError),
+    /// Its names, or the packages before it: 40 to 49.
     #[error(transparent)]
     Resolve(ResolveError),
     #[error(transparent)]
     Layout(LayoutError),
-    /// It can't stand behind the packages before it.
-    #[error(transparent)]
-    Attach(AttachError),
     /// The length of the longest front that is UTF-8.
     #[error("error 60 not UTF-8 at {0}")]
     NotUtf8(usize),
@@ -93,31 +90,6 @@ impl From<ResolveError> for OpenError {
 
     fn from(error: ResolveError) -> OpenError {
         OpenError::Resolve(error)
-    }
-}
-
-impl From<AttachError> for OpenError {
-    ghost use Rattle.std.specs.Prelude.{◌≡◌};
-    ghost use Rattle.opening.specs.declared.package.OpenError.TheVariants.{Attach};
-
-    ghost from_gives = { λ error e. e ≡ Attach error };
-
-    fn from(error: AttachError) -> OpenError {
-        OpenError::Attach(error)
-    }
-}
-
-impl From<AddError> for OpenError {
-    ghost use Rattle.std.specs.Prelude.{◌≡◌};
-    ghost use Rattle.opening.specs.Opening.{open_error};
-
-    ghost from_gives = { λ error e. e ≡ open_error error };
-
-    fn from(error: AddError) -> OpenError {
-        match error {
-            AddError::Resolve(error) => OpenError::Resolve(error),
-            AddError::Attach(error) => OpenError::Attach(error),
-        }
     }
 }
 

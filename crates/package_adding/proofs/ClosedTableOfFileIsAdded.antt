@@ -8,34 +8,45 @@ use Rattle.package_form.specs.Naming.{package_scopes}
 use Rattle.package_form.specs.Scope.{AreDistinct}
 use Rattle.package_sets.specs.Attached.{HasRoom, has_package, IsRefused}
 use Rattle.package_sets.specs.SetForm.{IsInSetForm}
-use Rattle.package_sets.specs.declared.error.AttachError.{AttachError}
-use Rattle.package_sets.specs.declared.error.AttachError.TheVariants as attach
 use Rattle.package_sets.proofs.FoundImports.OfImports.{follows}
 use Rattle.package_sets.proofs.GrowingLists.{behind-get}
 use Rattle.tree_meaning.specs.Declarations.{package_named}
 use Rattle.tree_meaning.specs.ImportForms.{IsNamedBehind, AreReachedFrom}
 use Rattle.tree_meaning.specs.Imports.{imports_of}
-use Rattle.tree_meaning.specs.Resolves.{HasNoFaultsOf}
+use Rattle.tree_meaning.specs.Resolves.{HasEntries, HasNoFaultsOf}
 use Rattle.tables.specs.PackageNames.{PackageParts}
 use Rattle.tables.specs.declared.error.ResolveError.{ResolveError}
-use Rattle.tables.specs.declared.error.ResolveError.TheVariants as cause
+use Rattle.tables.specs.declared.error.ResolveError.TheVariants as error
 use Rattle.tables.specs.declared.tables.Resolve.{Resolve}
 use Rattle.wit_tokens.specs.FullNames.{file_has_full_names}
 use Rattle.wit_tokens.specs.Syntax.{File}
 use Rattle.package_adding.specs.Added.{AreImportsFrom, IsOfTree, IsNewName, IsRefusedTree, CauseStands, TreeNotAdded}
-use Rattle.package_adding.specs.declared.error.AddError.TheVariants.{Attach}
 use Rattle.package_adding.proofs.ImportsFromSets.{named-behind, reached-from}
 use Rattle.package_adding.proofs.FileTableBeginsWithImports.{begins-with}
 
 pub cause-stands : (f : File) (s : Resolve) (e : ResolveError) → IsRefusedTree f s e → CauseStands f s e
-cause-stands f s cause.EmptyPackage h = h
-cause-stands f s cause.NotThisShape h = h
-cause-stands f s (cause.Duplicate n) h = h
-cause-stands f s (cause.NoPackage p) h = h
-cause-stands f s (cause.Unknown n) h = h
-cause-stands f s cause.Cycle h = h
-cause-stands f s cause.Limit h = h
-cause-stands f s cause.NoMemory h = tt
+cause-stands f s error.EmptyPackage h = h
+cause-stands f s error.NotThisShape h = h
+cause-stands f s (error.Duplicate n) h = h
+cause-stands f s (error.NoPackage p) h = h
+cause-stands f s (error.SamePackage p) h = h
+cause-stands f s (error.Unknown n) h = h
+cause-stands f s error.Cycle h = h
+cause-stands f s error.Limit h = h
+cause-stands f s error.SetLimit h = h
+cause-stands f s error.NoMemory h = tt
+
+pub not-resolved : (f : File) (s : Resolve) → HasRoom s → HasEntries f → IsNewName f s → (e : ResolveError) → CauseStands f s e → TreeNotAdded f s e
+not-resolved f s room some new error.EmptyPackage h = (room, h.refused)
+not-resolved f s room some new error.NotThisShape h = (room, some, new, h)
+not-resolved f s room some new (error.Duplicate n) h = (room, some, new, h)
+not-resolved f s room some new (error.NoPackage p) h = (room, some, new, h)
+not-resolved f s room some new (error.SamePackage p) h = absurd h.refused
+not-resolved f s room some new (error.Unknown n) h = (room, some, new, h)
+not-resolved f s room some new error.Cycle h = (room, some, new, h)
+not-resolved f s room some new error.Limit h = (room, some, new, h)
+not-resolved f s room some new error.SetLimit h = absurd h.refused
+not-resolved f s room some new error.NoMemory h = room
 
 -- ---- behind the imports
 
@@ -61,13 +72,18 @@ module _ (f : File) (s closed : Resolve) (t : IsOfTree f s closed) where
       let there = sym h ∙ ap (slice_get closed.packages) last ∙ ap (λ (qs : List PackageParts). slice_get qs (length ps + 0)) t.resolved.packages ∙ behind-get ps (package_named f ∷ []) 0 in
       cc (there)
 
-  pub not-put : ∥ IsInSetForm s ∥₁ → IsNewName f s → (e : AttachError) → IsRefused s closed e → TreeNotAdded f s (Attach e)
-  not-put form new attach.SetLimit h = h
-  not-put form new attach.NoMemory h = h
-  not-put form new (attach.SamePackage p) h = absurd (true≢false (sym h.1.stands ∙ subst (λ (q : PackageParts). has_package s q ≡ false) (sym (own-is p h.1.own)) new))
-  not-put form new (attach.NoPackage p) h =
+  pub not-put : ∥ IsInSetForm s ∥₁ → IsNewName f s → (e : ResolveError) → IsRefused s closed e → TreeNotAdded f s e
+  not-put form new error.SetLimit h = h
+  not-put form new error.NoMemory h = h
+  not-put form new (error.Duplicate n) h = absurd h
+  not-put form new (error.Unknown n) h = absurd h
+  not-put form new error.Cycle h = absurd h
+  not-put form new error.EmptyPackage h = absurd h
+  not-put form new error.Limit h = absurd h
+  not-put form new (error.SamePackage p) h = absurd (true≢false (sym h.1.stands ∙ subst (λ (q : PackageParts). has_package s q ≡ false) (sym (own-is p h.1.own)) new))
+  not-put form new (error.NoPackage p) h =
       let none : IsProp ⊥ = hlevel in
-      ∥∥₁_elim form none (λ g. true≢false (sym (((follows s t.from.packages t.from.interfaces t.imports t.from.are).found g.rows g.apart closed (begins-with t.imports f closed t.resolved)).have h.2.place p h.2.stands) ∙ h.2.lacks))
-  not-put form new attach.NotThisShape h =
+      absurd (∥∥₁_elim form none (λ g. true≢false (sym (((follows s t.from.packages t.from.interfaces t.imports t.from.are).found g.rows g.apart closed (begins-with t.imports f closed t.resolved)).have h.2.place p h.2.stands) ∙ h.2.lacks)))
+  not-put form new error.NotThisShape h =
       let none : IsProp ⊥ = hlevel in
-      ∥∥₁_elim form none (λ g. h.3 ((follows s t.from.packages t.from.interfaces t.imports t.from.are).found g.rows g.apart closed (begins-with t.imports f closed t.resolved)).fits)
+      absurd (∥∥₁_elim form none (λ g. h.3 ((follows s t.from.packages t.from.interfaces t.imports t.from.are).found g.rows g.apart closed (begins-with t.imports f closed t.resolved)).fits))

@@ -8,8 +8,6 @@ use Rattle.package_form.specs.Scope.{AreDistinct}
 use Rattle.package_sets.specs.Attached.{IsAttached, IsRefused}
 use Rattle.package_sets.specs.Imports.{IsImportsOf}
 use Rattle.package_sets.specs.One.{AttachesOne, ImportsOne}
-use Rattle.package_sets.specs.declared.error.AttachError.{AttachError}
-use Rattle.package_sets.specs.declared.error.AttachError.TheVariants as attach
 use Rattle.package_sets.proofs.GrowingLists.{behind-get}
 use Rattle.package_sets.proofs.SamePackagesAreOne.{same-tables, same-is-prop}
 use Rattle.tree_meaning.specs.Declarations.{package_named}
@@ -18,7 +16,7 @@ use Rattle.tree_meaning.specs.Resolves.{file_fits, HasNoFaultsOf, IsClosedPackag
 use Rattle.tables.specs.PackageNames.{PackageParts}
 use Rattle.tables.specs.Same.{IsSamePackage}
 use Rattle.tables.specs.declared.error.ResolveError.{ResolveError}
-use Rattle.tables.specs.declared.error.ResolveError.TheVariants as cause
+use Rattle.tables.specs.declared.error.ResolveError.TheVariants as error
 use Rattle.tables.specs.declared.tables.Resolve.{Resolve}
 use Rattle.wit_tokens.specs.Syntax.{File}
 use Rattle.wit_component.specs.ToComponent.{ComponentStands}
@@ -26,28 +24,23 @@ use Rattle.package_sets.specs.BehindImports.{IsBehindImports}
 use Rattle.package_adding.specs.Added.{IsOfComponent, IsRefusedBehind, AreImportsFrom, IsOfTree, AddsTree, HasName, IsWantOfMemoryToAdd}
 use Rattle.package_adding.specs.Named.{NamesInterface}
 use Rattle.package_adding.proofs.MarksOfNamesAreOne.{one-marks}
-use Rattle.package_adding.specs.declared.error.AddError.{AddError}
-use Rattle.package_adding.specs.declared.error.AddError.TheVariants as error
 
 -- ---- want of memory
 
-pub want-is-prop : (e : AddError) → IsProp (IsWantOfMemoryToAdd e)
-want-is-prop (error.Resolve cause.NoMemory) = hlevel
-want-is-prop (error.Resolve cause.EmptyPackage) = hlevel
-want-is-prop (error.Resolve cause.NotThisShape) = hlevel
-want-is-prop (error.Resolve cause.Cycle) = hlevel
-want-is-prop (error.Resolve cause.Limit) = hlevel
-want-is-prop (error.Resolve (cause.Duplicate n)) = hlevel
-want-is-prop (error.Resolve (cause.Unknown n)) = hlevel
-want-is-prop (error.Resolve (cause.NoPackage p)) = hlevel
-want-is-prop (error.Attach attach.NoMemory) = hlevel
-want-is-prop (error.Attach attach.NotThisShape) = hlevel
-want-is-prop (error.Attach attach.SetLimit) = hlevel
-want-is-prop (error.Attach (attach.NoPackage p)) = hlevel
-want-is-prop (error.Attach (attach.SamePackage p)) = hlevel
+pub want-is-prop : (e : ResolveError) → IsProp (IsWantOfMemoryToAdd e)
+want-is-prop error.NoMemory = hlevel
+want-is-prop error.EmptyPackage = hlevel
+want-is-prop error.NotThisShape = hlevel
+want-is-prop error.Cycle = hlevel
+want-is-prop error.Limit = hlevel
+want-is-prop error.SetLimit = hlevel
+want-is-prop (error.Duplicate n) = hlevel
+want-is-prop (error.Unknown n) = hlevel
+want-is-prop (error.NoPackage p) = hlevel
+want-is-prop (error.SamePackage p) = hlevel
 
-pub want : (e : ResolveError) → e ≡ cause.NoMemory → IsWantOfMemoryToAdd (error.Resolve e)
-want e is = subst (λ (x : ResolveError). IsWantOfMemoryToAdd (error.Resolve x)) (sym is) tt
+pub want : (e : ResolveError) → e ≡ error.NoMemory → IsWantOfMemoryToAdd e
+want e is = subst IsWantOfMemoryToAdd (sym is) tt
 
 -- ---- a closed table that is attached
 
@@ -55,27 +48,37 @@ module _ (s closed r : Resolve) (id : ℕ) (h : IsAttached s closed r id) where
   pub is-known : id < length r.packages
   is-known = omega (arith, h.id_is, ap length h.packages_are, length-append s.packages (h.fits.own ∷ []))
 
-  not-refused : (e : AttachError) → IsRefused s closed e → IsWantOfMemoryToAdd (error.Attach e)
-  not-refused attach.NoMemory g = tt
-  not-refused attach.SetLimit g = absurd (g h.room)
-  not-refused (attach.SamePackage p) g = absurd (true≢false (sym g.1.stands ∙ h.new p g.1.own))
-  not-refused (attach.NoPackage p) g = absurd (true≢false (sym (h.have g.2.place p g.2.stands) ∙ g.2.lacks))
-  not-refused attach.NotThisShape g = absurd (g.3 h.fits)
+  not-refused : (e : ResolveError) → IsRefused s closed e → IsWantOfMemoryToAdd e
+  not-refused error.NoMemory g = tt
+  not-refused error.SetLimit g = absurd (g h.room)
+  not-refused (error.Duplicate n) g = absurd g
+  not-refused (error.Unknown n) g = absurd g
+  not-refused error.Cycle g = absurd g
+  not-refused error.EmptyPackage g = absurd g
+  not-refused error.Limit g = absurd g
+  not-refused (error.SamePackage p) g = absurd (true≢false (sym g.1.stands ∙ h.new p g.1.own))
+  not-refused (error.NoPackage p) g = absurd (true≢false (sym (h.have g.2.place p g.2.stands) ∙ g.2.lacks))
+  not-refused error.NotThisShape g = absurd (g.3 h.fits)
 
   -- the same one is not refused but for memory
-  pub refused-for-memory : (answer : Resolve) → IsSamePackage answer closed → (e : AttachError) → IsRefused s answer e → IsWantOfMemoryToAdd (error.Attach e)
+  pub refused-for-memory : (answer : Resolve) → IsSamePackage answer closed → (e : ResolveError) → IsRefused s answer e → IsWantOfMemoryToAdd e
   refused-for-memory answer same e g = not-refused e (subst (λ (x : Resolve). IsRefused s x e) (same-tables answer closed same) g)
 
   -- .. nor where it is a component's whose imports are just those of the set
-  pub component-refused : IsBehindImports s closed → (answer : Resolve) → IsSamePackage answer closed → (e : AttachError) → IsRefusedBehind s answer e → IsWantOfMemoryToAdd (error.Attach e)
+  pub component-refused : IsBehindImports s closed → (answer : Resolve) → IsSamePackage answer closed → (e : ResolveError) → IsRefusedBehind s answer e → IsWantOfMemoryToAdd e
   component-refused behind answer same e g = by e (subst (λ (x : Resolve). IsRefusedBehind s x e) (same-tables answer closed same) g)
     where
-      by : (e : AttachError) → IsRefusedBehind s closed e → IsWantOfMemoryToAdd (error.Attach e)
-      by attach.NotThisShape x = absurd (x.3 h.fits behind)
-      by attach.NoMemory h = not-refused attach.NoMemory h
-      by attach.SetLimit h = not-refused attach.SetLimit h
-      by (attach.NoPackage p) h = not-refused (attach.NoPackage p) h
-      by (attach.SamePackage p) h = not-refused (attach.SamePackage p) h
+      by : (e : ResolveError) → IsRefusedBehind s closed e → IsWantOfMemoryToAdd e
+      by error.NotThisShape x = absurd (x.3 h.fits behind)
+      by error.NoMemory h = not-refused error.NoMemory h
+      by error.SetLimit h = not-refused error.SetLimit h
+      by (error.NoPackage p) h = not-refused (error.NoPackage p) h
+      by (error.SamePackage p) h = not-refused (error.SamePackage p) h
+      by (error.Duplicate n) h = absurd h
+      by (error.Unknown n) h = absurd h
+      by error.Cycle h = absurd h
+      by error.EmptyPackage h = absurd h
+      by error.Limit h = absurd h
 
   -- .. and makes the same set
   pub makes-one : ((set c : Resolve) → AttachesOne set c) → (answer : Resolve) → IsSamePackage answer closed → (new : Resolve) (j : ℕ) → IsAttached s answer new j → IsSamePackage new r
@@ -89,8 +92,8 @@ pub one-component : (raw : RawComponent) (closed : Resolve) → IsOfComponent ra
 one-component raw closed of answer only = ∥∥₁_elim of.stands (same-is-prop answer closed) (λ stands. only closed stands of.distinct)
 
 pub component-for-memory : (raw : RawComponent) (closed : Resolve) → IsOfComponent raw closed → (e : ResolveError)
-    → ((p : Resolve) → ComponentStands raw p → All AreDistinct (package_scopes p) → e ≡ cause.NoMemory) → IsWantOfMemoryToAdd (error.Resolve e)
-component-for-memory raw closed of e only = ∥∥₁_elim of.stands (want-is-prop (error.Resolve e)) (λ stands. want e (only closed stands of.distinct))
+    → ((p : Resolve) → ComponentStands raw p → All AreDistinct (package_scopes p) → e ≡ error.NoMemory) → IsWantOfMemoryToAdd e
+component-for-memory raw closed of e only = ∥∥₁_elim of.stands (want-is-prop e) (λ stands. want e (only closed stands of.distinct))
 
 -- ---- trees
 

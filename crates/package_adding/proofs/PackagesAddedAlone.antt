@@ -1,5 +1,5 @@
 -- A package that names no other, added to a set that has none.
-use Rattle.std.proofs.Common.{◌≡◌, ◌∙◌, ◌≤◌, ◌==◌, ℕ, zero, suc, Bool, true, false, List, [], ◌∷◌, map, length, slice_get, Some, refl, ap, sym, subst, arith, true≢false, eq-eqb, eqb-true, All, IsTrue}
+use Rattle.std.proofs.Common.{◌≡◌, ◌∙◌, ◌≤◌, ◌==◌, ℕ, zero, suc, Bool, true, false, List, [], ◌∷◌, map, length, slice_get, Some, refl, ap, sym, subst, arith, true≢false, eq-eqb, eqb-true, inl, inr, All, IsTrue}
 use Rattle.std.proofs.Math.Bool.{Bool-set}
 use Rattle.std.proofs.Math.Logic.{∥∥₁_map, ∥∥₁_elim}
 use Rattle.std.specs.List.{list_any, items_where_true}
@@ -13,7 +13,6 @@ use Rattle.package_form.proofs.FullNamesStandForInterfaces.{some-package}
 use Rattle.package_sets.specs.Attached.{HasRoom, has_package, others, HasAll, LacksFirst, IsAttached}
 use Rattle.package_sets.specs.BehindImports.{IsBehindImports}
 use Rattle.package_sets.specs.SetForm.{IsEmpty}
-use Rattle.package_sets.specs.declared.error.AttachError.TheVariants as attach
 use Rattle.package_sets.proofs.AttachedSets.AttachesAlone.{attached-alone, behind-alone, no-imports-of, no-marks-of}
 use Rattle.package_sets.proofs.GrowingLists.{one-there}
 use Rattle.package_sets.proofs.AttachedAndImportedAreOne.{attached-one}
@@ -21,7 +20,7 @@ use Rattle.package_sets.proofs.SamePackagesAreOne.{same-tables}
 use Rattle.package_text.specs.Writable.{IsWritable, package_labels}
 use Rattle.tables.specs.PackageNames.{PackageParts}
 use Rattle.tables.specs.declared.error.ResolveError.{ResolveError}
-use Rattle.tables.specs.declared.error.ResolveError.TheVariants as cause
+use Rattle.tables.specs.declared.error.ResolveError.TheVariants as error
 use Rattle.tables.specs.declared.tables.Resolve.{Resolve}
 use Rattle.tree_meaning.specs.Resolves.{IsPackageOf, ResolveRefuses, file_fits}
 use Rattle.tree_meaning.proofs.FilesThatStandAlone.{no-faults, is-package, without-faults, closed-package, refuses}
@@ -31,8 +30,6 @@ use Rattle.wit_tokens.specs.FullNames.{file_has_full_names}
 use Rattle.package_adding.specs.Added.{IsOfComponent, AddsComponent, ComponentNotAdded, AreImportsFrom, AddsTree, IsRefusedTree, TreeNotAdded}
 use Rattle.package_adding.specs.Alone.{IsFileAlone, IsComponentAlone, FileAloneRefuses, ComponentAloneRefuses}
 use Rattle.package_adding.specs.Named.{NamesInterface}
-use Rattle.package_adding.specs.declared.error.AddError.{AddError}
-use Rattle.package_adding.specs.declared.error.AddError.TheVariants as add
 
 -- nothing is kept of nothing
 kept-none : {A : Type 0} (bs : List Bool) (xs : List A) → xs ≡ [] → items_where_true bs xs ≡ []
@@ -123,26 +120,23 @@ module _ (none : Resolve) (e : IsEmpty none) where
   room : HasRoom none
   room = omega (arith, ap length e.packages)
 
-  pub file-refused : (f : File) (x : AddError) → TreeNotAdded f none x → FileAloneRefuses f x
+  pub file-refused : (f : File) (x : ResolveError) → TreeNotAdded f none x → FileAloneRefuses f x
   file-refused f x h = by x h
     where
       tree : (x : ResolveError) → IsRefusedTree f none x → ResolveRefuses f x
       tree x t = let i = empty-imports f t.imports t.from in refuses t.imports i.packages i.interfaces i.worlds i.definitions f x t.refused
 
-      by : (x : AddError) → TreeNotAdded f none x → FileAloneRefuses f x
-      by (add.Attach attach.SetLimit) h = h room
-      by (add.Attach (attach.SamePackage p)) h = no-name _ h.3
-      by (add.Attach attach.NoMemory) h = tt
-      by (add.Attach (attach.NoPackage p)) h = h
-      by (add.Attach attach.NotThisShape) h = h
-      by (add.Resolve cause.EmptyPackage) h = h.1
-      by (add.Resolve cause.NoMemory) h = tt
-      by (add.Resolve cause.NotThisShape) h = tree cause.NotThisShape h.3
-      by (add.Resolve cause.Cycle) h = tree cause.Cycle h.3
-      by (add.Resolve cause.Limit) h = tree cause.Limit h.3
-      by (add.Resolve (cause.Duplicate n)) h = tree (cause.Duplicate n) h.3
-      by (add.Resolve (cause.Unknown n)) h = tree (cause.Unknown n) h.3
-      by (add.Resolve (cause.NoPackage p)) h = tree (cause.NoPackage p) h.3
+      by : (x : ResolveError) → TreeNotAdded f none x → FileAloneRefuses f x
+      by error.SetLimit h = h room
+      by (error.SamePackage p) h = no-name _ h.3
+      by error.NoMemory h = tt
+      by error.EmptyPackage h = h.1
+      by error.NotThisShape h = tree error.NotThisShape h.3
+      by error.Cycle h = tree error.Cycle h.3
+      by error.Limit h = tree error.Limit h.3
+      by (error.Duplicate n) h = tree (error.Duplicate n) h.3
+      by (error.Unknown n) h = tree (error.Unknown n) h.3
+      by (error.NoPackage p) h = tree (error.NoPackage p) h.3
 
   -- 47 of a component names its first import
   first-import : (closed : Resolve) (p : PackageParts) → LacksFirst none (others closed) p → slice_get (others closed) 0 ≡ Some p
@@ -165,12 +159,17 @@ module _ (none : Resolve) (e : IsEmpty none) where
           by zero l = omega (arith, l, length-take (own_package closed.packages) closed.packages)
           by (suc n) l = let x = one-there (others closed) 0 (omega (arith, l)) in absurd (no-name x.0 (has 0 x.0 x.1))
 
-  pub component-refused : (raw : RawComponent) (x : AddError) → ComponentNotAdded raw none x → ComponentAloneRefuses raw x
-  component-refused raw (add.Resolve x) h = h.1
-  component-refused raw (add.Attach attach.SetLimit) h = h room
-  component-refused raw (add.Attach attach.NoMemory) h = tt
-  component-refused raw (add.Attach (attach.SamePackage p)) (closed, of, h) = no-name p h.1.stands
-  component-refused raw (add.Attach (attach.NoPackage p)) (closed, of, h) = record { closed = closed; component = of; first = first-import closed p h.2 }
-  component-refused raw (add.Attach attach.NotThisShape) (closed, of, h) =
+  pub component-refused : (raw : RawComponent) (x : ResolveError) → ComponentNotAdded raw none x → ComponentAloneRefuses raw x
+  component-refused raw error.SetLimit h = h room
+  component-refused raw (error.SamePackage p) (closed, of, h) = no-name p h.1.stands
+  component-refused raw (error.NoPackage p) (closed, of, h) = record { closed = closed; component = of; first = first-import closed p h.2 }
+  component-refused raw error.NotThisShape (inl h) = h.1
+  component-refused raw error.NotThisShape (inr (closed, of, h)) =
       let alone = imports-nothing raw closed of h.2 in
-      h.3 (attached-alone none closed e (∥∥₁_map of.stands (λ s. s.form)) alone).fits (behind-alone none e closed alone)
+      absurd (h.3 (attached-alone none closed e (∥∥₁_map of.stands (λ s. s.form)) alone).fits (behind-alone none e closed alone))
+  component-refused raw error.NoMemory h = h.1
+  component-refused raw error.EmptyPackage h = h.1
+  component-refused raw error.Cycle h = h.1
+  component-refused raw error.Limit h = h.1
+  component-refused raw (error.Duplicate n) h = h.1
+  component-refused raw (error.Unknown n) h = h.1

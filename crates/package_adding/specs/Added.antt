@@ -1,12 +1,10 @@
 -- What a set is with a package more, and why one is not added: a package may use interfaces of those before it (WIT.md, "Package Names", "Item:
 -- `use`"; Binary.md, "Import and Export Definitions").
-use Rattle.std.specs.Prelude.{◌≡◌, ◌<◌, ℕ, Bool, true, false, List, [], length, All}
+use Rattle.std.specs.Prelude.{◌≡◌, ◌<◌, ◌⊎◌, ℕ, Bool, true, false, List, [], length, All}
 use Rattle.ctype_bin.specs.declared.component.RawComponent.{RawComponent}
 use Rattle.package_form.specs.Naming.{package_scopes}
 use Rattle.package_form.specs.Scope.{AreDistinct}
 use Rattle.package_sets.specs.Attached.{HasRoom, has_package, others, HasAll, IsNew, Fits, IsAttached, IsRefused}
-use Rattle.package_sets.specs.declared.error.AttachError.{AttachError}
-use Rattle.package_sets.specs.declared.error.AttachError.TheVariants as attach
 use Rattle.tables.specs.declared.tables.Resolve.{Resolve}
 use Rattle.package_sets.specs.Imports.{IsImportsOf}
 use Rattle.package_sets.specs.Restricted.{IsRestricted}
@@ -15,15 +13,13 @@ use Rattle.tree_meaning.specs.Declarations.{package_named}
 use Rattle.tree_meaning.specs.Imports.{imports_of}
 use Rattle.tree_meaning.specs.Resolves.{HasEntries, HasNoFaultsOf, IsClosedPackageOf, ResolveRefusesOf, file_fits}
 use Rattle.tables.specs.declared.error.ResolveError.{ResolveError}
-use Rattle.tables.specs.declared.error.ResolveError.TheVariants as cause
+use Rattle.tables.specs.declared.error.ResolveError.TheVariants as error
 use Rattle.wit_tokens.specs.Syntax.{File}
 use Rattle.wit_component.specs.FromComponent.{ClosedComponentRefuses}
 use Rattle.wit_component.specs.ToComponent.{ComponentStands}
 use Rattle.package_sets.specs.BehindImports.{IsBehindImports}
 use Rattle.package_text.specs.Writable.{IsWritable}
 use Rattle.package_adding.specs.Named.{AreNamed}
-use Rattle.package_adding.specs.declared.error.AddError.{AddError}
-use Rattle.package_adding.specs.declared.error.AddError.TheVariants as error
 
 -- ---- the tables of its packages
 
@@ -57,15 +53,22 @@ pub record ComponentIsAdded (raw : RawComponent) (set r : Resolve) (id : ℕ) : 
   pub only : (other new : Resolve) (j : ℕ) → AddsComponent raw set other new j → IsSamePackage closed other
 
 -- when a component's closed table is refused behind the set: as any other, and 44 also where its imports aren't just those of the set, in its order
-abbrev pub IsRefusedBehind : Resolve → Resolve → AttachError → Type 0
-IsRefusedBehind set closed attach.NotThisShape = HasRoom set × IsNew set closed × HasAll set (others closed) × (Fits set closed → IsBehindImports set closed → ⊥)
+abbrev pub IsRefusedBehind : Resolve → Resolve → ResolveError → Type 0
+IsRefusedBehind set closed error.NotThisShape = HasRoom set × IsNew set closed × HasAll set (others closed) × (Fits set closed → IsBehindImports set closed → ⊥)
 IsRefusedBehind set closed e = IsRefused set closed e
 
--- why the component's package is not added: 49 comes before all, then what is wrong with the component alone, then what is wrong with it in this set
-abbrev pub ComponentNotAdded : RawComponent → Resolve → AddError → Type 0
-ComponentNotAdded raw set (error.Attach attach.SetLimit) = ¬ HasRoom set
-ComponentNotAdded raw set (error.Attach e) = (closed : Resolve) × IsOfComponent raw closed × IsRefusedBehind set closed e
-ComponentNotAdded raw set (error.Resolve e) = HasRoom set × ClosedComponentRefuses raw e
+-- the component stands for a closed table, and that is refused behind the set for this reason
+abbrev pub IsRefusedComponent : RawComponent → Resolve → ResolveError → Type 0
+IsRefusedComponent raw set e = (closed : Resolve) × IsOfComponent raw closed × IsRefusedBehind set closed e
+
+-- why the component's package is not added: 49 comes before all, then what is wrong with the component alone (43, 44, 40), then what is wrong with it
+-- in this set (48, 47, 44). 46 can come at any time, but not before 49.
+abbrev pub ComponentNotAdded : RawComponent → Resolve → ResolveError → Type 0
+ComponentNotAdded raw set error.SetLimit = ¬ HasRoom set
+ComponentNotAdded raw set (error.SamePackage p) = IsRefusedComponent raw set (error.SamePackage p)
+ComponentNotAdded raw set (error.NoPackage p) = IsRefusedComponent raw set (error.NoPackage p)
+ComponentNotAdded raw set error.NotThisShape = (HasRoom set × ClosedComponentRefuses raw error.NotThisShape) ⊎ IsRefusedComponent raw set error.NotThisShape
+ComponentNotAdded raw set e = HasRoom set × ClosedComponentRefuses raw e
 
 -- ---- of a tree
 
@@ -115,25 +118,20 @@ pub record IsRefusedTree (f : File) (set : Resolve) (e : ResolveError) : Type 0 
 
 -- the file after its imports from the set is refused for this reason; out of memory may come at any time
 abbrev pub CauseStands : File → Resolve → ResolveError → Type 0
-CauseStands f set cause.NoMemory = Unit {0}
+CauseStands f set error.NoMemory = Unit {0}
 CauseStands f set e = IsRefusedTree f set e
 
 -- Why the file's package is not added: 49, then 43, then 48, then what is wrong with it behind its imports. 46 can come at any time, but not before 49.
-abbrev pub TreeNotAdded : File → Resolve → AddError → Type 0
-TreeNotAdded f set (error.Attach attach.SetLimit) = ¬ HasRoom set
-TreeNotAdded f set (error.Attach (attach.SamePackage p)) = HasRoom set × HasEntries f × (p ≡ package_named f) × HasName f set
-TreeNotAdded f set (error.Attach attach.NoMemory) = HasRoom set
-TreeNotAdded f set (error.Attach (attach.NoPackage p)) = ⊥
-TreeNotAdded f set (error.Attach attach.NotThisShape) = ⊥
-TreeNotAdded f set (error.Resolve cause.EmptyPackage) = HasRoom set × (f.entries ≡ [])
-TreeNotAdded f set (error.Resolve cause.NoMemory) = HasRoom set
-TreeNotAdded f set (error.Resolve e) = HasRoom set × HasEntries f × IsNewName f set × IsRefusedTree f set e
+abbrev pub TreeNotAdded : File → Resolve → ResolveError → Type 0
+TreeNotAdded f set error.SetLimit = ¬ HasRoom set
+TreeNotAdded f set (error.SamePackage p) = HasRoom set × HasEntries f × (p ≡ package_named f) × HasName f set
+TreeNotAdded f set error.EmptyPackage = HasRoom set × (f.entries ≡ [])
+TreeNotAdded f set error.NoMemory = HasRoom set
+TreeNotAdded f set e = HasRoom set × HasEntries f × IsNewName f set × IsRefusedTree f set e
 
 -- ---- want of memory
 
--- the host is out of memory (46), for the package alone or for the set
-abbrev pub IsWantOfMemoryToAdd : AddError → Type 0
-IsWantOfMemoryToAdd (error.Resolve cause.NoMemory) = Unit {0}
-IsWantOfMemoryToAdd (error.Resolve e) = ⊥
-IsWantOfMemoryToAdd (error.Attach attach.NoMemory) = Unit {0}
-IsWantOfMemoryToAdd (error.Attach e) = ⊥
+-- the host is out of memory (46)
+abbrev pub IsWantOfMemoryToAdd : ResolveError → Type 0
+IsWantOfMemoryToAdd error.NoMemory = Unit {0}
+IsWantOfMemoryToAdd _ = ⊥

@@ -6,7 +6,6 @@
 //! stands on `package_sets` (sets as tables), `wit_component` (components), `tree_rows` (trees) and `tables`.
 #![tactic(auto)]
 
-mod error;
 mod full_names;
 mod imported;
 mod marking;
@@ -16,8 +15,6 @@ mod single;
 mod tree;
 mod written;
 
-pub use error::AddError;
-pub use package_sets::AttachError;
 pub use set::PackageSet;
 pub use single::{from_ast, from_raw};
 pub use written::{print, table, to_raw};

@@ -10,7 +10,7 @@ ghost use Rattle.package_sets.specs.Attached.{HasRoom, IsAttached, IsRefused};
 ghost use Rattle.package_sets.specs.Joined.{FitsBehind, joined_places};
 ghost use Rattle.package_sets.specs.SetForm.{IsEmpty};
 ghost use Rattle.package_sets.specs.Tower.{IsInTower};
-ghost use Rattle.package_sets.specs.declared.error.AttachError.TheVariants.{SetLimit, NoMemory, SamePackage};
+ghost use Rattle.tables.specs.declared.error.ResolveError.TheVariants.{SetLimit, NoMemory, SamePackage};
 ghost use Rattle.package_adding.specs.Added.{AddsComponent, ComponentIsAdded, ComponentNotAdded, IsRefusedBehind, AddsTree, IsNewName, HasName, TreeIsAdded, TreeNotAdded, HasTable, KeepsTables, IsWantOfMemoryToAdd};
 ghost use Rattle.package_sets.specs.BehindImports.{IsBehindImports};
 ghost use Rattle.package_text.specs.Writable.{IsWritable};
@@ -20,12 +20,11 @@ ghost use Rattle.tables.specs.declared.tables.Resolve.{Resolve};
 ghost use Rattle.tree_meaning.specs.Declarations.{package_named};
 ghost use Rattle.wit_tokens.specs.View.{file_view};
 
-use crate::error::AddError;
 use crate::imported::is_behind_imports;
 use crate::tree::{closed_over, has_entries};
 use ctype_bin::RawComponent;
 use package_sets::laws::{attaches_alone, attaches_one, is_set_of_none};
-use package_sets::{AttachError, Joined, MOST_PACKAGES, fitting, put_behind};
+use package_sets::{Joined, MOST_PACKAGES, fitting, put_behind};
 use package_text::names_are_labels;
 use std::alloc::{AllocError, Global};
 use tables::{PackageId, Resolve, ResolveError, Sequence};
@@ -82,14 +81,14 @@ impl PackageSet {
     }
 
     /// That there is room for a package more. 49 where there are 64.
-    pub fn has_room(&self) -> Result<(), AttachError>
+    pub fn has_room(&self) -> Result<(), ResolveError>
         ensures ok { OnOk result (HasRoom self.now.resolve) }
         ensures err { IfErr result (λ e. (e ≡ SetLimit) × (¬ HasRoom self.now.resolve)) }
     {
         if self.resolve.packages.len() < MOST_PACKAGES {
             Ok(())
         } else {
-            Err(AttachError::SetLimit)
+            Err(ResolveError::SetLimit)
         }
     }
 
@@ -141,7 +140,7 @@ impl PackageSet {
     }
 
     /// Puts the own part of a closed table behind the set. The table of a first package that reaches no other is the set's as it stands.
-    fn attach(&mut self, alloc: Global, closed: Resolve) -> Result<PackageId, AttachError>
+    fn attach(&mut self, alloc: Global, closed: Resolve) -> Result<PackageId, ResolveError>
         requires form { ∥ IsInPackageForm closed ∥₁ }
         requires distinct { ∥ All AreDistinct (package_scopes closed) ∥₁ }
         ensures ok { IfOk result (λ id. IsAttached self.old.resolve closed self.new.resolve id.0) }
@@ -158,7 +157,11 @@ impl PackageSet {
     }
 
     /// Puts the own part of a component's closed table behind the set. 44 also where its imports aren't just those of the set, in its order.
-    fn attach_component(&mut self, alloc: Global, closed: Resolve) -> Result<PackageId, AttachError>
+    fn attach_component(
+        &mut self,
+        alloc: Global,
+        closed: Resolve,
+    ) -> Result<PackageId, ResolveError>
         requires form { ∥ IsInPackageForm closed ∥₁ }
         requires distinct { ∥ All AreDistinct (package_scopes closed) ∥₁ }
         ensures ok { IfOk result (λ id. IsAttached self.old.resolve closed self.new.resolve id.0) }
@@ -173,7 +176,7 @@ impl PackageSet {
         }
         let to = fitting(alloc, &self.resolve, &closed)?;
         if !is_behind_imports(alloc, &self.resolve, &closed)? {
-            return Err(AttachError::NotThisShape);
+            return Err(ResolveError::NotThisShape);
         }
         Ok(self.put(alloc, &closed, &to)?)
     }
@@ -183,7 +186,7 @@ impl PackageSet {
     /// 48 where there is a package of this name, 47 for the first package that it imports from and that isn't there, and 44 where an
     /// interface that it imports isn't there or differs from the earlier package's, or where its imports stand in another order than the
     /// set's; 46 where memory is wanting. The set is as it was then. (Binary.md)
-    pub fn add_raw(&mut self, alloc: Global, raw: &RawComponent) -> Result<PackageId, AddError>
+    pub fn add_raw(&mut self, alloc: Global, raw: &RawComponent) -> Result<PackageId, ResolveError>
         ensures ok { IfOk result (λ id. ComponentIsAdded raw.now self.old.resolve self.new.resolve id.0) }
         ensures known { IfOk result (λ id. id.0 < length self.new.resolve.packages) }
         ensures earlier { OnOk result (KeepsTables self.old.resolve self.new.resolve) }
@@ -194,7 +197,7 @@ impl PackageSet {
     {
         self.has_room()?;
         let Ok(bytes) = spelling(alloc, raw) else {
-            return Err(AddError::Resolve(ResolveError::NoMemory));
+            return Err(ResolveError::NoMemory);
         };
         self.add_raw_with_bytes(alloc, raw, &bytes)
     }
@@ -205,7 +208,7 @@ impl PackageSet {
         alloc: Global,
         raw: &RawComponent,
         bytes: &[u8],
-    ) -> Result<PackageId, AddError>
+    ) -> Result<PackageId, ResolveError>
         requires spelled { ∥ component_file.spells bytes.now (raw_component_view raw.now) ∥₁ }
         ensures ok { IfOk result (λ id. ComponentIsAdded raw.now self.old.resolve self.new.resolve id.0) }
         ensures known { IfOk result (λ id. id.0 < length self.new.resolve.packages) }
@@ -224,13 +227,13 @@ impl PackageSet {
     }
 
     /// That the set has no package of the tree's name. 48 where it has one.
-    fn lacks_package(&self, alloc: Global, ast: &Ast) -> Result<(), AttachError>
+    fn lacks_package(&self, alloc: Global, ast: &Ast) -> Result<(), ResolveError>
         ensures ok { OnOk result (IsNewName (file_view ast.now) self.now.resolve) }
         ensures err { IfErr result (λ e. (e ≡ NoMemory) ⊎ ((e ≡ SamePackage (package_named (file_view ast.now))) × HasName (file_view ast.now) self.now.resolve)) }
     {
         if has_package(self.resolve.packages.as_slice(), &ast.package) {
             let name = package_name(alloc, &ast.package)?;
-            return Err(AttachError::SamePackage(name));
+            return Err(ResolveError::SamePackage(name));
         }
         Ok(())
     }
@@ -240,7 +243,7 @@ impl PackageSet {
     /// nor world, 48 where there is a package of its name; then 40, 47, 41, 42 and 45 as `closed_table` tests them over the interfaces
     /// that the paths name, with what these reach; 46 where memory is wanting. 47 also where a use of a package names no type, as in no text,
     /// and nothing else is used of it. The set is as it was then. (WIT.md)
-    pub fn add_ast(&mut self, alloc: Global, ast: &Ast) -> Result<PackageId, AddError>
+    pub fn add_ast(&mut self, alloc: Global, ast: &Ast) -> Result<PackageId, ResolveError>
         ensures ok { IfOk result (λ id. TreeIsAdded (file_view ast.now) self.old.resolve self.new.resolve id.0) }
         ensures known { IfOk result (λ id. id.0 < length self.new.resolve.packages) }
         ensures earlier { OnOk result (KeepsTables self.old.resolve self.new.resolve) }

@@ -5,8 +5,8 @@ use Rattle.package_form.specs.Closed.{own_package, is_same_package}
 use Rattle.set_rows.specs.Moved.{put_interface, put_world, put_row}
 use Rattle.package_sets.specs.Joining.{own_interfaces, import_rows, joined, HasImports}
 use Rattle.tables.specs.PackageNames.{PackageParts}
-use Rattle.package_sets.specs.declared.error.AttachError.{AttachError}
-use Rattle.package_sets.specs.declared.error.AttachError.TheVariants as error
+use Rattle.tables.specs.declared.error.ResolveError.{ResolveError}
+use Rattle.tables.specs.declared.error.ResolveError.TheVariants as error
 use Rattle.tables.specs.declared.tables.Resolve.{Resolve}
 
 -- what is put behind the set's rows: the closed table's own, where its imports stand at these places of the set
@@ -60,12 +60,13 @@ pub record Fits (set closed : Resolve) : Type 0 where
   pub imports : HasImports set closed
 
 -- a closed table is not added to the set for this reason; 46 out of memory may come at any time, but not before 49
-abbrev pub IsRefused : Resolve → Resolve → AttachError → Type 0
+abbrev pub IsRefused : Resolve → Resolve → ResolveError → Type 0
 IsRefused set closed error.SetLimit = ¬ HasRoom set
 IsRefused set closed (error.SamePackage p) = HasRoom set × HasSame set closed p
 IsRefused set closed (error.NoPackage p) = HasRoom set × IsNew set closed × LacksFirst set (others closed) p
 IsRefused set closed error.NotThisShape = HasRoom set × IsNew set closed × HasAll set (others closed) × (¬ Fits set closed)
 IsRefused set closed error.NoMemory = HasRoom set
+IsRefused set closed _ = ⊥
 
 -- ---- what is accepted
 

@@ -5,15 +5,16 @@ ghost use Rattle.package_sets.specs.Attached.{HasAll, LacksFirst, IsAttached, Is
 ghost use Rattle.tables.specs.PackageNames.{PackageParts};
 ghost use Rattle.package_sets.specs.Joining.{own_interfaces, AreRowsThere, AreIdsThere, HasIds, HasIdsAt, HasImports};
 ghost use Rattle.package_sets.specs.Joined.{joined_places, FitsBehind, IsJoined, renaming_of};
-ghost use Rattle.package_sets.specs.declared.error.AttachError.TheVariants.{NotThisShape, NoMemory, NoPackage};
+ghost use Rattle.tables.specs.declared.error.ResolveError.TheVariants.{NotThisShape, NoMemory, NoPackage};
 
-use crate::error::AttachError;
 use crate::joining::{Joined, has_package, imports, own_interfaces, places_of};
 use crate::same::{Same, are_same};
 use package_form::own_package;
 use set_rows::moved::{Movable, copied_name, moved_functions, moved_types, push_moved};
 use std::alloc::{AllocError, Global};
-use tables::{Definition, Interface, PackageId, PackageName, Resolve, Sequence, World};
+use tables::{
+    Definition, Interface, PackageId, PackageName, Resolve, ResolveError, Sequence, World,
+};
 
 /// The packages that a set may have.
 pub const MOST_PACKAGES: usize = 64;
@@ -106,28 +107,28 @@ fn are_ids_there(
 }
 
 /// The places of what a closed table has, if its imports are as the set has them: 44 where they aren't.
-fn placed(alloc: Global, set: &Resolve, closed: &Resolve) -> Result<Joined, AttachError>
+fn placed(alloc: Global, set: &Resolve, closed: &Resolve) -> Result<Joined, ResolveError>
     ensures ok { IfOk result (λ j. IsJoined set.now closed.now (joined_places j)) }
     ensures err { IfErr result (λ e. (e ≡ NoMemory) ⊎ ((e ≡ NotThisShape) × (¬ HasImports set.now closed.now))) }
 {
     let to = places_of(alloc, set, closed)?;
     if !are_rows_there(alloc, set, to.import_rows(closed), &to)? {
-        return Err(AttachError::NotThisShape);
+        return Err(ResolveError::NotThisShape);
     }
     if !are_ids_there(alloc, set, imports(closed), &to)? {
-        return Err(AttachError::NotThisShape);
+        return Err(ResolveError::NotThisShape);
     }
     Ok(to)
 }
 
 /// That the set has all of these packages. 47 at the first that it lacks.
-fn has_packages(alloc: Global, set: &Resolve, packages: &[PackageName]) -> Result<(), AttachError>
+fn has_packages(alloc: Global, set: &Resolve, packages: &[PackageName]) -> Result<(), ResolveError>
     ensures ok { OnOk result (HasAll set.now packages.now) }
     ensures err { IfErr result (λ e. (e ≡ NoMemory) ⊎ ((p : PackageParts) × (e ≡ NoPackage p) × LacksFirst set.now packages.now p)) }
 {
     for package in packages {
         if !has_package(set, package) {
-            return Err(AttachError::NoPackage(copied_name(alloc, package)?));
+            return Err(ResolveError::NoPackage(copied_name(alloc, package)?));
         }
     }
     Ok(())
@@ -223,20 +224,20 @@ impl Lists {
 /// 49 where the set has 64 packages; else 48 where it has a package of this name; else 47 where it lacks a package that
 /// is imported from; else 44 where an interface that is imported isn't there, or isn't row for row as the set has it. 46
 /// where there is no memory, or no id for a row; not before 49.
-pub fn fitting(alloc: Global, set: &Resolve, closed: &Resolve) -> Result<Joined, AttachError>
+pub fn fitting(alloc: Global, set: &Resolve, closed: &Resolve) -> Result<Joined, ResolveError>
     ensures ok { IfOk result (λ j. FitsBehind set.now closed.now (joined_places j)) }
     ensures err { IfErr result (IsRefused set.now closed.now) }
 {
     if MOST_PACKAGES <= set.packages.len() {
-        return Err(AttachError::SetLimit);
+        return Err(ResolveError::SetLimit);
     }
     let packages = closed.packages.as_slice();
     let own = own_package(packages);
     let Some(name) = packages.get(own) else {
-        return Err(AttachError::NotThisShape);
+        return Err(ResolveError::NotThisShape);
     };
     if has_package(set, name) {
-        return Err(AttachError::SamePackage(copied_name(alloc, name)?));
+        return Err(ResolveError::SamePackage(copied_name(alloc, name)?));
     }
     has_packages(alloc, set, &packages[..own])?;
     placed(alloc, set, closed)

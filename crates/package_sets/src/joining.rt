@@ -8,15 +8,14 @@ ghost use Rattle.package_sets.specs.Asking.{AsksFor, AsksForOne};
 ghost use Rattle.package_names.specs.Asked.{IsIndexOfAsked};
 ghost use Rattle.tables.specs.declared.tables.Interface.{Interface};
 ghost use Rattle.package_sets.specs.Joined.{joined_places, AreJoined};
-ghost use Rattle.package_sets.specs.declared.error.AttachError.TheVariants.{NotThisShape, NoMemory};
+ghost use Rattle.tables.specs.declared.error.ResolveError.TheVariants.{NotThisShape, NoMemory};
 ghost use Rattle.std.specs.List.{range_with_len};
 
-use crate::error::AttachError;
 use package_form::{end_of, is_same_version, own_package};
 use package_names::{Asked, AskedNames, AskedPlaces, PackageKey};
 use set_rows::moved::Placed;
 use std::alloc::{AllocError, Global};
-use tables::{Definition, Interface, PackageName, Resolve};
+use tables::{Definition, Interface, PackageName, Resolve, ResolveError};
 
 /// Where what a closed table has stands in a set with its package: its imports where the set has them, its own
 /// behind all of the set.
@@ -188,14 +187,14 @@ fn found_at(
 }
 
 /// A place as an id. 46 where there is no id for it.
-fn id_of(place: usize) -> Result<u32, AttachError>
+fn id_of(place: usize) -> Result<u32, ResolveError>
     ensures ok { IfOk result (λ id. id ≡ place) }
     ensures err { IfErr result (λ e. e ≡ NoMemory) }
     ensures large { IfErr result (λ _. u32.MAX < place) }
 {
     match u32::try_from(place) {
         Ok(id) => Ok(id),
-        Err(_) => Err(AttachError::NoMemory),
+        Err(_) => Err(ResolveError::NoMemory),
     }
 }
 
@@ -205,7 +204,7 @@ fn found(
     set: &Resolve,
     closed: &Resolve,
     imports: &[Interface],
-) -> Result<Vec<u32>, AttachError>
+) -> Result<Vec<u32>, ResolveError>
     ensures ok { IfOk result (λ places. AreFound set.now closed.now imports.now places.items) }
     ensures err { IfErr result (λ e. (e ≡ NoMemory) ⊎ ((e ≡ NotThisShape) × ((places : List ℕ) → ¬ AreFound set.now closed.now imports.now places))) }
 {
@@ -215,19 +214,19 @@ fn found(
     for import in imports {
         match found_at(set, &there, closed, import) {
             Some(place) => places.push(id_of(place)?)?,
-            None => return Err(AttachError::NotThisShape),
+            None => return Err(ResolveError::NotThisShape),
         }
     }
     Ok(places)
 }
 
 /// So many places more, one behind the other. 46 where there is no id for one.
-fn push_places(places: &mut Vec<u32>, first: usize, count: usize) -> Result<(), AttachError>
+fn push_places(places: &mut Vec<u32>, first: usize, count: usize) -> Result<(), ResolveError>
     ensures ok { OnOk result (places.new.items ≡ places.old.items ++ range_with_len first count) }
     ensures err { IfErr result (λ e. e ≡ NoMemory) }
 {
     let Some(end) = first.checked_add(count) else {
-        return Err(AttachError::NoMemory);
+        return Err(ResolveError::NoMemory);
     };
     for place in first..end {
         places.push(id_of(place)?)?;
@@ -251,7 +250,7 @@ fn row_places(
     set: &Resolve,
     imports: &[Interface],
     places: &[u32],
-) -> Result<Vec<u32>, AttachError>
+) -> Result<Vec<u32>, ResolveError>
     requires { length places.now ≡ length imports.now }
     ensures ok { IfOk result (λ rows. rows.items ≡ row_places set.now 0 imports.now places.now) }
     ensures err { IfErr result (λ e. e ≡ NoMemory) }
@@ -269,7 +268,7 @@ fn row_places(
 }
 
 /// The places of a list's other elements, behind so many. 46 where there is no id for one.
-fn push_others(places: &mut Vec<u32>, behind: usize, count: usize) -> Result<(), AttachError>
+fn push_others(places: &mut Vec<u32>, behind: usize, count: usize) -> Result<(), ResolveError>
     ensures ok { OnOk result (places.new.items ≡ all_places places.old.items behind count) }
     ensures err { IfErr result (λ e. e ≡ NoMemory) }
 {
@@ -278,7 +277,7 @@ fn push_others(places: &mut Vec<u32>, behind: usize, count: usize) -> Result<(),
 }
 
 /// What a closed table has is placed in the set with its package.
-pub fn places_of(alloc: Global, set: &Resolve, closed: &Resolve) -> Result<Joined, AttachError>
+pub fn places_of(alloc: Global, set: &Resolve, closed: &Resolve) -> Result<Joined, ResolveError>
     ensures ok { IfOk result (λ j. AreJoined set.now closed.now (joined_places j)) }
     ensures err { IfErr result (λ e. (e ≡ NoMemory) ⊎ ((e ≡ NotThisShape) × ((places : List ℕ) → ¬ AreFound set.now closed.now (imports closed.now) places))) }
 {

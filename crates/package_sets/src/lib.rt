@@ -8,7 +8,6 @@
 #![tactic(auto)]
 
 mod attachment;
-mod error;
 mod importing;
 mod joining;
 pub mod laws;
@@ -17,7 +16,6 @@ mod restriction;
 pub mod same;
 
 pub use attachment::{MOST_PACKAGES, fitting, put_behind};
-pub use error::AttachError;
 pub use importing::imports;
 pub use joining::{Joined, imports as imported_interfaces, is_same_package};
 pub use restriction::restricted;

@@ -1,17 +1,15 @@
 -- The types of a function, as the fields of records.
 use Rattle.std.proofs.Common.{◌≡◌, ◌≤◌, true, List, [], ◌∷◌, Option, Some, None, map, refl, sym, ap, ◌∙◌, subst, arith}
-use Rattle.std.specs.Prelude.{IsTrue, IfSome, slice_get, option_to_list}
-use Rattle.std.specs.Option.{option_map}
-use Rattle.std.proofs.lemmas.Bool.{and_parts, and_from, false≢true, leb-true}
+use Rattle.std.specs.Prelude.{IsTrue, slice_get}
+use Rattle.std.proofs.lemmas.Bool.{and_parts, false≢true, leb-true}
 use Rattle.std.proofs.lemmas.List.{length-map}
 use Rattle.std.proofs.lemmas.List.Folds.{list_all-map}
-use Rattle.canonical_abi.specs.Types.{ClosedType, fields_of, record_type, result_fields}
+use Rattle.canonical_abi.specs.Types.{ClosedType, fields_of, record_type}
 use Rattle.canonical_abi.specs.Layout.{size}
 use Rattle.layout.specs.Layout.{AreWithin}
-use Rattle.tables.specs.Closed.{closed_val, closed_type, closed_types, closed_params, function_at, function_type, type_of_function, is_scalar_type, is_scalar_function, IsFunction, IsScalarFunction}
+use Rattle.tables.specs.Closed.{closed_val, closed_types, closed_params, function_at, function_type, type_of_function, is_scalar_type, is_scalar_function, IsFunction, IsScalarFunction}
 use Rattle.tables.specs.Same.{IsSamePackage}
-use Rattle.tables.specs.Standard.{IsTypeOf}
-use Rattle.tables.specs.Tables.{function_of, is_there, is_type}
+use Rattle.tables.specs.Tables.{function_of, is_there}
 use Rattle.tables.specs.declared.tables.Function.{Function}
 use Rattle.tables.specs.declared.tables.FunctionId.{FunctionId}
 use Rattle.tables.specs.declared.tables.Parameter.{Parameter}
@@ -20,7 +18,7 @@ use Rattle.tables.specs.declared.tables.ValType.{ValType}
 use Rattle.values.specs.Members.{fields_of_types, AreTypesOf}
 use Rattle.values.specs.Scalars.{AreScalar}
 use Rattle.adapter.proofs.FunctionsInLayouts.{params-known, params-small}
-use Rattle.package_values.specs.Signature.{function_signature}
+use Rattle.adapter.specs.Signature.{function_signature}
 
 -- the same package has the same functions
 pub same_function : (a b : Resolve) (f : FunctionId) → IsSamePackage a b → function_type b f ≡ function_type a f
@@ -75,17 +73,3 @@ scalar_params (Some s) h =
 
 pub params_are_scalar : (r : Resolve) (f : FunctionId) → IsScalarFunction r f → AreScalar (function_signature (function_at r f)).params
 params_are_scalar r f h = scalar_params (function_at r f) h
-
--- ---- a result
-
-result_fields_are : (r : Resolve) (o : Option ValType) → fields_of_types r (option_to_list o) ≡ result_fields (option_map (closed_type r) o)
-result_fields_are r None = refl
-result_fields_are r (Some t) = refl
-
-pub result_is_fields : (r : Resolve) (f : FunctionId) (s : Function) → function_at r f ≡ Some s
-    → fields_of_types r (option_to_list s.result) ≡ result_fields (function_type r f).result
-result_is_fields r f s found = result_fields_are r s.result ∙ sym (ap (λ o. result_fields (type_of_function (closed_types r) o).result) found)
-
-pub all_known : (r : Resolve) (o : Option ValType) → IfSome o (IsTypeOf r) → AreTypesOf r (option_to_list o)
-all_known r None h = refl
-all_known r (Some t) h = and_from (is_type r.definitions t) true h refl

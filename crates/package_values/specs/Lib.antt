@@ -1,4 +1,3 @@
 pub mod Calls
 pub mod Json
 pub mod Numbers
-pub mod Signature

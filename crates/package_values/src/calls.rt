@@ -2,7 +2,7 @@
 ghost use Rattle.std.specs.Prelude.{◌≡◌};
 ghost use Rattle.tables.specs.Closed.{IsFunction, function_at, function_type};
 ghost use Rattle.package_values.specs.Calls.{of_json, TextAsks, TextFilled};
-ghost use Rattle.package_values.specs.Signature.{function_signature};
+ghost use Rattle.adapter.specs.Signature.{function_signature};
 
 use crate::json::{JsonError, arguments_from_json};
 use adapter::Request;

@@ -8,7 +8,7 @@ ghost use Rattle.tables.specs.Closed.{IsFunction, closed_type, function_at, func
 ghost use Rattle.tables.specs.Standard.{IsTypeOf};
 ghost use Rattle.values.specs.Members.{fields_of_types, AreTypesOf};
 ghost use Rattle.values.specs.Val.{value_of};
-ghost use Rattle.package_values.specs.Signature.{function_signature};
+ghost use Rattle.adapter.specs.Signature.{function_signature};
 ghost use Rattle.package_values.specs.Json.{IsTextOf, IsTextOfNone, IsTextOfOnly, IsCompactTextOf, IsArrayTextOf, RefusesArray};
 
 use crate::laws::has_labels_apart;

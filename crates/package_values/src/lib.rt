@@ -7,8 +7,6 @@
 mod calls;
 mod json;
 pub mod laws;
-mod signature;
 
 pub use calls::Called;
 pub use json::{JsonError, arguments_from_json, from_json, to_json, values_from_json};
-pub use signature::result_type;

@@ -12,10 +12,6 @@ pub length-upto : (n : ℕ) → length (upto n) ≡ n
 length-upto zero = refl
 length-upto (suc n) = omega (arith, length-append (upto n) (n ∷ []), length-upto n)
 
--- one more
-pub upto_more : (n : ℕ) → upto (n + 1) ≡ upto n ++ n ∷ []
-upto_more n = let e : n + 1 ≡ suc n = omega arith in rw e refl
-
 at-upto : (n k : ℕ) → k < n → get_or (upto n) k 0 ≡ k
 at-upto zero k h = absurd (omega arith)
 at-upto (suc n) k h = elim (cases_lt k n) [

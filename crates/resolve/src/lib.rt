@@ -5,9 +5,7 @@
 //! on `tables`, `table_building`, `world_functions` and `package_adding`, which declare these.
 #![tactic(auto)]
 
-pub use package_adding::{
-    AddError, AttachError, PackageSet, from_ast, from_raw, print, table, to_raw,
-};
+pub use package_adding::{PackageSet, from_ast, from_raw, print, table, to_raw};
 pub use table_building::{copy_of, copy_of as copy, from_parts};
 pub use tables::{
     Case, Definition, Direction, Field, Function, FunctionId, Interface, InterfaceId, Name, Owner,

@@ -32,3 +32,7 @@ IsNamedIn r ids name f = Contains ids f × (function_name r f ≡ Some name)
 -- f is a function of this name in an interface of this full name
 abbrev pub IsNamed : Resolve → List ℕ → List ℕ → FunctionId → Type 0
 IsNamed r iface name f = (i : Interface) × Contains r.interfaces i × (iface ≡ full_name r i) × IsNamedIn r i.functions name f
+
+-- no function has this name
+abbrev pub IsMissing : Resolve → List ℕ → List ℕ → Type 0
+IsMissing r iface func = (f : FunctionId) → ¬ IsNamed r iface func f

@@ -511,13 +511,17 @@ f-has-no-duplicate n (ns, (k, l, e), (j, m, is, met)) = (subst AreDistinct e (f-
 
 -- the package of a path isn't there
 no-package : ResolveRefuses g (error.NoPackage a_b)
-no-package = (has-some _ _, all-distinct (scopes g) refl, ((0, omega arith, refl), λ c. let l : c.0 < 0 = c.1 in omega (arith, l)))
+no-package = (
+  has-some _ _,
+  all-distinct (scopes g) refl,
+  record { before = []; after = []; are = refl; have = λ k q l. absurd (omega (arith, l)); lacks = λ c. let l : c.0 < 0 = c.1 in omega (arith, l) },
+)
 
 g-is-not-alone : KnowsPackages g → ⊥
 g-is-not-alone k = let l : (k 0 a_b (omega arith)).0 < 0 = (k 0 a_b (omega arith)).1 in omega (arith, l)
 
 g-lacks-none : LacksPackage (imports_of m) g a_b → ⊥
-g-lacks-none x = x.1 (0, omega arith, refl)
+g-lacks-none x = x.lacks (0, omega arith, refl)
 
 -- a name isn't in a list where a test finds none
 lacks : (n : List ℕ) (ms : List (List ℕ)) → list_any (λ x. bytes_eq x n) ms ≡ false → Contains ms n → ⊥

@@ -1,5 +1,5 @@
 -- What paths name.
-use Rattle.std.proofs.Common.{◌≡◌, ◌+◌, ◌<◌, ◌∙◌, ℕ, zero, suc, true, false, Bool, ◌||◌, IsTrue, ◌↔◌, is_some, List, [], ◌∷◌, Option, map, flat_map, take, length, get_or, ap, refl, sym, subst, arith, All}
+use Rattle.std.proofs.Common.{◌≡◌, ◌+◌, ◌<◌, ◌∙◌, ℕ, zero, suc, true, false, Bool, ◌||◌, IsTrue, ◌↔◌, is_some, List, [], ◌∷◌, ◌++◌, append_assoc, Option, map, flat_map, take, drop, length, get_or, ap, refl, sym, subst, arith, All}
 use Rattle.std.specs.Prelude.{Contains, Some, None}
 use Rattle.std.specs.List.{list_any}
 use Rattle.wit_tokens.specs.Syntax.{PathTo, Local, Foreign, Whole}
@@ -15,7 +15,7 @@ use Rattle.package_form.proofs.FullNamesStandForInterfaces.{package-is, same-its
 use Rattle.tree_meaning.specs.Declarations.{path_packages, path_interface, item_tree}
 use Rattle.tree_meaning.specs.Imports.{Imports, HasImport, import_place}
 use Rattle.tree_meaning.specs.Knowing.{IsThere}
-use Rattle.tree_meaning.specs.Resolves.{place_of, IsKnownItemOf, IsUnknownItem}
+use Rattle.tree_meaning.specs.Resolves.{place_of, IsKnownItemOf, IsUnknownItem, IsLacking}
 use Rattle.tree_meaning.specs.Finished.{header_name}
 use Rattle.tree_meaning.proofs.NamesFoundInLists.{place-has, place-lacks}
 use Rattle.tree_meaning.proofs.ImportsFoundByName.{place-none, place-there}
@@ -52,6 +52,33 @@ pub all-more : {A B C : Type 0} (P : C → Type 0) (f : B → List C) (g : A →
     → All P (flat_map f (map g (take (k + 1) xs)))
 all-more P f g xs k x l e before here =
     subst (All P) (sym (flat_map-more f g xs k x l e)) (all-append P (flat_map f (map g (take k xs))) (f (g x)) before here)
+
+-- what the items name before one, what it names, and what those behind it name
+split-flat : {A B C : Type 0} (f : B → List C) (g : A → B) (xs : List A) (k : ℕ) (x : A) → k < length xs → x ≡ get_or xs k x
+    → flat_map f (map g xs) ≡ flat_map f (map g (take k xs)) ++ (f (g x) ++ flat_map f (map g (drop (suc k) xs)))
+split-flat f g [] k x l e = absurd (omega (arith, l))
+split-flat f g (y ∷ xs) zero x l e = ap (λ z. f (g z) ++ flat_map f (map g xs)) (sym e)
+split-flat f g (y ∷ xs) (suc k) x l e =
+    ap (λ l. f (g y) ++ l) (split-flat f g xs k x (omega (arith, l)) e)
+    ∙ sym (append_assoc (f (g y)) (flat_map f (map g (take k xs))) (f (g x) ++ flat_map f (map g (drop (suc k) xs))))
+
+-- the first that this item names and that isn't there is the first of all, if all before it are there
+pub lacking-more : {A B : Type 0} (there : List PackageParts) (f : B → List PackageParts) (g : A → B) (xs : List A) (k : ℕ) (x : A) (p : PackageParts) → k < length xs → x ≡ get_or xs k x
+    → All (Contains there) (flat_map f (map g (take k xs))) → IsLacking there (f (g x)) p → IsLacking there (flat_map f (map g xs)) p
+lacking-more there f g xs k x p l e earlier here =
+    let front = flat_map f (map g (take k xs)) in
+    let back = flat_map f (map g (drop (suc k) xs)) in
+    record {
+      before = front ++ here.before;
+      after = here.after ++ back;
+      are =
+          split-flat f g xs k x l e
+          ∙ ap (λ l. front ++ (l ++ back)) here.are
+          ∙ ap (λ l. front ++ l) (append_assoc here.before (p ∷ here.after) back)
+          ∙ sym (append_assoc front here.before (p ∷ (here.after ++ back)));
+      have = all-append (Contains there) front here.before earlier here.have;
+      lacks = here.lacks;
+    }
 
 -- ---- interfaces
 

@@ -5,7 +5,7 @@ use Rattle.std.specs.Str.{bytes_eq}
 use Rattle.wit_tokens.specs.Syntax.{PathTo, Local, Foreign, Entry, Uses, Defines, Declares, FileEntry, AnInterface, AWorld}
 use Rattle.tree_meaning.specs.Declarations.{UsedItem, InterfaceTree, ItemTree, WorldTree, interface_tree, world_tree, names_of_trees, path_uses, type_names, named_definition, names_in_function}
 use Rattle.tree_meaning.specs.Imports.{Imports, HasImport}
-use Rattle.tree_meaning.specs.Resolves.{place_of, IsKnownUseOf, IsUnknownUse, IsUnknownName, IsUnknownIn, HasKnownNamesOf, IsUnknownItem, IsUnknownInWorld, IsKnownWorldOf}
+use Rattle.tree_meaning.specs.Resolves.{place_of, IsKnownUseOf, IsUnknownUse, IsUnknownName, IsUnknownIn, HasKnownNamesOf, IsUnknownItem, IsUnknownInWorld, IsKnownWorldOf, IsLacking}
 use Rattle.tables.specs.PackageNames.{PackageParts}
 use Rattle.tables.specs.declared.error.ResolveError.{ResolveError}
 use Rattle.tables.specs.declared.error.ResolveError.TheVariants as error
@@ -56,11 +56,7 @@ RefusesUnknown m is ws (error.Unknown n) =
 RefusesUnknown m is ws error.NoMemory = Unit {0}
 RefusesUnknown m is ws _ = ⊥
 
--- p is one of these packages that isn't there
-abbrev pub IsLacking : List PackageParts → List PackageParts → PackageParts → Type 0
-IsLacking there ps p = Contains ps p × (¬ Contains there p)
-
--- a refusal with no package p: p is one of these packages and is not there; or out of memory
+-- a refusal with no package p: p is the first of these packages that is not there; or out of memory
 abbrev pub RefusesPackage : List PackageParts → List PackageParts → ResolveError → Type 0
 RefusesPackage there ps (error.NoPackage p) = IsLacking there ps p
 RefusesPackage there ps error.NoMemory = Unit {0}

@@ -147,9 +147,17 @@ HasDuplicate f n = (ns : List (List ℕ)) × Contains (scopes f) ns × IsDuplica
 abbrev pub HasDistinctNames : File → Type 0
 HasDistinctNames f = All AreDistinct (scopes f)
 
--- a package that the file names isn't there
+-- p is the first of these packages that isn't there
+pub record IsLacking (there ps : List PackageParts) (p : PackageParts) : Type 0 where
+  pub before : List PackageParts
+  pub after : List PackageParts
+  pub are : ps ≡ before ++ p ∷ after
+  pub have : All (Contains there) before
+  pub lacks : ¬ Contains there p
+
+-- the first package that the file names, in the order of its source, and that isn't there
 abbrev pub LacksPackage : Imports → File → PackageParts → Type 0
-LacksPackage m f p = Contains (other_packages f) p × (¬ Contains m.packages p)
+LacksPackage m f p = IsLacking m.packages (other_packages f) p
 
 -- each package that the file names is there
 abbrev pub KnowsPackagesOf : Imports → File → Type 0
@@ -378,6 +386,8 @@ ResolveRefusesOf m f (error.Unknown n) = HasEntries f × HasDistinctNames f × K
 ResolveRefusesOf m f error.Cycle = HasNoFaultsOf m f × HasCycle f
 ResolveRefusesOf m f error.Limit = (HasEntries f × (file_fits f ≡ false)) ⊎ (HasNoFaultsOf m f × IsTooLargeBehind m.meaning f)
 ResolveRefusesOf m f error.NoMemory = Unit {0}
+ResolveRefusesOf m f (error.SamePackage p) = ⊥
+ResolveRefusesOf m f error.SetLimit = ⊥
 
 -- why a file that depends on no other package is refused, as with no imports
 abbrev pub ResolveRefuses : File → ResolveError → Type 0

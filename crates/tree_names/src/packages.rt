@@ -3,7 +3,8 @@ ghost use Rattle.std.specs.Prelude.{map, flat_map, All, Contains, OnOk, IfErr, I
 ghost use Rattle.wit_tokens.specs.View.{path_view, entry_view, world_entry_view, item_view};
 ghost use Rattle.tree_meaning.specs.Declarations.{path_packages, entry_packages, world_entry_packages, file_entry_packages};
 ghost use Rattle.tree_meaning.specs.Finished.{header_name};
-ghost use Rattle.tree_meaning.specs.Knowing.{IsLacking, RefusesPackage};
+ghost use Rattle.tree_meaning.specs.Knowing.{RefusesPackage};
+ghost use Rattle.tree_meaning.specs.Resolves.{IsLacking};
 
 use std::alloc::Global;
 use tables::{PackageName, ResolveError};

@@ -1,8 +1,9 @@
 //! Answers rows of JSON, one a line, with what they did, one a line: calls over a link, steps of a session, values that are lifted or
-//! lowered, and heads. docs/FORMATS.md has the form. It shows implementers of other runtimes the answers of calls that carry the promise.
+//! lowered, heads, and values in a memory that a host keeps. docs/FORMATS.md has the form. It shows implementers of other runtimes the answers of calls that carry the promise.
 #![tactic(auto)]
 
 mod alone;
+mod hosts;
 mod sessions;
 
 use serde_json::Value;
@@ -42,6 +43,9 @@ fn told_of(alloc: Global, line: &str) -> anyhow::Result<String> {
     let row = Value::from_str(alloc, line)?;
     if row.get("steps").is_some() {
         return sessions::told_of(alloc, &row);
+    }
+    if row.get("host").is_some() {
+        return hosts::told_of(alloc, &row);
     }
     if row.get("lift").is_some() || row.get("lower").is_some() {
         return value_told(alloc, &row);

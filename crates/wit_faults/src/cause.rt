@@ -2,7 +2,6 @@
 
 use crate::limits::Refused;
 use layout::LayoutError;
-use package_adding::{AddError, AttachError};
 use std::alloc::AllocError;
 use tables::ResolveError;
 use thiserror::Error;
@@ -35,8 +34,6 @@ pub enum Cause {
     Text(TextError),
     #[error(transparent)]
     Resolve(ResolveError),
-    #[error(transparent)]
-    Attach(AttachError),
     /// The layouts of a package, with what is above their limits.
     #[error("{0}")]
     Layout(LayoutError, Option<Refused>),
@@ -54,11 +51,8 @@ impl From<TextError> for Cause {
     }
 }
 
-impl From<AddError> for Cause {
-    fn from(error: AddError) -> Cause {
-        match error {
-            AddError::Resolve(error) => Cause::Resolve(error),
-            AddError::Attach(error) => Cause::Attach(error),
-        }
+impl From<ResolveError> for Cause {
+    fn from(error: ResolveError) -> Cause {
+        Cause::Resolve(error)
     }
 }

@@ -3,7 +3,6 @@
 use crate::cause::Cause;
 use crate::places::declared_twice;
 use layout::LayoutError;
-use package_adding::AttachError;
 use std::alloc::{AllocError, Global};
 use tables::{PackageName, ResolveError};
 use wit_hints::{MORE_MEMORY, hint_of_duplicate, hint_of_text, hint_of_unknown};
@@ -104,22 +103,9 @@ fn of_names(
         ResolveError::EmptyPackage => "add an interface or a world",
         ResolveError::NotThisShape => "",
         ResolveError::Limit => "split the package; of flags, use two sets, or a list of an enum",
+        ResolveError::SamePackage(_) => "put the files of this package into one folder",
+        ResolveError::SetLimit => "leave out packages that are not used",
         ResolveError::NoMemory => MORE_MEMORY,
-    };
-    String::from_str(alloc, hint)
-}
-
-fn of_set(
-    alloc: Global,
-    known: &[PackageRef<'_>],
-    error: &AttachError,
-) -> Result<String, AllocError> {
-    let hint = match error {
-        AttachError::NoPackage(name) => return of_package(alloc, known, name),
-        AttachError::SamePackage(_) => "put the files of this package into one folder",
-        AttachError::SetLimit => "leave out packages that are not used",
-        AttachError::NotThisShape => "",
-        AttachError::NoMemory => MORE_MEMORY,
     };
     String::from_str(alloc, hint)
 }
@@ -134,7 +120,6 @@ pub fn hint_of(
     let hint = match cause {
         Cause::Text(error) => return hint_of_text(alloc, lexed, error),
         Cause::Resolve(error) => return of_names(alloc, lexed, around, error),
-        Cause::Attach(error) => return of_set(alloc, around.known, error),
         Cause::Layout(LayoutError::TooLarge, _) => "use a list",
         Cause::Layout(LayoutError::TooDeep, _) => "nest less",
         Cause::Layout(LayoutError::NoMemory, _) => MORE_MEMORY,

@@ -3,7 +3,6 @@
 use crate::cause::Cause;
 use crate::hints::Around;
 use crate::limits::Refused;
-use package_adding::AttachError;
 use std::alloc::{AllocError, Global};
 use tables::ResolveError;
 use wit_hints::find_twins;
@@ -222,11 +221,8 @@ pub fn place_in(
         })),
         Cause::Text(error) => Ok(of_text(error)),
         Cause::Resolve(error) => of_names(alloc, lexed, known, error),
-        Cause::Attach(AttachError::NoPackage(name)) => {
-            Ok(of_package(lexed, known, PackageRef::of_tables(name)))
-        }
         Cause::Layout(_, Some(refused)) => of_refused(alloc, lexed, refused),
-        Cause::Read(_) | Cause::Attach(_) | Cause::Layout(_, None) => Ok(None),
+        Cause::Read(_) | Cause::Layout(_, None) => Ok(None),
     }
 }
 

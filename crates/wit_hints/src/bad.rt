@@ -108,6 +108,10 @@ fn of_character(
         "&" => "WIT has no references: leave it out",
         "\"" | "'" => "names have no quotes",
         "#" => "a comment begins with `//`",
+        "\u{feff}" => "leave out this byte-order mark",
+        "\0" if lexed.text.starts_with("\0asm") => {
+            "this is a binary: `witcall text` prints its package as WIT"
+        }
         _ => "WIT has no such character here",
     };
     String::from_str(alloc, hint)

@@ -72,7 +72,7 @@ impl fmt::Display for Feature {
 }
 
 /// The first fault of a text, with the place where it stands.
-#[derive(Debug, Drop, Error)]
+#[derive(Clone, Copy, Debug, PartialEq, Eq, Error)]
 pub enum TextError {
     /// 30: a character that begins no token, or a word that is no label.
     #[error("error 30 bad character at {0}")]

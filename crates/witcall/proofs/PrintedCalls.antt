@@ -15,7 +15,7 @@ use Rattle.tables.specs.declared.tables.Resolve.{Resolve}
 use Rattle.memory.specs.Space.{spaces}
 use Rattle.witcall.specs.Calling.{NamesCall, CallAnswers, RunCallRefuses, IsBeforeCall, fresh}
 use Rattle.package_values.specs.Json.{IsArrayTextOf}
-use Rattle.package_values.specs.Signature.{function_signature}
+use Rattle.adapter.specs.Signature.{function_signature}
 use Rattle.witcall.specs.Status.{refusal_of}
 
 -- the words ask for the call of this function with the values that were read and handed on

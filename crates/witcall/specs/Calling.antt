@@ -7,7 +7,7 @@ use Rattle.canonical_abi.specs.Session.{TypedCall}
 use Rattle.memory.specs.Holes.{all_free}
 use Rattle.memory.specs.Space.{of_kind, spaces, first_fit_kind}
 use Rattle.tables.specs.Closed.{function_at, function_type}
-use Rattle.tables.specs.Names.{IsNamed}
+use Rattle.tables.specs.Names.{IsNamed, IsMissing}
 use Rattle.tables.specs.declared.tables.FunctionId.{FunctionId}
 use Rattle.tables.specs.declared.tables.Resolve.{Resolve}
 use Rattle.tables.specs.declared.tables.ValType.{ValType}
@@ -17,7 +17,7 @@ use Rattle.memory.specs.declared.error.MemoryError.TheVariants as memory
 use Rattle.witcall.specs.declared.refused.Refused.{Refused}
 use Rattle.witcall.specs.declared.refused.Refused.TheVariants as refused
 use Rattle.package_values.specs.Json.{IsCompactTextOf, IsArrayTextOf, RefusesArray}
-use Rattle.package_values.specs.Signature.{function_signature, IsMissing}
+use Rattle.adapter.specs.Signature.{function_signature}
 
 -- a memory of so many zeros that may grow to so many, and takes blocks back; all that is usable is one hole
 unfoldable pub fresh : ℕ → ℕ → Memory

@@ -11,12 +11,12 @@ use Rattle.memory.specs.Space.{SpaceAllocates}
 use Rattle.lift_lower.specs.Crossing.{AreAnswered, AnswerFails}
 use Rattle.values.specs.Val.{value_of}
 use Rattle.tables.specs.Closed.{function_at, function_type, IsScalarFunction}
-use Rattle.tables.specs.Names.{IsNamed}
+use Rattle.tables.specs.Names.{IsNamed, IsMissing}
 use Rattle.tables.specs.Same.{IsSamePackage}
 use Rattle.tables.specs.declared.tables.FunctionId.{FunctionId}
 use Rattle.tables.specs.declared.tables.Resolve.{Resolve}
 use Rattle.package_values.specs.Json.{IsArrayTextOf, RefusesArray}
-use Rattle.package_values.specs.Signature.{function_signature, IsMissing}
+use Rattle.adapter.specs.Signature.{function_signature}
 use Rattle.witcall.specs.declared.refused.Refused.{Refused}
 use Rattle.witcall.specs.declared.refused.Refused.TheVariants as refused
 use Rattle.witcall.specs.declared.reply.Reply.{Reply}

@@ -8,19 +8,19 @@ ghost use Rattle.canonical_abi.specs.Types.{result_fields};
 ghost use Rattle.tables.specs.Closed.{IsFunction, function_at, function_type};
 ghost use Rattle.values.specs.Val.{value_of};
 ghost use Rattle.memory.specs.Growth.{ArePages};
-ghost use Rattle.package_values.specs.Signature.{function_signature};
+ghost use Rattle.adapter.specs.Signature.{function_signature};
 ghost use Rattle.witcall.specs.Calling.{IsOutputOf, Prints, RunCallRefuses, IsBeforeCall, fresh};
 
 use crate::output::write_bytes;
 use crate::refused::Refused;
 use crate::session::call_typed;
 use crate::signature::function_named;
-use adapter::{Body, BoxedBody, Export};
+use adapter::{Body, BoxedBody, Export, result_type};
 use atoms::Sink;
 use lift_lower::Val;
 use memory::{FirstFit, Guest, MemoryError, Space};
 use opening::Package;
-use package_values::{arguments_from_json, result_type, to_json};
+use package_values::{arguments_from_json, to_json};
 use std::alloc::{AllocError, Global};
 use tables::FunctionId;
 

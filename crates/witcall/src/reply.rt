@@ -8,17 +8,17 @@ ghost use Rattle.canonical_abi.specs.Values.{HaveTypes, Value};
 ghost use Rattle.values.specs.Val.{value_of};
 ghost use Rattle.memory.specs.SpaceView.{space_memory};
 ghost use Rattle.tables.specs.Closed.{IsFunction, function_at, function_type};
-ghost use Rattle.package_values.specs.Signature.{function_signature};
+ghost use Rattle.adapter.specs.Signature.{function_signature};
 
 use crate::refused::Refused;
 use crate::signature::function_named;
 use crate::typing::have_types;
-use adapter::{Export, Stopped, parameter_types};
+use adapter::{Export, Stopped, parameter_types, result_type};
 use canonical_abi::Flat;
 use lift_lower::{FlatResults, Val, lift_params, lift_scalars, lower_answer};
 use memory::Space;
 use opening::Package;
-use package_values::{result_type, values_from_json};
+use package_values::values_from_json;
 use std::alloc::Global;
 use tables::{FunctionId, ValType};
 

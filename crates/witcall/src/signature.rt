@@ -2,8 +2,7 @@
 
 ghost use Rattle.std.specs.Prelude.{◌≡◌, IfOk, IfErr, OnErr};
 ghost use Rattle.tables.specs.Closed.{IsFunction};
-ghost use Rattle.tables.specs.Names.{IsNamed};
-ghost use Rattle.package_values.specs.Signature.{IsMissing};
+ghost use Rattle.tables.specs.Names.{IsNamed, IsMissing};
 
 use crate::refused::Refused;
 use opening::Package;

@@ -32,7 +32,7 @@ pub enum Step {
 }
 
 /// What a step answered.
-#[derive(Debug, Drop)]
+#[derive(Debug, Drop, PartialEq)]
 pub enum Answer {
     Called(Result<Option<Val>, Fault>),
     Placed(Result<Held, Fault>),

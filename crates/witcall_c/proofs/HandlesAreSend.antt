@@ -16,7 +16,6 @@ use Rattle.witcall_c.proofs.IndexSent.{index-send}
 use Rattle.opening.specs.contracts.indexed.IndexedPackage as indexed
 use Rattle.opening.specs.contracts.package.OpenError as open_error
 use Rattle.opening.specs.contracts.package.Package as opened
-use Rattle.package_sets.specs.contracts.error.AttachError as attach_error
 use Rattle.std.proofs.Crossing.{crosses, frees, Vec-send}
 use Rattle.std.proofs.MapsCrossing.{String-send}
 use Rattle.std.specs.Prelude.{Option, Some, None}
@@ -146,11 +145,8 @@ bin_error-field = search sendable depth 80 fits 20000
 resolve_error-field : IsSend (resolve_error.the_field).row
 resolve_error-field = let a = name-send in let b = label-send in let d = package_name-send in search sendable depth 80 fits 20000
 
-attach_error-field : IsSend (attach_error.the_field).row
-attach_error-field = let d = package_name-send in search sendable depth 80 fits 20000
-
 open_error-send : IsSend open_error.the_row
-open_error-send = let a = text_error-field in let b = bin_error-field in let c = resolve_error-field in let d = attach_error-field in let e = layout_error-field in search sendable depth 80 fits 20000
+open_error-send = let a = text_error-field in let b = bin_error-field in let c = resolve_error-field in let d = layout_error-field in search sendable depth 80 fits 20000
 
 -- ---- what a handle owns
 

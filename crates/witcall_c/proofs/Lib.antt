@@ -1,4 +1,3 @@
 pub mod HandlesAsMachineValues
 mod IndexSent
-mod InputsStandInOrder
 mod HandlesAreSend

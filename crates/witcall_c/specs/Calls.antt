@@ -1,7 +1,10 @@
 -- What is told of what a handle stands for: a package, why the bytes are none, or a call.
-use Rattle.std.specs.Prelude.{length, ◌≡◌, ◌⊎◌, ◌<◌, ◌≤◌, ℕ, List, Result, Ok, Err, Option, Some, None, MatchResult, if◌then◌else◌}
+use Rattle.std.specs.Prelude.{length, ◌≡◌, ◌⊎◌, ℕ, List, Result, Ok, Err, Option, Some, None, MatchResult, if◌then◌else◌}
 use Rattle.std.specs.Option.{option_map}
 use Rattle.std.specs.Str.{IsUtf8}
+use Rattle.c_border.specs.Functions.{OfFunction, numbered}
+use Rattle.c_border.specs.Inputs.{ArePieces, AreNoPieces}
+use Rattle.c_border.specs.Line.{LineDone}
 use Rattle.canonical_abi.specs.Layout.{lifted_signature, lowered_signature}
 use Rattle.canonical_abi.specs.Types.{FunctionType}
 use Rattle.canonical_abi.specs.declared.flat.CoreKind.{CoreKind}
@@ -20,7 +23,6 @@ use Rattle.opening.specs.Opening.{IsOpened, OpenRefuses}
 use Rattle.opening.specs.declared.indexed.IndexedPackage.{IndexedPackage}
 use Rattle.opening.specs.declared.package.OpenError.{OpenError}
 use Rattle.opening.specs.declared.package.Package.{Package}
-use Rattle.witcall_c.specs.Inputs.{ArePieces, AreNoPieces}
 use Rattle.witcall_c.specs.declared.calls.SignaturePart.{SignaturePart}
 use Rattle.witcall_c.specs.declared.calls.SignaturePart.TheVariants as part
 use Rattle.witcall_c.specs.declared.handle.Handle.{Handle}
@@ -39,10 +41,6 @@ IsOpening inputs opened = MatchResult opened (λ p. IsOpened inputs p.«package�
 abbrev pub opening_status : Opening → Status
 opening_status (Ok p) = status_of (Ok 0)
 opening_status (Err e) = if is_out_of_memory (open_number e) then out_of_memory (open_number e) else refused (open_number e) 0
-
--- the function of this number, its row in the table
-abbrev pub numbered : ℕ → FunctionId
-numbered n = record { 0 = n }
 
 -- what a handle holds: an opening, or nothing
 abbrev pub stands_for : Handle → Option Held
@@ -71,17 +69,9 @@ abbrev pub HasFunction : Option Package → ℕ → Resolve → FunctionId → T
 HasFunction None number r f = ⊥
 HasFunction (Some p) number r f = (r ≡ p.resolve) × (f ≡ numbered number) × IsFunction r f × ∥ AreWithin r ∥₁
 
--- why a call has no function: the package has none of this number (63), or no package is open (70)
-abbrev pub HasNoFunction : Option Package → ℕ → CallError → Type 0
-HasNoFunction None number e = e ≡ error.NotOpen
-HasNoFunction (Some p) number e = (e ≡ error.NoFunction) × (¬ IsFunction p.resolve (numbered number))
-
 -- what a call of the function of this number comes to: what the function's type tells; or 63 or 70, and nothing was changed
 abbrev pub CallsFunction : Option Package → ℕ → (FunctionType → Result ℕ CallError → Type 0) → Type 0 → Result ℕ CallError → Type 0
-CallsFunction None number Tells unchanged done = (done ≡ Err error.NotOpen) × unchanged
-CallsFunction (Some p) number Tells unchanged done =
-    (IsFunction p.resolve (numbered number) × Tells (function_type p.resolve (numbered number)) done)
-    ⊎ ((¬ IsFunction p.resolve (numbered number)) × (done ≡ Err error.NoFunction) × unchanged)
+CallsFunction opened number Tells unchanged done = OfFunction opened number (λ r f. Tells (function_type r f)) unchanged done
 
 -- the number of the function of this name in the interface of this full name; 63 where there is none, 70 where there is no package
 abbrev pub FindsFunction : Option Package → List ℕ → List ℕ → Result ℕ CallError → Type 0
@@ -96,10 +86,6 @@ FindsOfWorld None world side name done = done ≡ Err error.NotOpen
 FindsOfWorld (Some p) world side name done = MatchResult done
     (λ number. IsFunction p.resolve (numbered number) × IsNamedOfWorld p.resolve world side name (numbered number))
     (λ e. (e ≡ error.NoFunction) × (IsUtf8 world → IsUtf8 name → (f : FunctionId) → ¬ IsNamedOfWorld p.resolve world side name f))
-
--- a line that fits an array of this length, or how long it is (71 no room)
-abbrev pub LineDone : ℕ → Result ℕ CallError → Type 0
-LineDone room done = MatchResult done (λ count. count ≤ room) (λ e. (count : ℕ) × (e ≡ error.NoRoom count) × (room < count))
 
 -- of a refusal, a line that fits the array, or how long it is; of a package none, and the array is as it was
 abbrev pub LineIn : Opening → List ℕ → List ℕ → Result ℕ CallError → Type 0

@@ -5,12 +5,12 @@ ghost use Rattle.canonical_abi.specs.Types.{result_fields};
 ghost use Rattle.host_calls.specs.Calling.{EnterDone, LeaveDone, EnterAsks, LeaveAsks};
 ghost use Rattle.host_calls.specs.Parts.{PartsDone};
 ghost use Rattle.host_calls.specs.Signatures.{KindsDone};
-ghost use Rattle.witcall_c.specs.CallObject.{BeginsCall};
+ghost use Rattle.c_border.specs.CallObject.{BeginsCall};
 ghost use Rattle.witcall_c.specs.Calls.{CallsFunction, held_package, kinds_of_part};
 
-use crate::call::Call;
 use crate::held::{Target, function};
 use adapter::Request;
+use c_border::Call;
 use host_calls::{CallError, Half, Part, Value};
 use memory::Block;
 use std::alloc::Global;

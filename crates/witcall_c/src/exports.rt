@@ -13,20 +13,20 @@ ghost use Rattle.host_calls.specs.Owners.{owner_name_at};
 ghost use Rattle.host_calls.specs.Rows.{row_info_at};
 ghost use Rattle.host_calls.specs.Told.{BytesDone, TellsName, TellsNewName, TellsOfTable};
 ghost use Rattle.opening.specs.Sets.{all_bytes};
-ghost use Rattle.witcall_c.specs.CallObject.{BeginsCall, flats_of};
+ghost use Rattle.c_border.specs.CallObject.{BeginsCall, flats_of};
+ghost use Rattle.c_border.specs.Json.{JsonAsks, JsonFills, JsonReads};
+ghost use Rattle.c_border.specs.Line.{LineDone};
 ghost use Rattle.tables.specs.declared.tables.Direction.TheVariants.{Import, Export};
-ghost use Rattle.witcall_c.specs.Calls.{FindsFunction, FindsOfWorld, LineDone, LineOf, Opens, OpensPieces, CallsOf, TellsOf, held_package, stands_for, held_table};
+ghost use Rattle.witcall_c.specs.Calls.{FindsFunction, FindsOfWorld, LineOf, Opens, OpensPieces, CallsOf, TellsOf, held_package, stands_for, held_table};
 ghost use Rattle.witcall_c.specs.Version.{abi, library_version};
 ghost use Rattle.witcall_c.specs.Written.{WritesBinary, WritesText};
 
-use crate::call::Call;
 use crate::calls::{NumberedHalf, SignaturePart};
 use crate::handle::Handle;
-use crate::held::{Held, find, find_of_world, line_of, types};
-use crate::line::tell_line;
-use crate::set::pieces;
+use crate::held::{Held, find, find_of_world, line_of, package, types};
 use crate::{calls, writing};
 use adapter::Request;
+use c_border::{Call, JsonCall, pieces, tell_line};
 use host_calls::host_lists::{MemberInfo, RowInfo, tell_bytes};
 use host_calls::{CallError, Part, Status, Value};
 use memory::Block;
@@ -34,7 +34,7 @@ use std::alloc::Global;
 use tables::Direction;
 
 /// The version of the library, which VERSION has for all of the repository.
-const VERSION: &[u8] = b"0.1.0";
+const VERSION: &[u8] = b"0.2.0";
 
 /// The number of the binary interface that the header declares. Another number means that a host has to be compiled anew.
 const ABI: u32 = 2;
@@ -392,6 +392,81 @@ pub extern "C" fn witcall_leave_requests(
 {
     let held = handle.take(alloc);
     let done = calls::leave_requests(&held, func, answer, callee, requests, limit);
+    handle.give(held);
+    Status::of(done)
+}
+
+/// What the arguments will ask for that a text of JSON says, of `limit` bytes at most.
+#[unsafe(no_mangle)]
+pub extern "C" fn witcall_json_requests(
+    alloc: Global,
+    handle: &mut Handle,
+    func: u32,
+    json: &[u8],
+    requests: &mut [Request],
+    limit: u64,
+) -> Status
+    ensures { TellsOf (stands_for handle.old) (stands_for handle.new) result
+        (λ held done. JsonAsks (held_package held) func json.now limit requests.old done requests.new) }
+{
+    let held = handle.take(alloc);
+    let call = JsonCall {
+        alloc,
+        package: package(&held),
+        number: func,
+    };
+    let done = call.requests(json, requests, limit);
+    handle.give(held);
+    Status::of(done)
+}
+
+/// Puts the arguments that a text of JSON says into the blocks of a memory.
+#[unsafe(no_mangle)]
+pub extern "C" fn witcall_fill_json(
+    alloc: Global,
+    handle: &mut Handle,
+    func: u32,
+    json: &[u8],
+    memory: &mut [u8],
+    blocks: &[Block],
+    handed: &mut [Value],
+) -> Status
+    ensures { TellsOf (stands_for handle.old) (stands_for handle.new) result
+        (λ held done. JsonFills (held_package held) func json.now memory.old blocks.now handed.old done memory.new handed.new) }
+{
+    let held = handle.take(alloc);
+    let call = JsonCall {
+        alloc,
+        package: package(&held),
+        number: func,
+    };
+    let done = call.fill(json, memory, blocks, handed);
+    handle.give(held);
+    Status::of(done)
+}
+
+/// The result that an answer says, as a text of JSON.
+#[unsafe(no_mangle)]
+pub extern "C" fn witcall_read_json(
+    alloc: Global,
+    handle: &mut Handle,
+    func: u32,
+    answer: &[Value],
+    memory: &mut [u8],
+    json: &mut [u8],
+    limit: u64,
+) -> Status
+    ensures done { TellsOf (stands_for handle.old) (stands_for handle.new) result
+        (λ held done. JsonReads (held_package held) func answer.now memory.old limit json.old done json.new) }
+    ensures same { memory.new ≡ memory.old }
+{
+    let held = handle.take(alloc);
+    let call = JsonCall {
+        alloc,
+        package: package(&held),
+        number: func,
+    };
+    let done = call.read(answer, memory, json, limit);
     handle.give(held);
     Status::of(done)
 }

@@ -2,11 +2,12 @@
 ghost use Rattle.std.specs.Prelude.{◌≡◌, ◌<◌, IfOk, IfErr, length};
 ghost use Rattle.std.specs.Option.{option_map};
 ghost use Rattle.opening.specs.Sets.{all_bytes};
-ghost use Rattle.witcall_c.specs.Calls.{IsOpening, opening_status, FindsFunction, FindsOfWorld, HasFunction, HasNoFunction, LineOf, held_indexed, held_package, held_table};
+ghost use Rattle.c_border.specs.Functions.{HasNoFunction};
+ghost use Rattle.witcall_c.specs.Calls.{IsOpening, opening_status, FindsFunction, FindsOfWorld, HasFunction, LineOf, held_indexed, held_package, held_table};
 
-use crate::line::tell_line;
+use c_border::tell_line;
 use error_numbers::Numbered;
-use host_calls::{CallError, Status, function_of, out_of_memory, refused};
+use host_calls::{CallError, Status, out_of_memory, refused};
 use lift_lower::Types;
 use opening::{IndexedPackage, OpenError, Package, is_out_of_memory, open_indexed};
 use std::alloc::Global;
@@ -136,12 +137,8 @@ pub fn function(held: &Target, number: u32) -> Result<(Types<'_>, FunctionId), C
     ensures ok { IfOk result (λ x. HasFunction (held_package (option_map (λ held. held.value) held.now)) number x.0 x.1) }
     ensures err { IfErr result (HasNoFunction (held_package (option_map (λ held. held.value) held.now)) number) }
 {
-    let Some(package) = package(held) else {
-        return Err(CallError::NotOpen);
-    };
-    let types = package.types();
-    match function_of(&types, number) {
-        Ok(func) => Ok((types, func)),
+    match c_border::function(package(held), number) {
+        Ok((package, func)) => Ok((package.types(), func)),
         Err(error) => Err(error),
     }
 }

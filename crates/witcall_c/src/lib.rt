@@ -5,12 +5,9 @@
 //! memory, and `host_calls::host_lists` tells what a package has. Whatever the header does not ask of a caller is tested there.
 #![tactic(auto)]
 
-mod call;
 mod calls;
 mod exports;
 mod handle;
 mod held;
 mod kept;
-mod line;
-mod set;
 mod writing;

@@ -3,14 +3,11 @@ use Rattle.std.proofs.Common.{◌≡◌, ℕ, zero, suc, ◌+◌, ◌*◌, ◌�
 use Rattle.std.proofs.lemmas.Nat.{mul-le}
 use Rattle.std.specs.Int.{next_multiple_of}
 use Rattle.canonical_abi.specs.Types.{ClosedType, IsStandard, AreStandardFields, AreStandardCases, prim_type, string_type, list_type, record_type, variant_type, flags_type, Fields, no_field, field, Cases, no_case, plain_case, case_with, nth_field, nth_case, depth, fields_depth, cases_depth}
-use Rattle.canonical_abi.specs.Layout.{align, size, end_from, field_extents, flat_kinds, field_kinds, payload_kinds}
+use Rattle.canonical_abi.specs.Layout.{size, fields_size, flat_kinds, field_kinds, payload_kinds}
 use Rattle.canonical_abi.proofs.Layouts.AlignmentsAndSizes.{one-size}
 use Rattle.values.proofs.FieldsFromAPlace.{fields_from, fields-next}
-use Rattle.adapter.specs.Asking.{IsFew, fields_size}
-
-times-both : (d x y : ℕ) → d * (x + y) ≡ d * x + d * y
-times-both zero x y = omega arith
-times-both (suc d) x y = let h = times-both d x y in omega (arith, h)
+use Rattle.canonical_abi.proofs.Calls.VisitsFewNodes.{times-both, no-depth, record-le}
+use Rattle.adapter.specs.Asking.{IsFew}
 
 pub few-none : (d s l n m : ℕ) → m ≤ n → IsFew d s l l n m
 few-none d s l n m le = record { spent = 0; is = omega arith; few = omega (arith, le) }
@@ -43,21 +40,6 @@ few-block d s l k j n m is a = record {
   is = omega (arith, is, a.is);
   few = let same : 0 + (s + a.spent) ≡ s + a.spent = omega arith in omega (arith, a.few, ap (λ x. d * x) same);
 }
-
-pub no-depth : (t : ClosedType) → depth t ≤ 0 → ⊥
-no-depth (prim_type p) h = omega (arith, h)
-no-depth string_type h = omega (arith, h)
-no-depth (list_type t) h = omega (arith, h)
-no-depth (record_type fs) h = omega (arith, h)
-no-depth (variant_type cs) h = omega (arith, h)
-no-depth (flags_type n) h = omega (arith, h)
-
-sizes-le : (fs : Fields) (from : ℕ) → from + fields_size fs ≤ end_from from (field_extents fs)
-sizes-le no_field from = omega arith
-sizes-le (field t fs) from = let h = sizes-le fs (next_multiple_of from (align t) + size t) in omega (arith, h)
-
-pub record-le : (fs : Fields) → fields_size fs ≤ size (record_type fs)
-record-le fs = let h = sizes-le fs 0 in omega (arith, h)
 
 -- the member at a place, and what is behind it
 pub sizes-next : (fs : Fields) (i : ℕ) (t : ClosedType) → nth_field fs i ≡ Some t → fields_size (fields_from i fs) ≡ size t + fields_size (fields_from (i + 1) fs)

@@ -1,13 +1,13 @@
 //! The walk over values that stand in a memory.
 ghost use Rattle.std.specs.Prelude.{◌≡◌, ◌+◌, ◌-◌, ◌^◌, ◌<◌, ◌≤◌, ℕ, length, min, IsTrue};
 ghost use Rattle.canonical_abi.specs.Types.{prim_type, string_type, list_type, record_type, record_fields, variant_type, variant_cases, field_count, case_count, depth, fields_depth, cases_depth, IsStandard, AreStandardFields, AreStandardCases};
-ghost use Rattle.canonical_abi.specs.Layout.{size, align, payload_place, end_from, field_extents};
+ghost use Rattle.canonical_abi.specs.Layout.{size, align, payload_place, end_from, field_extents, fields_size};
 ghost use Rattle.canonical_abi.specs.Reading.{reading, text_at, list_at, reading_fields, reading_case, case_number};
 ghost use Rattle.canonical_abi.specs.Requests.{requests, fields_requests};
 ghost use Rattle.values.specs.Members.{AreInside, members_fields};
 ghost use Rattle.values.specs.Types.{IsInside};
 ghost use Rattle.tables.specs.Closed.{prim_of, closed_type};
-ghost use Rattle.adapter.specs.Asking.{Asks, AsksNothing, IsFew, fields_size};
+ghost use Rattle.adapter.specs.Asking.{Asks, AsksNothing, IsFew};
 
 use crate::asking::request::{Request, Untold, tell, visit};
 use canonical_abi::TrapKind;

@@ -6,16 +6,18 @@ use Rattle.std.proofs.lemmas.Nat.{mul-le}
 use Rattle.std.proofs.lemmas.Bool.{leb-true}
 use Rattle.canonical_abi.specs.Types.{ClosedType, IsStandard, AreStandardFields, AreStandardCases, prim_type, string_type, list_type, record_type, variant_type, flags_type, Fields, no_field, field, Cases, no_case, plain_case, case_with, depth, fields_depth, cases_depth, FunctionType, result_fields}
 use Rattle.canonical_abi.specs.Values.{Value}
-use Rattle.canonical_abi.specs.Layout.{align, size, end_from, field_extents, payload_extents, payload_place, flat_kinds, field_kinds, payload_kinds, join, fits_flat, max_flat_params, max_flat_results}
+use Rattle.canonical_abi.specs.Layout.{align, size, fields_size, end_from, field_extents, payload_extents, payload_place, flat_kinds, field_kinds, payload_kinds, join, fits_flat, max_flat_params, max_flat_results}
 use Rattle.canonical_abi.specs.Reading.{number_at, case_number, low_bits}
 use Rattle.canonical_abi.specs.Memory.{Holds}
 use Rattle.canonical_abi.specs.Storing.{Stores, EachStores, FieldsStore, CaseStores}
 use Rattle.canonical_abi.specs.Lowering.{Lowers, FieldsLower, CaseLowers, PassesParams, PassesResult}
 use Rattle.canonical_abi.specs.Script.{StoresUntil, EachStops, FieldsStoreUntil, CaseStoresUntil, LowersUntil, FieldsLowerUntil, CaseLowersUntil, ParamsUntil, ResultUntil, ParamsScript, ResultScript}
 use Rattle.canonical_abi.specs.Trace.{Grant, Event, node, grant, write, nodes_of}
-use Rattle.canonical_abi.specs.Call.{Parties, World, Ways, exact, ArgumentsFaulty, ArgumentsFail, ResultFaulty, ResultFails, Traps, Calls, argument_flats, area_of, Returned}
+use Rattle.canonical_abi.specs.Call.{Parties, World, Ways, exact, Enters, Returns, ArgumentsFaulty, ArgumentsFail, ResultFaulty, ResultFails, Traps, Calls, argument_flats, area_of, Returned}
+use Rattle.canonical_abi.specs.Halves.{entering, returning}
 use Rattle.canonical_abi.specs.Headline.{IsStandardFunction, area_size}
-use Rattle.canonical_abi.specs.Few.{granted_size, AreFewNodes, IsShallowFunction, VisitsFewNodes}
+use Rattle.canonical_abi.specs.Guest.{Allocation}
+use Rattle.canonical_abi.specs.Few.{granted_size, AreFew, AreFewNodes, IsShallowFunction, VisitsFewNodes, EntryVisitsFew, ReturnVisitsFew, HalvesVisitFew}
 use Rattle.canonical_abi.specs.declared.flat.CoreKind.{CoreKind}
 use Rattle.canonical_abi.specs.declared.flat.Flat.{Flat}
 use Rattle.canonical_abi.specs.declared.trap.Fault.{Fault}
@@ -60,7 +62,7 @@ granted_size-both (write a bs ∷ es) fs = granted_size-both es fs
 
 -- ---- d for each byte
 
-times-both : (d x y : ℕ) → d * (x + y) ≡ d * x + d * y
+pub times-both : (d x y : ℕ) → d * (x + y) ≡ d * x + d * y
 times-both zero x y = omega arith
 times-both (suc d) x y = let h = times-both d x y in omega (arith, h)
 
@@ -120,7 +122,7 @@ node-few d s es one is = subst (λ l. IsFew (suc d) s l) (sym is) (few-node d s 
 
 -- ---- values
 
-no-depth : (t : ClosedType) → depth t ≤ 0 → ⊥
+pub no-depth : (t : ClosedType) → depth t ≤ 0 → ⊥
 no-depth (prim_type p) h = omega (arith, h)
 no-depth string_type h = omega (arith, h)
 no-depth (list_type t) h = omega (arith, h)
@@ -128,15 +130,11 @@ no-depth (record_type fs) h = omega (arith, h)
 no-depth (variant_type cs) h = omega (arith, h)
 no-depth (flags_type n) h = omega (arith, h)
 
-abbrev fields_size : Fields → ℕ
-fields_size no_field = 0
-fields_size (field t fs) = size t + fields_size fs
-
 sizes-le : (fs : Fields) (from : ℕ) → from + fields_size fs ≤ end_from from (field_extents fs)
 sizes-le no_field from = omega arith
 sizes-le (field t fs) from = let h = sizes-le fs (next_multiple_of from (align t) + size t) in omega (arith, h)
 
-record-le : (fs : Fields) → fields_size fs ≤ size (record_type fs)
+pub record-le : (fs : Fields) → fields_size fs ≤ size (record_type fs)
 record-le fs = let h = sizes-le fs 0 in omega (arith, h)
 
 -- every payload of these cases needs at most so much
@@ -473,3 +471,26 @@ module _ (parties : Parties) (f : FunctionType) (flats : List Flat) (standard : 
 
 pub visits-few-nodes : (parties : Parties) → VisitsFewNodes parties
 visits-few-nodes parties = λ f flats old result ways new standard shallow c. calls parties f flats standard shallow old result ways new c
+
+-- ---- halves
+
+module _ (allocates : Allocation) (f : FunctionType) (flats : List Flat) (standard : IsStandardFunction f) (shallow : IsShallowFunction f) (old new : World) where
+  few-there : (es : List Event) → ThereFew (entering allocates) f flats standard shallow es → AreFew 0 es
+  few-there es few = let h : nodes_of es ≤ 64 * (granted_size es + 16) = few in omega (arith, h)
+
+  entry : EntryVisitsFew allocates f flats old new
+  entry = record {
+    entered = λ values handed there e. few-there there (all-there (entering allocates) f flats standard shallow values there handed e.passes);
+    faulty = λ k done e. few-there done (arguments-faulty (entering allocates) f flats standard shallow old k done new e);
+    failed = λ k done e. few-there done (arguments-fail (entering allocates) f flats standard shallow old k done new e);
+  }
+
+  return : ReturnVisitsFew allocates f flats old new
+  return = record {
+    returned = λ answer values given back r. all-back (returning allocates) f flats standard shallow values back given r.passes;
+    faulty = λ answer k done r. result-faulty (returning allocates) f flats standard shallow old answer k done new r;
+    failed = λ answer k done r. result-fails (returning allocates) f flats standard shallow old answer k done new r;
+  }
+
+pub halves-visit-few : (allocates : Allocation) → HalvesVisitFew allocates
+halves-visit-few allocates = λ f flats old new standard shallow. (entry allocates f flats standard shallow old new, return allocates f flats standard shallow old new)

@@ -1,5 +1,5 @@
 -- Where a tree without faults resolves to a package, each cause of a refusal is absurd; only memory can be wanting.
-use Rattle.std.proofs.Common.{◌≡◌, ◌≤◌, inl, inr, ℕ, List, [], ◌++◌, length, map, get_or, refl, sym, ap, subst, ◌∙◌, arith, Result, Ok, Err, IfOk, IfErr}
+use Rattle.std.proofs.Common.{◌≡◌, ◌≤◌, inl, inr, ℕ, List, [], ◌∷◌, ◌++◌, length, map, get_or, refl, sym, ap, subst, ◌∙◌, arith, Result, Ok, Err, IfOk, IfErr}
 use Rattle.std.specs.Prelude.{Option, None, Some, true, sum, All, Contains}
 use Rattle.std.proofs.lemmas.Bool.{false≢true}
 use Rattle.std.proofs.lemmas.List.Elements.{All-contains}
@@ -22,7 +22,7 @@ use Rattle.tree_meaning.specs.Resolves.{IsTooLargeBehind, ResolvesBehind, full_n
 use Rattle.package_form.specs.Entries.{world_entries, Table, table_of, entries_of, type_entries}
 use Rattle.tree_meaning.proofs.tree_forms.FinishedTrees.{distinct-interfaces}
 use Rattle.package_form.proofs.NamesStandForOneRow.{same-place}
-use Rattle.package_form.proofs.AllAndContains.{contains-map}
+use Rattle.package_form.proofs.AllAndContains.{contains-here, contains-map, contains-right}
 use Rattle.std.proofs.lemmas.List.{get_or-map, length-map, length-append, get_or_default}
 use Rattle.tree_meaning.proofs.PlacementsHaveNoCycle.{no-cycle, one-behind}
 use Rattle.tree_meaning.proofs.InterfacesUnderFullNames.{interface-full, uses-full}
@@ -42,7 +42,9 @@ no-duplicate f n d x =
 
 -- a package that isn't there
 no-lack : (m : Imports) (f : File) (p : PackageParts) → KnowsPackagesOf m f → LacksPackage m f p → ⊥
-no-lack m f p known x = x.1 (All-contains (Contains m.packages) (other_packages f) p known x.0)
+no-lack m f p known x =
+    let named = subst (λ ps. Contains ps p) (sym x.are) (contains-right x.before (p ∷ x.after) p (contains-here p x.after)) in
+    x.lacks (All-contains (Contains m.packages) (other_packages f) p known named)
 
 -- ---- a name that stands for nothing
 
@@ -175,6 +177,8 @@ module _ (m : Imports) (apart : AreApart m.interfaces) (f : File) (r : Resolve) 
   only-memory error.Limit (inl x) = absurd (false≢true (sym x.1 ∙ fits))
   only-memory error.Limit (inr x) = absurd (not-too-large m.meaning f r told x.1)
   only-memory error.NoMemory x = refl
+  only-memory (error.SamePackage p) x = absurd x
+  only-memory error.SetLimit x = absurd x
 
 closed-told : (imports : Resolve) (f : File) (r : Resolve) → IsClosedPackageOf imports f r → IsTold (package_of imports) f r
 closed-told imports f r h = record { resolves = h.resolves; postfix = h.postfix; behind = h.behind; items = h.items; within = h.within }

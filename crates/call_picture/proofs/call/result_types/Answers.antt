@@ -5,6 +5,13 @@ use Rattle.canonical_abi.specs.Types.{record_type}
 use Rattle.values.specs.Members.{fields_of_types}
 use Rattle.call_picture.proofs.call.result_types.Goals as goal
 
+pub returns-clause-fields : goal.returns-clause-fields
+returns-clause-fields c =
+    let r = c.args.resolve.now in
+    let ty = c.in-Some.ty in
+    let is = c.in_ok-push.ensures.items ∙ ap (λ xs. xs ++ ty ∷ []) c.new-types.ensures.items in
+    ap (fields_of_types r) is ∙ c.in-Some.ensures.fields
+
 pub returns-clause-small : goal.returns-clause-small
 returns-clause-small c =
     let r = c.args.resolve.now in

@@ -5,20 +5,16 @@ use Rattle.tree_meaning.specs.Declarations.{file_entry_packages}
 use Rattle.tree_meaning.specs.Knowing.{RefusesPackage}
 use Rattle.tables.specs.PackageNames.{PackageParts}
 use Rattle.tables.specs.declared.error.ResolveError.TheVariants as error
-use Rattle.package_form.proofs.AllAndContains.{contains-flat, contains-map, contains-at}
 use Rattle.package_form.proofs.NamesMetOneByOne.{all-taken}
 use Rattle.tree_meaning.proofs.NamesFoundInLists.{if-none}
-use Rattle.tree_meaning.proofs.PathNames.{all-more}
+use Rattle.tree_meaning.proofs.PathNames.{all-more, lacking-more}
 use Rattle.tree_names.proofs.packages.known_packages.Goals as goal
 
 pub returns-in-Some-clause-err : goal.returns-in-Some-clause-err
 returns-in-Some-clause-err c =
-    let xs = c.args.items.now in
-    let x = c.item-item.result in
-    let ps = flat_map file_entry_packages (map item_view xs) in
-    let here = contains-map item_view xs x (contains-at xs c.loop-item.item-index x (omega arith) c.item-item.is) in
-    let there = contains-flat file_entry_packages (map item_view xs) (item_view x) _ here c.in-Some.ensures.some.0 in
-    subst (λ (p : PackageParts). RefusesPackage c.args.packages.now ps (error.NoPackage p)) (sym c.in_ok-package_name.ensures) (there, c.in-Some.ensures.some.1)
+    let ps = flat_map file_entry_packages (map item_view c.args.items.now) in
+    let first = lacking-more c.args.packages.now file_entry_packages item_view c.args.items.now c.loop-item.item-index c.item-item.result _ (omega arith) c.item-item.is c.loop-item.invariant c.in-Some.ensures.some in
+    subst (λ (p : PackageParts). RefusesPackage c.args.packages.now ps (error.NoPackage p)) (sym c.in_ok-package_name.ensures) first
 
 pub loop-item-preserved : goal.loop-item-preserved
 loop-item-preserved c =

@@ -1,8 +1,8 @@
-use Rattle.std.proofs.Common.{◌∙◌, [], List, All, Contains, sym, subst}
+use Rattle.std.proofs.Common.{◌∙◌, refl, [], List, All, Contains, sym, subst}
 use Rattle.tables.specs.PackageNames.{PackageParts}
-use Rattle.package_form.proofs.AllAndContains.{all-cons, all-none, contains-here}
+use Rattle.package_form.proofs.AllAndContains.{all-cons, all-none}
 use Rattle.tree_meaning.specs.Finished.{header_name}
-use Rattle.tree_meaning.specs.Knowing.{IsLacking}
+use Rattle.tree_meaning.specs.Resolves.{IsLacking}
 use Rattle.tree_meaning.proofs.PathNames.{any-there, any-not, names-package}
 use Rattle.tree_names.proofs.packages.lacking.Goals as goal
 
@@ -18,4 +18,4 @@ returns-else-has_package-clause-some c =
     let ps = c.args.packages.now in
     let q = header_name c.in-Foreign.package in
     let not = any-not ps q (sym c.has_package.ensures ∙ c.if-has_package.false) in
-    subst (λ (qs : List PackageParts). IsLacking ps qs q) (sym (names-package c.args.path.now c.in-Foreign.package _ c.in-Foreign.is)) (contains-here q [], not)
+    subst (λ (qs : List PackageParts). IsLacking ps qs q) (sym (names-package c.args.path.now c.in-Foreign.package _ c.in-Foreign.is)) (record { before = []; after = []; are = refl; have = all-none (Contains ps); lacks = not })

@@ -5,7 +5,7 @@ use Rattle.wit_tokens.specs.declared.wit_syntax.ast.InterfaceItem.{InterfaceItem
 use Rattle.wit_tokens.specs.declared.wit_syntax.ast.WorldItem.{WorldItem}
 use Rattle.tree_meaning.specs.Declarations.{entry_packages, world_entry_packages, file_entry_packages}
 use Rattle.tree_meaning.specs.Finished.{header_name}
-use Rattle.tree_meaning.specs.Knowing.{IsLacking}
+use Rattle.tree_meaning.specs.Resolves.{IsLacking}
 use Rattle.tree_names.proofs.packages.lacking_in_entry.Goals as goal
 
 pub returns-in-Interface-clause-none : goal.returns-in-Interface-clause-none

@@ -4,7 +4,7 @@ use Rattle.wit_tokens.specs.declared.wit_syntax.ast.InterfaceItem.{InterfaceItem
 use Rattle.wit_tokens.specs.declared.wit_syntax.ast.Use.{Use}
 use Rattle.tree_meaning.specs.Declarations.{entry_packages, path_packages}
 use Rattle.tree_meaning.specs.Finished.{header_name}
-use Rattle.tree_meaning.specs.Knowing.{IsLacking}
+use Rattle.tree_meaning.specs.Resolves.{IsLacking}
 use Rattle.tree_names.proofs.packages.lacking_in_item.Goals as goal
 
 pub returns-in-Use-clause-none : goal.returns-in-Use-clause-none

@@ -2,18 +2,14 @@ use Rattle.std.proofs.Common.{List, All, Contains, map, flat_map, arith}
 use Rattle.wit_tokens.specs.View.{world_entry_view}
 use Rattle.wit_tokens.specs.declared.wit_syntax.ast.WorldItem.{WorldItem}
 use Rattle.tree_meaning.specs.Declarations.{world_entry_packages}
-use Rattle.package_form.proofs.AllAndContains.{contains-flat, contains-map, contains-at}
 use Rattle.package_form.proofs.NamesMetOneByOne.{all-taken}
 use Rattle.tree_meaning.proofs.NamesFoundInLists.{if-none}
-use Rattle.tree_meaning.proofs.PathNames.{all-more}
+use Rattle.tree_meaning.proofs.PathNames.{all-more, lacking-more}
 use Rattle.tree_names.proofs.packages.lacking_in_world.Goals as goal
 
 pub returns-in-Some-clause-some : goal.returns-in-Some-clause-some
 returns-in-Some-clause-some c =
-    let xs = c.args.items.now in
-    let x = c.item-item.result in
-    let here = contains-map world_entry_view xs x (contains-at xs c.loop-item.item-index x (omega arith) c.item-item.is) in
-    (contains-flat world_entry_packages (map world_entry_view xs) (world_entry_view x) _ here c.in-Some.ensures.some.0, c.in-Some.ensures.some.1)
+    lacking-more c.args.packages.now world_entry_packages world_entry_view c.args.items.now c.loop-item.item-index c.item-item.result _ (omega arith) c.item-item.is c.loop-item.invariant c.in-Some.ensures.some
 
 pub loop-item-preserved : goal.loop-item-preserved
 loop-item-preserved c =

@@ -16,7 +16,8 @@ use Rattle.values.proofs.FieldsFromAPlace.{fields_from, nth_field-some}
 use Rattle.values.proofs.ValuesOfTypesByShape.{not-list, is-list, is-record, type-of-scalar, type-of-text, type-of-flags, type-of-record, is-plain, is-payload, no-payload, no-case, typed-count, all-at, have-first, have-rest}
 use Rattle.values.proofs.ValueOfEachVariant.{value_of-List, value_of-Record, value_of-String, value_of-Flags}
 use Rattle.host_values.specs.Requests.{AreToldBehind, Tells}
-use Rattle.host_values.proofs.RequestsOfValues.{told-none, told-both, stops-whole, told-saturated, not-saturated, list-asks, each-next, done-next, done-all, fields-next-asks, no-value-asks, record-asks, plain-none, payload-asks}
+use Rattle.adapter.proofs.asking.RequestsOfParts.{payload-asks}
+use Rattle.host_values.proofs.RequestsOfValues.{told-none, told-both, stops-whole, told-saturated, not-saturated, list-asks, each-next, done-next, done-all, fields-next-asks, no-value-asks, record-asks, plain-none}
 use Rattle.host_values.proofs.telling.Teller.+telling.Goals as goal
 
 -- ---- the members of a record

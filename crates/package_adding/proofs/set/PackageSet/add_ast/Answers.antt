@@ -2,9 +2,14 @@
 use Rattle.std.proofs.Math.Logic.{∥∥₁_map, ∥∥₁_map₂}
 use Rattle.std.proofs.lemmas.Result.{err_from_is_err_and}
 use Rattle.wit_tokens.specs.View.{file_view}
-use Rattle.package_adding.proofs.ClosedTableOfFileIsAdded.{not-put}
+use Rattle.package_adding.proofs.ClosedTableOfFileIsAdded.{not-resolved, not-put}
 use Rattle.package_adding.proofs.OneSetOrOutOfMemory.{want, refused-for-memory, makes-one, is-known}
 use Rattle.package_adding.proofs.set.PackageSet.add_ast.Goals as goal
+
+pub returns-in_err-closed-clause-err : goal.returns-in_err-closed-clause-err
+returns-in_err-closed-clause-err c =
+    let p = err_from_is_err_and c.from_residual-in_err-closed.result c.from_residual-in_err-closed.ensures.1 in
+    rw (p.1, p.2) (not-resolved (file_view c.args.ast.now) c.args.self.now.resolve c.in_ok-has_room.ensures.ok c.in_ok-has_entries.ensures.ok c.in_ok-lacks_package.ensures.ok c.in_err-closed.field-0.0 c.in_err-closed.ensures.err)
 
 pub returns-in_err-id-clause-err : goal.returns-in_err-id-clause-err
 returns-in_err-id-clause-err c =

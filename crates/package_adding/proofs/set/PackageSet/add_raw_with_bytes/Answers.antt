@@ -1,8 +1,13 @@
 -- A component's package is put behind the set for what is right with it there, and makes one set.
 use Rattle.std.proofs.lemmas.Result.{err_from_is_err_and}
 use Rattle.package_adding.proofs.OneSetOrOutOfMemory.{one-component, component-for-memory, component-refused, makes-one, is-known}
-use Rattle.package_adding.proofs.NotAttachedIsNotAdded.{not-attached}
+use Rattle.package_adding.proofs.NotAttachedIsNotAdded.{not-read, not-attached}
 use Rattle.package_adding.proofs.set.PackageSet.add_raw_with_bytes.Goals as goal
+
+pub returns-in_err-closed-clause-err : goal.returns-in_err-closed-clause-err
+returns-in_err-closed-clause-err c =
+    let p = err_from_is_err_and c.from_residual-in_err-closed.result c.from_residual-in_err-closed.ensures.1 in
+    rw (p.1, p.2) (not-read c.args.raw.now c.args.self.now.resolve c.in_ok-has_room.ensures.ok c.in_err-closed.field-0.0 c.in_err-closed.ensures.err)
 
 pub returns-in_err-id-clause-err : goal.returns-in_err-id-clause-err
 returns-in_err-id-clause-err c =

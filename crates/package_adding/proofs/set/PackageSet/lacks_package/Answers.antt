@@ -2,7 +2,7 @@
 use Rattle.std.proofs.Common.{◌≡◌, ◌∙◌, true, List, ap, sym, subst, inr}
 use Rattle.std.specs.List.{list_any}
 use Rattle.package_form.specs.Closed.{is_same_package}
-use Rattle.package_sets.specs.declared.error.AttachError.TheVariants.{SamePackage}
+use Rattle.tables.specs.declared.error.ResolveError.TheVariants.{SamePackage}
 use Rattle.tree_meaning.specs.Finished.{header_name}
 use Rattle.tree_meaning.proofs.PathNames.{parts-are}
 use Rattle.tables.specs.PackageNames.{PackageParts}

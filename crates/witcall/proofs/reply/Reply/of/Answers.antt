@@ -8,7 +8,7 @@ use Rattle.tables.specs.declared.tables.Function.{Function}
 use Rattle.values.specs.Members.{fields_of_types}
 use Rattle.values.specs.Val.{value_of}
 use Rattle.package_values.specs.Json.{IsArrayTextOf}
-use Rattle.package_values.specs.Signature.{function_signature}
+use Rattle.adapter.specs.Signature.{function_signature}
 use Rattle.package_values.proofs.FunctionTypesAsFields.{own_params, same_function, same_is_function}
 use Rattle.witcall.proofs.AnswersOfTheBody.{lent}
 use Rattle.witcall.proofs.ScalarResults.{popped, at_most_one}

@@ -4,7 +4,7 @@ use Rattle.std.proofs.lemmas.Nat.{mul-le}
 use Rattle.std.specs.Int.{next_multiple_of}
 use Rattle.canonical_abi.specs.Types.{prim_type, boolean, record_type, record_fields, variant_type, variant_cases, nth_case}
 use Rattle.canonical_abi.specs.Values.{values_of, list_value, record_value, plain_value, payload_value}
-use Rattle.canonical_abi.specs.Layout.{size, align, discriminant_size, payload_place}
+use Rattle.canonical_abi.specs.Layout.{size, align, discriminant_size, payload_place, fields_size}
 use Rattle.canonical_abi.specs.Reading.{reading, number_at, byte_width, case_number, each_at, reading_fields, reading_case}
 use Rattle.canonical_abi.specs.Requests.{request, requests, each_request, fields_requests, case_requests}
 use Rattle.tables.specs.Closed.{closed_type}
@@ -14,7 +14,7 @@ use Rattle.lift_lower.proofs.ListsAreLoaded.{listed, list-opened}
 use Rattle.lift_lower.proofs.TextsAndBlocksStand.{block-stands}
 use Rattle.lift_lower.proofs.ReadingStepByStep.{with_front, each-more, each-done, fields-more, fields-done, case-none, case-plain, case-payload}
 use Rattle.values.proofs.FieldsFromAPlace.{fields-end, fields-inside, nth_field-some}
-use Rattle.adapter.specs.Asking.{IsFew, fields_size}
+use Rattle.adapter.specs.Asking.{IsFew}
 use Rattle.adapter.proofs.asking.VisitedNodesAreFew.{few-none, few-both, few-more, few-block, list-few, record-few, variant-few, member-standard, case-standard, sizes-next}
 use Rattle.adapter.proofs.asking.RequestsOfParts.{told-none, told-both, told-as, each-asks, fields-ask, fields-ask-none, plain-asks, payload-asks, asks-made, list-told, record-told, front-none, each-start, nothing-asked, fields-stop, list-stops, each-stops, block-stops}
 use Rattle.adapter.proofs.asking.walk.Walk.+ask.Goals as goal

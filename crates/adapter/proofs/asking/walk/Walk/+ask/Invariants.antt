@@ -1,4 +1,5 @@
 use Rattle.std.proofs.Common.{◌≡◌, ◌+◌, ◌-◌, ◌*◌, ◌≤◌, ℕ, List, length}
+use Rattle.canonical_abi.specs.Layout.{fields_size}
 use Rattle.canonical_abi.specs.Types.{depth, fields_depth, IsStandard, AreStandardFields}
 use Rattle.canonical_abi.specs.Values.{Value}
 use Rattle.canonical_abi.specs.Reading.{reading, each_at, reading_fields}
@@ -7,7 +8,7 @@ use Rattle.tables.specs.Closed.{closed_type}
 use Rattle.values.specs.Members.{members_fields}
 use Rattle.lift_lower.proofs.ReadingStepByStep.{with_front}
 use Rattle.values.proofs.FieldsFromAPlace.{fields_from, fields_end}
-use Rattle.adapter.specs.Asking.{IsTold, IsFew, fields_size}
+use Rattle.adapter.specs.Asking.{IsTold, IsFew}
 use Rattle.adapter.proofs.asking.walk.Walk.+ask.Given as goal
 
 abbrev pub decreases-ask_at : goal.decreases-ask_at

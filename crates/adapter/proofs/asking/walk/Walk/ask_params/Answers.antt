@@ -2,11 +2,12 @@ use Rattle.std.proofs.Common.{◌≡◌, ◌+◌, length, true, false, [], ◌�
 use Rattle.std.proofs.lemmas.Bool.{leb-true}
 use Rattle.std.proofs.lemmas.Result.{err_from_is_err_and}
 use Rattle.canonical_abi.specs.Flat.{Denotes}
-use Rattle.canonical_abi.specs.Layout.{size, align, max_flat_params, fits_flat, field_kinds}
+use Rattle.canonical_abi.specs.Layout.{size, align, max_flat_params, fits_flat, field_kinds, fields_size}
 use Rattle.canonical_abi.specs.Requests.{request, fields_requests, params_requests}
 use Rattle.canonical_abi.specs.Types.{record_type, record_fields}
-use Rattle.adapter.specs.Asking.{total, fields_size}
-use Rattle.adapter.proofs.asking.VisitedNodesAreFew.{few-within, record-le}
+use Rattle.adapter.specs.Asking.{total}
+use Rattle.canonical_abi.proofs.Calls.VisitsFewNodes.{record-le}
+use Rattle.adapter.proofs.asking.VisitedNodesAreFew.{few-within}
 use Rattle.tables.specs.Closed.{closed_type}
 use Rattle.adapter.proofs.asking.RequestsOfParts.{told-as, told-both}
 use Rattle.adapter.proofs.asking.RequestsOfWholeWays.{flat-denotes, flat-untold, spilled-denotes, spilled-untold, flat-asks, spilled-asks, told-ahead}

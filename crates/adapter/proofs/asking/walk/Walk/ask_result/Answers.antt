@@ -2,14 +2,14 @@ use Rattle.std.proofs.Common.{◌+◌, length, refl, arith}
 use Rattle.std.proofs.lemmas.Bool.{leb-true}
 use Rattle.std.proofs.lemmas.Result.{err_from_is_err_and}
 use Rattle.canonical_abi.specs.Flat.{Denotes}
-use Rattle.canonical_abi.specs.Layout.{max_flat_results, size, field_kinds}
+use Rattle.canonical_abi.specs.Layout.{max_flat_results, size, field_kinds, fields_size}
 use Rattle.canonical_abi.specs.Requests.{fields_requests}
 use Rattle.canonical_abi.specs.Types.{record_type}
 use Rattle.values.specs.Members.{fields_of_types}
 use Rattle.values.proofs.FieldsFromAPlace.{count-types}
 use Rattle.values.proofs.TypesExtents.{align-pos}
-use Rattle.adapter.specs.Asking.{fields_size}
-use Rattle.adapter.proofs.asking.VisitedNodesAreFew.{few-within, record-le}
+use Rattle.canonical_abi.proofs.Calls.VisitsFewNodes.{record-le}
+use Rattle.adapter.proofs.asking.VisitedNodesAreFew.{few-within}
 use Rattle.adapter.proofs.asking.RequestsOfWholeWays.{flat-denotes, flat-untold, spilled-denotes, spilled-untold, told-ahead}
 use Rattle.adapter.proofs.asking.walk.Walk.ask_result.Goals as goal
 

@@ -1,0 +1,67 @@
+// JavaScript's values of a type, as texts of JSON (docs/FORMATS.md) and back. The library tests them, so that a value of
+// another type becomes a text that it refuses.
+
+/** Kinds of 64 bits, which are BigInt. */
+const WIDE = new Set(["s64", "u64"]);
+const NARROW = new Set(["s8", "u8", "s16", "u16", "s32", "u32"]);
+
+/** The type that an alias or a used name stands for. */
+const meant = (type) => (type.kind === "alias" || type.kind === "use" ? meant(type.target) : type);
+
+const memberOf = (type, name) => type.members.find((it) => it.name === name)?.type;
+
+/** Whether a value of an option is `undefined` or the value itself. An option of an option is written with its cases. */
+const isPlain = (type) => type.kind === "option" && meant(memberOf(type, "some")).kind !== "option";
+
+const isList = (value) => Array.isArray(value) || (ArrayBuffer.isView(value) && !(value instanceof DataView));
+const isObject = (value) => typeof value === "object" && value !== null && !isList(value);
+
+/** The text of a value without regard to its type. */
+function bare(value) {
+  if (typeof value === "bigint") return value.toString();
+  if (isList(value)) return `[${Array.from(value, bare).join()}]`;
+  if (!isObject(value)) return JSON.stringify(value) ?? "null";
+  return `{${Object.entries(value).map(([key, it]) => `${JSON.stringify(key)}:${bare(it)}`).join()}}`;
+}
+
+/** The text of a value of a type. */
+function encoded(value, named) {
+  const type = named && meant(named);
+  if (!type) return bare(value);
+  if (isPlain(type)) {
+    return value === undefined || value === null ? '"none"' : `{"some":${encoded(value, memberOf(type, "some"))}}`;
+  }
+  if (type.kind === "list" && isList(value)) return `[${Array.from(value, (it) => encoded(it, type.target)).join()}]`;
+  if (type.kind === "tuple" && isList(value)) {
+    return `[${Array.from(value, (it, place) => encoded(it, type.members[place]?.type)).join()}]`;
+  }
+  if (!type.members || !isObject(value)) return bare(value);
+  const member = ([key, it]) => `${JSON.stringify(key)}:${encoded(it, memberOf(type, key))}`;
+  return `{${Object.entries(value).map(member).join()}}`;
+}
+
+/** The text of an array of arguments. */
+export function encodedAll(values, parameters) {
+  return `[${values.map((value, place) => encoded(value, parameters[place]?.type)).join()}]`;
+}
+
+/** Texts and whole numbers of a text of JSON. */
+const TOKEN = /"(?:[^"\\]|\\.)*"|-?\d+/g;
+
+/** The value of a type that JSON has, whose numbers are texts. */
+function decoded(json, named) {
+  const type = meant(named);
+  if (WIDE.has(type.kind)) return BigInt(json);
+  if (NARROW.has(type.kind)) return Number(json);
+  if (isPlain(type)) return json === "none" ? undefined : decoded(json.some, memberOf(type, "some"));
+  if (type.kind === "list") return json.map((it) => decoded(it, type.target));
+  if (type.kind === "tuple") return json.map((it, place) => decoded(it, type.members[place].type));
+  if (type.kind === "flags" || !isObject(json)) return json;
+  return Object.fromEntries(Object.entries(json).map(([key, it]) => [key, decoded(it, memberOf(type, key))]));
+}
+
+/** The value of a type that the library wrote as a text. */
+export function decodedText(text, type) {
+  // A number of 64 bits is none of JavaScript's numbers, so each goes as a text.
+  return decoded(JSON.parse(text.replace(TOKEN, (token) => (token[0] === '"' ? token : `"${token}"`))), type);
+}

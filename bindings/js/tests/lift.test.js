@@ -1,0 +1,120 @@
+import assert from "node:assert/strict";
+import { test } from "node:test";
+import { Trap, WitError, lift } from "../index.js";
+import { decodedText, encodedAll } from "../lib/values.js";
+import { callee } from "./guests.js";
+import { loaded, skip } from "./support.js";
+
+const witcall = await loaded();
+const decoder = new TextDecoder();
+const encoder = new TextEncoder();
+
+const SHOP = `package demo:shop;
+interface desk {
+    record line { name: string, count: u8 }
+    variant state { open, paid(u64) }
+    total: func(lines: list<line>, state: state, note: option<char>) -> option<string>;
+    sum: func(xs: list<s64>) -> s64;
+    close: func();
+}`;
+
+/** A function of `demo:shop/desk` over one page of memory, whose core function gets the memory and the values. */
+function shop(name, core, options = {}) {
+  const pkg = witcall.open(SHOP);
+  const full = `demo:shop/desk#${name}`;
+  const instance = callee(1, { [full]: (...values) => core(new DataView(instance.exports.memory.buffer), ...values) });
+  return lift(pkg, pkg.find("demo:shop/desk", name), { callee: instance, limit: 65536, ...options });
+}
+
+const textAt = (view, at) =>
+  decoder.decode(new Uint8Array(view.buffer, view.getUint32(at, true), view.getUint32(at + 4, true)));
+
+/** The core function of `total`: it answers the names, one after another, and what else it got. */
+function names(view, lines, count, paid, sum, hasNote, note) {
+  const all = Array.from({ length: count }, (_, k) => `${view.getUint8(lines + 12 * k + 8)} ${textAt(view, lines + 12 * k)}`);
+  const text = encoder.encode([...all, paid, sum, hasNote, note].join());
+  new Uint8Array(view.buffer).set(text, 256);
+  [1, 256, text.length].forEach((word, place) => view.setUint32(128 + 4 * place, word, true));
+  return 128;
+}
+
+test("values go into the memory and come back", { skip }, () => {
+  const total = shop("total", names);
+  const lines = [{ name: "tea", count: 2 }, { name: 'ä"', count: 255 }];
+  assert.equal(total(lines, { paid: 2n ** 64n - 1n }, "x"), '2 tea,255 ä",1,-1,1,120');
+  assert.equal(total([], "open", undefined), "0,0,0,0");
+});
+
+test("64-bit numbers are BigInt", { skip }, () => {
+  const sum = shop("sum", (view, at, count) =>
+    Array.from({ length: count }, (_, k) => view.getBigInt64(at + 8 * k, true)).reduce((a, b) => a + b, 0n));
+  assert.equal(sum([2n ** 62n, 1, -3n]), 2n ** 62n - 2n);
+  assert.equal(sum(new BigInt64Array([5n, 6n])), 11n);
+});
+
+test("a function without a result gives undefined", { skip }, () => {
+  assert.equal(shop("close", () => undefined)(), undefined);
+});
+
+test("what is no value is refused before the component runs", { skip }, () => {
+  const numberOf = (limit, ...values) => {
+    try {
+      shop("total", () => assert.fail("the component runs"), { limit })(...values);
+    } catch (error) {
+      assert.ok(error instanceof WitError, error);
+      return error.number;
+    }
+  };
+  for (const values of [[], [[], "open"], [[], "shut", undefined], [[{ name: "tea", count: 256 }], "open", undefined],
+    [[{ name: "tea" }], "open", undefined], [[{ name: "tea", count: 1.5 }], "open", undefined], [null, "open", "x"]]) {
+    assert.equal(numberOf(65536, ...values), 62);
+  }
+  assert.equal(numberOf(65536, [{ name: "\ud800", count: 1 }], "open", undefined), 61);
+  assert.equal(numberOf(14, [{ name: "tea", count: 1 }], "open", undefined), 76);
+});
+
+test("traps have their steps", { skip }, () => {
+  const trapOf = (core, ...values) => {
+    try {
+      shop("total", core)(...values);
+    } catch (error) {
+      assert.ok(error instanceof Trap, error);
+      return error.message;
+    }
+  };
+  const none = [[], "open", undefined];
+  assert.equal(trapOf(names, [{ name: "x".repeat(65000), count: 1 }], "open", undefined), "trap K6 full in place");
+  assert.equal(trapOf(() => 1, ...none), "trap K3 align in lift-result");
+  assert.equal(trapOf(() => 65536, ...none), "trap K4 bounds in lift-result");
+  assert.equal(trapOf(() => undefined, ...none), "trap K8 coresignature in lift-result");
+  const stops = () => {
+    throw new WebAssembly.RuntimeError("unreachable");
+  };
+  assert.equal(trapOf(stops, ...none), "trap K7 body in body");
+});
+
+test("a value at the end of the memory is read", { skip }, () => {
+  const end = shop("total", (view) => {
+    [1, 65533, 3].forEach((word, place) => view.setUint32(65520 + 4 * place, word, true));
+    new Uint8Array(view.buffer).set(encoder.encode("end"), 65533);
+    return 65520;
+  });
+  assert.equal(end([], "open", undefined), "end");
+});
+
+test("texts of values", () => {
+  const u64 = { kind: "u64" };
+  const option = (type) => ({ kind: "option", members: [{ name: "none", type: null }, { name: "some", type }] });
+  const both = (value, type) => {
+    const text = encodedAll([value], [{ type }]);
+    return [text, decodedText(text.slice(1, -1), type)];
+  };
+  assert.deepEqual(both(7n, { kind: "alias", target: u64 }), ["[7]", 7n]);
+  assert.deepEqual(both(undefined, option(u64)), ['["none"]', undefined]);
+  assert.deepEqual(both({ some: undefined }, option(option(u64))), ['[{"some":"none"}]', { some: undefined }]);
+  assert.deepEqual(both("none", option(option(u64))), ['["none"]', "none"]);
+  const text = '12 "\\" 34';
+  assert.deepEqual(both([text], { kind: "list", target: { kind: "string" } }), [`[["12 \\"\\\\\\" 34"]]`, [text]]);
+  const flags = { kind: "flags", members: [{ name: "a1", type: null }] };
+  assert.deepEqual(both(["a1"], flags), ['[["a1"]]', ["a1"]]);
+});

@@ -1,0 +1,3 @@
+mod InputsStandInOrder
+mod RequestsInArrays
+mod CallsOfFunctions

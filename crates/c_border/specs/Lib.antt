@@ -1,0 +1,5 @@
+pub mod CallObject
+pub mod Functions
+pub mod Inputs
+pub mod Json
+pub mod Line

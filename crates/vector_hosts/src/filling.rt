@@ -1,0 +1,125 @@
+//! What arguments are put into, and what is told of it.
+
+use crate::asking::error_told;
+use canonical_abi::Flat;
+use host_calls::{CallError, MAX_VALUES, Value};
+use memory::Block;
+use serde_json::Value as Json;
+use std::alloc::Global;
+use vector_calls::vector_sides::{flats_told, list, number, object_of};
+
+/// What a place for a core value has before one is put there.
+const UNSET: Value = Value {
+    kind: 1,
+    bits: u64::MAX,
+};
+
+/// The blocks of a step, and a host's memory and places for core values, which a call changes.
+#[derive(Drop)]
+pub struct Filling {
+    pub blocks: Vec<Block>,
+    pub memory: Vec<u8>,
+    pub handed: Vec<Value>,
+}
+
+/// A block, `[align, size, at]`.
+fn block(json: &Json) -> anyhow::Result<Block> {
+    Ok(Block {
+        align: number(json.get(0usize))?,
+        size: number(json.get(1usize))?,
+        at: number(json.get(2usize))?,
+    })
+}
+
+fn blocks(alloc: Global, values: &[Json]) -> anyhow::Result<Vec<Block>> {
+    let mut blocks = Vec::new(alloc);
+    for value in values {
+        blocks.push(block(value)?)?;
+    }
+    Ok(blocks)
+}
+
+/// So many places for core values.
+fn places(alloc: Global, count: usize) -> anyhow::Result<Vec<Value>> {
+    let mut places = Vec::new(alloc);
+    for _place in 0..count {
+        places.push(UNSET)?;
+    }
+    Ok(places)
+}
+
+/// For how many core values a step has room.
+fn room_of(words: &[Json]) -> anyhow::Result<usize> {
+    match words.get(3) {
+        None => Ok(MAX_VALUES),
+        room => Ok(number(room)? as usize),
+    }
+}
+
+fn is_unset(flat: Flat) -> bool {
+    matches!(flat, Flat::I64(u64::MAX))
+}
+
+/// How many core values there are up to the last that was put.
+fn count_of(flats: &[Flat]) -> usize {
+    let mut count = 0;
+    for (place, flat) in flats.iter().enumerate() {
+        if !is_unset(*flat) {
+            count = place.saturating_add(1);
+        }
+    }
+    count
+}
+
+/// How many bytes there are up to the last that is not 0.
+fn length_of(bytes: &[u8]) -> usize {
+    let mut length = 0;
+    for (place, byte) in bytes.iter().enumerate() {
+        if *byte != 0 {
+            length = place.saturating_add(1);
+        }
+    }
+    length
+}
+
+/// The bytes up to the last that is not 0, in hexadecimal digits.
+fn memory_told(alloc: Global, memory: &[u8]) -> anyhow::Result<String> {
+    let front = memory.get(..length_of(memory)).unwrap_or(&[]);
+    Ok(hex::encode(alloc, front)?)
+}
+
+/// The core values up to the last that was put.
+fn handed_told(alloc: Global, handed: &[Value]) -> anyhow::Result<String> {
+    let mut flats = Vec::new(alloc);
+    for value in handed {
+        flats.push(value.flat())?;
+    }
+    let flats = flats.as_slice();
+    let front = flats.get(..count_of(flats)).unwrap_or(&[]);
+    Ok(flats_told(alloc, front)?)
+}
+
+impl Filling {
+    /// What a step says, `["fills", VALUES, BLOCKS, ROOM]`, over a copy of this memory.
+    pub fn of(alloc: Global, words: &[Json], memory: &[u8]) -> anyhow::Result<Filling> {
+        Ok(Filling {
+            blocks: blocks(alloc, list(words.get(2)))?,
+            memory: memory.to_vec(alloc)?,
+            handed: places(alloc, room_of(words)?)?,
+        })
+    }
+
+    /// What is told of a call that was given these.
+    pub fn told(&self, alloc: Global, done: &Result<usize, CallError>) -> anyhow::Result<String> {
+        let mut members = Vec::new(alloc);
+        members.push(match done {
+            Ok(count) => format!(in alloc; "\"filled\":{count}")?,
+            Err(error) => error_told(alloc, *error)?,
+        })?;
+        let handed = handed_told(alloc, self.handed.as_slice())?;
+        members.push(format!(in alloc; "\"handed\":{handed}")?)?;
+        let memory = memory_told(alloc, self.memory.as_slice())?;
+        members.push(format!(in alloc; "\"memory\":\"{memory}\"")?)?;
+        Ok(object_of(alloc, members.as_slice())?)
+    }
+}
