@@ -2,8 +2,11 @@
  * Whatever the values are, the limit bounds what is asked for and the time (docs/C.md, "Time and memory of hostile
  * inputs"). It is built under the address and undefined behaviour sanitizers, and each memory is a block of its own.
  *
+ * usage: hostile [MILLISECONDS]
+ *
  * A line for each case goes to standard output. The exit status is 1 where one isn't as wanted, or takes longer than
- * MOST_MILLISECONDS of processor time.
+ * MILLISECONDS of processor time, by default 15,000: enough for an emulator on a busy machine, and far below what the
+ * lists would take without a limit.
  */
 #include "witcall.h"
 #include <stdbool.h>
@@ -12,7 +15,6 @@
 #include <string.h>
 #include <time.h>
 
-#define MOST_MILLISECONDS 100
 #define BYTES(text) (const uint8_t *)(text), strlen(text)
 
 /* The greatest size of the memory that is asked for blocks, in most cases. */
@@ -20,6 +22,7 @@
 
 static witcall_package package = WITCALL_NONE;
 static bool failed = false;
+static double most_milliseconds = 15000;
 
 /* ---- cases ---- */
 
@@ -43,7 +46,7 @@ static void holds(const char *name, bool fact) {
 
 static void in_time(const char *name, double began) {
     double took = milliseconds() - began;
-    if (took > MOST_MILLISECONDS) {
+    if (took > most_milliseconds) {
         printf("FAILED %s: %.0f ms\n", name, took);
         failed = true;
     }
@@ -325,7 +328,9 @@ static void open_package(void) {
         exit(2);
 }
 
-int main(void) {
+int main(int count, char **arguments) {
+    if (count > 1)
+        most_milliseconds = strtod(arguments[1], NULL);
     open_package();
     levels();
     for (size_t i = 0; i < sizeof SHAPES / sizeof *SHAPES; i++) {
@@ -335,7 +340,7 @@ int main(void) {
     tuples();
     spilled();
     if (!failed)
-        printf("each within %d ms of processor time\n", MOST_MILLISECONDS);
+        printf("each in time\n");
     witcall_close(&package);
     return failed;
 }
