@@ -1,14 +1,14 @@
 #!/usr/bin/env python3
 """Runs wit-explain on the stored commands of tests/explain, and compares what it prints and its exit status to the letter.
 
-usage: tools/check_explain.py [--program WIT-EXPLAIN]..
+usage: tools/check_explain.py [--program WIT-EXPLAIN].. [--witcall WITCALL]
 
 tests/explain/runs has one run after another: a line `$ wit-explain WORDS`, what the program prints, and a line `status NUMBER`. Words are
 parted by single spaces. A run reads the files of tests/explain/files, and has no input. If the status is 2, the text is what goes to
 standard error, and nothing may go to standard output; otherwise it is the other way round. Each program named is run, by default those that the
 gate built by both compilers, both of which have to be there. Each block of `console` of the pages has to be a stored run, and
-docs/pictures/shapes.svg what the run of PICTURE prints. A run of BINARIES writes the file `out`, as `witcall` writes it on the words beside it.
-The exit status is 1 if one of them differs.
+docs/pictures/shapes.svg what the run of PICTURE prints. A run of BINARIES writes the file `out`, as `witcall` writes it on the words beside it:
+the one that the gate built, if no other is named. Both programs are in release/ too, packed. The exit status is 1 if one of them differs.
 """
 import collections
 import difflib
@@ -25,6 +25,9 @@ BUILT = [ROOT / "crates" / "explain" / "out" / name for name in ("explain", "exp
 PROMPT = "$ wit-explain"
 PICTURE = "layout --svg - shapes.wit"
 WITCALL = ROOT / "crates" / "program" / "out" / "program"
+# options by which a run may write a file: it has a copy of the files for itself
+WRITING = ("-o", "--output", "--svg")
+BUILDING = "build it by `rt ci`, or unpack release/wit-explain.gz and release/witcall.gz, and name them by --program and --witcall"
 BINARIES = {
     "bin -o out shapes.wit": "bin shapes.wit",
     "bin --output out wit": "bin --with wit/deps/clocks/wall.wit wit/app.wit",
@@ -43,6 +46,12 @@ def stored_runs():
     return [(words, "\n".join(lines).rstrip("\n")) for words, lines in runs]
 
 
+def copied(folder):
+    """The folder, with a copy of the files of all runs."""
+    shutil.copytree(FOLDER / "files", folder)
+    return folder
+
+
 def printed(program, words, folder):
     """What the program prints on these words, with its status."""
     done = subprocess.run(
@@ -53,30 +62,30 @@ def printed(program, words, folder):
     return f"{said.decode()}{beside}status {done.returncode}"
 
 
-def has_other_binary(words, folder):
+def has_other_binary(witcall, words, folder):
     """Whether a run of BINARIES wrote another binary than `witcall` writes. It is told."""
     if " ".join(words) not in BINARIES:
         return False
-    made = subprocess.run([WITCALL, *BINARIES[" ".join(words)].split(" ")], cwd=folder, capture_output=True, check=True).stdout
+    made = subprocess.run([witcall, *BINARIES[" ".join(words)].split(" ")], cwd=folder, capture_output=True, check=True).stdout
     if (folder / "out").read_bytes() == made:
         return False
     print(f"{PROMPT} {' '.join(words)}: the file is not what witcall writes")
     return True
 
 
-def differing(program):
+def differing(program, witcall):
     """How many runs of this program differ from the stored ones. Each is told."""
     found = 0
-    for words, wanted in stored_runs():
-        with tempfile.TemporaryDirectory() as room:
-            files = pathlib.Path(room) / "files"
-            shutil.copytree(FOLDER / "files", files)
+    with tempfile.TemporaryDirectory() as room:
+        shared = copied(pathlib.Path(room) / "files")
+        for number, (words, wanted) in enumerate(stored_runs()):
+            files = copied(pathlib.Path(room) / str(number)) if any(it.startswith(WRITING) for it in words) else shared
             said = printed(program, words, files)
-            found += has_other_binary(words, files)
-        if said != wanted:
-            found += 1
-            lines = difflib.unified_diff(wanted.split("\n"), said.split("\n"), "stored", "printed", lineterm="")
-            print(f"{program.name}: {PROMPT} {' '.join(words)}", *lines, sep="\n")
+            found += has_other_binary(witcall, words, files)
+            if said != wanted:
+                found += 1
+                lines = difflib.unified_diff(wanted.split("\n"), said.split("\n"), "stored", "printed", lineterm="")
+                print(f"{program.name}: {PROMPT} {' '.join(words)}", *lines, sep="\n")
     return found
 
 
@@ -106,13 +115,15 @@ def stored_twice(runs):
 def main():
     options = parser(__doc__)
     options.add_argument("--program", action="append", type=pathlib.Path)
-    programs = options.parse_args().program or BUILT
-    missing = [it for it in programs if not it.is_file()]
+    options.add_argument("--witcall", type=pathlib.Path, default=WITCALL)
+    given = options.parse_args()
+    programs = given.program or BUILT
+    missing = [it for it in (*programs, given.witcall) if not it.is_file()]
     if missing:
-        sys.exit(f"tools/check_explain.py: there is no {missing[0]}: run the gate, or name a program by --program")
+        sys.exit(f"tools/check_explain.py: there is no {missing[0]}: {BUILDING}")
     runs = stored_runs()
     stored = {" ".join(words): text.rpartition("status ")[0] for words, text in runs}
-    found = sum(differing(program.resolve()) for program in programs) + untrue_pages(stored) + stored_twice(runs)
+    found = sum(differing(program.resolve(), given.witcall.resolve()) for program in programs) + untrue_pages(stored) + stored_twice(runs)
     if found or not runs:
         sys.exit(f"{found} runs, blocks or pictures differ, of {len(runs)} runs")
     print(f"{len(runs)} runs of wit-explain are as they are stored, of {len(programs)} builds")
