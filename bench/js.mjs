@@ -1,14 +1,15 @@
-// Measures how long a call takes in JavaScript: microseconds, the median of runs. The function takes a text of 20 bytes
-// and a list of 16 numbers, and returns a text of 20 bytes. All three lie at the front of their memories, or at the
-// end.
+// Measures how long a call takes in JavaScript: microseconds of processor time, the least of runs. The function takes a
+// text of 20 bytes and a list of 16 numbers, and returns a text of 20 bytes. All three lie at the front of their
+// memories, or at the end. The same of two numbers, and of values of JavaScript. bench/js.c makes the first two calls
+// through the C library.
 //
 // usage: node bench/js.mjs      WITCALL_MODULE is the module's path, if it isn't that of the release
-import { link } from "../bindings/js/index.js";
-import { callee, forwarding } from "../bindings/js/tests/guests.js";
+import { imports, lift, link } from "../bindings/js/index.js";
+import { callee, forwarding, relaying } from "../bindings/js/tests/guests.js";
 import { loaded, skip } from "../bindings/js/tests/support.js";
 
 const RUNS = 15;
-const CALLS = 300;
+const CALLS = 500;
 const PAGE = 65536;
 const TEXT = new TextEncoder().encode("twenty bytes of text");
 const COUNT = 16;
@@ -40,22 +41,39 @@ function made(pages, front) {
   return { place, ...caller.exports };
 }
 
-function median(run) {
-  const times = Array.from({ length: RUNS }, () => {
-    const began = performance.now();
+function least(run) {
+  let found = Infinity;
+  for (let turn = 0; turn < RUNS; turn++) {
+    const began = process.cpuUsage();
     for (let call = 0; call < CALLS; call++) run();
-    return ((performance.now() - began) * 1000) / CALLS;
-  });
-  return times.sort((one, other) => one - other)[RUNS >> 1].toFixed(1);
+    const { user, system } = process.cpuUsage(began);
+    found = Math.min(found, (user + system) / CALLS);
+  }
+  return found.toFixed(1);
 }
 
-for (const pages of [1, 16, 256]) {
+for (const pages of [1, 256, 4096]) {
   const size = `${(pages * PAGE) / 1024} KiB`;
   for (const front of [true, false]) {
     const { place, f } = made(pages, front);
-    const time = median(() => f(place + 32, TEXT.length, place + 64, COUNT, place));
+    const time = least(() => f(place + 32, TEXT.length, place + 64, COUNT, place));
     console.log(`${size}, values at the ${front ? "front" : "end"}: ${time}`);
   }
   const { g } = made(pages, true);
-  console.log(`${size}, two numbers: ${median(() => g(1, 2n))}`);
+  console.log(`${size}, two numbers: ${least(() => g(1, 2n))}`);
+}
+
+// A guest that hands on what it is called with: values of JavaScript go into it, out of it, and back again.
+const own = witcall.open(`package a:b; interface c { f: func(s: string, l: list<u32>) -> string; } world w { import c; }`);
+const [func] = own.functions;
+let guest;
+const object = imports(own, "a:b/w", { "a:b/c": { f: (text) => text } }, { guest: () => guest, limit: 2 ** 31, grant });
+guest = new WebAssembly.Instance(relaying([[func, { module: "a:b/c", name: "f" }]]), object);
+const called = lift(own, func, { callee: guest, limit: 2 ** 31, grant });
+const numbers = Array.from({ length: COUNT }, (_, place) => place);
+console.log(`lift and imports: ${least(() => called("twenty bytes of text", numbers))}`);
+
+/** Grants the same blocks again and again. */
+function grant(instance, asked) {
+  return asked.map(({ align, size }, place) => ({ align, size, at: 4096 * (place + 1) }));
 }

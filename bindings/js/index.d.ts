@@ -1,3 +1,10 @@
+declare global {
+  interface SymbolConstructor {
+    /** The name of the method that `using` calls, where the engine has it. */
+    readonly dispose: unique symbol;
+  }
+}
+
 /** A text of WIT, or a binary that `toBinary` or `witcall bin` wrote. */
 export type Input = string | BufferSource;
 
@@ -30,6 +37,13 @@ export interface Package {
    * @throws {WitError} `63 no function`
    */
   find(interfaceName: string, name: string): WitFunction;
+
+  /**
+   * A function that a world itself imports or exports, by the full name of the world, as `a:b/w@1.0.0`.
+   * @throws {WitError} `63 no function`
+   */
+  findImport(world: string, name: string): WitFunction;
+  findExport(world: string, name: string): WitFunction;
 
   /** The package as a text. Of several it is the last one, which opens again after the others. */
   toText(): string;
@@ -152,7 +166,9 @@ export function link(pkg: Package, options: LinkOptions): WebAssembly.Instance;
  * case without payload its label, another case an object with this one key, and flags the labels that are set. Numbers
  * of 64 bits are BigInt. An option is `undefined` or the value itself, and one of an option has cases.
  */
-export type Value = undefined | boolean | number | bigint | string | ArrayBufferView | readonly Value[] | { readonly [key: string]: Value };
+export type Value =
+  | undefined | boolean | number | bigint | string | ArrayBufferView | readonly Value[]
+  | { readonly [key: string]: Value };
 
 export interface LiftOptions {
   /** The instance that exports the function, as `a:b/c#f`, its `memory` and `cabi_realloc`. */
@@ -173,6 +189,40 @@ export interface LiftOptions {
  */
 export function lift(pkg: Package, func: WitFunction, options: LiftOptions): (...values: Value[]) => Value;
 
+/** A function of values. The values are those of the function's types. */
+export type Method = (...values: any[]) => unknown;
+
+/**
+ * For each interface that a world imports an object of its functions, under the interface's full name, as
+ * `a:b/c@1.0.0`. A function that the world itself imports is here under its own name. Names are those of WIT.
+ */
+export interface Implementation {
+  readonly [name: string]: Method | { readonly [name: string]: any };
+}
+
+export interface ImportsOptions {
+  /** The instance of the guest, once there is one. It exports its `memory` and `cabi_realloc`. */
+  guest: () => WebAssembly.Instance | undefined;
+
+  /**
+   * The greatest size of its memory, in bytes: values that have more together are refused. 16 MiB if it is left out.
+   */
+  limit?: number;
+
+  /** Who grants blocks, if it isn't `granted`. */
+  grant?: Grant;
+}
+
+/**
+ * The import object of a guest whose imports are functions of values. A function of a world itself is in the module
+ * `$root`. A call throws a `Trap` if the guest's values are none, a `WitError` if the answer is no value of the
+ * result's type, and whatever the function throws.
+ * @throws {TypeError} if the package has no such world, or the implementation lacks a function that it imports
+ */
+export function imports(
+  pkg: Package, world: string, implementation: Implementation, options: ImportsOptions,
+): WebAssembly.Imports;
+
 /** Has `cabi_realloc` of an instance grant blocks, up to the first one for which it traps. */
 export const granted: Grant;
 
@@ -189,7 +239,7 @@ export class WitError extends Error {
 
 /** The end of a call between two components, as `trap K5 utf8 in lift-args`. The callee is not run again after it. */
 export class Trap extends Error {
-  constructor(line: string, options?: ErrorOptions);
+  constructor(line: string, options?: { cause?: unknown });
 
   /** The number of the kind, 1 to 8. */
   readonly number: number;

@@ -1,3 +1,4 @@
+export { imports } from "./lib/imports.js";
 export { load } from "./lib/library.js";
 export { lift } from "./lib/lift.js";
 export { granted, link } from "./lib/link.js";

@@ -1,5 +1,6 @@
 // One instance of the module. Its addresses and lengths are 64-bit, so they are BigInt at its border. Here they are
 // numbers.
+import { Carriers } from "./carrier.js";
 import { ModuleFault, Trap, WitError } from "./errors.js";
 
 /** The number of the binary interface that this package is written for (WITCALL_ABI of include/witcall.h). */
@@ -25,8 +26,12 @@ const decoder = new TextDecoder();
 export class Core {
   /** Whether the engine stopped this instance. It is not used any more then, since it may have ended anywhere. */
   lost = false;
+  carriers = new Carriers(this);
+  /** Blocks that runs have left (lib/half.js). */
+  arrays = [];
   #exports;
   #status;
+  #wideStatus;
   #line;
   #bytes;
   #view;
@@ -38,6 +43,7 @@ export class Core {
     const abi = this.#run("witcall_abi", []);
     if (abi !== ABI) throw new TypeError(`the module's interface is ${abi}, and this package needs ${ABI}`);
     this.#status = this.allocate(STATUS_SIZE);
+    this.#wideStatus = BigInt(this.#status);
     this.#line = this.allocate(MAX_STATUS_LINE);
   }
 
@@ -72,7 +78,7 @@ export class Core {
    * @returns {Status}
    */
   call(name, ...words) {
-    const all = [BigInt(this.#status)];
+    const all = [this.#wideStatus];
     for (const word of words) {
       if (typeof word === "number") all.push(BigInt(word));
       else all.push(...word);

@@ -1,12 +1,14 @@
 // One half of a call: what it reads of one memory is copied into the module, and what it writes is copied into the
 // other one.
 import { CODE, Space } from "./core.js";
+import { argumentsReader, reach, resultReader } from "./reach.js";
 
 /** The most core values that a core function takes, and the sizes of structs. */
 export const MAX_VALUES = 17;
 const VALUE_SIZE = 16;
 const REQUEST_SIZE = 8;
 const BLOCK_SIZE = 12;
+const NOTHING = new Uint8Array();
 
 /**
  * How many requests and blocks have room in the block that each run has for its arrays, and where these stand in it.
@@ -18,13 +20,6 @@ const REQUESTS = 3 * ANSWER;
 const BLOCKS = REQUESTS + FEW * REQUEST_SIZE;
 const ARRAYS_SIZE = BLOCKS + FEW * BLOCK_SIZE;
 
-/** K4, an address outside its memory. */
-const BOUNDS = 4;
-
-/** The front of a memory that is copied first, if any is read, and by which factor it is made longer. */
-const PAGE = 65536;
-const LONGER = 4;
-
 /**
  * @typedef {number | bigint} Flat an i32 or an i64
  * @typedef {{align: number, size: number}} Request
@@ -33,17 +28,18 @@ const LONGER = 4;
  * @typedef {[number, number]} Words the address and the length of an array in the module
  */
 
-/** The arrays of one run in an instance, which are freed together. */
+/** The arrays of one run in an instance, which are freed together. Runs that end leave their first block to others. */
 export class Run {
   #space;
   #arrays;
+  #carriers = [];
 
   /** @param {{core: import("./core.js").Core, handle: number}} place */
   constructor({ core, handle }) {
     this.core = core;
     this.handle = handle;
     this.#space = new Space(core);
-    this.#arrays = this.#space.take(ARRAYS_SIZE);
+    this.#arrays = core.arrays.pop() ?? core.allocate(ARRAYS_SIZE);
   }
 
   /** Where an array stands: at its place, if it has few elements, or in a block of its own. */
@@ -51,9 +47,22 @@ export class Run {
     return count <= few ? this.#arrays + place : this.#space.take(count * size);
   }
 
-  /** A block for a copy. It has no address if it has no bytes. */
-  room(length) {
-    return length === 0 ? 0 : this.#space.take(length);
+  /** A carrier of a memory. */
+  #carrier(bytes) {
+    const carrier = this.core.carriers.take(bytes);
+    this.#carriers.push(carrier);
+    return carrier;
+  }
+
+  /**
+   * Copies what the library reads of a memory for core values.
+   * @param {import("./reach.js").FlatReader} reader
+   * @returns {Words}
+   */
+  read(reader, flats, bytes, limit) {
+    const carrier = this.#carrier(bytes);
+    reach(reader, flats, carrier, limit);
+    return [carrier.at, bytes.length];
   }
 
   /** @returns {Words} */
@@ -92,18 +101,20 @@ export class Run {
 
   valuesAt(start, count) {
     const { view } = this.core;
-    return Array.from({ length: count }, (_, place) => {
-      const at = start + place * VALUE_SIZE;
-      return view.getUint32(at, true) ? view.getBigInt64(at + 8, true) : view.getInt32(at + 8, true);
-    });
+    const values = [];
+    for (let at = start; values.length < count; at += VALUE_SIZE) {
+      values.push(view.getUint32(at, true) ? view.getBigInt64(at + 8, true) : view.getInt32(at + 8, true));
+    }
+    return values;
   }
 
   requestsAt(start, count) {
     const { view } = this.core;
-    return Array.from({ length: count }, (_, place) => {
-      const at = start + place * REQUEST_SIZE;
-      return { align: view.getUint32(at, true), size: view.getUint32(at + 4, true) };
-    });
+    const requests = [];
+    for (let at = start; requests.length < count; at += REQUEST_SIZE) {
+      requests.push({ align: view.getUint32(at, true), size: view.getUint32(at + 4, true) });
+    }
+    return requests;
   }
 
   /**
@@ -128,48 +139,55 @@ export class Run {
    */
   written(bytes, places, call) {
     const { core } = this;
-    const end = places.reduce((most, { at, size }) => Math.max(most, at + size), 0);
-    const length = Math.min(end, bytes.length);
-    const inside = places.filter(({ at, size }) => at + size <= length);
-    const copy = this.room(length);
+    const carrier = places.length > 0 ? this.#carrier(bytes) : undefined;
+    const inside = [];
+    for (const place of places) {
+      if (place.at + place.size > bytes.length) continue;
+      carrier.fetch(place.at, place.size);
+      inside.push(place);
+    }
     const told = this.array(TOLD, MAX_VALUES, VALUE_SIZE, MAX_VALUES);
-    for (const { at, size } of inside) core.bytes.set(bytes.subarray(at, at + size), copy + at);
-    const status = call(copy, length, told);
-    for (const { at, size } of inside) bytes.set(core.bytes.subarray(copy + at, copy + at + size), at);
+    const status = call(carrier?.at ?? 0, carrier ? bytes.length : 0, told);
+    for (const { at, size } of inside) carrier.store(at, size);
     if (status.code !== CODE.DONE) throw core.error(status);
     return this.valuesAt(told, status.count);
   }
 
   free() {
+    if (this.#arrays === undefined) return;
+    this.core.arrays.push(this.#arrays);
+    this.#arrays = undefined;
     this.#space.free();
+    for (const carrier of this.#carriers) this.core.carriers.give(carrier);
+    this.#carriers = [];
   }
 }
 
-/** Whether a status says that an address is outside of the memory. */
-export const isOutside = ({ code, number }) => code === CODE.TRAP && number === BOUNDS;
-
-/** A longer front of a memory of so many bytes. */
-export const longerFront = (length, all) => Math.min(Math.max(length * LONGER, PAGE), all);
+/** What each half of a call reads. */
+const READERS = { witcall_enter: argumentsReader, witcall_leave: resultReader };
 
 /** A half of the calls of one function: `witcall_enter` or `witcall_leave`. */
 export class Half {
   #pkg;
   #func;
   #name;
+  #asking;
   #limit;
-  #front = 0;
+  #reader;
 
   /**
    * @param {import("./package.js").Package} pkg
-   * @param {number} func the function's number
+   * @param {object} func one of its functions
    * @param {"witcall_enter" | "witcall_leave"} name
    * @param {number} limit the most bytes that the blocks may have together
    */
   constructor(pkg, func, name, limit) {
     this.#pkg = pkg;
-    this.#func = func;
+    this.#func = func.number;
     this.#name = name;
+    this.#asking = `${name}_requests`;
     this.#limit = limit;
+    this.#reader = READERS[name](func);
   }
 
   /**
@@ -184,44 +202,42 @@ export class Half {
     const { place } = this.#pkg;
     let run = new Run(place);
     try {
-      let { read, asked } = this.#ask(run, values.at(-1), from.bytes);
-      const blocks = to.grant(asked);
+      let read = this.#read(run, values.at(-1), from);
+      // What reads nothing of a memory asks for no blocks either.
+      const blocks = this.#reader ? to.grant(this.#ask(run, values.at(-1), read)) : [];
       // The allocator may have made calls of its own, in which the instance was lost, or the package closed.
       const now = this.#pkg.place;
       if (now !== place) {
         run.free();
         run = new Run(now);
-        read = run.copy(from.bytes.subarray(0, read[1]));
+        read = this.#read(run, values.at(-1), from);
       }
-      return this.#write(run, values, read, to.bytes, blocks, area);
+      return this.#write(run, values, read, to, blocks, area);
     } finally {
       run.free();
     }
   }
 
-  /**
-   * Asks which blocks are needed, over as much of the front of the memory as the values lie in. An address outside of
-   * the front is K4, as one outside of the memory is. So a longer front is tried then.
-   */
-  #ask(run, values, bytes) {
-    const { core, handle } = run;
+  #read(run, values, from) {
+    return this.#reader ? run.read(this.#reader, values, from.bytes, this.#limit) : [0, 0];
+  }
+
+  /** Asks which blocks are needed. */
+  #ask(run, values, read) {
     const flats = run.putValues(0, values);
-    for (let length = Math.min(this.#front, bytes.length); ; length = longerFront(length, bytes.length)) {
-      const read = run.copy(bytes.subarray(0, length));
-      const { status, asked } = run.asked((room, count) =>
-        core.call(`${this.#name}_requests`, handle, [this.#func], ...flats, ...read, room, count, this.#limit));
-      if (isOutside(status) && length < bytes.length) continue;
-      if (status.code !== CODE.DONE) throw core.error(status);
-      this.#front = length;
-      return { read, asked };
-    }
+    const { status, asked } = run.asked((room, count) =>
+      run.core.call(this.#asking, run.handle, [this.#func], ...flats, ...read, room, count, this.#limit));
+    if (status.code !== CODE.DONE) throw run.core.error(status);
+    return asked;
   }
 
   /** Runs the half over copies of the blocks and of the return area. */
-  #write(run, values, read, bytes, blocks, area) {
-    const flats = values.flatMap((some, which) => run.putValues(which * ANSWER, some));
+  #write(run, values, read, to, blocks, area) {
+    const flats = run.putValues(0, values[0]);
+    if (values.length > 1) flats.push(...run.putValues(ANSWER, values[1]));
     const granted = run.putBlocks(blocks);
-    return run.written(bytes, area ? [...blocks, area] : blocks, (copy, length, told) => {
+    const places = area ? [...blocks, area] : blocks;
+    return run.written(places.length > 0 ? to.bytes : NOTHING, places, (copy, length, told) => {
       const words = [...flats, ...read, copy, length, ...granted, told, MAX_VALUES];
       return run.core.call(this.#name, run.handle, [this.#func], ...words);
     });

@@ -1,16 +1,17 @@
 // A component's function as a function of JavaScript's values. The library puts the arguments into the component's
 // memory, and reads the result there.
 import { CODE } from "./core.js";
-import { MAX_VALUES, Run, isOutside, longerFront } from "./half.js";
-import { LIMIT, STEP, granted, limitOf, ran, stopping, valuesOf } from "./link.js";
+import { MAX_VALUES, Run } from "./half.js";
+import { LIMIT, STEP, coreName, granted, limitOf, ran, stopping, valuesOf } from "./link.js";
 import { toldBy } from "./package.js";
+import { resultReader } from "./reach.js";
 import { decodedText, encodedAll } from "./values.js";
 
 const encoder = new TextEncoder();
 const decoder = new TextDecoder();
 
 /** Puts arguments into blocks of a memory, and returns the values for the core function. */
-function filled(pkg, func, json, { bytes, grant, limit }) {
+export function filled(pkg, func, json, { bytes, grant, limit }) {
   const { place } = pkg;
   let run = new Run(place);
   try {
@@ -26,33 +27,26 @@ function filled(pkg, func, json, { bytes, grant, limit }) {
     }
     const text = run.copy(json);
     const places = run.putBlocks(blocks);
-    return run.written(bytes(), blocks, (copy, length, told) =>
-      run.core.call("witcall_fill_json", run.handle, [func.number], ...text, copy, length, ...places, told, MAX_VALUES));
+    return run.written(bytes(), blocks, (copy, length, told) => {
+      const words = [...text, copy, length, ...places, told, MAX_VALUES];
+      return run.core.call("witcall_fill_json", run.handle, [func.number], ...words);
+    });
   } finally {
     run.free();
   }
 }
 
-/** Reads the result as JSON, over as much of the front of the memory as the value lies in. */
-function readText(pkg, func, answer, { bytes, limit }) {
+/** Reads the result as JSON. */
+export function readText(pkg, func, reader, answer, { bytes, limit }) {
   const { core, handle } = pkg.place;
-  const all = bytes();
-  for (let length = 0; ; length = longerFront(length, all.length)) {
-    const run = new Run({ core, handle });
-    let outside = false;
-    try {
-      const flats = run.putValues(0, answer);
-      const read = run.copy(all.subarray(0, length));
-      return decoder.decode(toldBy(core, (at, room) => {
-        const status = core.call("witcall_read_json", handle, [func.number], ...flats, ...read, at, room, limit);
-        outside = isOutside(status) && length < all.length;
-        return status;
-      }));
-    } catch (error) {
-      if (!outside) throw error;
-    } finally {
-      run.free();
-    }
+  const run = new Run({ core, handle });
+  try {
+    const flats = run.putValues(0, answer);
+    const read = reader ? run.read(reader, answer, bytes(), limit) : [0, 0];
+    return decoder.decode(toldBy(core, (at, room) =>
+      core.call("witcall_read_json", handle, [func.number], ...flats, ...read, at, room, limit)));
+  } finally {
+    run.free();
   }
 }
 
@@ -67,7 +61,7 @@ function readText(pkg, func, answer, { bytes, limit }) {
  * @param {typeof granted} [options.grant] who grants blocks, if it isn't `cabi_realloc` alone
  */
 export function lift(pkg, func, { callee, limit = LIMIT, grant = granted }) {
-  const name = `${func.interface}#${func.name}`;
+  const name = coreName(func);
   const body = callee.exports[name];
   const post = callee.exports[`cabi_post_${name}`];
   if (typeof body !== "function") throw new TypeError(`the callee exports no function ${name}`);
@@ -76,10 +70,11 @@ export function lift(pkg, func, { callee, limit = LIMIT, grant = granted }) {
     grant: (asked) => (asked.length === 0 ? [] : grant(callee, asked)),
     limit: limitOf(limit),
   };
+  const reader = resultReader(func);
   return (...values) => {
     const handed = filled(pkg, func, encoder.encode(encodedAll(values, func.parameters)), side);
     const answer = valuesOf(ran(body, handed, stopping(pkg, STEP.BODY)));
-    const text = readText(pkg, func, answer, side);
+    const text = readText(pkg, func, reader, answer, side);
     if (post) ran(post, answer, stopping(pkg, STEP.POST));
     return func.result === null ? undefined : decodedText(text, func.result.type);
   };

@@ -37,7 +37,7 @@ export function granted(instance, asked) {
 }
 
 /** A component's memory, which may grow and move, and its allocator. */
-class Side {
+export class Side {
   #instance;
   #grant;
 
@@ -66,19 +66,18 @@ export const stopping = (pkg, step) => (cause) => {
   throw pkg.place.core.error({ code: CODE.TRAP, number: STOPPED, step, count: 0 }, { cause });
 };
 
+/** The name under which a core module exports a function: that of a world itself has no interface. */
+export const coreName = (func) => (func.interface ? `${func.interface}#${func.name}` : func.name);
+
 /**
- * A function of the callee as the caller imports it.
+ * A function as the caller imports it, over the core function of the callee.
  * @param {import("./package.js").Package} pkg
  * @param {object} func one of its functions
- * @param {{caller: Side, callee: Side, exports: WebAssembly.Exports, limit: number}} sides
+ * @param {{caller: Side, callee: Side, body: Function, post?: Function, limit: number}} sides
  */
-export function lowered(pkg, func, { caller, callee, exports, limit }) {
-  const name = `${func.interface}#${func.name}`;
-  const body = exports[name];
-  const post = exports[`cabi_post_${name}`];
-  if (typeof body !== "function") throw new TypeError(`the callee exports no function ${name}`);
-  const enter = new Half(pkg, func.number, "witcall_enter", limit);
-  const leave = new Half(pkg, func.number, "witcall_leave", limit);
+export function crossed(pkg, func, { caller, callee, body, post, limit }) {
+  const enter = new Half(pkg, func, "witcall_enter", limit);
+  const leave = new Half(pkg, func, "witcall_leave", limit);
   // A result that is no core value goes to an address behind the arguments.
   const hasArea = func.result !== null && func.lowered.results.length === 0;
   return (...flats) => {
@@ -89,6 +88,19 @@ export function lowered(pkg, func, { caller, callee, exports, limit }) {
     if (post) ran(post, answer, stopping(pkg, STEP.POST));
     return back;
   };
+}
+
+/**
+ * A function of the callee as the caller imports it.
+ * @param {import("./package.js").Package} pkg
+ * @param {object} func one of its functions
+ * @param {{caller: Side, callee: Side, exports: WebAssembly.Exports, limit: number}} sides
+ */
+export function lowered(pkg, func, { caller, callee, exports, limit }) {
+  const name = coreName(func);
+  const body = exports[name];
+  if (typeof body !== "function") throw new TypeError(`the callee exports no function ${name}`);
+  return crossed(pkg, func, { caller, callee, body, post: exports[`cabi_post_${name}`], limit });
 }
 
 export function limitOf(limit) {

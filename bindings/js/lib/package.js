@@ -79,6 +79,7 @@ export class Package {
   #inputs;
   #place;
   #table;
+  #owned = [];
 
   /**
    * @param {import("./library.js").Library} library
@@ -128,17 +129,41 @@ export class Package {
     return this.#rows.types;
   }
 
+  /** The library that the package is opened by. */
+  get library() {
+    return this.#library;
+  }
+
+  /** Closes another package with this one. */
+  owns(pkg) {
+    this.#owned.push(pkg);
+  }
+
   /**
    * The function of this name.
    * @param {string} interfaceName the interface's full name, as `a:b/c@1.0.0`
    * @param {string} name
    */
   find(interfaceName, name) {
+    return this.#found("witcall_find", interfaceName, name);
+  }
+
+  /** A function that a world itself imports. */
+  findImport(world, name) {
+    return this.#found("witcall_find_import", world, name);
+  }
+
+  /** A function that a world itself exports. */
+  findExport(world, name) {
+    return this.#found("witcall_find_export", world, name);
+  }
+
+  #found(which, owner, name) {
     const { core, handle } = this.place;
     const space = new Space(core);
     try {
-      const names = [interfaceName, name].flatMap((it) => space.putText(it));
-      const status = core.call("witcall_find", handle, ...names);
+      const names = [owner, name].flatMap((it) => space.putText(it));
+      const status = core.call(which, handle, ...names);
       if (status.code !== CODE.DONE) throw core.error(status);
       return this.functions.find((it) => it.number === status.count);
     } finally {
@@ -158,6 +183,7 @@ export class Package {
 
   /** Frees the package. It is not to be used any more; closing it again does nothing. */
   close() {
+    for (const pkg of this.#owned.splice(0)) pkg.close();
     const place = this.#place;
     this.#place = undefined;
     if (!place) return;

@@ -1,12 +1,11 @@
 // JavaScript's values of a type, as texts of JSON (docs/FORMATS.md) and back. The library tests them, so that a value of
 // another type becomes a text that it refuses.
 
+import { meant } from "./reach.js";
+
 /** Kinds of 64 bits, which are BigInt. */
 const WIDE = new Set(["s64", "u64"]);
 const NARROW = new Set(["s8", "u8", "s16", "u16", "s32", "u32"]);
-
-/** The type that an alias or a used name stands for. */
-const meant = (type) => (type.kind === "alias" || type.kind === "use" ? meant(type.target) : type);
 
 const memberOf = (type, name) => type.members.find((it) => it.name === name)?.type;
 

@@ -1,7 +1,7 @@
 // Core modules for the tests, made without a compiler.
 const TYPES = { i32: 0x7f, i64: 0x7e };
 const MAGIC = [0, 0x61, 0x73, 0x6d, 1, 0, 0, 0];
-const SECTION = { TYPE: 1, IMPORT: 2, MEMORY: 5, EXPORT: 7 };
+const SECTION = { TYPE: 1, IMPORT: 2, FUNCTION: 3, MEMORY: 5, GLOBAL: 6, EXPORT: 7, CODE: 10 };
 const KIND = { FUNCTION: 0, MEMORY: 2 };
 
 /** An unsigned number in LEB128. */
@@ -41,6 +41,54 @@ export function forwarding(functions, pages) {
       [...text("memory"), KIND.MEMORY, 0],
       ...all.map(({ name }, index) => [...text(name), KIND.FUNCTION, ...leb(index)]),
     ]),
+  ];
+  return new WebAssembly.Module(new Uint8Array(bytes));
+}
+
+/** `cabi_realloc`: a block above the last one, for which the memory grows page by page. */
+const BUMP = [
+  [0x23, 0, 0x20, 2, 0x6a, 0x41, 1, 0x6b, 0x41, 0, 0x20, 2, 0x6b, 0x71, 0x22, 4], // at = (top + align - 1) & -align
+  [0x20, 3, 0x6a, 0x24, 0], // top = at + size
+  [0x02, 0x40, 0x03, 0x40, 0x23, 0, 0x3f, 0, 0x41, 16, 0x74, 0x4d, 0x0d, 1], // until top <= pages * 65536
+  [0x41, 1, 0x40, 0, 0x41, 0x7f, 0x46, 0x04, 0x40, 0x00, 0x0b, 0x0c, 0, 0x0b, 0x0b], // grow, or stop
+  [0x20, 4],
+].flat();
+
+/** Calls an import with the parameters, and with an area if the result goes to one. */
+function relayed(func, index, area) {
+  const values = func.lifted.parameters.flatMap((_, k) => [0x20, ...leb(k)]);
+  const hasArea = func.lowered.results.length < func.lifted.results.length;
+  const address = [0x41, ...leb(area)];
+  return [...values, ...(hasArea ? address : []), 0x10, ...leb(index), ...(hasArea ? address : [])];
+}
+
+const body = (locals, code) => {
+  const bytes = [...vector(locals), ...code, 0x0b];
+  return [...leb(bytes.length), ...bytes];
+};
+
+/**
+ * A guest whose exports hand all of their arguments to functions that it imports, and give what these answer. It has a
+ * memory of one page, and an allocator for which it grows.
+ * @param {[object, {module: string, name: string}][]} pairs functions that are exported, and whom each asks
+ */
+export function relaying(pairs) {
+  const own = pairs.map(([func]) => ({ name: func.interface ? `${func.interface}#${func.name}` : func.name, ...func.lifted }));
+  const asked = pairs.map(([func]) => func.lowered);
+  const all = [...asked, ...own, { ...REALLOC }];
+  const AREA = 16;
+  const bytes = [
+    ...MAGIC,
+    ...section(SECTION.TYPE, all.map(signature)),
+    ...section(SECTION.IMPORT, pairs.map(([, { module, name }], index) => [...text(module), ...text(name), 0, ...leb(index)])),
+    ...section(SECTION.FUNCTION, [...own, REALLOC].map((_, k) => leb(asked.length + k))),
+    ...section(SECTION.MEMORY, [[0, 1]]),
+    ...section(SECTION.GLOBAL, [[TYPES.i32, 1, 0x41, ...leb(1024), 0x0b]]),
+    ...section(SECTION.EXPORT, [
+      [...text("memory"), KIND.MEMORY, 0],
+      ...[...own, REALLOC].map(({ name }, k) => [...text(name), KIND.FUNCTION, ...leb(asked.length + k)]),
+    ]),
+    ...section(SECTION.CODE, [...pairs.map(([func], k) => body([], relayed(func, k, AREA))), body([[1, TYPES.i32]], BUMP)]),
   ];
   return new WebAssembly.Module(new Uint8Array(bytes));
 }

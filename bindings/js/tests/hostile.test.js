@@ -46,7 +46,7 @@ function line(half, func, values, bytes, limit) {
   };
   const began = process.cpuUsage();
   try {
-    new Half(pkg, pkg.find("a:b/c", func).number, half, limit).carry([values], from, to);
+    new Half(pkg, pkg.find("a:b/c", func), half, limit).carry([values], from, to);
     return "done";
   } catch (error) {
     const { user, system } = process.cpuUsage(began);
@@ -129,6 +129,6 @@ test("what a stranger's memories ask for is bounded by the limit", { skip }, () 
 test("a half ends at the first block that is not granted", { skip }, () => {
   const bytes = memory(Uint32Array.from({ length: 128 }, (_, place) => (place % 2) * 64));
   const to = { bytes: new Uint8Array(LIMIT), grant: (asked) => asked.slice(0, 1).map((it) => ({ ...it, at: 0 })) };
-  const half = new Half(pkg, pkg.find("a:b/c", "take4").number, "witcall_enter", 2 ** 25);
+  const half = new Half(pkg, pkg.find("a:b/c", "take4"), "witcall_enter", 2 ** 25);
   assert.throws(() => half.carry([[0, 64]], { bytes }, to), { message: "trap K6 full in lower-args" });
 });

@@ -90,7 +90,7 @@ test("types of the greatest depth are opened, and their values carried", { skip 
     bytes: new Uint8Array(65536),
     grant: (asked) => asked.map((it, place) => ({ ...it, at: 8 * place })),
   };
-  const half = new Half(pkg, pkg.find("a:b/c", "f").number, "witcall_enter", 65536);
+  const half = new Half(pkg, pkg.find("a:b/c", "f"), "witcall_enter", 65536);
   assert.deepEqual(half.carry([[0, 1]], from, to), [0, 1]);
   const nested = `${"result<".repeat(63)}u8${">".repeat(63)}`;
   assert.equal(witcall.open(`package a:b; interface c { type t = ${nested}; }`).types.length, 63);

@@ -60,28 +60,29 @@ class Memory {
   }
 }
 
-/** A core function that says what it got, and answers or stops. */
-function core(got, answer, stops) {
+/** A core function that says what it got, writes bytes, and answers or stops. */
+function core(got, answer, stops, write = () => {}) {
   return (...values) => {
     got.push(values);
+    write();
     if (stops) throw new WebAssembly.RuntimeError("unreachable");
     return answer;
   };
 }
 
-function made({ pkg, iface, name, flats, sides, answer, stop, body, post }) {
+function made(pkg, iface, sides, { name, flats, answer, stop, write, body, post }) {
   const func = pkg.find(iface, name);
   const exports = {
-    [`${iface}#${name}`]: core(body, answer, stop === "body"),
+    [`${iface}#${name}`]: core(body, answer, stop === "body", write),
     [`cabi_post_${iface}#${name}`]: core(post, undefined, stop === "post"),
   };
   const back = lowered(pkg, func, { ...sides, exports, limit: Number.MAX_SAFE_INTEGER })(...flats);
   return back === undefined ? [] : [back];
 }
 
-function outcomeOf(call) {
+function outcomeOf(run) {
   try {
-    return `ok:${flatsOf(made(call))}`;
+    return run();
   } catch (error) {
     if (error instanceof Trap) return `trap:K${error.number}:${error.step}`;
     if (error instanceof WitError) return `refused:${error.number}`;
@@ -89,22 +90,37 @@ function outcomeOf(call) {
   }
 }
 
+/** A function that is called, and what its body does. */
+function called(name, flats, answer, stop, write) {
+  return { name, flats: valuesOf(flats), answer: valuesOf(answer), stop, write, body: [], post: [] };
+}
+
+/** How a call ended, and what the body and post-return got. */
+function runOf(pkg, iface, sides, call) {
+  const outcome = outcomeOf(() => `ok:${flatsOf(made(pkg, iface, sides, call))}`);
+  return [outcome, flatsOf(call.body[0] ?? null), flatsOf(call.post[0] ?? null)];
+}
+
+/** What a body does to its memory: it writes bytes at an address, or nothing. */
+function writing(memory, word) {
+  const [at, digits] = word.split(":");
+  return digits === undefined ? undefined : () => memory.bytes.set(bytesOf(digits), Number(at));
+}
+
 function told(line) {
-  const [bytes, iface, name, flats, caller, grants, callee, grantsToo, answer, stop] = line.split(" ");
+  const [bytes, iface, name, flats, caller, grants, callee, grantsToo, answer, stop, writes, ...next] = line.split(" ");
   const sides = { caller: new Memory(caller, grants), callee: new Memory(callee, grantsToo) };
-  const [body, post] = [[], []];
-  const call = { iface, name, flats: valuesOf(flats), sides, answer: valuesOf(answer), stop, body, post };
-  let outcome;
-  try {
-    call.pkg = library.open(bytesOf(bytes));
-    outcome = outcomeOf(call);
-    call.pkg.close();
-  } catch (error) {
-    if (!(error instanceof WitError)) throw error;
-    outcome = `refused:${error.number}`;
-  }
+  const calls = [called(name, flats, answer, stop, writing(sides.callee, writes))];
+  if (next[0] !== "-") calls.push(called(...next, "no"));
+  let runs;
+  const refused = outcomeOf(() => {
+    const pkg = library.open(bytesOf(bytes));
+    runs = calls.map((it) => runOf(pkg, iface, sides, it));
+    pkg.close();
+  });
+  const [first, ...after] = runs ?? [[refused, "none", "none"]];
   const memories = [sides.caller, sides.callee].flatMap((it) => [hexOf(it.bytes), listed(it.log)]);
-  return [outcome, flatsOf(body[0] ?? null), flatsOf(post[0] ?? null), ...memories].join(" ");
+  return [...first, ...memories, ...after.flat()].join(" ");
 }
 
 for await (const line of createInterface({ input: process.stdin })) console.log(told(line));

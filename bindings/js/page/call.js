@@ -1,0 +1,115 @@
+// A call with values as JSON, between two memories of this page.
+import { Half } from "../lib/half.js";
+import { filled, readText } from "../lib/lift.js";
+import { flatCount, resultReader } from "../lib/reach.js";
+import { single } from "../lib/single.js";
+import { nameOf, walkOver } from "./parts.js";
+
+const encoder = new TextEncoder();
+const SIZE = 65536;
+const FIRST = 16;
+const MAX_FLAT = 16;
+
+/** A memory, and an allocator that makes blocks one above another. */
+class Memory {
+  bytes = new Uint8Array(SIZE);
+  blocks = [];
+  #top = FIRST;
+
+  take(align, size, what) {
+    const at = Math.ceil(this.#top / align) * align;
+    this.#top = at + size;
+    const block = { align, size, at, what };
+    this.blocks.push(block);
+    return block;
+  }
+
+  grant = (asked) => asked.map(({ align, size }) => this.take(align, size, "block"));
+
+  side = { bytes: () => this.bytes, grant: this.grant, limit: SIZE };
+}
+
+const word = (flat) => (typeof flat === "bigint" ? `i64 ${flat}` : `i32 ${flat}`);
+const words = (flats) => flats.map(word).join(", ") || "nothing";
+
+/** The parts of arguments: of the record of all, or of what the core values point to. */
+function argumentParts(func, flats, bytes) {
+  const walk = walkOver(bytes);
+  const count = func.parameters.reduce((sum, it) => sum + flatCount(it.type), 0);
+  let place = 0;
+  for (const { name, type, offset } of func.parameters) {
+    if (count > MAX_FLAT) walk.value(type, (flats[0] >>> 0) + offset, name);
+    else walk.flats(type, flats, place, name, flatCount);
+    place += flatCount(type);
+  }
+  return walk.parts.all;
+}
+
+/** The parts of a result, at an address or as a core value. */
+function resultParts(func, flats, bytes) {
+  if (!func.result || flatCount(func.result.type) === 1) return [];
+  const walk = walkOver(bytes);
+  walk.value(func.result.type, flats[0] >>> 0, "result");
+  return walk.parts.all;
+}
+
+/**
+ * Makes a call.
+ * @param {import("../lib/package.js").Package} pkg
+ * @param {object} func
+ * @param {string} args a JSON array of the arguments
+ * @param {string} reply the JSON of the result
+ * @returns {{steps: string[], caller: object, callee: object, result?: string, error?: Error}}
+ */
+export function called(pkg, func, args, reply) {
+  const memories = { caller: new Memory(), callee: new Memory() };
+  const parts = { caller: [], callee: [] };
+  const steps = [];
+  const of = (who) => ({ memory: memories[who], parts: parts[who] });
+  const done = { steps, caller: of("caller"), callee: of("callee") };
+  const stores = { step: "The arguments are written into the caller's memory" };
+  try {
+    result(pkg, func, { args, reply, parts, steps, stores, done, ...memories });
+  } catch (error) {
+    done.error = error;
+    done.step = stores.step;
+  }
+  return done;
+}
+
+function result(pkg, func, call) {
+  const { args, reply, caller, callee, parts, steps, stores, done } = call;
+  const enter = new Half(pkg, func, "witcall_enter", SIZE);
+  const leave = new Half(pkg, func, "witcall_leave", SIZE);
+  const given = filled(pkg, func, encoder.encode(args), caller.side);
+  const hasArea = func.result !== null && func.lowered.results.length === 0;
+  const area = hasArea ? caller.take(func.result.alignment, func.result.size, "return area") : undefined;
+  const flats = area ? [...given, area.at] : given;
+  parts.caller.push(...argumentParts(func, given, caller.bytes));
+  steps.push(`The caller passes ${words(flats)}.`);
+  stores.step = "The arguments go into the callee's memory";
+  const handed = enter.carry([flats], caller, callee);
+  parts.callee.push(...argumentParts(func, handed, callee.bytes));
+  steps.push(`The callee's core function gets ${words(handed)}.`);
+  stores.step = "The answer is written into the callee's memory";
+  const answer = answered(pkg, func, reply, callee);
+  parts.callee.push(...resultParts(func, answer, callee.bytes));
+  steps.push(`It answers ${words(answer)}.`);
+  stores.step = "The answer goes into the caller's memory";
+  const back = leave.carry([flats, answer], callee, caller, area);
+  const found = area ? [area.at] : back;
+  parts.caller.push(...resultParts(func, found, caller.bytes));
+  steps.push(area ? `The caller finds the result at ${area.at}.` : `The caller gets ${words(back)}.`);
+  if (!func.result) return;
+  done.result = readText(pkg, func, resultReader(func), found, caller.side);
+  steps.push(`Read there, it is ${done.result}, of type ${nameOf(func.result.type)}.`);
+}
+
+/** Puts an answer into the callee's memory, and returns its core values. */
+function answered(pkg, func, reply, callee) {
+  if (!func.result) return [];
+  const { pkg: types, take, isFlat } = single(pkg, func);
+  const pads = isFlat ? "" : ",0".repeat(take.parameters.length - 1);
+  const side = { ...callee.side, limit: SIZE + take.size };
+  return filled(types, take, encoder.encode(`[${reply}${pads}]`), side);
+}

@@ -1,0 +1,326 @@
+// The page: the text on the left, and on the right what it is.
+import { WitError } from "../lib/errors.js";
+import { load } from "../lib/library.js";
+import { called } from "./call.js";
+import { EXAMPLES } from "./examples.js";
+import { nameOf, partsOf, sampleOf } from "./parts.js";
+import { Lights, el, narrow, picture } from "./picture.js";
+import { faultOf, packagesOf } from "./text.js";
+
+const $ = (id) => document.getElementById(id);
+const [text, marks, numbers, fault, state] = ["text", "marks", "numbers", "fault", "state"].map($);
+const TABS = ["types", "functions", "call", "canonical"];
+
+/** How long the page waits after a key, in milliseconds. */
+const WAIT = 150;
+
+let witcall;
+let pkg;
+const chosen = { tab: "types", func: "", args: undefined, reply: undefined };
+
+// ---- the link: the text and the call
+
+function keep() {
+  const words = new URLSearchParams();
+  for (const [name, value] of Object.entries({ wit: text.value, ...chosen })) if (value) words.set(name, value);
+  const hash = `#${words}`;
+  if (hash !== location.hash) history.replaceState(null, "", hash);
+}
+
+function restore() {
+  const words = new URLSearchParams(location.hash.slice(1));
+  text.value = words.get("wit") ?? Object.values(EXAMPLES)[0];
+  chosen.tab = TABS.includes(words.get("tab")) ? words.get("tab") : "types";
+  chosen.func = words.get("func") ?? "";
+  chosen.args = words.get("args") ?? undefined;
+  chosen.reply = words.get("reply") ?? undefined;
+}
+
+// ---- the left side
+
+function drawNumbers() {
+  numbers.textContent = text.value.split("\n").map((_, place) => place + 1).join("\n");
+}
+
+function scrolled() {
+  marks.scrollTop = numbers.scrollTop = text.scrollTop;
+  marks.scrollLeft = text.scrollLeft;
+}
+
+function drawFault(found) {
+  fault.replaceChildren();
+  marks.replaceChildren();
+  if (!found) return;
+  const { line, hint, start, end, row, column, source, isSure } = found;
+  const where = row ? `line ${row}, column ${column}: ` : "";
+  const box = el("div", { class: "fault" }, el("strong", {}, `${where}${line}`));
+  if (row) {
+    const length = Math.max(Math.min(end - start, source.length - column + 1), 1);
+    const indent = source.slice(0, column - 1).replace(/[^\t]/g, " ");
+    box.append(el("pre", {}, `${source}\n`, el("span", { class: "caret" }, `${indent}${"^".repeat(length)}`)));
+    if (!isSure) box.append(el("p", { class: "dim" }, "The name is in more than one place. This is one of them."));
+    const go = () => {
+      text.focus();
+      text.setSelectionRange(start, end);
+    };
+    box.append(el("button", { type: "button", on: { click: go } }, "Go there"));
+    const mark = el("mark", {}, text.value.slice(start, end) || " ");
+    marks.append(text.value.slice(0, start), mark, `${text.value.slice(end)}\n`);
+  }
+  if (hint) box.append(el("p", {}, `What to do: ${hint}.`));
+  fault.append(box);
+  scrolled();
+}
+
+/** Opens the packages of the text, one after another, so that it is known which one is refused. */
+function opened(parts) {
+  let last;
+  for (let count = 1; count <= parts.length; count++) {
+    const inputs = parts.slice(0, count).map((it) => it.text);
+    try {
+      const next = witcall.open(inputs);
+      last?.close();
+      last = next;
+    } catch (error) {
+      last?.close();
+      throw Object.assign(error, { part: parts[count - 1] });
+    }
+  }
+  return last;
+}
+
+function changed() {
+  drawNumbers();
+  try {
+    const next = opened(packagesOf(text.value));
+    pkg?.close();
+    pkg = next;
+    drawFault(undefined);
+    document.querySelector(".right").classList.remove("stale");
+    draw();
+  } catch (error) {
+    if (!(error instanceof WitError)) throw error;
+    drawFault(faultOf(text.value, error.part, error));
+    say(error.line, true);
+    document.querySelector(".right").classList.add("stale");
+  }
+  keep();
+}
+
+function say(words, isBad = false) {
+  state.textContent = words;
+  state.classList.toggle("bad", isBad);
+}
+
+// ---- the right side
+
+const plural = (count, word) => `${count} ${word}${count === 1 ? "" : "s"}`;
+const functionName = (func) => `${func.interface ?? func.world}#${func.name}`;
+
+function draw() {
+  const named = pkg.types.filter((it) => it.name && it.kind !== "use");
+  say(`${plural(named.length, "type")}, ${plural(pkg.functions.length, "function")} · witcall ${witcall.version}`);
+  drawTypes(named);
+  drawFunctions();
+  drawCall();
+  $("canonical").replaceChildren(el("div", { class: "card" }, el("pre", {}, pkg.toText())));
+  show(chosen.tab);
+}
+
+function layoutCard(title, type, of) {
+  const told = el("p", { class: "told", "aria-live": "polite" });
+  const parts = partsOf(type);
+  const card = el("div", { class: "card" }, el("h3", {}, title), el("p", {}, of));
+  card.append(picture(parts, { from: 0, to: Math.max(type.size, 1), lights: new Lights(told), label: title }), told);
+  return card;
+}
+
+const bytesWord = (count) => plural(count, "byte");
+
+function drawTypes(named) {
+  const cards = named.map((it) => {
+    const kind = it.kind === "alias" ? `type = ${nameOf(it.target)}` : it.kind;
+    const where = `${kind} in ${it.interface ?? it.world}`;
+    return layoutCard(it.name, it, `${where} · ${bytesWord(it.size)}, aligned to ${it.alignment}`);
+  });
+  $("types").replaceChildren(...(cards.length > 0 ? cards : [el("p", { class: "dim" }, "No type has a name here.")]));
+}
+
+const coreText = ({ parameters, results }) =>
+  `(${parameters.join(", ")})${results.length > 0 ? ` -> ${results.join(", ")}` : ""}`;
+
+function signatureOf(func) {
+  const parameters = func.parameters.map((it) => `${it.name}: ${nameOf(it.type)}`).join(", ");
+  return `${func.name}: func(${parameters})${func.result ? ` -> ${nameOf(func.result.type)}` : ""}`;
+}
+
+function drawFunctions() {
+  const cards = pkg.functions.map((func) => {
+    const rows = [["callee exports", coreText(func.lifted)], ["caller imports", coreText(func.lowered)]];
+    const row = ([name, words]) => el("tr", {}, el("th", { scope: "row" }, name), el("td", {}, el("code", {}, words)));
+    const call = el("button", { type: "button", on: { click: () => choose(func) } }, "Call it");
+    const title = el("h3", {}, functionName(func));
+    const signature = el("pre", { class: "signature" }, signatureOf(func));
+    return el("div", { class: "card" }, title, signature, el("table", {}, ...rows.map(row)), call);
+  });
+  $("functions").replaceChildren(...(cards.length > 0 ? cards : [el("p", { class: "dim" }, "There is no function.")]));
+}
+
+function choose(func) {
+  Object.assign(chosen, { func: functionName(func), args: undefined, reply: undefined, tab: "call" });
+  drawCall();
+  show("call");
+  $("tab-call").focus();
+}
+
+/** The functions, of which one is called. */
+function functionChoice(func) {
+  const names = pkg.functions.map(functionName);
+  const select = el("select", { "aria-label": "Function" }, ...names.map((it) => el("option", { value: it }, it)));
+  select.value = functionName(func);
+  select.addEventListener("change", () => {
+    Object.assign(chosen, { func: select.value, args: undefined, reply: undefined });
+    drawCall();
+  });
+  return select;
+}
+
+function drawCall() {
+  const func = pkg.functions.find((it) => functionName(it) === chosen.func) ?? pkg.functions[0];
+  if (!func) {
+    $("call").replaceChildren(el("p", { class: "dim" }, "There is no function."));
+    return;
+  }
+  if (functionName(func) !== chosen.func) {
+    Object.assign(chosen, { func: functionName(func), args: undefined, reply: undefined });
+  }
+  const args = area(chosen.args ?? JSON.stringify(func.parameters.map((it) => sampleOf(it.type))), "Arguments");
+  const reply = area(chosen.reply ?? (func.result ? JSON.stringify(sampleOf(func.result.type)) : ""), "Answer");
+  reply.disabled = !func.result;
+  const out = el("div", { id: "call-result", "aria-live": "polite" });
+  const again = () => {
+    drawMemories(out, func, args.value, reply.value);
+    keep();
+  };
+  for (const [name, it] of [["args", args], ["reply", reply]]) {
+    it.addEventListener("input", () => {
+      chosen[name] = it.value;
+      again();
+    });
+  }
+  const pair = [el("label", {}, "Arguments, a JSON array", args), el("label", {}, "Answer, as JSON", reply)];
+  const signature = el("pre", { class: "signature" }, signatureOf(func));
+  const fields = el("div", { class: "fields" }, functionChoice(func), signature, el("div", { class: "pair" }, ...pair));
+  $("call").replaceChildren(fields, out);
+  again();
+}
+
+const area = (value, label) => {
+  const it = el("textarea", { rows: "3", spellcheck: "false", "aria-label": label });
+  it.value = value;
+  return it;
+};
+
+/** Colors by paths, so that a field has the same one in both memories. */
+function colored(parts, hues) {
+  return parts.map((part) => {
+    const key = part.path.replace(/\[\d+\]/g, "[]");
+    if (!hues.has(key)) hues.set(key, hues.size);
+    return { ...part, hue: hues.get(key) };
+  });
+}
+
+/** What belongs together in both memories. */
+const keyOf = ({ path, kind }) => `${path} ${kind}`;
+
+function memoryCard(who, { memory, parts }, lights, hues) {
+  const all = memory.blocks.filter((it) => it.size > 0);
+  const card = el("div", { class: "card" }, el("h3", {}, `The ${who}'s memory`));
+  if (all.length === 0) {
+    card.append(el("p", {}, "No byte of it is used."));
+    return card;
+  }
+  const from = Math.min(...all.map((it) => it.at)) & ~15;
+  const to = Math.max(...all.map((it) => it.at + it.size));
+  const blocks = all.map(({ at, size, what }) => `${what} at ${at}, ${bytesWord(size)}`).join(" · ");
+  const options = { from, to, bytes: memory.bytes, lights, label: who, keyOf };
+  card.append(el("p", {}, blocks), picture(colored(parts, hues), options));
+  return card;
+}
+
+function drawMemories(out, func, args, reply) {
+  const done = called(pkg, func, args, reply);
+  const told = el("p", { class: "told", "aria-live": "polite" });
+  const lights = new Lights(told);
+  const hues = new Map();
+  const boxes = ["caller", "callee"].map((who) => memoryCard(who, done[who], lights, hues));
+  const steps = el("ol", { class: "steps" }, ...done.steps.map((it) => el("li", {}, el("code", {}, it))));
+  const all = [steps, told, el("div", { class: "memories" }, ...boxes)];
+  if (done.error) {
+    const words = [el("strong", {}, done.error.message), el("p", {}, `${done.step}.`)];
+    all.splice(1, 0, el("div", { class: "fault", role: "alert" }, ...words));
+  }
+  out.replaceChildren(...all);
+}
+
+function show(tab) {
+  chosen.tab = tab;
+  for (const name of TABS) {
+    $(name).hidden = name !== tab;
+    $(`tab-${name}`).setAttribute("aria-selected", String(name === tab));
+    $(`tab-${name}`).tabIndex = name === tab ? 0 : -1;
+  }
+  keep();
+}
+
+// ---- what a user does
+
+let waiting;
+text.addEventListener("input", () => {
+  clearTimeout(waiting);
+  drawNumbers();
+  marks.replaceChildren();
+  $("examples").selectedIndex = -1;
+  waiting = setTimeout(changed, WAIT);
+});
+text.addEventListener("scroll", scrolled);
+TABS.forEach((name, place) => {
+  $(`tab-${name}`).addEventListener("click", () => show(name));
+  $(`tab-${name}`).addEventListener("keydown", (event) => {
+    const step = { ArrowRight: 1, ArrowLeft: -1 }[event.key];
+    if (!step) return;
+    const next = TABS[(place + step + TABS.length) % TABS.length];
+    show(next);
+    $(`tab-${next}`).focus();
+  });
+});
+$("examples").append(...Object.keys(EXAMPLES).map((it) => el("option", {}, it)));
+$("examples").addEventListener("change", (event) => {
+  text.value = EXAMPLES[event.target.value];
+  Object.assign(chosen, { func: "", args: undefined, reply: undefined });
+  changed();
+});
+$("link").addEventListener("click", async () => {
+  keep();
+  try {
+    await navigator.clipboard.writeText(location.href);
+    say("The link is copied.");
+  } catch {
+    say("The address of this page is the link.");
+  }
+});
+narrow.addEventListener("change", () => pkg && draw());
+window.addEventListener("hashchange", () => {
+  restore();
+  changed();
+});
+
+try {
+  const packed = Uint8Array.from(atob(document.getElementById("module").textContent.trim()), (it) => it.charCodeAt(0));
+  witcall = await load(packed);
+  restore();
+  $("examples").selectedIndex = Object.values(EXAMPLES).indexOf(text.value);
+  changed();
+} catch (error) {
+  say(`The module doesn't run here: ${error.message}`, true);
+}
