@@ -5,7 +5,7 @@
 #
 # BUILD is the folder that it builds in, else a temporary one. --released and --built are those of tools/install.sh.
 # With --c only those hosts are run that need a C compiler alone, with its sanitizers and pkg-config if these are there:
-# host, faults, threads, moved, lists, values and vectors. With --bindings only python and crate are run.
+# host, faults, threads, moved, lists, values, vectors and json_vectors. With --bindings only python and crate are run.
 #
 # | host           | is                                                | needs                                               |
 # |----------------|---------------------------------------------------|-----------------------------------------------------|
@@ -19,13 +19,14 @@
 # | lists          | what packages have, beside examples/c/shop.h      | the compiler's sanitizers                           |
 # | values         | a call with values as JSON, in C                  | the compiler's sanitizers                           |
 # | vectors        | the stored calls of crates/vectors, in C          | python3                                             |
+# | json_vectors   | its rows of a host's memory, with values as JSON  | python3                                             |
 # | bindings       | examples/c/shop.h, made anew                      |                                                     |
 # | engine         | core modules in Node's engine, their traps        | clang, lld, Node with its headers                   |
 # | js             | the same modules, linked by bindings/js           | clang, lld, Node, the module of the release         |
 # | js-tests       | the tests of bindings/js, and the stored calls    | Node, python3, the module of the release            |
-# | python         | the tests of bindings/python, and the stored calls | Python 3.9 or newer                                |
+# | python         | the tests of bindings/python, both kinds of rows  | Python 3.9 or newer                                 |
 # | languages      | the programs of docs/LANGUAGES.md                 | python3, and the tools of each language             |
-# | crate          | the tests of bindings/rust, and the stored calls  | cargo, python3; clippy and rustfmt if they are there |
+# | crate          | the tests of bindings/rust, both kinds of rows    | cargo, python3; clippy and rustfmt if they are there |
 #
 # Debian's packages are gcc, pkg-config, cmake, make, cargo, valgrind, python3, clang, lld, nodejs and libnode-dev. A host whose tools are
 # missing is skipped, which is a failure with --all. CC names the C compiler. Each step says `ok`; the exit status is 1 if one fails.
@@ -175,8 +176,11 @@ python_tests() {
     (cd "$root/bindings/python" && WITCALL_LIBRARY="$prefix/lib/libwitcall.so" python3 -B -m unittest discover -s tests -t .)
 }
 
-python_vectors() {
-    WITCALL_LIBRARY="$prefix/lib/libwitcall.so" python3 -B "$here/c/vectors.py" "$root/bindings/python/tests/vectors.py"
+# Takes the rows of a script of examples/c by the program of the same name in bindings/python.
+python_rows() {
+    program=$1
+    shift
+    WITCALL_LIBRARY="$prefix/lib/libwitcall.so" python3 -B "$here/c/$program.py" "$root/bindings/python/tests/$program.py" "$@"
 }
 
 # Runs cargo for bindings/rust.
@@ -234,14 +238,16 @@ if has values "$CC" && has_sanitizer values address,undefined; then
     step build-values checked_c_program "$here/c/values.c" "$build/values"
     same values "$here/c/values.expected" "$build/values"
 fi
-if has vectors python3; then
-    step build-vectors c_program "$here/c/vectors.c" "$build/vectors"
-    same vectors "$here/c/vectors.expected" python3 "$here/c/vectors.py" "$build/vectors"
-    if has_sanitizer vectors-checked address,undefined; then
-        step build-vectors-checked checked_c_program "$here/c/vectors.c" "$build/vectors-checked"
-        same vectors-checked "$here/c/vectors.expected" python3 "$here/c/vectors.py" "$build/vectors-checked"
+for rows in vectors json_vectors; do
+    if has "$rows" python3; then
+        step "build-$rows" c_program "$here/c/$rows.c" "$build/$rows"
+        same "$rows" "$here/c/$rows.expected" python3 "$here/c/$rows.py" "$build/$rows"
+        if has_sanitizer "$rows-checked" address,undefined; then
+            step "build-$rows-checked" checked_c_program "$here/c/$rows.c" "$build/$rows-checked"
+            same "$rows-checked" "$here/c/$rows.expected" python3 "$here/c/$rows.py" "$build/$rows-checked"
+        fi
     fi
-fi
+done
 if has bindings; then
     same bindings "$here/c/shop.h" "$prefix/bin/wit-explain" bind c "$here/c/shop.wit"
 fi
@@ -262,12 +268,15 @@ if has js-tests node python3 && has_module js-tests; then
 fi
 if has python python3 && has_new_python python; then
     step python-tests python_tests
-    same python-vectors "$here/c/vectors.expected" python_vectors
+    same python-vectors "$here/c/vectors.expected" python_rows vectors
+    same python-json_vectors "$root/bindings/python/tests/json_vectors.expected" python_rows json_vectors room blocks
 fi
 if has crate cargo python3; then
     step crate-tests crate test
-    step crate-example crate build --example vectors
+    step crate-examples crate build --examples
     same crate-vectors "$here/c/vectors.expected" python3 -B "$here/c/vectors.py" "$build/crate/debug/examples/vectors"
+    same crate-json_vectors "$root/bindings/rust/examples/json_vectors.expected" \
+        python3 -B "$here/c/json_vectors.py" "$build/crate/debug/examples/json_vectors" room
     if command -v cargo-clippy >/dev/null; then
         step crate-clippy crate clippy --all-targets -- -D warnings
     fi

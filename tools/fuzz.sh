@@ -10,12 +10,13 @@
 #
 # | harness | its inputs                                                                | share of the time |
 # |---------|---------------------------------------------------------------------------|-------------------|
-# | halves  | types, values and blocks of calls; each half, and what it asks for         | one process       |
+# | halves  | types, values and blocks of calls; each half, and what it asks for         | half of a process |
+# | json    | the same with values as JSON, and texts that are none                      | half of a process |
 # | open    | texts and binaries: what is opened is written and opens again              | half of the other |
 # | set     | sets of texts and binaries, their lengths, and names that are looked for   | three eighths     |
 # | status  | statuses and the room for their lines                                      | one eighth        |
 #
-# The first inputs are made of the stored rows (tests/fuzz/seeds.py). At the end open and halves run COMPARED more
+# The first inputs are made of the stored rows (tests/fuzz/seeds.py). At the end open, halves and json run COMPARED more
 # inputs each, and tests/fuzz/compare.py compares what they did. A line for each harness has the number of its inputs.
 # The exit status is 1 if something is found or missing.
 #
@@ -35,6 +36,7 @@ case "${1-}" in
 esac
 seconds=$(($1 * 60))
 COMPARED=10000
+HARNESSES="halves json open set status"
 if [ $# -gt 1 ]; then
     mkdir -p "$2"
     build=$(cd "$2" && pwd)
@@ -62,9 +64,9 @@ $(head -n 1 "$build/log")"
 
 # shellcheck disable=SC2086 # no word if none was given
 "$root/tools/install.sh" --prefix "$build/installed" $origin >"$build/log" || fail "the library can't be installed"
-for harness in halves open set status; do
+for harness in $HARNESSES; do
     wrapped=''
-    [ $harness != open ] || wrapped='-Wl,--wrap=malloc -Wl,--wrap=realloc'
+    [ "$harness" != open ] || wrapped='-Wl,--wrap=malloc -Wl,--wrap=realloc'
     # shellcheck disable=SC2086 # the flags are words
     clang $flags $wrapped -I"$build/installed/include" -o "$build/$harness" \
         "$root/tests/fuzz/$harness.c" "$build/installed/lib/libwitcall.a" ||
@@ -84,7 +86,7 @@ run() {
 
 rm -f "$build"/*.failed
 if [ "$seconds" -gt 0 ]; then
-    run halves "$seconds" &
+    (run halves $((seconds / 2)); run json $((seconds / 2))) &
     run open $((seconds / 2))
     run set $((seconds * 3 / 8))
     run status $((seconds / 8))
@@ -95,7 +97,7 @@ fi
 
 failed=0
 all=0
-for harness in halves open set status; do
+for harness in $HARNESSES; do
     [ "$seconds" -gt 0 ] || continue
     inputs=$(sed -n 's/^stat::number_of_executed_units: *//p' "$build/$harness.log")
     if [ -f "$build/$harness.failed" ]; then
@@ -115,7 +117,7 @@ compared() {
         python3 -B "$root/tests/fuzz/compare.py" /dev/stdin && grep -q '^Done ' "$build/$1-cases.log"
 }
 
-for harness in open halves; do
+for harness in open halves json; do
     compared "$harness" || { echo "FAILED $harness: it differs from the models"; failed=1; }
 done
 if [ $failed != 0 ]; then

@@ -10,8 +10,8 @@ usage: tools/pictures.py [--check] [--program WITCALL]
   header. Each call that it names has to be one of include/witcall.h.
 - crates.svg (docs/ARCHITECTURE.md): which crates depend on which, of crates.txt, in the groups of docs/crate-facts.txt.
 
-With --check nothing is written, and the exit status is 1 if a picture is not current, or one is there that no script makes (OTHERS are those of
-tools/check_explain.py). The program is the one that was built, crates/program/out/program, if no other is named.
+With --check nothing is written, and the exit status is 1 if a picture is not current, or one is there that no script makes (OTHERS are of
+tools/check_explain.py and tools/page_test.py). The program is the one that was built, crates/program/out/program, if no other is named.
 """
 import argparse
 import functools
@@ -35,7 +35,7 @@ PLAIN = (("#ffffff", "#57606a", "#1f2328"), ("#0d1117", "#8b949e", "#e6edf3"))
 HUES = (210, 130, 30, 280, 60, 330, 175, 0, 245, 95, 15, 300)
 # groups of docs/crate-facts.txt that the picture of crates leaves out, since nothing depends on them
 TESTS = ("Programs that answer rows", "Tests")
-OTHERS = {"shapes.svg"}
+OTHERS = {"shapes.svg", "page.png", "page-call.png", "page-dark.png", "page-fault.png"}
 ROW = "lists: padding of the target stays too"
 HALVES = "strings: random 5"
 

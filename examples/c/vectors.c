@@ -1,30 +1,17 @@
 /* Makes calls through the library that are said on standard input, one a line, and tells what each did, one a line.
  * examples/c/vectors.py writes the calls from those of crates/vectors, and compares.
  *
- * A call:      package interface function flats caller allocator callee allocator answer stop
- * its answer:  outcome body-got post-got caller requests callee requests
+ * A call:      package interface function flats caller allocator callee allocator answer stop writes next flats answer
+ * its answer:  outcome body-got post-got caller requests callee requests, and of another call outcome body-got post-got
  *
- * Words stand between spaces, and a word of no parts is "-". Bytes are hexadecimal; core values are "i32:7,i64:8"; an
- * allocator is "top:16", above which it grants, or "script:8,none", what it answers in turn; requests are
- * "align:size:address". An outcome is "ok:" and core values, "trap:K5:lift-args", or "refused:63".
+ * Words are those of words.h. An allocator is "top:16", above which it grants, or "script:8,none", what it answers in
+ * turn; requests are "align:size:address". An outcome is "ok:" and core values, "trap:K5:lift-args", or "refused:63".
+ * What a body writes is "address:bytes". A next function is called after the first one, over the same memories.
  */
-#include "witcall.h"
-#include <inttypes.h>
-#include <stdbool.h>
-#include <stdio.h>
-#include <stdlib.h>
-#include <string.h>
+#include "words.h"
 
 /* More than any call of the vectors has. */
-#define MOST_VALUES 32
 #define MOST_BLOCKS 256
-/* The stored calls are made without a limit. */
-#define NO_LIMIT UINT64_MAX
-
-typedef struct {
-    witcall_value at[MOST_VALUES];
-    size_t len;
-} values;
 
 typedef struct {
     uint8_t *bytes;
@@ -32,15 +19,31 @@ typedef struct {
     bool scripted;
     uint32_t top;     /* where no script is: the next block's place */
     char *script;     /* what is left of the answers */
-    witcall_block blocks[MOST_BLOCKS];
-    size_t asked, granted;     /* how many of them */
+    witcall_block blocks[MOST_BLOCKS];     /* that were asked for */
+    bool refused[MOST_BLOCKS];
+    size_t asked;     /* how many of them */
 } memory;
 
 typedef struct {
-    uint8_t *package;
-    size_t package_len;
-    const char *interface, *function, *stop;
+    const witcall_block *at;
+    size_t len;
+} granted;
+
+/* A function that is called, and what its body does: it writes bytes, and answers or stops. */
+typedef struct {
+    const char *function, *stop;
     values flats, answer;
+    uint32_t at;
+    uint8_t *writes;
+    size_t writes_len;
+} called;
+
+typedef struct {
+    uint8_t *bytes;     /* of its package, which is open while calls are made */
+    size_t bytes_len;
+    witcall_package package;
+    const char *interface;
+    called first, next;
     memory caller, callee;
 } call;
 
@@ -60,39 +63,6 @@ static const char *const STEPS[] = {
 
 /* ---- reading ---- */
 
-static void fail(const char *why) {
-    fprintf(stderr, "vectors: %s\n", why);
-    exit(2);
-}
-
-static bool is_none(const char *word) {
-    return strcmp(word, "-") == 0;
-}
-
-/* A block of its own of just so many bytes, so that a tool finds each access beyond it. */
-static uint8_t *bytes_of(const char *word, size_t *len) {
-    *len = is_none(word) ? 0 : strlen(word) / 2;
-    uint8_t *bytes = malloc(*len);
-    if (!bytes && *len)
-        fail("no memory");
-    for (size_t i = 0; i < *len; i++)
-        if (sscanf(word + 2 * i, "%2" SCNx8, &bytes[i]) != 1)
-            fail("bad bytes");
-    return bytes;
-}
-
-static values values_of(char *word) {
-    values all = {.len = 0};
-    char *rest = is_none(word) ? NULL : word;
-    for (char *part; (part = strsep(&rest, ","));) {
-        if (all.len == MOST_VALUES || strlen(part) < 5)
-            fail("bad values");
-        all.at[all.len].kind = strncmp(part, "i64:", 4) == 0;
-        all.at[all.len++].bits = strtoull(part + 4, NULL, 10);
-    }
-    return all;
-}
-
 static memory memory_of(const char *bytes, char *allocator) {
     memory made = {.asked = 0};
     made.bytes = bytes_of(bytes, &made.len);
@@ -104,17 +74,25 @@ static memory memory_of(const char *bytes, char *allocator) {
     return made;
 }
 
+/* What a body writes: an address and bytes, or "-". */
+static void set_writes(called *f, char *word) {
+    f->at = strtoul(word, NULL, 10);
+    f->writes = bytes_of(is_none(word) ? word : strchr(word, ':') + 1, &f->writes_len);
+}
+
 static call call_of(char *line) {
-    char *words[10], *rest = line;
-    for (size_t i = 0; i < 10; i++)
+    char *words[14], *rest = line;
+    for (size_t i = 0; i < 14; i++)
         if (!(words[i] = strsep(&rest, " ")))
-            fail("a call has ten words");
-    call made = {.interface = words[1], .function = words[2], .stop = words[9]};
-    made.package = bytes_of(words[0], &made.package_len);
-    made.flats = values_of(words[3]);
+            fail("a call has fourteen words");
+    call made = {.package = WITCALL_NONE, .interface = words[1]};
+    made.bytes = bytes_of(words[0], &made.bytes_len);
+    made.first = (called){.function = words[2], .flats = values_of(words[3]), .answer = values_of(words[8])};
+    made.next = (called){.function = words[11], .flats = values_of(words[12]), .answer = values_of(words[13])};
+    made.first.stop = words[9], made.next.stop = "no";
+    set_writes(&made.first, words[10]);
     made.caller = memory_of(words[4], words[5]);
     made.callee = memory_of(words[6], words[7]);
-    made.answer = values_of(words[8]);
     return made;
 }
 
@@ -137,18 +115,21 @@ static bool is_granted(memory *m, uint32_t align, uint32_t size, uint32_t *at) {
     return true;
 }
 
-/* Asks a memory's allocator for these blocks in turn, up to the first that it refuses; how many it granted. */
-static size_t grant(memory *m, const witcall_request *requests, size_t count) {
-    if (count > MOST_BLOCKS)
+/* Asks a memory's allocator for these blocks in turn, up to the first that it refuses. */
+static granted grant(memory *m, const witcall_request *requests, size_t count) {
+    granted blocks = {m->blocks + m->asked, 0};
+    if (count > MOST_BLOCKS - m->asked)
         fail("too many blocks");
     for (size_t i = 0; i < count; i++) {
-        m->blocks[i] = (witcall_block){.align = requests[i].align, .size = requests[i].size};
-        m->asked = i + 1;
-        if (!is_granted(m, requests[i].align, requests[i].size, &m->blocks[i].at))
+        witcall_block *block = &m->blocks[m->asked];
+        *block = (witcall_block){.align = requests[i].align, .size = requests[i].size};
+        bool refused = !is_granted(m, block->align, block->size, &block->at);
+        m->refused[m->asked++] = refused;
+        if (refused)
             break;
-        m->granted = i + 1;
+        blocks.len++;
     }
-    return m->granted;
+    return blocks;
 }
 
 static bool failed(answer *a, witcall_status status) {
@@ -156,59 +137,60 @@ static bool failed(answer *a, witcall_status status) {
     return status.code != WITCALL_DONE;
 }
 
-/* The first half, and the run of a body that changes nothing. */
-static bool has_entered(witcall_package *package, uint32_t func, call *c, answer *a) {
+static void run_body(const called *f, memory *callee, answer *a) {
+    a->body_ran = true;
+    if (f->at > callee->len || f->writes_len > callee->len - f->at)
+        fail("a body writes outside its memory");
+    if (f->writes_len)
+        memcpy(callee->bytes + f->at, f->writes, f->writes_len);
+    a->stopped = strcmp(f->stop, "body") == 0 ? "body" : NULL;
+}
+
+/* The first half, and the run of the body. */
+static bool has_entered(call *c, uint32_t func, const called *f, answer *a) {
     witcall_request requests[MOST_BLOCKS];
     memory *from = &c->caller, *to = &c->callee;
     witcall_status asked = witcall_enter_requests(
-        package, func, c->flats.at, c->flats.len, from->bytes, from->len, requests, MOST_BLOCKS, NO_LIMIT);
+        &c->package, func, f->flats.at, f->flats.len, from->bytes, from->len, requests, MOST_BLOCKS, NO_LIMIT);
     if (failed(a, asked))
         return false;
-    size_t granted = grant(to, requests, asked.count);
+    granted blocks = grant(to, requests, asked.count);
     witcall_status entered = witcall_enter(
-        package, func, c->flats.at, c->flats.len, from->bytes, from->len, to->bytes, to->len, to->blocks, granted,
+        &c->package, func, f->flats.at, f->flats.len, from->bytes, from->len, to->bytes, to->len, blocks.at, blocks.len,
         a->body_got.at, MOST_VALUES);
     if (failed(a, entered))
         return false;
-    a->body_ran = true;
     a->body_got.len = entered.count;
-    a->stopped = strcmp(c->stop, "body") == 0 ? "body" : NULL;
+    run_body(f, to, a);
     return !a->stopped;
 }
 
 /* The second half, and the run of post-return. */
-static void leave(witcall_package *package, uint32_t func, call *c, answer *a) {
+static void leave(call *c, uint32_t func, const called *f, answer *a) {
     witcall_request requests[MOST_BLOCKS];
     memory *from = &c->callee, *to = &c->caller;
     witcall_status asked = witcall_leave_requests(
-        package, func, c->answer.at, c->answer.len, from->bytes, from->len, requests, MOST_BLOCKS, NO_LIMIT);
+        &c->package, func, f->answer.at, f->answer.len, from->bytes, from->len, requests, MOST_BLOCKS, NO_LIMIT);
     if (failed(a, asked))
         return;
-    size_t granted = grant(to, requests, asked.count);
+    granted blocks = grant(to, requests, asked.count);
     witcall_status left = witcall_leave(
-        package, func, c->flats.at, c->flats.len, c->answer.at, c->answer.len, from->bytes, from->len, to->bytes, to->len,
-        to->blocks, granted, a->back.at, MOST_VALUES);
+        &c->package, func, f->flats.at, f->flats.len, f->answer.at, f->answer.len, from->bytes, from->len, to->bytes,
+        to->len, blocks.at, blocks.len, a->back.at, MOST_VALUES);
     if (failed(a, left))
         return;
     a->back.len = left.count;
     a->post_ran = true;
-    a->post_got = c->answer;
-    a->stopped = strcmp(c->stop, "post") == 0 ? "post" : NULL;
+    a->post_got = f->answer;
+    a->stopped = strcmp(f->stop, "post") == 0 ? "post" : NULL;
 }
 
-static answer made(call *c) {
+static answer made(call *c, const called *f) {
     answer a = {.stopped = NULL};
-    witcall_package package = WITCALL_NONE;
-    if (failed(&a, witcall_open(c->package, c->package_len, &package))) {
-        witcall_close(&package);
-        return a;
-    }
-    const uint8_t *interface = (const uint8_t *)c->interface, *function = (const uint8_t *)c->function;
-    witcall_status found = witcall_find(
-        &package, interface, strlen(c->interface), function, strlen(c->function));
-    if (!failed(&a, found) && has_entered(&package, found.count, c, &a))
-        leave(&package, found.count, c, &a);
-    witcall_close(&package);
+    const uint8_t *interface = (const uint8_t *)c->interface, *function = (const uint8_t *)f->function;
+    witcall_status found = witcall_find(&c->package, interface, strlen(c->interface), function, strlen(f->function));
+    if (!failed(&a, found) && has_entered(c, found.count, f, &a))
+        leave(c, found.count, f, &a);
     return a;
 }
 
@@ -249,11 +231,38 @@ static void tell_memory(const memory *m) {
     printf(m->asked ? " " : " -");
     for (size_t i = 0; i < m->asked; i++) {
         printf("%s%u:%u:", i ? "," : "", m->blocks[i].align, m->blocks[i].size);
-        if (i < m->granted)
-            printf("%u", m->blocks[i].at);
-        else
+        if (m->refused[i])
             printf("none");
+        else
+            printf("%u", m->blocks[i].at);
     }
+}
+
+/* How a call ended, and what the body and post-return got. */
+static void tell_runs(const answer *a) {
+    tell_outcome(a);
+    tell_run(a->body_ran, &a->body_got);
+    tell_run(a->post_ran, &a->post_got);
+}
+
+/* Makes a call and the next one, and tells both. */
+static void tell_calls(call *c) {
+    answer first = {.stopped = NULL}, next = first;
+    const bool has_next = !is_none(c->next.function);
+    if (!failed(&first, witcall_open(c->bytes, c->bytes_len, &c->package))) {
+        first = made(c, &c->first);
+        if (has_next)
+            next = made(c, &c->next);
+    }
+    witcall_close(&c->package);
+    tell_runs(&first);
+    tell_memory(&c->caller);
+    tell_memory(&c->callee);
+    if (has_next) {
+        printf(" ");
+        tell_runs(&next);
+    }
+    printf("\n");
 }
 
 int main(void) {
@@ -262,14 +271,8 @@ int main(void) {
     for (ssize_t len; (len = getline(&line, &room, stdin)) > 0;) {
         line[len - 1] = '\0';
         call c = call_of(line);
-        answer a = made(&c);
-        tell_outcome(&a);
-        tell_run(a.body_ran, &a.body_got);
-        tell_run(a.post_ran, &a.post_got);
-        tell_memory(&c.caller);
-        tell_memory(&c.callee);
-        printf("\n");
-        free(c.package), free(c.caller.bytes), free(c.callee.bytes);
+        tell_calls(&c);
+        free(c.bytes), free(c.caller.bytes), free(c.callee.bytes), free(c.first.writes);
     }
     free(line);
     return 0;

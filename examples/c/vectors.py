@@ -3,18 +3,24 @@
 
 usage: examples/c/vectors.py PROGRAM      PROGRAM is examples/c/vectors.c, built
 
-Each call has to do the same: its answer or trap, the core values of its runs, the bytes of both memories, and the blocks that were asked
-for. A call in halves differs by its form in three ways, and any other difference is a failure:
+A call whose body asks for blocks is left out, and so are the rows that are no calls. Each call has to do the same: its
+answer or trap, the core values of its runs, the bytes of both memories, and the blocks that were asked for. A call in
+halves differs by its form in four ways, and any other difference is a failure:
 
-  fault first  the source's fault is told before any block is asked for. The stored call met it on its way, behind blocks that were
-               granted and written. The trap is the same; nobody was asked, and the target is as it was.
-  fault alone  the stored call met a refused or bad block first. What is told is the fault that the source has, as the model
-               of calls (tools/models) finds it if each block is granted; nobody was asked, and the target is as it was.
-  bad blocks   blocks of the stored call's allocator that can't be lent (misaligned, outside, meeting each other or the return area) are
-               refused by 72, and the target is as it was.
+  fault first  the source's fault is told before any block is asked for. The stored call met it on its way, behind
+               blocks that were granted and written. The trap is the same; nobody was asked, and the target is as it
+               was.
+  fault alone  the stored call met a refused or bad block first. What is told is the fault that the source has, as the
+               model of calls (tools/models) finds it if each block is granted; nobody was asked, and the target is as
+               it was.
+  bad blocks   blocks of the stored call's allocator that can't be lent (misaligned, outside, meeting each other or the
+               return area) are refused by 72, and the target is as it was.
+  area last    the return area is tested in the second half, behind the requests of the result's blocks. The trap is the
+               same, and the caller is as it was.
 
 The exit status is 1 where something else differs.
 """
+import collections
 import json
 import pathlib
 import subprocess
@@ -39,6 +45,16 @@ WORDS = {
 # of each way of a call: the ends of its steps' names, its target, and that target's requests
 WAYS = [("args", "callee", "callee_log"), ("result", "caller", "caller_log")]
 NO_BLOCKS = 72
+# what a row has that is no call over a link, and what it is about
+OTHER_ROWS = {
+    "steps": "sessions",
+    "host": "a host's memory",
+    "lift": "a value",
+    "lower": "a value",
+    "head_at": "a head",
+    "head_of": "a head",
+}
+SIDES = ("caller", "callee")
 
 
 # ---- the program's lines: words between spaces, "-" for nothing
@@ -59,14 +75,29 @@ def allocator_line(top, script):
     return "script:" + listed("none" if at is None else str(at) for at in script)
 
 
-def line_of(call):
+def bodies_of(call, wanted):
+    """What the body does in the call, and in the next one. A body that doesn't run in the call runs in the next one."""
+    bodies = call.get("body") or [call]
+    if "next" not in call:
+        return bodies[0], {}
+    return bodies if wanted["body_got"] is not None else ({}, bodies[0])
+
+
+def writes_word(body):
+    return ":".join(map(str, body["writes"])) if body.get("writes") else "-"
+
+
+def line_of(call, wanted):
     tops = call.get("tops") or [None, None]
     scripts = call.get("script") or [None, None]
+    first, last = bodies_of(call, wanted)
     package = call["binary"] if "binary" in call else call["text"].encode().hex()
     words = [package or "-", call["iface"], call["func"], flats_line(call["flats"])]
-    for side, top, script in zip(("caller", "callee"), tops, scripts):
+    for side, top, script in zip(SIDES, tops, scripts):
         words += [call[side] or "-", allocator_line(top, script)]
-    words += [flats_line(call.get("answer") or []), call.get("stop") or "no"]
+    words += [flats_line(first.get("answer") or []), first.get("stop") or "no", writes_word(first)]
+    after = call.get("next") or {"func": "-", "flats": []}
+    words += [after["func"], flats_line(after["flats"]), flats_line(last.get("answer") or [])]
     return " ".join(words) + "\n"
 
 
@@ -97,28 +128,67 @@ def outcome_of(word):
 
 def told(line):
     """What the program tells of a call, in the form of the stored answers."""
-    outcome, body_got, post_got, caller, caller_log, callee, callee_log = line.split(" ")
+    outcome, body_got, post_got, caller, caller_log, callee, callee_log, *after = line.split(" ")
     return {
-        "outcome": outcome_of(outcome),
-        "body_got": flats_of(body_got),
-        "post_got": flats_of(post_got),
+        **run_of(outcome, body_got, post_got),
         "caller_after": "" if caller == "-" else caller,
         "callee_after": "" if callee == "-" else callee,
         "caller_log": requests_of(caller_log),
         "callee_log": requests_of(callee_log),
+        "next": run_of(*after) if after else None,
     }
 
 
-# ---- the rules
+def run_of(outcome, body_got, post_got):
+    return {"outcome": outcome_of(outcome), "body_got": flats_of(body_got), "post_got": flats_of(post_got)}
 
 
-def expected_of(stored):
-    """A stored answer as the library tells it: no nodes, and a refusal by its number."""
-    wanted = {key: value for key, value in stored.items() if key != "nodes"}
+# ---- the rows
+
+
+def filled(digits, length):
+    """The bytes of a memory, with the zeros at its end."""
+    return digits if length is None else digits.ljust(2 * length, "0")
+
+
+def left_out(row):
+    """Why a row is left out, or None."""
+    for key, what in OTHER_ROWS.items():
+        if key in row:
+            return what
+    asks = any(body.get("asks") for body in row.get("body") or [])
+    return "a body that asks for blocks" if asks else None
+
+
+def with_lengths(row):
+    """A row with all bytes of its memories."""
+    sides = zip(SIDES, row.get("lens") or [None, None])
+    return {**row, **{side: filled(row[side], length) for side, length in sides}, "lens": [None, None]}
+
+
+def parted(row, stored):
+    """A stored answer, in which what the bodies got is told of the call and of the next one."""
+    if "next" not in row:
+        return {**stored, "next": None}
+    bodies, posts = stored["bodies_got"], stored["posts_got"]
+    after = {"outcome": stored["next"], "body_got": bodies[-1], "post_got": posts[-1]}
+    got = {"body_got": [None, *bodies][-2], "post_got": [None, *posts][-2], "next": after}
+    rest = {key: value for key, value in stored.items() if key not in ("bodies_got", "posts_got")}
+    return {**rest, **got}
+
+
+def expected_of(row, stored):
+    """A stored answer as the library tells it: no nodes, a refusal by its number, and all bytes of the memories."""
+    wanted = {key: value for key, value in parted(row, stored).items() if key != "nodes"}
+    for side, length in zip(SIDES, row.get("lens") or [None, None]):
+        wanted[f"{side}_after"] = filled(wanted[f"{side}_after"], length)
     (kind, words), = stored["outcome"].items()
     if kind == "refused":
         wanted["outcome"] = {"refused": int(words.split()[1])}
     return wanted
+
+
+# ---- the rules
 
 
 def differs_only(wanted, found, keys):
@@ -189,10 +259,32 @@ def is_bad_blocks(call, wanted, found, way):
     ran = found["body_got"] == (None if ends == "args" else wanted["body_got"]) and found["post_got"] is None
     other, other_log = ("caller", "caller_log") if side == "callee" else ("callee", "callee_log")
     same_other = ends == "args" or differs_only(wanted, found, wanted.keys() - {f"{other}_after", other_log})
-    return asked_alike and ran and same_other and found[f"{side}_after"] == call[side]
+    is_kept = found[f"{side}_after"] == call[side] and found["next"] == wanted["next"]
+    return asked_alike and ran and same_other and is_kept
 
 
-RULES = [("fault first", is_fault_first), ("fault alone", is_fault_alone), ("bad blocks", is_bad_blocks)]
+def requests_behind_area(call):
+    """What the result asks the caller for if there is room for all, and for the return area."""
+    roomy = with_room(call, "caller")
+    area = [[*roomy["flats"][-1][:1], len(roomy["caller"]) // 4 // 8 * 8]]
+    return model.told({**roomy, "flats": roomy["flats"][:-1] + area})["caller_log"]
+
+
+def is_area_last(call, wanted, found, way):
+    ends, side, log = way
+    is_of_area = ends == "result" and trap_of(wanted).endswith("lower-result") and wanted[log] == []
+    if not is_of_area or found[f"{side}_after"] != call[side]:
+        return False
+    asked, needed = ([list(request[:2]) for request in log_of] for log_of in (found[log], requests_behind_area(call)))
+    return asked == needed and differs_only(wanted, found, {log})
+
+
+RULES = [
+    ("fault first", is_fault_first),
+    ("fault alone", is_fault_alone),
+    ("bad blocks", is_bad_blocks),
+    ("area last", is_area_last),
+]
 
 
 def rule_of(call, wanted, found):
@@ -207,21 +299,26 @@ def main():
     if len(sys.argv) != 2:
         sys.exit(__doc__)
     files = (VECTORS / name for name in ("stdin", "stdout"))
-    rows = zip(*([json.loads(line) for line in file.read_text().splitlines()] for file in files))
-    # rows of steps and values, and those whose memories or bodies are told otherwise, aren't made here
-    calls, answers = zip(*((call, answer) for call, answer in rows if not call.keys() & {"steps", "lens", "lift", "lower"}))
-    ran = subprocess.run([sys.argv[1]], input="".join(map(line_of, calls)), capture_output=True, text=True)
+    rows = list(zip(*([json.loads(line) for line in file.read_text().splitlines()] for file in files)))
+    reasons = [left_out(row) for row, _ in rows]
+    made = [
+        (with_lengths(row), expected_of(row, stored)) for (row, stored), reason in zip(rows, reasons) if reason is None
+    ]
+    ran = subprocess.run([sys.argv[1]], input="".join(line_of(*it) for it in made), capture_output=True, text=True)
     lines = ran.stdout.splitlines()
-    if ran.returncode or len(lines) != len(calls) or ran.stderr:
+    if ran.returncode or len(lines) != len(made) or ran.stderr:
         sys.exit(f"{sys.argv[1]}: status {ran.returncode}, {len(lines)} answers\n{ran.stderr}")
     counts = {"the same": 0, **{name: 0 for name, _ in RULES}, "differ": 0}
-    for call, stored, line in zip(calls, answers, lines):
-        wanted, found = expected_of(stored), told(line)
+    for (call, wanted), line in zip(made, lines):
+        found = told(line)
         rule = rule_of(call, wanted, found) or "differ"
         counts[rule] += 1
         if rule == "differ":
-            print(f"{call['name']}\n  call   {json.dumps(call)}\n  wanted {json.dumps(wanted)}\n  found  {json.dumps(found)}")
-    print(f"{len(calls)} calls: " + ", ".join(f"{count} {name}" for name, count in counts.items()))
+            print(f"{call['name']}\n  call   {json.dumps(call)}")
+            print(f"  wanted {json.dumps(wanted)}\n  found  {json.dumps(found)}")
+    print(f"{len(made)} calls: " + ", ".join(f"{count} {name}" for name, count in counts.items()))
+    others = collections.Counter(filter(None, reasons)).items()
+    print("left out: " + ", ".join(f"{count} of {reason}" for reason, count in others))
     sys.exit(counts["differ"] > 0)
 
 

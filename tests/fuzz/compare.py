@@ -6,6 +6,8 @@ usage: tests/fuzz/compare.py FILE      FILE has a case a line, as a harness writ
 - open: the text of what is opened, or the line of its refusal.
 - enter, leave: what is asked for, or the trap of the source, or that it is more than the limit; then the status of the
   half, its core values, and each byte of the memory that it writes.
+- json: the JSON of an answer; what a text of arguments asks for; then the status of the call that puts them into a
+  memory, its core values, and each byte of that memory.
 
 It prints how many cases of each kind were the same, and each one that differs; the exit status is 1 then.
 """
@@ -18,17 +20,18 @@ ROOT = pathlib.Path(__file__).resolve().parent.parent.parent
 sys.path.insert(0, str(ROOT))
 sys.dont_write_bytecode = True
 from tools.models.abi import up  # noqa: E402
-from tools.models.calls import Link, numbers_of  # noqa: E402
+from tools.models.calls import Link, line_of, numbers_of  # noqa: E402
 from tools.models.crossing import Flat, Stored, Way  # noqa: E402
 from tools.models.faults import NotModelled, Refused, Trap  # noqa: E402
+from tools.models.hosts import UNSET, Host  # noqa: E402
 from tools.models.jobs import JOBS  # noqa: E402
 from tools.models.memory import Bump, Memory, Scripted  # noqa: E402
 from tools.models.opening import opened  # noqa: E402
 
 # the numbers of a status
 DONE, REFUSED, TRAP = 0, 1, 2
-STEPS = {"lift-args": 2, "lower-args": 3, "lift-result": 5, "lower-result": 6}
-BAD_BLOCK, OTHER_BLOCK, ABOVE_LIMIT = 72, 73, 76
+STEPS = {"place": 0, "lift-args": 2, "lower-args": 3, "lift-result": 5, "lower-result": 6}
+BAD_JSON, NO_ROOM, BAD_BLOCK, OTHER_BLOCK, ABOVE_LIMIT = 61, 71, 72, 73, 76
 
 
 class AboveLimit(Exception):
@@ -220,7 +223,93 @@ def compare_half(case):
     return "76 before a trap" if is_early else f"{kind}, {'asked' if status[0] == DONE else 'not asked'}"
 
 
-COMPARE = {"open": compare_opened, "enter": compare_half, "leave": compare_half}
+# ---- values as JSON
+
+
+class JsonCase:
+    """A case of a call with values as JSON, in the model."""
+
+    def __init__(self, case):
+        self.case = case
+        self.source, self.target = self.host("source"), self.host("target")
+
+    def host(self, memory):
+        """The function, and one of the memories."""
+        case, data = self.case, self.case[memory]
+        text = bytes.fromhex(case["text"])
+        package = {"binary": case["text"]} if text.startswith(b"\0asm") else {"text": text.decode()}
+        names = {"iface": text_of(case["iface"]), "func": text_of(case["func"])}
+        return Host({**package, **names, "caller": "", "callee": data, "lens": [0, len(data) // 2]})
+
+    def is_told(self):
+        """Whether the answer was told as it has to be."""
+        case, answer = self.case, [(("i64" if kind else "i32"), bits) for kind, bits in self.case["answer"]]
+        wanted = self.source.reads(answer, case["limit"])
+        if wanted == "nothing":
+            return case["told"] == [DONE, 0, 0, 0]
+        if "read" not in wanted:
+            is_early = case["told"] == [REFUSED, ABOVE_LIMIT, 0, 0] and "trap" in wanted
+            return is_early or case["told"] == status_of(wanted)
+        text = line_of(wanted["read"]).encode()
+        is_whole = not case["is_read"] or bytes.fromhex(case["json"]) == text
+        return is_whole and case["told"] in ([DONE, 0, 0, len(text)], [REFUSED, NO_ROOM, 0, len(text)])
+
+    def arguments(self):
+        """The text of the arguments, or None where it is no UTF-8."""
+        try:
+            return text_of(self.case["json"])
+        except UnicodeDecodeError:
+            return None
+
+    def asked(self):
+        """The status of the requests, and the requests."""
+        text = self.arguments()
+        if text is None:
+            return [REFUSED, BAD_JSON, 0, 0], []
+        told = self.target.asks(text)
+        if "asks" not in told:
+            return status_of(told), []
+        if sum(size for _, size in told["asks"]) > self.case["limit"]:
+            return [REFUSED, ABOVE_LIMIT, 0, 0], []
+        return [DONE, 0, 0, len(told["asks"])], [list(request) for request in told["asks"]]
+
+    def filled(self):
+        """The status of the call, its core values up to the last that was put, and the memory."""
+        text = self.arguments()
+        if text is None:
+            return [REFUSED, BAD_JSON, 0, 0], [], bytes.fromhex(self.case["target"])
+        told = self.target.fills(text, self.case["blocks"])
+        status = [DONE, 0, 0, told["filled"]] if "filled" in told else status_of(told)
+        values = [[int(kind == "i64"), bits] for kind, bits in told["handed"]]
+        return status, values, bytes.fromhex(told["memory"]).ljust(len(self.case["target"]) // 2, b"\0")
+
+
+def status_of(told):
+    """The status of a step of a host that ends in a trap or is refused."""
+    if "trap" in told:
+        return trap_status(Trap(*told["trap"].removeprefix("trap ").split(" in ")))
+    _, number, *words = told["refused"].split()
+    return [REFUSED, int(number), 0, int(words[-1]) if words[-1].isdigit() else 0]
+
+
+def compare_json(case):
+    """By which rule a call with values as JSON did what it had to; None if it didn't."""
+    if "iface" not in case:
+        return "of a world"
+    json_case, values = JsonCase(case), list(case["values"])
+    while values and values[-1] == [int(UNSET[0] == "i64"), UNSET[1]]:
+        values.pop()
+    asked = json_case.asked()
+    is_early = case["asked"] == [REFUSED, ABOVE_LIMIT, 0, 0] and asked[0][0] == TRAP
+    if not json_case.is_told() or not is_early and asked != (case["asked"], case["requests"]):
+        return None
+    if json_case.filled() != (case["filled"], values, bytes.fromhex(case["after"])):
+        return None
+    code, number = case["filled"][:2]
+    return "done" if code == DONE else "a trap" if code == TRAP else f"refused {number}"
+
+
+COMPARE = {"open": compare_opened, "enter": compare_half, "leave": compare_half, "json": compare_json}
 
 
 def main():

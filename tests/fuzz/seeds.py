@@ -7,6 +7,7 @@ usage: tests/fuzz/seeds.py FOLDER      a folder for each harness is made in it, 
 - set: the sets of crates/rows_texts/data, in the form of tests/fuzz/set.c.
 - halves: the calls of crates/vectors, in the form of tests/fuzz/halves.c, and pseudorandom bytes that build types and
   values.
+- json: the rows of a host's memory of crates/vectors, in the form of tests/fuzz/json.c, and such bytes.
 - status: a status of each number.
 
 Inputs of more than MOST bytes are left out.
@@ -21,6 +22,7 @@ ROOT = pathlib.Path(__file__).resolve().parent.parent.parent
 sys.path.insert(0, str(ROOT))
 sys.dont_write_bytecode = True
 from tools.models import text_rows  # noqa: E402
+from tools.models.calls import line_of  # noqa: E402
 
 MOST = 4096
 DATA = ROOT / "crates/rows_texts/data"
@@ -57,10 +59,14 @@ def inputs_of_rows():
                 yield [bytes.fromhex(found)]
 
 
+def vectors():
+    """The rows of crates/vectors."""
+    return map(json.loads, (ROOT / "crates/vectors/stdin").read_text().splitlines())
+
+
 def calls():
     """The stored calls."""
-    rows = map(json.loads, (ROOT / "crates/vectors/stdin").read_text().splitlines())
-    return [row for row in rows if "flats" in row]
+    return [row for row in vectors() if "flats" in row]
 
 
 def package_of(row):
@@ -92,15 +98,30 @@ def values(flats):
     return little(len(flats or []), 1) + b"".join(pairs)
 
 
-def call_seed(row):
-    """A call as tests/fuzz/halves.c reads it."""
+def front_of(row, memories):
+    """What a seed of a row begins with: its package, the index of its function, and memories."""
     text = package_of(row)
     names = FUNCTION.findall(row.get("text", ""))
     index = names.index(row["func"]) if row["func"] in names else 0
-    memories = [bytes.fromhex(row[side]) for side in ("caller", "callee")]
     parts = [b"\1", little(len(text), 2), text, little(index, 1)]
-    parts += [little(len(data), 2) + data for data in memories]
-    return b"".join([*parts, values(row["flats"]), values(row["answer"]), bytes(8)])
+    return b"".join([*parts, *(little(len(data), 2) + data for data in memories)])
+
+
+def call_seed(row):
+    """A call as tests/fuzz/halves.c reads it."""
+    memories = [bytes.fromhex(row[side]) for side in ("caller", "callee")]
+    return front_of(row, memories) + values(row["flats"]) + values(row["answer"]) + bytes(8)
+
+
+def host_seeds(row):
+    """The texts of a row of a host's memory, each with an answer of the row, as tests/fuzz/json.c reads them."""
+    memory = bytes.fromhex(row["callee"]).ljust(min(row["lens"][1], MOST // 4), b"\0")
+    answers = [step[1] for step in row["host"] if step[0] == "reads"] or [[]]
+    texts = {it if isinstance(it, str) else line_of(it) for word, it, *_ in row["host"] if word in ("asks", "fills")}
+    for text in sorted(texts):
+        given = text.encode()
+        front = front_of(row, [memory, memory])
+        yield from (front + values(answer) + little(len(given), 2) + given + bytes(8) for answer in answers)
 
 
 def bytes_of(number):
@@ -115,6 +136,14 @@ def half_seeds():
     yield from map(bytes_of, range(400))
 
 
+def json_seeds():
+    """Rows that are stored, and bytes that build some."""
+    for row in vectors():
+        if "host" in row:
+            yield from host_seeds(row)
+    yield from map(bytes_of, range(400))
+
+
 def status_seeds():
     """A status of each code and number, with room for its line."""
     for code in range(5):
@@ -122,7 +151,7 @@ def status_seeds():
             yield little(code, 4) + little(number, 4) + little(number % 9, 4) + little(number, 4) + b"\x40\0"
 
 
-SEEDS = {"open": open_seeds, "set": set_seeds, "halves": half_seeds, "status": status_seeds}
+SEEDS = {"open": open_seeds, "set": set_seeds, "halves": half_seeds, "json": json_seeds, "status": status_seeds}
 
 
 def dictionary():

@@ -61,13 +61,14 @@ class LoggedMemory(witcall.ArrayMemory):
 
 
 class Core:
-    """A core function that logs what it got, and answers or stops."""
+    """A core function that logs what it got, writes bytes, and answers or stops."""
 
-    def __init__(self, answer, stops):
-        self.answer, self.stops, self.got = answer, stops, None
+    def __init__(self, answer, stops, write=lambda: None):
+        self.answer, self.stops, self.write, self.got = answer, stops, write, None
 
     def __call__(self, *values):
         self.got = values
+        self.write()
         if self.stops:
             raise witcall.Stopped
         return self.answer
@@ -79,42 +80,69 @@ class Core:
         return flats_line(values, kinds)
 
 
+class StoredFunction:
+    """A function that is called, and what its body does."""
+
+    def __init__(self, name, flats, answer, stop="no"):
+        self.name, self.flats = name, values_of(flats)
+        self.body = Core(values_of(answer), stop == "body")
+        self.post = Core(None, stop == "post")
+        self.signature = witcall.CoreSignature((), ())
+
+    def made(self, package, interface, sides):
+        """Makes the call, and tells its core values as a line."""
+        full_name = f"{interface}#{self.name}"
+        bodies = {full_name: self.body, f"cabi_post_{full_name}": self.post}
+        imports = witcall.link(package, *sides, bodies, limit=NO_LIMIT)
+        function = package.find(interface, self.name)
+        self.signature = function.lifted
+        back = imports[full_name](*self.flats)
+        return flats_line([] if back is None else [back], function.lowered.results)
+
+    def told(self, package, interface, sides):
+        """Makes the call, and tells how it ended and what the body and the post-return got."""
+        outcome = outcome_of(lambda: f"ok:{self.made(package, interface, sides)}")
+        body = self.body.line(self.signature.parameters)
+        return f"{outcome} {body} {self.post.line(self.signature.results)}"
+
+
+def outcome_of(run):
+    try:
+        return run()
+    except witcall.Trap as trap:
+        return f"trap:K{trap.number}:{trap.step}"
+    except witcall.Refused as error:
+        return f"refused:{error.number}"
+
+
 class StoredCall:
-    """A call of a line."""
+    """A call of a line, and the one after it, if there is one."""
 
     def __init__(self, line):
         words = line.split(" ")
-        self.package, self.interface, self.name = bytes_of(words[0]), words[1], words[2]
-        self.flats = values_of(words[3])
-        self.caller, self.callee = LoggedMemory(*words[4:6]), LoggedMemory(*words[6:8])
-        answer, stop = values_of(words[8]), words[9]
-        self.body, self.post = Core(answer, stop == "body"), Core(None, stop == "post")
-        self.signature = witcall.CoreSignature((), ())
+        self.package, self.interface = bytes_of(words[0]), words[1]
+        self.sides = LoggedMemory(*words[4:6]), LoggedMemory(*words[6:8])
+        self.functions = [StoredFunction(*words[2:4], *words[8:10])]
+        place, _, digits = words[10].partition(":")
+        if digits:
+            self.functions[0].body.write = lambda: self.write(int(place), bytes_of(digits))
+        if words[11] != "-":
+            self.functions.append(StoredFunction(*words[11:14]))
 
-    def made(self):
-        """Makes the call, and tells its core values as a line."""
-        full_name = f"{self.interface}#{self.name}"
-        bodies = {full_name: self.body, f"cabi_post_{full_name}": self.post}
+    def write(self, place, data):
+        self.sides[1].data[place : place + len(data)] = data
+
+    def runs(self):
+        """What is told of each call."""
         with witcall.open(self.package) as package:
-            imports = witcall.link(package, self.caller, self.callee, bodies, limit=NO_LIMIT)
-            function = package.find(self.interface, self.name)
-            self.signature = function.lifted
-            back = imports[full_name](*self.flats)
-        return flats_line([] if back is None else [back], function.lowered.results)
-
-    def outcome(self):
-        try:
-            return f"ok:{self.made()}"
-        except witcall.Trap as trap:
-            return f"trap:K{trap.number}:{trap.step}"
-        except witcall.Refused as error:
-            return f"refused:{error.number}"
+            return [it.told(package, self.interface, self.sides) for it in self.functions]
 
     def line(self):
-        outcome = self.outcome()
-        body = self.body.line(self.signature.parameters)
-        post = self.post.line(self.signature.results)
-        return f"{outcome} {body} {post} {self.caller.line()} {self.callee.line()}"
+        try:
+            first, *after = self.runs()
+        except witcall.Refused as error:
+            first, after = f"refused:{error.number} none none", []
+        return " ".join([first, *(it.line() for it in self.sides), *after])
 
 
 def main():

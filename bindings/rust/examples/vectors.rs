@@ -3,11 +3,11 @@
 //! The lines are those of `examples/c/vectors.c`, so that `examples/c/vectors.py` compares what they do with the stored
 //! answers of `crates/vectors`.
 
+mod words;
+
 use std::io::{self, BufRead};
 use witcall::{Body, Error, Link, Memory, Package, Step, Trap, TrapKind, Value};
-
-/// The stored calls are made without a limit.
-const NO_LIMIT: u64 = u64::MAX;
+use words::{bytes_of, digits_of, parts, values_of, NO_LIMIT};
 
 const KINDS: [TrapKind; 8] = [
     TrapKind::Char,
@@ -19,29 +19,6 @@ const KINDS: [TrapKind; 8] = [
     TrapKind::Body,
     TrapKind::CoreSignature,
 ];
-
-fn parts(word: &str) -> impl Iterator<Item = &str> {
-    word.split(',').filter(|part| !matches!(*part, "-" | ""))
-}
-
-fn bytes_of(word: &str) -> Vec<u8> {
-    let digits = if word == "-" { "" } else { word };
-    let byte = |at: usize| u8::from_str_radix(&digits[at..at + 2], 16).expect("two hexadecimal digits");
-    (0..digits.len()).step_by(2).map(byte).collect()
-}
-
-fn values_of(word: &str) -> Vec<Value> {
-    let value = |part: &str| {
-        let (kind, number) = part.split_once(':').expect("a kind and a number");
-        let bits = number.parse::<u64>().or_else(|_| number.parse::<i64>().map(|it| it as u64)).expect("a number");
-        if kind == "i32" {
-            Value::I32(bits as u32)
-        } else {
-            Value::I64(bits)
-        }
-    };
-    parts(word).map(value).collect()
-}
 
 /// Words between commas, or `-` if there is none.
 fn listed(words: impl Iterator<Item = String>) -> String {
@@ -90,7 +67,7 @@ impl LoggedMemory {
     }
 
     fn line(&self) -> String {
-        let digits: String = self.bytes.iter().map(|byte| format!("{byte:02x}")).collect();
+        let digits = digits_of(&self.bytes);
         let bytes = if digits.is_empty() { "-" } else { &digits };
         format!("{bytes} {}", listed(self.log.iter().cloned()))
     }
@@ -109,17 +86,21 @@ impl Memory for LoggedMemory {
     }
 }
 
-/// A body that logs what it got, and answers or stops.
+/// A body that logs what it got, writes bytes, and answers or stops.
 struct LoggedBody<'line> {
     answer: Vec<Value>,
+    writes: Option<(usize, Vec<u8>)>,
     stop: &'line str,
     got: Option<String>,
     post_got: Option<String>,
 }
 
-impl<M> Body<M> for LoggedBody<'_> {
-    fn run(&mut self, _: &mut M, values: &[Value]) -> Option<Vec<Value>> {
+impl<M: Memory> Body<M> for LoggedBody<'_> {
+    fn run(&mut self, memory: &mut M, values: &[Value]) -> Option<Vec<Value>> {
         self.got = Some(flats_line(values));
+        if let Some((at, bytes)) = &self.writes {
+            memory.bytes()[*at..][..bytes.len()].copy_from_slice(bytes);
+        }
         (self.stop != "body").then(|| self.answer.clone())
     }
 
@@ -127,6 +108,39 @@ impl<M> Body<M> for LoggedBody<'_> {
         self.post_got = Some(flats_line(answer));
         (self.stop != "post").then_some(())
     }
+}
+
+/// A function that is called, and what its body does.
+struct Called<'line> {
+    name: &'line str,
+    flats: Vec<Value>,
+    body: LoggedBody<'line>,
+}
+
+impl<'line> Called<'line> {
+    fn new(name: &'line str, flats: &str, answer: &str, stop: &'line str) -> Called<'line> {
+        let body = LoggedBody { answer: values_of(answer), writes: None, stop, got: None, post_got: None };
+        Called { name, flats: values_of(flats), body }
+    }
+
+    fn made(&mut self, package: &Package, interface: &str, sides: &mut Sides) -> Result<Option<Value>, Error> {
+        let function = package.find(interface, self.name)?;
+        let link = Link::new(package, &function, NO_LIMIT);
+        link.call(&self.flats, &mut sides.caller, &mut sides.callee, &mut self.body)
+    }
+
+    /// Makes the call, and tells how it ended and what the body and the post-return got.
+    fn told(mut self, package: &Package, interface: &str, sides: &mut Sides) -> String {
+        let outcome = outcome_word(self.made(package, interface, sides));
+        let [got, post_got] = [self.body.got, self.body.post_got].map(|it| it.unwrap_or("none".to_owned()));
+        format!("{outcome} {got} {post_got}")
+    }
+}
+
+/// Both memories.
+struct Sides {
+    caller: LoggedMemory,
+    callee: LoggedMemory,
 }
 
 fn step_word(step: Step) -> &'static str {
@@ -155,21 +169,31 @@ fn outcome_word(outcome: Result<Option<Value>, Error>) -> String {
     }
 }
 
+/// What a body writes, and where: an address and bytes.
+fn writes_of(word: &str) -> Option<(usize, Vec<u8>)> {
+    let (at, bytes) = word.split_once(':')?;
+    Some((at.parse().expect("an address"), bytes_of(bytes)))
+}
+
 fn told(line: &str) -> String {
     let words: Vec<&str> = line.split(' ').collect();
-    let [package, interface, name, flats, caller, grants, callee, its_grants, answer, stop] = words[..] else {
-        panic!("a call has ten words");
+    let [package, interface, name, flats, caller, grants, callee, its_grants, answer, stop, ref rest @ ..] = words[..]
+    else {
+        panic!("a word is missing");
     };
-    let (mut caller, mut callee) = (LoggedMemory::new(caller, grants), LoggedMemory::new(callee, its_grants));
-    let mut body = LoggedBody { answer: values_of(answer), stop, got: None, post_got: None };
-    let mut call = || {
-        let package = Package::open(bytes_of(package))?;
-        let function = package.find(interface, name)?;
-        Link::new(&package, &function, NO_LIMIT).call(&values_of(flats), &mut caller, &mut callee, &mut body)
+    let [writes, next, next_flats, next_answer] = rest[..] else { panic!("a call has fourteen words") };
+    let mut sides = Sides { caller: LoggedMemory::new(caller, grants), callee: LoggedMemory::new(callee, its_grants) };
+    let mut first = Called::new(name, flats, answer, stop);
+    first.body.writes = writes_of(writes);
+    let next = (next != "-").then(|| Called::new(next, next_flats, next_answer, "no"));
+    let (first, next) = match Package::open(bytes_of(package)) {
+        Ok(package) => (
+            first.told(&package, interface, &mut sides),
+            next.map_or(String::new(), |it| format!(" {}", it.told(&package, interface, &mut sides))),
+        ),
+        Err(error) => (format!("{} none none", outcome_word(Err(error))), String::new()),
     };
-    let outcome = outcome_word(call());
-    let [got, post_got] = [body.got, body.post_got].map(|it| it.unwrap_or("none".to_owned()));
-    format!("{outcome} {got} {post_got} {} {}", caller.line(), callee.line())
+    format!("{first} {} {}{next}", sides.caller.line(), sides.callee.line())
 }
 
 fn main() -> io::Result<()> {
