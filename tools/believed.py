@@ -1,14 +1,16 @@
 #!/usr/bin/env python3
 """Counts the lines that a reader has to believe: the definitions that the clauses of two calls lead to.
 
-usage: tools/believed.py [--names] [FUNCTION..]
+usage: tools/believed.py [--names] [ITEM..]
 
-A FUNCTION is CRATE/FILE:NAME, as opening/set.rt:open_set; with :CLAUSE behind it, as opening/set.rt:open_set:ok, that
-clause alone is read. Left out, they are `open_set` and `Session::call`, which the program's answer rests on. From
-their clauses it follows every name: definitions of specs/, those of blocks (`mutual`, `module`) too, and the structs
-and enums of src/ that these cite. It counts their lines without comments and blank lines, and prints the sums by
-file; with --names also each name. The toolchain's own definitions are left out, and of a struct or an enum its
-attributes and its invariants: a clause speaks of its fields, and what holds of them besides is proved, not believed.
+An ITEM is a function, CRATE/FILE:NAME, as opening/set.rt:open_set; with :CLAUSE behind it, as
+opening/set.rt:open_set:ok, that clause alone is read. Or it is a definition, CRATE/specs/FILE:NAME, as
+opening/specs/ToldSet:IsToldSetOf, which is counted with all that it leads to. Left out, they are `open_set` and
+`Session::call`, which the program's answer rests on. From their clauses it follows every name: definitions of specs/,
+those of blocks (`mutual`, `module`) too, and the structs and enums of src/ that these cite. It counts their lines
+without comments and blank lines, and prints the sums by file; with --names also each name. The toolchain's own
+definitions are left out, and of a struct or an enum its attributes and its invariants: a clause speaks of its fields,
+and what holds of them besides is proved, not believed.
 A name means what the file that cites it defines or imports; of src/ an import leads to the file of the crate that
 declares the name, or to what the crate exports of another. It reads text alone: a local name that is also a
 definition's counts as one.
@@ -158,6 +160,18 @@ def imported_type(all_files, types, file, word):
     return imported_type(all_files, types, library, own)
 
 
+def defined(all_files, item):
+    """Returns the place of a definition of specs/, if the item is one."""
+    path, _, name = item.partition(":")
+    crate, part, *inside = path.removesuffix(".antt").split("/")
+    module = ".".join(["Rattle", crate, part, *inside])
+    if part != "specs":
+        return None
+    if module not in all_files or name not in all_files[module].definitions:
+        sys.exit(f"tools/believed.py: there is no definition {item}")
+    return module, name
+
+
 def clauses(call):
     """Returns the file of a function, and the lines of its contract, or of one clause of it."""
     path, name, *only = call.split(":")
@@ -173,13 +187,15 @@ def clauses(call):
     return module, code_lines("\n".join(read))
 
 
-def believed(all_files, calls):
-    """Returns the places of all definitions that the calls' clauses lead to."""
+def believed(all_files, items):
+    """Returns the places of all definitions that these definitions and the calls' clauses lead to."""
     types = {}
     for file in all_files.values():
         for name in file.definitions if file.path.suffix == ".rt" else ():
             types.setdefault((file.module.split(".")[1], name), []).append((file.module, name))
-    seen, left = set(), [clauses(call) for call in calls]
+    seen = {place for place in (defined(all_files, item) for item in items) if place}
+    left = [(module, all_files[module].definitions[name]) for module, name in sorted(seen)]
+    left += [clauses(item) for item in items if not defined(all_files, item)]
     while left:
         module, lines = left.pop()
         for word in WORD.findall(" ".join(lines)):
@@ -193,11 +209,11 @@ def believed(all_files, calls):
 def main():
     words = parser(__doc__)
     words.add_argument("--names", action="store_true")
-    words.add_argument("function", nargs="*")
+    words.add_argument("item", nargs="*")
     given = words.parse_args()
     all_files = files()
     by_file = collections.defaultdict(dict)
-    for module, name in believed(all_files, given.function or CALLS):
+    for module, name in believed(all_files, given.item or CALLS):
         by_file[all_files[module].path][name] = len(all_files[module].definitions[name])
     for path, names in sorted(by_file.items()):
         print(f"{sum(names.values()):5} {path.relative_to(ROOT / 'crates')}")

@@ -25,6 +25,8 @@ FACTS = ROOT / "docs" / "definition-facts.txt"
 LAWS = ROOT / "crates" / "canonical_abi" / "src" / "laws.rt"
 # the two clauses of the promise
 TWO = ["opening/set.rt:open_set:ok", "witcall/session.rt:call:promise"]
+# a set told by names, and as its table is made
+TOLD, MADE = "opening/specs/ToldSet:IsToldSetOf", "opening/specs/Sets:IsSetOf"
 NAME = re.compile(r"(?!infix)[A-Za-z_]\w*")
 MODULE = re.compile(r"^(?:pub )?mod (\w+)", re.M)
 # a section of the standard in a comment, and one that begins a comment
@@ -68,6 +70,8 @@ of the repository is proved against them.
 """
 CLAUSES = """`tools/believed.py {}` prints what these two clauses alone need: {:,} lines. The others say that there is no second
 answer, why inputs are refused, and which steps a call takes."""
+SETS = """`tools/believed.py {}` prints what a set rests on that is told by names: {:,} lines. As the table is made (`{}`) it is
+{:,}."""
 LAWS_HEAD = """\
 ## Laws
 
@@ -93,8 +97,8 @@ These are examples that hold, and examples that must not, of the definitions of 
 - Each example is a theorem that computes, in `crates/NAME/proofs/Examples.antt`. If a definition changes what it says
   of an example, the check of the crate fails.
 - Expected answers were taken from the rules of the standard and counted by hand. None was printed by a definition.
-- `package_sets`, `package_adding` and `opening` have none here. The rows `sets.rows` of `rows_texts`, which are run,
-  are examples of what they say.
+- `package_sets` and `package_adding` have none of their own. The rows `sets.rows` of `rows_texts`, which are run, are
+  examples of what they say.
 - One example often serves many definitions. An empty cell means that an equation holds, and refuses every other value.
 
 | crates | examples | restate |
@@ -305,9 +309,10 @@ def page():
     found, lines = believed.believed(files(), believed.CALLS), collections.Counter()
     for it, name in found:
         lines[it.split(".")[1]] += len(files()[it].definitions[name])
-    clauses = CLAUSES.format(" ".join(TWO), count(believed.believed(files(), TWO)))
+    needs = lambda *items: count(believed.believed(files(), items))  # noqa: E731
+    said = (CLAUSES.format(" ".join(TWO), needs(*TWO)), SETS.format(TOLD, needs(TOLD), MADE, needs(MADE)))
     begin = HEAD.format(lines=count(found), definitions=len(found), subjects=subjects(facts, lines),
-                        clauses=wrapped(" ".join(clauses.split()), "- ", "  "))
+                        clauses="\n".join(wrapped(" ".join(it.split()), "- ", "  ") for it in said))
     first, *others = facts.parts
     middle = [text_of(first), laws(facts), WRONG_HEAD + "\n".join(facts.wrong), *map(text_of, others), examples(facts)]
     return "\n\n".join([begin.strip(), *middle, "\n".join(facts.end)]) + "\n"

@@ -9,3 +9,9 @@ pub mod LastTableWithinLimits
 pub mod RowsStay
 pub mod AddedPackageIsTold
 pub mod SetIsTold
+pub mod MovedRowsKeepTheirPlaces
+pub mod OwnRowsComeLast
+pub mod SetTablesAreSound
+pub mod NamesDetermineTables
+pub mod AddedTableIsSole
+pub mod Examples

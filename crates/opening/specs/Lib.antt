@@ -3,6 +3,7 @@ pub mod Followed
 pub mod Numbers
 pub mod Opening
 pub mod Sets
+pub mod Sole
 pub mod Stays
 pub mod Told
 pub mod ToldSet

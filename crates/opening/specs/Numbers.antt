@@ -13,6 +13,7 @@ use Rattle.wit_tokens.specs.declared.error.TextError.TheVariants as text_error
 use Rattle.opening.specs.declared.package.OpenError.{OpenError}
 use Rattle.opening.specs.declared.package.OpenError.TheVariants as error
 
+-- of a text that isn't read or isn't of its grammar (WIT.md, "WIT Grammar"), and of a limit
 abbrev pub text_number : TextError → ℕ
 text_number (text_error.BadChar s) = 30
 text_number (text_error.OpenComment s) = 31
@@ -22,6 +23,7 @@ text_number (text_error.Depth s) = 34
 text_number text_error.NoMemory = 35
 text_number text_error.Limit = 36
 
+-- of bytes that are no component of this shape (Binary.md, "Component Definitions" to "Import and Export Definitions")
 abbrev pub fault_number : Fault → ℕ
 fault_number fault.NotComponent = 10
 fault_number fault.Truncated = 11
@@ -36,11 +38,13 @@ fault_number fault.Trailing = 19
 fault_number fault.BadName = 22
 fault_number fault.Overlong = 23
 
+-- of a binary: that of its first fault, of a reader that failed, and of memory that was refused
 abbrev pub binary_number : BinError → ℕ
 binary_number (binary_error.At f place) = fault_number f
 binary_number (binary_error.Read place) = 20
 binary_number binary_error.NoMemory = 21
 
+-- of names that don't resolve (WIT.md, "Package Names", "Item: `use`"), of a package that isn't of this shape, and of sets
 abbrev pub resolve_number : ResolveError → ℕ
 resolve_number (resolve_error.Duplicate n) = 40
 resolve_number (resolve_error.Unknown n) = 41
@@ -53,11 +57,13 @@ resolve_number (resolve_error.NoPackage n) = 47
 resolve_number (resolve_error.SamePackage n) = 48
 resolve_number resolve_error.SetLimit = 49
 
+-- of types that are too large or too deep to be laid out (CanonicalABI.md, "Element Size")
 abbrev pub layout_number : LayoutError → ℕ
 layout_number layout_error.TooLarge = 50
 layout_number layout_error.TooDeep = 51
 layout_number layout_error.NoMemory = 52
 
+-- of inputs that aren't opened: that of the cause, and of bytes that are no UTF-8
 abbrev pub open_number : OpenError → ℕ
 open_number (error.Read place) = 20
 open_number (error.Text e) = text_number e

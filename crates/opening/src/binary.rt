@@ -20,8 +20,9 @@ pub fn is_binary(bytes: &[u8]) -> bool
 }
 
 impl Package {
-    /// The binary of the package, the shortest, which begins with the interfaces that it reaches of those before it: bytes that are opened as the same
-    /// package behind the same packages. 17 at 1,048,576 where they would be more than that; 21 where memory is wanting. (Binary.md)
+    /// The binary of the package, the shortest, which begins with the interfaces that it reaches of those before it:
+    /// bytes that are opened as the same package behind the same packages. 17 at 1,048,576 where they would be more
+    /// than that; 21 where memory is wanting. (Binary.md)
     pub fn to_binary(&self, alloc: Global) -> Result<Vec<u8>, BinError>
         ensures written { IfOk result (λ bytes. ∥ IsWrittenAs bytes.items self.now.resolve ∥₁) }
         ensures begins { IfOk result (λ bytes. is_binary bytes.items ≡ true) }

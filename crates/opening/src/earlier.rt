@@ -1,5 +1,6 @@
 //! Any package of those that were opened, and functions of their worlds.
-ghost use Rattle.std.specs.Prelude.{◌≡◌, ◌<◌, ◌↔◌, ◌++◌, All, IsTrue, IfOk, IfSome, IfNone, OnOk, OnErr, length, string_bytes};
+ghost use Rattle.std.specs.Prelude.{◌≡◌, ◌<◌, ◌↔◌, ◌++◌, All, IsTrue, IfOk, IfSome, IfNone, OnOk, OnErr, length};
+ghost use Rattle.std.specs.Prelude.{string_bytes};
 ghost use Rattle.package_form.specs.Form.{IsInPackageForm};
 ghost use Rattle.package_form.specs.Naming.{package_scopes};
 ghost use Rattle.package_form.specs.Scope.{AreDistinct};
@@ -26,7 +27,8 @@ impl Package {
         (id.0 as usize) < self.resolve().packages.len()
     }
 
-    /// The table of one of the packages: the interfaces of earlier ones that it reaches, in their order, and after them its own.
+    /// The table of one of the packages: the interfaces of earlier ones that it reaches, in their order, and after them
+    /// its own.
     pub fn table(&self, alloc: Global, id: PackageId) -> Result<Resolve, AllocError>
         requires known { id.0 < length self.now.resolve.packages }
         ensures ok { IfOk result (IsRestricted self.now.resolve id.0) }
@@ -35,7 +37,8 @@ impl Package {
         table(alloc, self.resolve(), id)
     }
 
-    /// The component type of one of the packages, which begins with the interfaces of earlier ones that it reaches. (Binary.md)
+    /// The component type of one of the packages, which begins with the interfaces of earlier ones that it reaches.
+    /// (Binary.md)
     pub fn to_raw(&self, alloc: Global, id: PackageId) -> Result<RawComponent, AllocError>
         requires known { id.0 < length self.now.resolve.packages }
         ensures ok { IfOk result (λ raw. (r : Resolve) × IsRestricted self.now.resolve id.0 r × ComponentStands raw r) }
@@ -43,18 +46,19 @@ impl Package {
         to_raw(alloc, self.resolve(), id)
     }
 
-    /// Appends the canonical text of one of the packages, in which interfaces of earlier ones go by their paths. If the host is out of
-    /// memory, the text is as it was. (WIT.md)
+    /// Appends the canonical text of one of the packages, in which interfaces of earlier ones go by their paths. If the
+    /// host is out of memory, the text is as it was. (WIT.md)
     pub fn print(&self, alloc: Global, id: PackageId, out: &mut String) -> Result<(), AllocError>
         requires known { id.0 < length self.now.resolve.packages }
-        ensures ok { OnOk result ((r : Resolve) × IsRestricted self.now.resolve id.0 r × (string_bytes out.new ≡ string_bytes out.old ++ text_of r)) }
+        ensures ok { OnOk result ((r : Resolve) × IsRestricted self.now.resolve id.0 r
+            × (string_bytes out.new ≡ string_bytes out.old ++ text_of r)) }
         ensures same { OnErr result (string_bytes out.new ≡ string_bytes out.old) }
     {
         print(alloc, self.resolve(), id, out)
     }
 
-    /// The function of this name that a world imports or exports, as `side` says, by the full name of the world: one that is itself an item
-    /// of the world. (WIT.md, "Item: `world`")
+    /// The function of this name that a world imports or exports, as `side` says, by the full name of the world: one
+    /// that is itself an item of the world. (WIT.md, "Item: `world`")
     pub fn world_function(&self, world: &str, side: Direction, name: &str) -> Option<FunctionId>
         ensures found { IfSome result (IsNamedOfWorld self.now.resolve world.now side name.now) }
         ensures function { IfSome result (IsFunction self.now.resolve) }

@@ -51,8 +51,8 @@ impl IndexedPackage {
     }
 }
 
-/// Opens what `open_set` opens, and makes the index of its functions. If there is no memory for the index, it is refused
-/// as if there were none for the layouts (52).
+/// Opens what `open_set` opens, and makes the index of its functions. If there is no memory for the index, it is
+/// refused as if there were none for the layouts (52).
 pub fn open_indexed(alloc: Global, inputs: &[&[u8]]) -> Result<IndexedPackage, OpenError>
     requires some { 0 < length inputs.now }
     ensures ok { IfOk result (λ p. IsOpened (all_bytes inputs.now) p.«package».resolve) }

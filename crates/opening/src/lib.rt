@@ -1,8 +1,8 @@
 //! Packages opened from texts and binaries, and written as both.
 //!
-//! `open_set` reads packages from texts and binaries, each of which may use those before it, `open` one that stands alone, and `Package::to_binary` and
-//! `Package::to_text` write the last. A `Package` is the table of them all with the layouts of its types. It stands on the layers of texts, of binaries
-//! and of tables.
+//! `open_set` reads packages from texts and binaries, each of which may use those before it, `open` one that stands
+//! alone, and `Package::to_binary` and `Package::to_text` write the last. A `Package` is the table of them all with the
+//! layouts of its types. It stands on the layers of texts, of binaries and of tables.
 #![tactic(auto)]
 
 mod binary;

@@ -1,6 +1,7 @@
 //! The numbers of errors, as their lines have them.
 ghost use Rattle.std.specs.Prelude.{◌≡◌};
-ghost use Rattle.opening.specs.Numbers.{text_number, fault_number, binary_number, resolve_number, layout_number, is_out_of_memory};
+ghost use Rattle.opening.specs.Numbers.{text_number, fault_number, binary_number, resolve_number, layout_number};
+ghost use Rattle.opening.specs.Numbers.{is_out_of_memory};
 
 use crate::package::OpenError;
 use ctype_bin::{BinError, Fault};

@@ -152,7 +152,8 @@ impl Package {
     /// The closed table of the last package.
     pub(crate) fn last(&self, alloc: Global) -> Result<Last<'_>, AllocError>
         ensures last { IfOk result (λ l. IsLast self.now.resolve (last_table l)) }
-        ensures form { IfOk result (λ l. ∥ IsInPackageForm (last_table l) × All AreDistinct (package_scopes (last_table l)) ∥₁) }
+        ensures form { IfOk result (λ l. ∥ IsInPackageForm (last_table l)
+            × All AreDistinct (package_scopes (last_table l)) ∥₁) }
     {
         alone_is_whole();
         let packages = self.resolve.packages.as_slice();
@@ -207,7 +208,8 @@ impl Package {
 pub fn open(alloc: Global, bytes: &[u8]) -> Result<Package, OpenError>
     ensures ok { IfOk result (λ p. IsOpened (bytes.now ∷ []) p.resolve) }
     ensures alone { IfOk result (λ p. IsAlone p.resolve) }
-    ensures only { (r : Resolve) → IsOpened (bytes.now ∷ []) r → MatchResult result (λ p. IsSamePackage p.resolve r) IsWantOfMemory }
+    ensures only { (r : Resolve) → IsOpened (bytes.now ∷ []) r
+        → MatchResult result (λ p. IsSamePackage p.resolve r) IsWantOfMemory }
     ensures err { IfErr result (OpenRefuses (bytes.now ∷ [])) }
 {
     open_set(alloc, &[bytes])

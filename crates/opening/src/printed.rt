@@ -11,8 +11,8 @@ use std::alloc::Global;
 use wit_text::TextError;
 
 impl Package {
-    /// The canonical text of the package, which is opened as the same package behind the same packages. 36 where it would have more than 1,048,576 bytes;
-    /// 35 where memory is wanting. (WIT.md)
+    /// The canonical text of the package, which is opened as the same package behind the same packages. 36 where it
+    /// would have more than 1,048,576 bytes; 35 where memory is wanting. (WIT.md)
     #[tactic(auto, unfolding(wit_tokens::specs::Lexing::limit))]
     pub fn to_text(&self, alloc: Global) -> Result<String, TextError>
         ensures ok { IfOk result (λ text. IsCanonicalText self.now.resolve (string_bytes text)) }

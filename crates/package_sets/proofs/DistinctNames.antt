@@ -3,4 +3,5 @@ pub mod InterfaceNamesApart
 pub mod ScopesOfKept
 pub mod ScopesByRows
 pub mod ScopesOfSets
+pub mod SetNamesStandForOne
 pub mod SomeOfDistinctNames

@@ -1,5 +1,5 @@
 -- Sets: the rows of a package's interfaces, then those of its worlds, then the next package's.
-use Rattle.std.specs.Prelude.{◌≡◌, ◌≤◌, ◌+◌, ℕ, nat_lt, true, List, [], ◌∷◌, length, Contains, slice_get, slice_index_or, None, Some}
+use Rattle.std.specs.Prelude.{◌≡◌, ◌≤◌, ◌+◌, ℕ, nat_le, nat_lt, true, List, [], ◌∷◌, length, Contains, slice_get, slice_index_or, None, Some}
 use Rattle.std.specs.List.{list_all}
 use Rattle.package_form.specs.Ends.{end_of, rows_of, interfaces_end, world_end, world_rows, is_parted}
 use Rattle.package_form.specs.Form.{has_ids, is_local, has_items, is_world_row, are_interfaces, have_items}
@@ -26,11 +26,11 @@ pub record AreRowsOfWorld (rows : List Definition) (start k : ℕ) (w : World) :
   pub items : has_items rows start w ≡ true
   pub local : list_all (is_world_row rows k) (world_rows rows start w) ≡ true
 
--- The rows from start on are those of these interfaces, the first of which is interface k, and of these worlds, the first of which is world j. A
--- world's stand before those of the interfaces of later packages.
+-- The rows from start on are those of these interfaces, the first of which is interface k, and of these worlds, the first of which is world j. Those
+-- of an interface stand before those of worlds of its package and later ones, and those of a world before those of interfaces of later packages.
 pub data ArePackageByPackage (rows : List Definition) : ℕ → ℕ → List Interface → ℕ → List World → Type 0 where
   behind_all : (start k j : ℕ) → start ≡ length rows → ArePackageByPackage rows start k [] j []
-  an_interface : (start k : ℕ) (i : Interface) (is : List Interface) (j : ℕ) (ws : List World) → AreRowsOf rows start k i
+  an_interface : (start k : ℕ) (i : Interface) (is : List Interface) (j : ℕ) (ws : List World) → AreRowsOf rows start k i → list_all (λ w. nat_le i.«package».0 w.«package».0) ws ≡ true
       → ArePackageByPackage rows (end_of start i) (k + 1) is j ws → ArePackageByPackage rows start k (i ∷ is) j ws
   a_world : (start k : ℕ) (is : List Interface) (j : ℕ) (w : World) (ws : List World) → AreRowsOfWorld rows start j w → list_all (λ i. nat_lt w.«package».0 i.«package».0) is ≡ true
       → ArePackageByPackage rows (world_end start w) k is (j + 1) ws → ArePackageByPackage rows start k is j (w ∷ ws)

@@ -1,5 +1,6 @@
 //! A set with one package more.
-ghost use Rattle.std.specs.Prelude.{◌≡◌, ◌≤◌, ◌+◌, ◌++◌, ◌∷◌, ◌⊎◌, [], Decides, IfOk, IfErr, OnOk, drop, length, map, slice_get, Some, vec_capacity, vec_len};
+ghost use Rattle.std.specs.Prelude.{◌≡◌, ◌≤◌, ◌+◌, ◌++◌, ◌∷◌, ◌⊎◌, [], Decides, IfOk, IfErr, OnOk, drop, length, map};
+ghost use Rattle.std.specs.Prelude.{slice_get, Some, vec_capacity, vec_len};
 ghost use Rattle.set_rows.specs.Moved.{put_interface, put_row, put_world};
 ghost use Rattle.package_sets.specs.Attached.{HasAll, LacksFirst, IsAttached, IsOwn, IsRefused};
 ghost use Rattle.tables.specs.PackageNames.{PackageParts};
@@ -27,7 +28,8 @@ fn is_row_at(
     row: &Definition,
     to: &Joined,
 ) -> Result<bool, AllocError>
-    ensures { IfOk result (λ b. Decides b (slice_get set.now.definitions place ≡ Some (put_row (renaming_of (joined_places to.now)) row.now))) }
+    ensures { IfOk result (λ b. Decides b
+        (slice_get set.now.definitions place ≡ Some (put_row (renaming_of (joined_places to.now)) row.now))) }
 {
     match set.definitions.as_slice().get(place as usize) {
         Some(other) => Ok(other.is_same(&row.moved(alloc, to)?)),
@@ -124,7 +126,8 @@ fn placed(alloc: Global, set: &Resolve, closed: &Resolve) -> Result<Joined, Reso
 /// That the set has all of these packages. 47 at the first that it lacks.
 fn has_packages(alloc: Global, set: &Resolve, packages: &[PackageName]) -> Result<(), ResolveError>
     ensures ok { OnOk result (HasAll set.now packages.now) }
-    ensures err { IfErr result (λ e. (e ≡ NoMemory) ⊎ ((p : PackageParts) × (e ≡ NoPackage p) × LacksFirst set.now packages.now p)) }
+    ensures err { IfErr result (λ e. (e ≡ NoMemory)
+        ⊎ ((p : PackageParts) × (e ≡ NoPackage p) × LacksFirst set.now packages.now p)) }
 {
     for package in packages {
         if !has_package(set, package) {
@@ -148,9 +151,12 @@ struct OwnPart {
 fn own_part(alloc: Global, closed: &Resolve, to: &Joined) -> Result<OwnPart, AllocError>
     requires { (p : PackageParts) × IsOwn closed.now p }
     ensures packages { IfOk result (λ x. (p : PackageParts) × IsOwn closed.now p × (x.packages ≡ p ∷ [])) }
-    ensures interfaces { IfOk result (λ x. x.interfaces ≡ map (put_interface (renaming_of (joined_places to.now))) (own_interfaces closed.now)) }
-    ensures worlds { IfOk result (λ x. x.worlds ≡ map (put_world (renaming_of (joined_places to.now))) closed.now.worlds) }
-    ensures definitions { IfOk result (λ x. x.definitions ≡ map (put_row (renaming_of (joined_places to.now))) (drop to.now.imported closed.now.definitions)) }
+    ensures interfaces { IfOk result (λ x. x.interfaces
+        ≡ map (put_interface (renaming_of (joined_places to.now))) (own_interfaces closed.now)) }
+    ensures worlds { IfOk result (λ x. x.worlds
+        ≡ map (put_world (renaming_of (joined_places to.now))) closed.now.worlds) }
+    ensures definitions { IfOk result (λ x. x.definitions
+        ≡ map (put_row (renaming_of (joined_places to.now))) (drop to.now.imported closed.now.definitions)) }
 {
     let names = closed.packages.as_slice();
     let mut packages = Sequence::new(Vec::new(alloc));
@@ -204,9 +210,12 @@ impl Lists {
 
     /// Makes room for a package more.
     fn reserve(&mut self, own: &OwnPart) -> Result<(), AllocError>
-        ensures same { (self.new.packages.items ≡ self.old.packages.items) × (self.new.interfaces.items ≡ self.old.interfaces.items)
-            × (self.new.worlds.items ≡ self.old.worlds.items) × (self.new.definitions.items ≡ self.old.definitions.items) }
-        ensures room { OnOk result ((vec_len self.new.packages + length own.now.packages ≤ vec_capacity self.new.packages)
+        ensures same { (self.new.packages.items ≡ self.old.packages.items)
+            × (self.new.interfaces.items ≡ self.old.interfaces.items)
+            × (self.new.worlds.items ≡ self.old.worlds.items)
+            × (self.new.definitions.items ≡ self.old.definitions.items) }
+        ensures room { OnOk result ((vec_len self.new.packages + length own.now.packages
+            ≤ vec_capacity self.new.packages)
             × (vec_len self.new.interfaces + length own.now.interfaces ≤ vec_capacity self.new.interfaces)
             × (vec_len self.new.worlds + length own.now.worlds ≤ vec_capacity self.new.worlds)
             × (vec_len self.new.definitions + length own.now.definitions ≤ vec_capacity self.new.definitions)) }
@@ -222,8 +231,8 @@ impl Lists {
 /// that it reaches are found in the set, and its own part stands behind all of the set.
 ///
 /// 49 where the set has 64 packages; else 48 where it has a package of this name; else 47 where it lacks a package that
-/// is imported from; else 44 where an interface that is imported isn't there, or isn't row for row as the set has it. 46
-/// where there is no memory, or no id for a row; not before 49.
+/// is imported from; else 44 where an interface that is imported isn't there, or isn't row for row as the set has it.
+/// 46 where there is no memory, or no id for a row; not before 49.
 pub fn fitting(alloc: Global, set: &Resolve, closed: &Resolve) -> Result<Joined, ResolveError>
     ensures ok { IfOk result (λ j. FitsBehind set.now closed.now (joined_places j)) }
     ensures err { IfErr result (IsRefused set.now closed.now) }

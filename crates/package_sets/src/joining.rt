@@ -1,8 +1,10 @@
 //! Where what a closed table has stands in a set with its package.
-ghost use Rattle.std.specs.Prelude.{◌≡◌, ◌++◌, ◌∷◌, [], ℕ, ◌<◌, ◌≤◌, List, length, take, drop, IfOk, IfErr, OnOk, MatchOption, slice_get, ◌⊎◌};
+ghost use Rattle.std.specs.Prelude.{◌≡◌, ◌++◌, ◌∷◌, [], ℕ, ◌<◌, ◌≤◌, List, length, take, drop, IfOk, IfErr, OnOk};
+ghost use Rattle.std.specs.Prelude.{MatchOption, slice_get, ◌⊎◌};
 ghost use Rattle.package_form.specs.Ends.{end_of};
 ghost use Rattle.package_form.specs.Closed.{is_same_package};
-ghost use Rattle.package_sets.specs.Joining.{import_count, imports, own_interfaces, has_name_of, place_in, IsFirst, AreFound, end_in, row_places, import_rows, all_places};
+ghost use Rattle.package_sets.specs.Joining.{import_count, imports, own_interfaces, has_name_of, place_in, IsFirst};
+ghost use Rattle.package_sets.specs.Joining.{AreFound, end_in, row_places, import_rows, all_places};
 ghost use Rattle.package_sets.specs.Attached.{has_package};
 ghost use Rattle.package_sets.specs.Asking.{AsksFor, AsksForOne};
 ghost use Rattle.package_names.specs.Asked.{IsIndexOfAsked};
@@ -140,7 +142,8 @@ fn ask<'a>(
     closed: &Resolve,
     import: &'a Interface,
 ) -> Result<(), AllocError>
-    ensures { OnOk result ((is : List Interface) → AsksFor set.now closed.now is asked.old → AsksFor set.now closed.now (is ++ import.now ∷ []) asked.new) }
+    ensures { OnOk result ((is : List Interface) → AsksFor set.now closed.now is asked.old
+        → AsksFor set.now closed.now (is ++ import.now ∷ []) asked.new) }
 {
     if let Some(package) = closed.packages.as_slice().get(import.package.0 as usize) {
         asked.ask(
@@ -175,8 +178,10 @@ fn found_at(
     closed: &Resolve,
     import: &Interface,
 ) -> Option<usize>
-    requires { (asked : List (List (List ℕ))) × IsIndexOfAsked set.now.packages set.now.interfaces asked places.now × AsksForOne set.now closed.now asked import.now }
-    ensures { MatchOption result ((k : ℕ) → ¬ IsFirst (has_name_of set.now closed.now import.now) set.now.interfaces k) (λ k. IsFirst (has_name_of set.now closed.now import.now) set.now.interfaces k) }
+    requires { (asked : List (List (List ℕ))) × IsIndexOfAsked set.now.packages set.now.interfaces asked places.now
+        × AsksForOne set.now closed.now asked import.now }
+    ensures { MatchOption result ((k : ℕ) → ¬ IsFirst (has_name_of set.now closed.now import.now) set.now.interfaces k)
+        (λ k. IsFirst (has_name_of set.now closed.now import.now) set.now.interfaces k) }
 {
     let package = closed.packages.as_slice().get(import.package.0 as usize)?;
     places.place(
@@ -206,7 +211,8 @@ fn found(
     imports: &[Interface],
 ) -> Result<Vec<u32>, ResolveError>
     ensures ok { IfOk result (λ places. AreFound set.now closed.now imports.now places.items) }
-    ensures err { IfErr result (λ e. (e ≡ NoMemory) ⊎ ((e ≡ NotThisShape) × ((places : List ℕ) → ¬ AreFound set.now closed.now imports.now places))) }
+    ensures err { IfErr result (λ e. (e ≡ NoMemory)
+        ⊎ ((e ≡ NotThisShape) × ((places : List ℕ) → ¬ AreFound set.now closed.now imports.now places))) }
 {
     let asked = asked(alloc, set, closed, imports)?;
     let there = AskedPlaces::of(alloc, set, &asked)?;
@@ -279,7 +285,8 @@ fn push_others(places: &mut Vec<u32>, behind: usize, count: usize) -> Result<(),
 /// What a closed table has is placed in the set with its package.
 pub fn places_of(alloc: Global, set: &Resolve, closed: &Resolve) -> Result<Joined, ResolveError>
     ensures ok { IfOk result (λ j. AreJoined set.now closed.now (joined_places j)) }
-    ensures err { IfErr result (λ e. (e ≡ NoMemory) ⊎ ((e ≡ NotThisShape) × ((places : List ℕ) → ¬ AreFound set.now closed.now (imports closed.now) places))) }
+    ensures err { IfErr result (λ e. (e ≡ NoMemory)
+        ⊎ ((e ≡ NotThisShape) × ((places : List ℕ) → ¬ AreFound set.now closed.now (imports closed.now) places))) }
 {
     let mut interfaces = found(alloc, set, closed, imports(closed))?;
     let mut rows = row_places(alloc, set, imports(closed), &interfaces)?;

@@ -32,7 +32,8 @@ pub fn attaches_alone()
 /// A package that stands alone reaches all of its set: its table is the set as it stands, in form.
 pub fn alone_is_whole()
     ensures table { (r : Resolve) → ∥ IsInTower r ∥₁ → IsAlone r → IsRestricted r (own_package r.packages) r }
-    ensures form { (r : Resolve) → ∥ IsInTower r ∥₁ → IsAlone r → ∥ IsInPackageForm r × All AreDistinct (package_scopes r) ∥₁ }
+    ensures form { (r : Resolve) → ∥ IsInTower r ∥₁ → IsAlone r → ∥ IsInPackageForm r
+        × All AreDistinct (package_scopes r) ∥₁ }
 {}
 
 /// What follows of a set with a package more.
@@ -40,7 +41,8 @@ pub fn of_attached()
     ensures { (set closed r : Resolve) (id : ℕ) → IsAttached set closed r id → OfAttached set closed r }
 {}
 
-/// A set stays in the tower with a package more. What was attached is the table of the last package, and the others keep theirs.
+/// A set stays in the tower with a package more. What was attached is the table of the last package, and the others
+/// keep theirs.
 pub fn keeps_tower()
     ensures { (set closed : Resolve) → KeepsTower set closed }
 {}
@@ -52,7 +54,8 @@ pub fn imports_one()
 
 /// What follows of the table of some interfaces of a set.
 pub fn of_imports()
-    ensures { (set : Resolve) (packages interfaces : List Bool) (r : Resolve) (n : IsImportsOf set packages interfaces r) → OfImports set packages interfaces r n }
+    ensures { (set : Resolve) (packages interfaces : List Bool) (r : Resolve)
+        (n : IsImportsOf set packages interfaces r) → OfImports set packages interfaces r n }
 {}
 
 /// What follows of the table of one package of a set.

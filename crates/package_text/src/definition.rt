@@ -107,7 +107,8 @@ fn cases(
     choices: &[Case],
 ) -> Result<Vec<wit_tokens::wit_syntax::Case>, AllocError>
     requires form { IsInPackageForm resolve.now }
-    requires earlier { IsTrue (list_all (λ c. option_all (is_type_before resolve.now.definitions place) c.ty) choices.now) }
+    requires earlier { IsTrue (list_all (λ c. option_all (is_type_before resolve.now.definitions place) c.ty)
+        choices.now) }
     ensures { IfOk result (λ cs. map case_view cs.items ≡ map (case_by (own_trees resolve.now)) choices.now) }
 {
     let mut cases = Vec::new(alloc);
@@ -191,7 +192,9 @@ pub(crate) fn function_type(
 ) -> Result<FuncType, AllocError>
     requires form { IsInPackageForm resolve.now }
     requires earlier { IsTrue (function_all (is_type_before resolve.now.definitions place) function.now) }
-    ensures { IfOk result (λ t. function_view t ≡ function_by (read_params (own_trees resolve.now) function.now.params) (option_map (read_val (own_trees resolve.now)) function.now.result)) }
+    ensures { IfOk result (λ t. function_view t
+        ≡ function_by (read_params (own_trees resolve.now) function.now.params)
+        (option_map (read_val (own_trees resolve.now)) function.now.result)) }
 {
     Ok(FuncType {
         params: parameters(alloc, resolve, place, function.params.as_slice())?,

@@ -1,5 +1,6 @@
 //! Interfaces: what is written for each of their rows.
-ghost use Rattle.std.specs.Prelude.{◌≡◌, ◌<◌, ◌∷◌, [], ◌++◌, map, flat_map, length, None, Some, MatchOption, IfOk, OnOk, IsTrue, slice_get};
+ghost use Rattle.std.specs.Prelude.{◌≡◌, ◌<◌, ◌∷◌, [], ◌++◌, map, flat_map, length, None, Some, MatchOption, IfOk};
+ghost use Rattle.std.specs.Prelude.{OnOk, IsTrue, slice_get};
 ghost use Rattle.wit_tokens.specs.declared.token.Span.{Span};
 ghost use Rattle.wit_tokens.specs.View.{version_view, path_view, used_view, entry_view, item_view};
 ghost use Rattle.wit_print.specs.Unplaced.{nowhere};
@@ -8,7 +9,8 @@ ghost use Rattle.tables.specs.declared.tables.ValType.TheVariants as val;
 ghost use Rattle.tables.specs.Package.{read_val, meaning_of, function_meaning};
 ghost use Rattle.package_form.specs.Reached.{used_by, name_at};
 ghost use Rattle.package_form.specs.Form.{IsInPackageForm, is_earlier as is_used, uses_earlier};
-ghost use Rattle.package_text.specs.Tree.{other_package, path_at, name_path, own_trees, local_of, use_entry, entry_by, written_at, interface_entry};
+ghost use Rattle.package_text.specs.Tree.{other_package, path_at, name_path, own_trees, local_of, use_entry, entry_by};
+ghost use Rattle.package_text.specs.Tree.{written_at, interface_entry};
 
 use crate::definition::{definition, function_type};
 use atoms::Label;
@@ -43,7 +45,8 @@ pub(crate) fn package_id(alloc: Global, name: &PackageName) -> Result<PackageId,
 
 /// The package of an interface, where it isn't the own one.
 fn other_package<'a>(resolve: &'a Resolve, interface: &Interface) -> Option<&'a PackageName>
-    ensures { MatchOption result (other_package resolve.now interface.now ≡ None) (λ p. other_package resolve.now interface.now ≡ Some p.now) }
+    ensures { MatchOption result (other_package resolve.now interface.now ≡ None)
+        (λ p. other_package resolve.now interface.now ≡ Some p.now) }
 {
     let packages = resolve.packages.as_slice();
     let place = interface.package.0 as usize;
@@ -97,7 +100,8 @@ fn local_name(alloc: Global, name: &Label, local: &Label) -> Result<Option<Label
 }
 
 fn used_as(alloc: Global, name: &Label, local: &Label) -> Result<Vec<UsedName>, AllocError>
-    ensures { IfOk result (λ us. map used_view us.items ≡ record { name = name.now; local = local_of name.now local.now } ∷ []) }
+    ensures { IfOk result (λ us. map used_view us.items
+        ≡ record { name = name.now; local = local_of name.now local.now } ∷ []) }
 {
     let mut names = Vec::new(alloc);
     names.push(UsedName {
@@ -114,7 +118,9 @@ fn use_entry(
     local: &Label,
 ) -> Result<InterfaceItem, AllocError>
     requires { IsTrue (is_used resolve.now.definitions (length resolve.now.interfaces) target) }
-    ensures { IfOk result (λ e. entry_view e ≡ use_entry (name_path resolve.now (name_at resolve.now.definitions (Some target))) (read_val (own_trees resolve.now) (val.Id target)) local.now) }
+    ensures { IfOk result (λ e. entry_view e
+        ≡ use_entry (name_path resolve.now (name_at resolve.now.definitions (Some target)))
+        (read_val (own_trees resolve.now) (val.Id target)) local.now) }
 {
     let name = used_name(resolve, target);
     let item = Use {
@@ -135,7 +141,9 @@ fn type_entry(
     requires form { IsInPackageForm resolve.now }
     requires earlier { IsTrue (kind_all (is_type_before resolve.now.definitions place) kind.now) }
     requires used { IsTrue (uses_earlier resolve.now.definitions (length resolve.now.interfaces) kind.now) }
-    ensures { IfOk result (λ e. entry_view e ≡ entry_by (name_path resolve.now (name_at resolve.now.definitions (used_by kind.now))) name.now (meaning_of (own_trees resolve.now) kind.now)) }
+    ensures { IfOk result (λ e. entry_view e
+        ≡ entry_by (name_path resolve.now (name_at resolve.now.definitions (used_by kind.now))) name.now
+        (meaning_of (own_trees resolve.now) kind.now)) }
 {
     match kind {
         TypeDefKind::Use(target) => use_entry(alloc, resolve, *target, name),
@@ -156,7 +164,9 @@ pub(crate) fn func(
 ) -> Result<Func, AllocError>
     requires form { IsInPackageForm resolve.now }
     requires earlier { IsTrue (function_all (is_type_before resolve.now.definitions place) function.now) }
-    ensures { IfOk result (λ f. entry_view (InterfaceItem.Func f) ≡ entry_by (name_path resolve.now None) function.now.name (function_meaning (own_trees resolve.now) function.now)) }
+    ensures { IfOk result (λ f. entry_view (InterfaceItem.Func f)
+        ≡ entry_by (name_path resolve.now None) function.now.name
+        (function_meaning (own_trees resolve.now) function.now)) }
 {
     Ok(Func {
         span: nowhere(),
@@ -166,7 +176,8 @@ pub(crate) fn func(
 }
 
 fn row_at(resolve: &Resolve, place: usize) -> Option<&Definition>
-    ensures { MatchOption result (slice_get resolve.now.definitions place ≡ None) (λ d. slice_get resolve.now.definitions place ≡ Some d.now) }
+    ensures { MatchOption result (slice_get resolve.now.definitions place ≡ None)
+        (λ d. slice_get resolve.now.definitions place ≡ Some d.now) }
 {
     resolve.definitions.as_slice().get(place)
 }
@@ -179,7 +190,8 @@ fn push_entry(
     items: &mut Vec<InterfaceItem>,
 ) -> Result<(), AllocError>
     requires { IsInPackageForm resolve.now }
-    ensures { OnOk result (map entry_view items.new.items ≡ map entry_view items.old.items ++ written_at resolve.now place) }
+    ensures { OnOk result (map entry_view items.new.items ≡ map entry_view items.old.items
+        ++ written_at resolve.now place) }
 {
     match row_at(resolve, place) {
         Some(Definition::Type(definition)) => {
@@ -206,7 +218,8 @@ fn push_types(
     items: &mut Vec<InterfaceItem>,
 ) -> Result<(), AllocError>
     requires { IsInPackageForm resolve.now }
-    ensures { OnOk result (map entry_view items.new.items ≡ map entry_view items.old.items ++ flat_map (λ t. written_at resolve.now t.0) ids.now) }
+    ensures { OnOk result (map entry_view items.new.items ≡ map entry_view items.old.items
+        ++ flat_map (λ t. written_at resolve.now t.0) ids.now) }
 {
     for id in ids {
         push_entry(alloc, resolve, id.0 as usize, items)?;
@@ -221,7 +234,8 @@ fn push_functions(
     items: &mut Vec<InterfaceItem>,
 ) -> Result<(), AllocError>
     requires { IsInPackageForm resolve.now }
-    ensures { OnOk result (map entry_view items.new.items ≡ map entry_view items.old.items ++ flat_map (λ f. written_at resolve.now f.0) ids.now) }
+    ensures { OnOk result (map entry_view items.new.items ≡ map entry_view items.old.items
+        ++ flat_map (λ f. written_at resolve.now f.0) ids.now) }
 {
     for id in ids {
         push_entry(alloc, resolve, id.0 as usize, items)?;

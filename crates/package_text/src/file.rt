@@ -23,7 +23,8 @@ fn push_interfaces(
     items: &mut Vec<Item>,
 ) -> Result<(), AllocError>
     requires { IsInPackageForm resolve.now }
-    ensures { OnOk result (map item_view items.new.items ≡ map item_view items.old.items ++ map (interface_entry resolve.now) (filter (is_interface_of own) resolve.now.interfaces)) }
+    ensures { OnOk result (map item_view items.new.items ≡ map item_view items.old.items
+        ++ map (interface_entry resolve.now) (filter (is_interface_of own) resolve.now.interfaces)) }
 {
     for interface in resolve.interfaces.as_slice() {
         if interface.package.0 as usize == own {
@@ -35,7 +36,8 @@ fn push_interfaces(
 
 fn push_worlds(alloc: Global, resolve: &Resolve, items: &mut Vec<Item>) -> Result<(), AllocError>
     requires { IsInPackageForm resolve.now }
-    ensures { OnOk result (map item_view items.new.items ≡ map item_view items.old.items ++ map (world_written resolve.now) resolve.now.worlds) }
+    ensures { OnOk result (map item_view items.new.items ≡ map item_view items.old.items
+        ++ map (world_written resolve.now) resolve.now.worlds) }
 {
     for world in resolve.worlds.as_slice() {
         items.push(world_tree(alloc, resolve, world)?)?;
@@ -57,8 +59,9 @@ fn tree(alloc: Global, resolve: &Resolve) -> Result<Ast, AllocError>
     Ok(Ast { package, items })
 }
 
-/// Appends the canonical text of the own package of a closed table, in which its imports go by their paths. Where memory is wanting, the text
-/// is as it was. Takes time linear in the table and in the text, and room on the stack for each type within a type.
+/// Appends the canonical text of the own package of a closed table, in which its imports go by their paths. Where
+/// memory is wanting, the text is as it was. Takes time linear in the table and in the text, and room on the stack for
+/// each type within a type.
 pub fn print(alloc: Global, resolve: &Resolve, out: &mut String) -> Result<(), AllocError>
     requires { ∥ IsInPackageForm resolve.now ∥₁ }
     ensures ok { OnOk result (string_bytes out.new ≡ string_bytes out.old ++ text_of resolve.now) }

@@ -1,7 +1,8 @@
 //! What holds of the tree and of the text of a package.
 ghost use Rattle.tables.specs.declared.tables.Resolve.{Resolve};
 ghost use Rattle.wit_tokens.specs.Syntax.{File};
-ghost use Rattle.package_text.specs.Laws.{IsTreeOfClosed, IsTextOfClosed, IsTreeOfPackage, IsTextOfPackage, NestsAsText, HasOneTable, HasOneClosedTable};
+ghost use Rattle.package_text.specs.Laws.{IsTreeOfClosed, IsTextOfClosed, IsTreeOfPackage, IsTextOfPackage};
+ghost use Rattle.package_text.specs.Laws.{NestsAsText, HasOneTable, HasOneClosedTable};
 
 use wit_print::canonical_text_is_read_back;
 

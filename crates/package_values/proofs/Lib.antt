@@ -1,4 +1,3 @@
 pub mod FunctionTypesAsFields
 pub mod WrittenTextsAreReadBack
 pub mod SetLabelsAreApart
-pub mod SetNamesStandForOne

@@ -20,7 +20,7 @@ use Rattle.value_json.specs.Json.{HasDistinctLabels}
 use Rattle.value_json.proofs.DistinctLabelsAreAFact.{prop-rows, prop-type}
 use Rattle.value_json.proofs.LabelsAreApart.{IsScope, unnamed-scope-of, labels-of-scopes}
 use Rattle.package_form.proofs.NamesStandForOneRow.{named}
-use Rattle.package_values.proofs.SetNamesStandForOne.{type-in}
+use Rattle.package_sets.proofs.DistinctNames.SetNamesStandForOne.{type-in}
 
 -- the members of each type are a scope
 scope-at : (r : Resolve) → IsInSetForm r → (a : ℕ) (d : Definition) → slice_get r.definitions a ≡ Some d → IsScope d

@@ -37,12 +37,14 @@ pub struct Called<'a> {
 }
 
 impl Called<'_> {
-    /// The blocks that the arguments ask for that a text of JSON says, an array of one value for each parameter: in the order in which `fill`
-    /// asks for them. 61 or 62 if the text says no arguments; K4 in `place` if a text or a list needs more than 16,777,216 bytes; or 66.
+    /// The blocks that the arguments ask for that a text of JSON says, an array of one value for each parameter: in the
+    /// order in which `fill` asks for them. 61 or 62 if the text says no arguments; K4 in `place` if a text or a list
+    /// needs more than 16,777,216 bytes; or 66.
     pub fn requests(&self, text: &str) -> Result<Vec<Request>, CallError>
         requires { IsFunction self.now.«package».now.resolve self.now.func }
         ensures { let r = self.now.«package».now.resolve in
-            TextAsks r (function_signature (function_at r self.now.func)).params (function_type r self.now.func) text.now result }
+            TextAsks r (function_signature (function_at r self.now.func)).params (function_type r self.now.func)
+            text.now result }
     {
         let values = arguments_from_json(self.alloc, self.package, self.func, text)?;
         match argument_requests(
@@ -56,8 +58,9 @@ impl Called<'_> {
         }
     }
 
-    /// Puts the arguments that a text of JSON says into the blocks of a memory, and tells the core values that carry them at the front of
-    /// `handed`, which has room for 17. Answers how many they are. 61 or 62 if the text says no arguments; otherwise as `fill_arguments`.
+    /// Puts the arguments that a text of JSON says into the blocks of a memory, and tells the core values that carry
+    /// them at the front of `handed`, which has room for 17. Answers how many they are. 61 or 62 if the text says no
+    /// arguments; otherwise as `fill_arguments`.
     pub fn fill(
         &self,
         text: &str,
@@ -67,7 +70,8 @@ impl Called<'_> {
     ) -> Result<usize, CallError>
         requires { IsFunction self.now.«package».now.resolve self.now.func }
         ensures { let r = self.now.«package».now.resolve in
-            TextFilled r (function_signature (function_at r self.now.func)).params (function_type r self.now.func) text.now memory.old blocks.now
+            TextFilled r (function_signature (function_at r self.now.func)).params (function_type r self.now.func)
+            text.now memory.old blocks.now
             handed.old result memory.new handed.new }
     {
         let values = arguments_from_json(self.alloc, self.package, self.func, text)?;

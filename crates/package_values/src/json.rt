@@ -9,7 +9,8 @@ ghost use Rattle.tables.specs.Standard.{IsTypeOf};
 ghost use Rattle.values.specs.Members.{fields_of_types, AreTypesOf};
 ghost use Rattle.values.specs.Val.{value_of};
 ghost use Rattle.adapter.specs.Signature.{function_signature};
-ghost use Rattle.package_values.specs.Json.{IsTextOf, IsTextOfNone, IsTextOfOnly, IsCompactTextOf, IsArrayTextOf, RefusesArray};
+ghost use Rattle.package_values.specs.Json.{IsTextOf, IsTextOfNone, IsTextOfOnly, IsCompactTextOf, IsArrayTextOf};
+ghost use Rattle.package_values.specs.Json.{RefusesArray};
 
 use crate::laws::has_labels_apart;
 use adapter::parameter_types;
@@ -96,7 +97,8 @@ pub fn from_json(
     }
 }
 
-/// The values of these types that a text of JSON says: an array of exactly as many. 61 if the text is no JSON, 62 if it is no such array.
+/// The values of these types that a text of JSON says: an array of exactly as many. 61 if the text is no JSON, 62 if it
+/// is no such array.
 pub fn values_from_json(
     alloc: Global,
     package: &Package,
@@ -105,7 +107,8 @@ pub fn values_from_json(
 ) -> Result<Vec<Val>, JsonError>
     requires { AreTypesOf «package».now.resolve types.now }
     ensures ok { IfOk result (λ vs. IsArrayTextOf «package».now.resolve types.now text.now (map value_of vs.items)) }
-    ensures typed { IfOk result (λ vs. HaveTypes (map value_of vs.items) (fields_of_types «package».now.resolve types.now)) }
+    ensures typed { IfOk result (λ vs. HaveTypes (map value_of vs.items)
+        (fields_of_types «package».now.resolve types.now)) }
     ensures err { IfErr result (RefusesArray «package».now.resolve types.now text.now) }
 {
     let json = read_json(alloc, text)?;
@@ -117,7 +120,8 @@ pub fn values_from_json(
     }
 }
 
-/// The arguments of a function of the package that a text of JSON says: an array of one value for each parameter, in their order.
+/// The arguments of a function of the package that a text of JSON says: an array of one value for each parameter, in
+/// their order.
 pub fn arguments_from_json(
     alloc: Global,
     package: &Package,
@@ -125,10 +129,13 @@ pub fn arguments_from_json(
     text: &str,
 ) -> Result<Vec<Val>, JsonError>
     requires { IsFunction «package».now.resolve func }
-    ensures ok { IfOk result (λ vs. IsArrayTextOf «package».now.resolve (function_signature (function_at «package».now.resolve func)).params
+    ensures ok { IfOk result (λ vs. IsArrayTextOf «package».now.resolve
+        (function_signature (function_at «package».now.resolve func)).params
         text.now (map value_of vs.items)) }
-    ensures typed { IfOk result (λ vs. HaveTypes (map value_of vs.items) (function_type «package».now.resolve func).params) }
-    ensures err { IfErr result (RefusesArray «package».now.resolve (function_signature (function_at «package».now.resolve func)).params text.now) }
+    ensures typed { IfOk result (λ vs. HaveTypes (map value_of vs.items)
+        (function_type «package».now.resolve func).params) }
+    ensures err { IfErr result (RefusesArray «package».now.resolve
+        (function_signature (function_at «package».now.resolve func)).params text.now) }
 {
     let types = parameter_types(alloc, &package.types(), func)?;
     values_from_json(alloc, package, types.as_slice(), text)
@@ -161,8 +168,10 @@ pub fn to_json(
 ) -> Result<String, AllocError>
     requires known { IsTypeOf «package».now.resolve ty }
     requires typed { HasType (value_of value.now) (closed_type «package».now.resolve ty) }
-    ensures written { IfOk result (λ text. IsCompactTextOf «package».now.resolve ty (value_of value.now) (string_bytes text)) }
-    ensures read_back { IfOk result (λ text. IsTextOfOnly «package».now.resolve ty (string_bytes text) (value_of value.now)) }
+    ensures written { IfOk result (λ text. IsCompactTextOf «package».now.resolve ty (value_of value.now)
+        (string_bytes text)) }
+    ensures read_back { IfOk result (λ text. IsTextOfOnly «package».now.resolve ty (string_bytes text)
+        (value_of value.now)) }
 {
     has_labels_apart(package);
     has_one_value();

@@ -48,10 +48,10 @@ use Rattle.package_form.specs.Closed.{is_world_of}
 --   }
 --   world host { import types; export shop; import run: func(x: list<u8>); }
 
-abbrev uses : PathTo → List UsedAs → Entry
+abbrev pub uses : PathTo → List UsedAs → Entry
 uses path names = Uses (record { start = 0; end = 0 }) path names
 
-abbrev defines : List ℕ → Body → Entry
+abbrev pub defines : List ℕ → Body → Entry
 defines name body = Defines (record { start = 0; end = 0 }) name body
 
 abbrev declares : List ℕ → Function → Entry
@@ -60,13 +60,13 @@ declares name function = Declares (record { start = 0; end = 0 }) name function
 abbrev single : Way → List ℕ → Function → WorldEntry
 single towards name function = Single towards (record { start = 0; end = 0 }) name function
 
-abbrev a_world : List ℕ → List WorldEntry → FileEntry
+abbrev pub a_world : List ℕ → List WorldEntry → FileEntry
 a_world name items = AWorld (record { start = 0; end = 0 }) name items
 
 abbrev member : List ℕ → Ty → Member
 member name t = record { name = name; ty = t }
 
-abbrev use_as : List ℕ → Option (List ℕ) → UsedAs
+abbrev pub use_as : List ℕ → Option (List ℕ) → UsedAs
 use_as name local = record { name = name; local = local }
 
 abbrev u8_type : Ty
@@ -102,7 +102,7 @@ types_entries =
 abbrev host_entry : FileEntry
 host_entry = a_world (codes "host") (Whole way.Import (Local (codes "types")) ∷ Whole way.Export (Local (codes "shop")) ∷ single way.Import (codes "run") run ∷ [])
 
-abbrev file_in : PackageParts → List FileEntry → File
+abbrev pub file_in : PackageParts → List FileEntry → File
 file_in q es = record { namespace = q.namespace; name = q.name; version = q.version; entries = es }
 
 abbrev f : File
@@ -324,7 +324,7 @@ f-has-package = record {
 
 -- ---- a file that uses an interface of another package: package c:d; interface till { use a:b/money@1.2.0.{money}; }
 
-abbrev money_path : PathTo
+abbrev pub money_path : PathTo
 money_path = Foreign (codes "a") (codes "b") (Some (codes "1.2.0")) (codes "money")
 
 abbrev money_use : UsedItem
@@ -333,11 +333,11 @@ money_use = record { «package» = Some a_b; interface = codes "money"; name = c
 abbrev till_entry : FileEntry
 till_entry = AnInterface (codes "till") (uses money_path (use_as (codes "money") None ∷ []) ∷ [])
 
-abbrev g : File
+abbrev pub g : File
 g = file_in c_d (till_entry ∷ [])
 
 -- the table of its imports
-abbrev m : Resolve
+abbrev pub m : Resolve
 m = record {
   packages = a_b ∷ [];
   interfaces = money ∷ [];
@@ -437,7 +437,7 @@ not-of-another-package (k, (zero, l, e), is, name) =
 not-of-another-package (k, (suc j, l, e), is, name) = omega arith
 
 -- a world that imports it
-abbrev w : File
+abbrev pub w : File
 w = file_in c_d (a_world (codes "w") (Whole way.Import money_path ∷ []) ∷ [])
 
 w-meaning : map meaning_of_world (full_worlds w) ≡ record { name = codes "c:d/w"; items = WithInterface direction.Import (codes "a:b/money@1.2.0") ∷ [] } ∷ []

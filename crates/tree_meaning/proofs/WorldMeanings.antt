@@ -47,7 +47,7 @@ all-append ns trees (d ∷ ds) es =
     ∙ sym (append_assoc (all_of ns trees d) (all_from ns (trees ++ reference ns trees d ∷ []) ds) (all_from ns (references ns (trees ++ reference ns trees d ∷ []) ds) es))
 
 -- rows behind those of interfaces define nothing in one
-behind-none : (ns : List (List ℕ)) (trees : List Tree) (ds : List Definition) → list_all is_behind ds ≡ true → definitions_from ns trees ds ≡ []
+pub behind-none : (ns : List (List ℕ)) (trees : List Tree) (ds : List Definition) → list_all is_behind ds ≡ true → definitions_from ns trees ds ≡ []
 behind-none ns trees [] h = refl
 behind-none ns trees (d ∷ ds) h =
     let s = split (is_behind d) (list_all is_behind ds) h in
@@ -175,11 +175,15 @@ module _ (ns : List (List ℕ)) (rows : List Definition) where
       ∙ ap (λ (n : ℕ). places_where is_world_function n b.back) zero_plus in
       sym both ∙ items
 
+  module _ (typed : IsTyped rows) (earlier : IsTrue (are_earlier 0 rows)) (types : IsTrue (name_types rows)) (name : World → List ℕ) (ws : List World) where
+    pub back-of : (pre S : List Definition) → rows ≡ pre ++ S → list_all is_behind S ≡ true → places_where is_world_function (length pre) S ≡ flat_map functions_of ws
+        → all_from ns (references ns [] pre) S ≡ worlds_definitions (map (λ w. world_meaning ns trees rows (name w) w) ws)
+    back-of pre S e h items = rows-defined typed earlier types pre S e h ∙ ap (flat_map at) items ∙ worlds-defined name ws
+
   module _ (typed : IsTyped rows) (earlier : IsTrue (are_earlier 0 rows)) (types : IsTrue (name_types rows)) (name : World → List ℕ) (ws : List World)
       (b : HasWorldsBehind rows) (items : HasItems rows ws) where
     pub back-told : all_from ns (references ns [] b.front) b.back ≡ worlds_definitions (map (λ w. world_meaning ns trees rows (name w) w) ws)
-    back-told =
-        rows-defined typed earlier types b.front b.back b.parts b.all ∙ ap (flat_map at) (items-behind ws b items) ∙ worlds-defined name ws
+    back-told = back-of typed earlier types name ws b.front b.back b.parts b.all (items-behind ws b items)
 
     -- the rows of a table define what its interfaces do, and then its worlds
     pub all-told : all_from ns [] rows ≡ definitions_from ns [] rows ++ worlds_definitions (map (λ w. world_meaning ns trees rows (name w) w) ws)

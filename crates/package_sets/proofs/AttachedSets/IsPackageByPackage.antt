@@ -4,7 +4,7 @@ use Rattle.std.specs.Prelude.{filter, flat_map, Contains, is_some}
 use Rattle.std.specs.Option.{option_map}
 use Rattle.std.specs.List.{list_all}
 use Rattle.std.specs.Str.{bytes_eq}
-use Rattle.std.proofs.lemmas.Bool.{ltb-true, lt-ltb, leb-true}
+use Rattle.std.proofs.lemmas.Bool.{ltb-true, lt-ltb, leb-true, le-leb}
 use Rattle.std.proofs.lemmas.List.{map-append, length-map, length-take, length-drop, length-append, take-append-le}
 use Rattle.std.proofs.lemmas.Slice.Eq.{bytes_eq-Decides}
 use Rattle.std.proofs.lemmas.Option.{slice_get_within, slice_get-get_or}
@@ -37,8 +37,8 @@ use Rattle.package_sets.specs.Joining.{import_count, imports, own_interfaces}
 use Rattle.package_sets.specs.Joined.{renaming_of, IsJoined}
 use Rattle.package_sets.specs.Joined.{JoinedPlaces}
 use Rattle.package_sets.proofs.KeptParts.KeptTogether.{places-in}
-use Rattle.package_sets.proofs.GrowingLists.{all-more, front-get, none-within, all-put, all-drop, drop-map, take-mapped}
-use Rattle.package_sets.proofs.KeptParts.PropertiesOfKept.{worlds-grouped-at}
+use Rattle.package_sets.proofs.GrowingLists.{all-append, all-more, front-get, none-within, all-put, all-drop, drop-map, take-mapped}
+use Rattle.package_sets.proofs.KeptParts.PropertiesOfKept.{interface-in, worlds-grouped-at}
 use Rattle.package_sets.proofs.OwnedRows.RowsAreOwned.{interfaces-split, ends-split, length-rows}
 use Rattle.package_sets.proofs.MovedRows.WhatRowsName.{row-references-put, named-same}
 use Rattle.package_sets.proofs.AttachedSets.OwnPartStandsBehind.{before, before-le, import-found, interfaces-behind, worlds-behind, rows-behind, rows-there, row-there}
@@ -190,31 +190,29 @@ module _ (ds es : List Definition) where
   -- a set's rows, and those of the interfaces and the worlds that follow
   pub set-stands : (start k : ℕ) (is : List Interface) (j : ℕ) (ws : List World) → ArePackageByPackage ds start k is j ws → list_all (is_placed ds) is ≡ true
       → (more : List Interface) (worlds : List World) → ((w : World) → Contains ws w → list_all (λ i. nat_lt w.«package».0 i.«package».0) more ≡ true)
+      → ((i : Interface) → Contains is i → list_all (λ w. nat_le i.«package».0 w.«package».0) worlds ≡ true)
       → ArePackageByPackage (ds ++ es) (length ds) (k + length is) more (j + length ws) worlds → ArePackageByPackage (ds ++ es) start k (is ++ more) j (ws ++ worlds)
-  set-stands _ _ _ _ _ (behind_all start k j e) h more worlds later rest =
+  set-stands _ _ _ _ _ (behind_all start k j e) h more worlds later after rest =
       subst (λ n. ArePackageByPackage (ds ++ es) n k more j worlds) (sym e)
       (subst (λ n. ArePackageByPackage (ds ++ es) (length ds) n more j worlds) (plus-none k) (subst (λ n. ArePackageByPackage (ds ++ es) (length ds) (k + 0) more n worlds) (plus-none j) rest))
     where
       plus-none : (n : ℕ) → n + 0 ≡ n
       plus-none n = omega arith
-  set-stands _ _ _ _ _ (an_interface start k i is j ws a tail) h more worlds later rest =
+  set-stands _ _ _ _ _ (an_interface start k i is j ws a before-all tail) h more worlds later after rest =
       let p = split (is_placed ds i) (list_all (is_placed ds) is) h in
       an_interface start k i (is ++ more) j (ws ++ worlds) (rows-more start k i p.0 a)
-      (set-stands (end_of start i) (k + 1) is j ws tail p.1 more worlds later (subst (λ n. ArePackageByPackage (ds ++ es) (length ds) n more (j + length ws) worlds) (next k (length is)) rest))
+      (all-append (λ w. nat_le i.«package».0 w.«package».0) ws worlds before-all (after i (0, omega arith, refl)))
+      (set-stands (end_of start i) (k + 1) is j ws tail p.1 more worlds later (λ x c. after x (Contains-append_right (i ∷ []) is x c)) (subst (λ n. ArePackageByPackage (ds ++ es) (length ds) n more (j + length ws) worlds) (next k (length is)) rest))
     where
       next : (n m : ℕ) → n + suc m ≡ n + 1 + m
       next n m = omega arith
-  set-stands _ _ _ _ _ (a_world start k is j w ws a before-all tail) h more worlds later rest =
-      a_world start k (is ++ more) j w (ws ++ worlds) (world-rows-more start j w a) (all-both (λ i. nat_lt w.«package».0 i.«package».0) is more before-all (later w (0, omega arith, refl)))
-      (set-stands (world_end start w) k is (j + 1) ws tail h more worlds (λ x c. later x (Contains-append_right (w ∷ []) ws x c))
+  set-stands _ _ _ _ _ (a_world start k is j w ws a before-all tail) h more worlds later after rest =
+      a_world start k (is ++ more) j w (ws ++ worlds) (world-rows-more start j w a) (all-append (λ i. nat_lt w.«package».0 i.«package».0) is more before-all (later w (0, omega arith, refl)))
+      (set-stands (world_end start w) k is (j + 1) ws tail h more worlds (λ x c. later x (Contains-append_right (w ∷ []) ws x c)) after
       (subst (λ n. ArePackageByPackage (ds ++ es) (length ds) (k + length is) more n worlds) (next j (length ws)) rest))
     where
       next : (n m : ℕ) → n + suc m ≡ n + 1 + m
       next n m = omega arith
-
-      all-both : {A : Type 0} (f : A → Bool) (xs ys : List A) → list_all f xs ≡ true → list_all f ys ≡ true → list_all f (xs ++ ys) ≡ true
-      all-both f [] ys u v = v
-      all-both f (x ∷ xs) ys u v = let p = split (f x) (list_all f xs) u in both (f x) (list_all f (xs ++ ys)) p.0 (all-both f xs ys p.1 v)
 
 -- ---- rows of the closed table, put behind the set
 
@@ -579,6 +577,11 @@ module _ (s c : Resolve) (j : JoinedPlaces) (q : IsJoined s c j) where
       (subst (λ e. ArePackageByPackage R e at [] (length s.worlds + k + 1) (map (put_world to) ws)) (sym step.1)
       (subst (λ e. ArePackageByPackage R (moved (world_end start w)) at [] e (map (put_world to) ws)) next (worlds-stand (world_end start w) (k + 1) at ws (omega (arith, l, begins)) (omega (arith, n)) p1.1 h0.1)))
 
+  -- all of them are of the package that is put behind the set, or of no earlier one
+  own-worlds : (p : ℕ) (ws : List World) → p ≤ j.«package» → list_all (λ w. nat_le p w.«package».0) (map (put_world to) ws) ≡ true
+  own-worlds p [] l = refl
+  own-worlds p (w ∷ ws) l = both _ _ (le-leb p j.«package» l) (own-worlds p ws l)
+
   interfaces-stand : (start k : ℕ) (is : List Interface) → j.imported ≤ start → import_count c ≤ k → k + length is ≡ length c.interfaces → is_parted (length c.definitions) start is c.worlds ≡ true
       → are_interfaces c.definitions k start is ≡ true → are_placed c.definitions is ≡ true → have_items c.definitions 0 (interfaces_end start is) c.worlds ≡ true
       → ArePackageByPackage R (moved start) (length s.interfaces + (k - import_count c)) (map (put_interface to) is) (length s.worlds + 0) (map (put_world to) c.worlds)
@@ -593,7 +596,7 @@ module _ (s c : Resolve) (j : JoinedPlaces) (q : IsJoined s c j) where
       let a : AreRowsOf c.definitions start k i = record { begins = begins; ends = leb-true (end_of start i) (length c.definitions) p1.0; ids = h1.0; local = h1.1 } in
       let step = interface-step start k i l b (omega (arith, n)) a z0.0 in
       let next : length s.interfaces + (k + 1 - import_count c) ≡ length s.interfaces + (k - import_count c) + 1 = omega (arith, b) in
-      an_interface (moved start) (length s.interfaces + (k - import_count c)) (put_interface to i) (map (put_interface to) is) (length s.worlds + 0) (map (put_world to) c.worlds) step.0
+      an_interface (moved start) (length s.interfaces + (k - import_count c)) (put_interface to i) (map (put_interface to) is) (length s.worlds + 0) (map (put_world to) c.worlds) step.0 (own-worlds j.«package» c.worlds (omega arith))
       (subst (λ e. ArePackageByPackage R e (length s.interfaces + (k - import_count c) + 1) (map (put_interface to) is) (length s.worlds + 0) (map (put_world to) c.worlds)) (sym step.1)
       (subst (λ e. ArePackageByPackage R (moved (end_of start i)) e (map (put_interface to) is) (length s.worlds + 0) (map (put_world to) c.worlds)) next
       (interfaces-stand (end_of start i) (k + 1) is (omega (arith, l, begins)) (omega (arith, b)) (omega (arith, n)) p1.1 h0.1 z0.1 g)))
@@ -609,6 +612,11 @@ module _ (s c : Resolve) (j : JoinedPlaces) (q : IsJoined s c j) where
   own-later w (k, l, e) (i ∷ is) =
       let within = worlds-grouped-at (length s.packages) 0 s.worlds k w s.worlds_grouped (slice_get-get_or s.worlds k w l ∙ ap Some e) in
       both _ _ (lt-ltb w.«package».0 j.«package» (omega (arith, within, q.are_joined.package_is))) (own-later w (k, l, e) is)
+
+  own-after : (i : Interface) → Contains s.interfaces i → list_all (λ w. nat_le i.«package».0 w.«package».0) (map (put_world to) c.worlds) ≡ true
+  own-after i (k, l, e) =
+      let within = interface-in s k i (slice_get-get_or s.interfaces k i l ∙ ap Some e) in
+      own-worlds i.«package».0 c.worlds (omega (arith, within, q.are_joined.package_is))
 
   -- the imports' rows end where they do
   pub imported-end : HasRowsInForm c → j.imported ≡ interfaces_end 0 (imports c)
@@ -637,4 +645,4 @@ module _ (s c : Resolve) (j : JoinedPlaces) (q : IsJoined s c j) where
   pub all-stand : IsPackageByPackage s → HasRowsInForm c → ArePackageByPackage R 0 0 (s.interfaces ++ map (put_interface to) (own_interfaces c)) 0 (s.worlds ++ map (put_world to) c.worlds)
   all-stand set form =
       set-stands s.definitions (map (put_row to) (drop j.imported c.definitions)) 0 0 s.interfaces 0 s.worlds set s.placed (map (put_interface to) (own_interfaces c)) (map (put_world to) c.worlds)
-      (λ w d. own-later w d (own_interfaces c)) (own-stand form)
+      (λ w d. own-later w d (own_interfaces c)) own-after (own-stand form)

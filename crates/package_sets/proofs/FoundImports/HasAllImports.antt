@@ -67,10 +67,10 @@ record HasRowsAt (rows : List Definition) (k : ℕ) (i : Interface) : Type 0 whe
 
 rows-at : (rows : List Definition) (start k : ℕ) (is : List Interface) (j : ℕ) (ws : List World) → ArePackageByPackage rows start k is j ws → (m : ℕ) (x : Interface) → slice_get is m ≡ Some x → HasRowsAt rows (k + m) x
 rows-at rows _ _ _ _ _ (behind_all start k j e) m x at = absurd (cc)
-rows-at rows _ _ _ _ _ (an_interface start k i is j ws a rest) zero x at =
+rows-at rows _ _ _ _ _ (an_interface start k i is j ws a before rest) zero x at =
     let same : i ≡ x = cc in
     subst (λ n. HasRowsAt rows n x) (sym (plus-none k)) (subst (λ (y : Interface). HasRowsAt rows k y) same (record { start = start; are = a }))
-rows-at rows _ _ _ _ _ (an_interface start k i is j ws a rest) (suc m) x at = subst (λ n. HasRowsAt rows n x) (one-later k m) (rows-at rows (end_of start i) (k + 1) is j ws rest m x at)
+rows-at rows _ _ _ _ _ (an_interface start k i is j ws a before rest) (suc m) x at = subst (λ n. HasRowsAt rows n x) (one-later k m) (rows-at rows (end_of start i) (k + 1) is j ws rest m x at)
 rows-at rows _ _ _ _ _ (a_world start k is j w ws a later rest) m x at = rows-at rows _ k is (j + 1) ws rest m x at
 
 -- each id of an interface that is kept is kept

@@ -1,10 +1,10 @@
 -- A set's rows stand package by package, and so do those that are kept.
-use Rattle.std.proofs.Common.{◌≡◌, ◌≤◌, ◌<◌, ℕ, zero, suc, ◌+◌, ◌-◌, Bool, true, false, not, ◌&&◌, List, [], ◌∷◌, ◌++◌, length, take, drop, get_or, slice_get, map, Option, None, Some, refl, ap, sym, subst, ◌∙◌, arith, true≢false, eqb-true, eq-eqb, nat_lt, IsTrue}
+use Rattle.std.proofs.Common.{◌≡◌, ◌≤◌, ◌<◌, ℕ, zero, suc, ◌+◌, ◌-◌, Bool, true, false, not, ◌&&◌, List, [], ◌∷◌, ◌++◌, length, take, drop, get_or, slice_get, map, Option, None, Some, refl, ap, sym, subst, ◌∙◌, arith, true≢false, eqb-true, eq-eqb, nat_le, nat_lt, IsTrue}
 use Rattle.std.specs.Prelude.{filter, flat_map, Contains, is_some}
 use Rattle.std.specs.Option.{option_map}
 use Rattle.std.specs.List.{list_all, items_where_true}
 use Rattle.std.specs.Str.{bytes_eq}
-use Rattle.std.proofs.lemmas.Bool.{ltb-true, lt-ltb}
+use Rattle.std.proofs.lemmas.Bool.{ltb-true, lt-ltb, leb-true, le-leb}
 use Rattle.std.proofs.lemmas.List.{map-append, length-map, length-take, length-drop, get_or_default}
 use Rattle.std.proofs.lemmas.Slice.Eq.{bytes_eq-Decides}
 use Rattle.std.proofs.lemmas.Option.{slice_get_within, slice_get-get_or}
@@ -433,6 +433,11 @@ module _ (s : Resolve) (to : Moved) (n : IsPart s to) where
   later-kept p bs is e h = list-kept (put_interface (renaming to)) (λ i. nat_lt (place to.packages p) i.«package».0) bs is
       (λ k x m q. lt-ltb _ _ (place-before to.packages p x.«package».0 (ltb-true p x.«package».0 (list-at (λ i. nat_lt p i.«package».0) is k x h q)) e))
 
+  worlds-later-kept : (p : ℕ) (bs : List Bool) (ws : List World) → list_all (λ w. nat_le p w.«package».0) ws ≡ true
+      → list_all (λ w. nat_le (place to.packages p) w.«package».0) (map (put_world (renaming to)) (items_where_true bs ws)) ≡ true
+  worlds-later-kept p bs ws h = list-kept (put_world (renaming to)) (λ w. nat_le (place to.packages p) w.«package».0) bs ws
+      (λ k x m q. le-leb _ _ (place-order to.packages p x.«package».0 (leb-true p x.«package».0 (list-at (λ w. nat_le p w.«package».0) ws k x h q))))
+
   -- what is kept of a set's rows stands package by package
   stands-there : AreWorldsApart s → (start k : ℕ) (is : List Interface) (j : ℕ) (ws : List World) → ArePackageByPackage s.definitions start k is j ws
       → (bs : List Bool) → AreMarksFrom to.interfaces k bs → k + length is ≡ length s.interfaces → length bs ≡ length is
@@ -443,17 +448,18 @@ module _ (s : Resolve) (to : Moved) (n : IsPart s to) where
       subst (λ (is : List Interface). ArePackageByPackage there (place to.rows start) (place to.interfaces k) (map (put_interface (renaming to)) is) (place to.worlds j) (map (put_world (renaming to)) (items_where_true cs []))) (sym (kept-none bs))
       (subst (λ (ws : List World). ArePackageByPackage there (place to.rows start) (place to.interfaces k) [] (place to.worlds j) (map (put_world (renaming to)) ws)) (sym (kept-none cs))
       (behind_all (place to.rows start) (place to.interfaces k) (place to.worlds j) (ap (place to.rows) e ∙ sym count-there)))
-  stands-there apart _ _ _ _ _ (an_interface start k i is j ws a rest) [] ms u v cs ns x y at = absurd (omega (arith, v))
-  stands-there apart _ _ _ _ _ (an_interface start k i is j ws a rest) (true ∷ bs) ms u v cs ns x y at =
+  stands-there apart _ _ _ _ _ (an_interface start k i is j ws a before rest) [] ms u v cs ns x y at = absurd (omega (arith, v))
+  stands-there apart _ _ _ _ _ (an_interface start k i is j ws a before rest) (true ∷ bs) ms u v cs ns x y at =
       let here = marks-here to.interfaces k true bs ms in
       let within : k < length s.interfaces = omega (arith, u) in
       let step = interface-step start k i within a (interface-marks start k i true a (interface-mark k within ∙ here)) in
       let next : place to.interfaces k + 1 ≡ place to.interfaces (k + 1) = sym (place-yes to.interfaces k here) ∙ ap (place to.interfaces) (one-more k) in
       let r = stands-there apart (end_of start i) (k + 1) is j ws rest bs (marks-next to.interfaces k (k + 1) true bs refl ms) (omega (arith, u)) (omega (arith, v)) cs ns x y at in
       an_interface (place to.rows start) (place to.interfaces k) (put_interface (renaming to) i) (map (put_interface (renaming to)) (items_where_true bs is)) (place to.worlds j) (map (put_world (renaming to)) (items_where_true cs ws)) step.0
+      (worlds-later-kept i.«package».0 cs ws before)
       (subst (λ e. ArePackageByPackage there e (place to.interfaces k + 1) (map (put_interface (renaming to)) (items_where_true bs is)) (place to.worlds j) (map (put_world (renaming to)) (items_where_true cs ws))) (sym step.1)
       (subst (λ e. ArePackageByPackage there (place to.rows (end_of start i)) e (map (put_interface (renaming to)) (items_where_true bs is)) (place to.worlds j) (map (put_world (renaming to)) (items_where_true cs ws))) (sym next) r))
-  stands-there apart _ _ _ _ _ (an_interface start k i is j ws a rest) (false ∷ bs) ms u v cs ns x y at =
+  stands-there apart _ _ _ _ _ (an_interface start k i is j ws a before rest) (false ∷ bs) ms u v cs ns x y at =
       let here = marks-here to.interfaces k false bs ms in
       let within : k < length s.interfaces = omega (arith, u) in
       let marks = interface-marks start k i false a (interface-mark k within ∙ here) in

@@ -184,13 +184,13 @@ module _ (s : Resolve) (to : Moved) (n : IsPart s to) (apart : AreWorldsApart s)
   rows-found-from : (start k : ℕ) (is : List Interface) (j : ℕ) (ws : List World) → ArePackageByPackage s.definitions start k is j ws → (bs : List Bool) → AreMarksFrom to.interfaces k bs → k + length is ≡ length s.interfaces
       → length bs ≡ length is → j + length ws ≡ length s.worlds → ((m : ℕ) (x : Interface) → slice_get is m ≡ Some x → slice_get s.interfaces (k + m) ≡ Some x) → IsFoundFrom start k is bs
   rows-found-from _ _ _ _ _ (behind_all start k j e) bs ms v w x at = λ base u z l m h. absurd (none-behind (length s.definitions) start u e l m)
-  rows-found-from _ _ _ _ _ (an_interface start k i is j ws a rest) [] ms v w x at = absurd (omega (arith, w))
-  rows-found-from _ _ _ _ _ (an_interface start k i is j ws a rest) (true ∷ bs) ms v w x at =
+  rows-found-from _ _ _ _ _ (an_interface start k i is j ws a before rest) [] ms v w x at = absurd (omega (arith, w))
+  rows-found-from _ _ _ _ _ (an_interface start k i is j ws a before rest) (true ∷ bs) ms v w x at =
       let here = marks-here to.interfaces k true bs ms in
       let this : slice_get s.interfaces k ≡ Some i = ap (slice_get s.interfaces) (sym (plus-none k)) ∙ at 0 i refl in
       interface-found start k i is bs (omega (arith, v)) a here this
       (rows-found-from (end_of start i) (k + 1) is j ws rest bs (marks-next to.interfaces k (k + 1) true bs refl ms) (omega (arith, v)) (omega (arith, w)) x (λ m y e. ap (slice_get s.interfaces) (one-later k m) ∙ at (suc m) y e))
-  rows-found-from _ _ _ _ _ (an_interface start k i is j ws a rest) (false ∷ bs) ms v w x at =
+  rows-found-from _ _ _ _ _ (an_interface start k i is j ws a before rest) (false ∷ bs) ms v w x at =
       let here = marks-here to.interfaces k false bs ms in
       let within : k < length s.interfaces = omega (arith, v) in
       block-over start (end_of start i) k (i ∷ is) (false ∷ bs) a.begins (interface-marks s to n start k i false a (interface-mark s to n k within ∙ here))

@@ -55,7 +55,7 @@ pub record IsIdOf (is : List Interface) (k a t : ℕ) : Type 0 where
 pub id-of : (rows : List Definition) (start k : ℕ) (is : List Interface) (j : ℕ) (ws : List World) → ArePackageByPackage rows start k is j ws → (t : ℕ) (d : Definition) → start ≤ t → slice_get rows t ≡ Some d → is_named d ≡ true
     → (a : ℕ) → owner_of d ≡ Some (owner.Interface (record { 0 = a })) → IsIdOf is k a t
 id-of rows _ _ _ _ _ (behind_all start k j e) t d l h n a o = absurd (omega (arith, l, e, slice_get_within rows t d h))
-id-of rows _ _ _ _ _ (an_interface start k i is j ws b rest) t d l h n a o = by (cut t (end_of start i)) (λ g. id-of rows (end_of start i) (k + 1) is j ws rest t d g h n a o)
+id-of rows _ _ _ _ _ (an_interface start k i is j ws b before rest) t d l h n a o = by (cut t (end_of start i)) (λ g. id-of rows (end_of start i) (k + 1) is j ws rest t d g h n a o)
   where
     at : start + (t - start) ≡ t
     at = omega arith

@@ -201,7 +201,7 @@ belongs-wider rows k l j m t d n o p q a b e f (inr h) = inr (record { world = h
 pub belongs : (rows : List Definition) (start k : ℕ) (is : List Interface) (j : ℕ) (ws : List World) → ArePackageByPackage rows start k is j ws → (t : ℕ) (d : Definition) → start ≤ t → slice_get rows t ≡ Some d
     → Belongs rows k (k + length is) j (j + length ws) t d
 belongs rows _ _ _ _ _ (behind_all start k j e) t d a h = absurd (omega (arith, a, e, slice_get_within rows t d h))
-belongs rows _ _ _ _ _ (an_interface start k i is j ws a rest) t d l h = by (cut t (end_of start i)) (λ g. belongs rows (end_of start i) (k + 1) is j ws rest t d g h)
+belongs rows _ _ _ _ _ (an_interface start k i is j ws a before rest) t d l h = by (cut t (end_of start i)) (λ g. belongs rows (end_of start i) (k + 1) is j ws rest t d g h)
   where
     cut : (n m : ℕ) → (n < m) ⊎ (m ≤ n)
     cut n m = grind arith

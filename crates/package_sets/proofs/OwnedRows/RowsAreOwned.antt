@@ -175,7 +175,7 @@ length-rows set count start (suc n) (i ∷ is) ws (j ∷ js) h l =
 pub set-owned : (rows : List Definition) (start k : ℕ) (is : List Interface) (j : ℕ) (ws : List World) → ArePackageByPackage rows start k is j ws → (t : ℕ) (d : Definition) → start ≤ t → slice_get rows t ≡ Some d
     → IsOwnedWithin (k + length is) (owner_of d)
 set-owned rows _ _ _ _ _ (behind_all start k j e) t d a h = absurd (omega (arith, a, e, slice_get_within rows t d h))
-set-owned rows _ _ _ _ _ (an_interface start k i is j ws a rest) t d l h = by (cut t (end_of start i)) (λ g. set-owned rows (end_of start i) (k + 1) is j ws rest t d g h)
+set-owned rows _ _ _ _ _ (an_interface start k i is j ws a before rest) t d l h = by (cut t (end_of start i)) (λ g. set-owned rows (end_of start i) (k + 1) is j ws rest t d g h)
   where
     next : k + 1 + length is ≡ k + suc (length is)
     next = omega arith

@@ -27,7 +27,7 @@ record AreInForm (rows : List Definition) (start k : ℕ) (is : List Interface) 
 
 in-form : (rows : List Definition) (start k : ℕ) (is : List Interface) (j : ℕ) (ws : List World) → ArePackageByPackage rows start k is j ws → AreBefore is ws → AreInForm rows start k is j ws
 in-form rows _ _ _ _ _ (behind_all start k j e) before = record { parted = eq-eqb _ _ e; interfaces = refl; items = refl }
-in-form rows _ _ _ _ _ (an_interface start k i is j ws a rest) before =
+in-form rows _ _ _ _ _ (an_interface start k i is j ws a below rest) before =
     let r = in-form rows (end_of start i) (k + 1) is j ws rest (λ x y p q e f. before (suc x) y p q e f) in
     record {
       parted = both (nat_le start (end_of start i)) _ (le-leb start (end_of start i) a.begins) (both (nat_le (end_of start i) (length rows)) _ (le-leb (end_of start i) (length rows) a.ends) r.parted);

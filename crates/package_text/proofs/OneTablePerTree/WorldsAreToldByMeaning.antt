@@ -26,15 +26,15 @@ use Rattle.package_form.specs.Closed.{is_world_of}
 
 -- ---- the world of each function
 
-abbrev world_at : Option Definition → List ℕ
+abbrev pub world_at : Option Definition → List ℕ
 world_at None = []
 world_at (Some d) = row_world d
 
 module _ (rows : List Definition) where
-  abbrev worlds_at : List ℕ → List ℕ
+  abbrev pub worlds_at : List ℕ → List ℕ
   worlds_at ps = flat_map (λ n. world_at (slice_get rows n)) ps
 
-  placed-owners : (front rest : List Definition) → rows ≡ front ++ rest → flat_map row_world rest ≡ worlds_at (places_where is_world_function (length front) rest)
+  pub placed-owners : (front rest : List Definition) → rows ≡ front ++ rest → flat_map row_world rest ≡ worlds_at (places_where is_world_function (length front) rest)
   placed-owners front [] e = refl
   placed-owners front (d ∷ rest) e =
       let long : length (front ++ d ∷ []) ≡ length front + 1 = length-append front (d ∷ []) in
@@ -94,7 +94,7 @@ module _ (ns : List (List ℕ)) (trees : List Tree) (rows : List Definition) (co
           at (Some (row.Function g)) u =
               ap (λ (xs : List ℕ). xs ++ flat_map (λ n. world_at (slice_get rows n)) (flat_map functions_in_item is)) (own g.owner u) ∙ ap (λ (xs : List ℕ). k ∷ xs) on
 
-  worlds-owned : (name : World → List ℕ) (k : ℕ) (ws : List World) → are_placed_worlds rows count k ws ≡ true
+  pub worlds-owned : (name : World → List ℕ) (k : ℕ) (ws : List World) → are_placed_worlds rows count k ws ≡ true
       → worlds_at rows (flat_map functions_of ws) ≡ owners_by k (map (λ w. world_meaning ns trees rows (name w) w) ws)
   worlds-owned name k [] h = refl
   worlds-owned name k (w ∷ ws) h =

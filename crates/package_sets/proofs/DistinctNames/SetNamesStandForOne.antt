@@ -71,7 +71,7 @@ module _ (rows : List Definition) where
 
   pub type-in : (start k : ℕ) (is : List Interface) (j : ℕ) (ws : List World) → ArePackageByPackage rows start k is j ws → (a : ℕ) (y : TypeName) → start ≤ a → IsNamedAt rows a y → IsTypeIn is k a y
   type-in _ _ _ _ _ (behind_all start k j e) a y l h = absurd (omega (arith, l, e, slice_get_within rows a (named y h.0) h.1))
-  type-in _ _ _ _ _ (an_interface start k i is j ws here rest) a y l h = by (cut a (end_of start i)) (λ m. type-in (end_of start i) (k + 1) is j ws rest a y m h)
+  type-in _ _ _ _ _ (an_interface start k i is j ws here before rest) a y l h = by (cut a (end_of start i)) (λ m. type-in (end_of start i) (k + 1) is j ws rest a y m h)
     where
       cut : (n m : ℕ) → (n < m) ⊎ (m ≤ n)
       cut n m = grind arith
@@ -140,7 +140,7 @@ module _ (r : Resolve) (form : IsInSetForm r) (labels : All IsLabelled r.interfa
   package-below : (m : ℕ) (i : Interface) → slice_get r.interfaces m ≡ Some i → i.«package».0 < length r.packages
   package-below m i e = grouped-at (length r.packages) 0 r.interfaces m i r.grouped (slice_get_within r.interfaces m i e) (get_or_from_slice_get r.interfaces m i i e)
 
-  one-interface : HasOneOfEachInterface r
+  pub one-interface : HasOneOfEachInterface r
   one-interface = record { each = each }
     where
       each : (m n : ℕ) → m < length r.interfaces → n < length r.interfaces → get_or (interface_names r) m [] ≡ get_or (interface_names r) n [] → m ≡ n
