@@ -14,10 +14,13 @@ INTERFACE = re.compile(r"^/\* ---- (\S+) \*/$", re.M)
 FUNCTION = re.compile(
     r'^#define \w+ "([A-Za-z0-9-]+)"\n'
     r"(?:typedef struct \{\n[^}]*\} (\w+);\n(?:static_assert.*\n)+)?"
-    r"#define (\w+) (\d+)\n"
+    r"#define (\w+) \d+\n"
+    r"((?:#define \w+ \d+\n)*)"
     r"\n/\*(?:[^*]|\*(?!/))*\*/\n"
     r"static inline void (\w+)\(.*\{\n(?:    .*\n)*\}\n"
-    r"(?:\n/\* Reads .*\*/\nstatic inline (\w+) (\w+)\()?",
+    r"(?:\n/\* Reads .*\*/\nstatic inline (\w+) (\w+)\(.*\{\n(?:    .*\n)*\}\n)?"
+    r"(?:\n/\* For the callee: reads (?:[^*]|\*(?!/))*\*/\nstatic inline \w+ (\w+)\(.*\{\n(?:    .*\n)*\}\n)?"
+    r"(?:\n/\* For the callee: (?:[^*]|\*(?!/))*\*/\nstatic inline witcall_value (\w+)\()?",
     re.M,
 )
 
@@ -43,7 +46,8 @@ class Type:
 
 @dataclass(frozen=True)
 class Function:
-    """A function, with the C names of what is made for it. `result` is None if it has none, and so is `read`."""
+    """A function, with the C names of what is made for it. `result`, `read` and `answer` are None if it has no result, and `receive` is
+    None if it has no parameters. `blocks` has the sizes and alignments of the blocks that a call needs, by their C names."""
 
     full_name: str
     name: str
@@ -52,6 +56,9 @@ class Function:
     fill: str
     read: str
     count: str
+    blocks: dict
+    receive: str
+    answer: str
 
 
 def text_of(numbers, lines):
@@ -102,6 +109,8 @@ class Header:
 
     def functions_of(self, full_name, text):
         """The functions of an interface."""
-        for name, parameters, count, _, fill, result, read in FUNCTION.findall(text):
+        for name, parameters, count, blocks, fill, result, read, receive, answer in FUNCTION.findall(text):
             record = self.types[parameters] if parameters else Type("", "record")
-            yield Function(full_name, name, record, self.type(result) if result else None, fill, read, count)
+            made = self.type(result) if result else None
+            numbers = {constant: int(number) for constant, number in re.findall(r"#define (\w+) (\d+)", blocks)}
+            yield Function(full_name, name, record, made, fill, read or None, count, numbers, receive or None, answer or None)

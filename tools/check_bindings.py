@@ -6,7 +6,8 @@ usage: tools/check_bindings.py [--program WIT-EXPLAIN] [N [SEED]]      N random 
 
 Each header is compiled by gcc and by clang, as C11 and as C++17, with all warnings as errors; its asserts are those of sizes, alignments
 and offsets. Each function is then called with random values in a program in C or C++: the core values and the memory that its `fill`
-leaves are those of the model of the Canonical ABI (tools/models), and what its `read` reads is the value that the model put there.
+leaves are those of the model of the Canonical ABI (tools/models), and what its `read` reads is the value that the model put there. So is
+what the callee's `receive` reads, and the model reads the value that its `answer` gave. Each header is compiled with its short names, too.
 
 The program is the one that was built, crates/explain/out/explain, if no other is named. It prints each package that fails, and a line with
 the numbers of all. The exit status is 1 if one fails.
@@ -335,9 +336,11 @@ class Program:
             body.append(f"uint32_t area = block({t.result.align}, {t.result.size});")
             given.append("area")
         body += [f"{made.fill}({', '.join(given)});", f"show_call(flats, {made.count});"]
-        self.checks.append((t, arguments, filled(t, arguments)))
+        self.checks.append((filled(t, arguments), lambda flats, data: lifted(t, flats, data), arguments))
         if t.result is not None:
-            body += self.read(t, made)
+            body += ["{", *self.read(t, made), "}", "{", *self.answer(t, made), "}"]
+        if t.params.fields:
+            body += self.receive(t, made, arguments)
         self.calls.append(name)
         self.lines.append("\n".join([f"static void {name}(void) {{", *body, "}", ""]))
 
@@ -360,6 +363,32 @@ class Program:
         self.checks.append(shown(t.result, value))
         return [*lines, f"{self.show(t.result, made.result)}({made.read}({given}));", 'printf("\\n");']
 
+    def receive(self, t, made, arguments):
+        """The lines that read arguments in a callee where the model put them, beside noise."""
+        memory = Memory(Bump(ROOM, START), self.random.randbytes(ROOM))
+        numbers, lines = lowered(t, arguments, memory), [f"witcall_value handed[{len(t.params.kinds) + 1}];"]
+        for place, (kind, number) in enumerate(zip(t.lowered[0], numbers)):
+            noise = 0 if kind == "i64" else self.random.getrandbits(32) << 32
+            lines.append(f"handed[{place}].kind = {int(kind == 'i64')};")
+            lines.append(f"handed[{place}].bits = UINT64_C({number | noise});")
+        image = ",".join(map(str, memory.bytes[: memory.allocator.top]))
+        lines += ["{", f"static const uint8_t image[] = {{{image}}};", "memcpy(memory, image, sizeof image);", "}"]
+        self.checks.append(shown(t.params, arguments))
+        given = "handed, memory" if t.is_spilled else "handed"
+        return [*lines, f"{self.show(t.params, made.parameters)}({made.receive}({given}));", 'printf("\\n");']
+
+    def answer(self, t, made):
+        """The lines that give a result."""
+        value, given = self.values.of(t.result), "result"
+        lines = [f"{made.result.c} result;", "witcall_value answer;", "memset(memory, 0, sizeof memory);", f"top = {START};"]
+        if t.has_area:
+            size, align = (next(name for name in made.blocks if name.endswith(f"_AREA_{word}")) for word in ("SIZE", "ALIGN"))
+            lines.append(f"uint32_t at = block({align}, {size});")
+            given = "memory, at, result"
+        lines += ["memset(&result, 0, sizeof result);", *self.make(t.result, made.result, value, "result")]
+        self.checks.append((answered(t, value), lambda flats, data: lifted_result(t, flats, data), value))
+        return [*lines, f"answer = {made.answer}({given});", "show_call(&answer, 1);"]
+
     def text(self):
         """The whole program."""
         return "\n".join([*self.lines, "int main(void) {", *(f"{name}();" for name in self.calls), "return 0;", "}", ""])
@@ -373,23 +402,29 @@ class Program:
                 if found != check:
                     yield f"reads {found}, not {check}"
             else:
-                t, arguments, wanted = check
+                wanted, lift, value = check
                 flats, data = next(lines, "").split(), bytes.fromhex(next(lines, ""))
                 if flats != wanted:
                     yield f"core values {flats}, not {wanted}"
-                elif lifted(t, flats, data) != arguments:
-                    yield f"arguments {lifted(t, flats, data)}, not {arguments}"
+                elif lift(flats, data) != value:
+                    yield f"value {lift(flats, data)}, not {value}"
 
 
-def filled(t, arguments):
-    """The core values of a call as the model makes them, whose blocks are granted in the same order."""
-    memory = Memory(Bump(ROOM, START))
+def lowered(t, arguments, memory):
+    """The numbers of the core values of arguments that the model puts into a memory."""
     if t.is_spilled:
         numbers = [memory.grant(t.params.align, t.params.size, "lower-args")]
         Way().cross_fields(t.params, Given(arguments), Stored(memory, numbers[0], "lower-args"))
     else:
         numbers = [0] * len(t.params.kinds)
         Way().cross_fields(t.params, Given(arguments), Flat(memory, numbers, 0, "lower-args"))
+    return numbers
+
+
+def filled(t, arguments):
+    """The core values of a call as the model makes them, whose blocks are granted in the same order."""
+    memory = Memory(Bump(ROOM, START))
+    numbers = lowered(t, arguments, memory)
     if t.has_area:
         numbers.append(memory.grant(t.result.align, t.result.size, "lower-result"))
     return [f"{kind}:{number}" for kind, number in zip(t.lowered[0], numbers)]
@@ -401,6 +436,22 @@ def lifted(t, flats, data):
     if t.is_spilled:
         return value_at(t.params, Stored(memory, numbers[0], "lift-args"))
     return value_at(t.params, Flat(memory, numbers, 0, "lift-args"))
+
+
+def answered(t, value):
+    """The core value of a result as the model makes it."""
+    memory, numbers = Memory(Bump(ROOM, START)), [0]
+    if t.has_area:
+        return [f"i32:{memory.grant(t.result.align, t.result.size, 'lower-result')}"]
+    Way().cross(t.result, Given(value), Flat(memory, numbers, 0, "lower-result"))
+    return [f"{t.result_kinds[0]}:{numbers[0]}"]
+
+
+def lifted_result(t, flats, data):
+    """A result as the model lifts it."""
+    memory, numbers = Memory(Bump(len(data)), data), [int(flat[4:]) for flat in flats]
+    place = Stored(memory, numbers[0], "lift-result") if t.has_area else Flat(memory, numbers, 0, "lift-result")
+    return value_at(t.result, place)
 
 
 # ---- one package
@@ -415,9 +466,9 @@ def run(words):
 
 
 def compile_alone(folder):
-    """Compiles a header that nothing else is with, twice in a row."""
+    """Compiles a header that nothing else is with, twice in a row, with its short names."""
     source = folder / "alone.h.c"
-    source.write_text('#include "header.h"\n#include "header.h"\nint main(void) { return 0; }\n')
+    source.write_text('#define WIT_SHORT_NAMES\n#include "header.h"\n#include "header.h"\nint main(void) { return 0; }\n')
     for compiler in ("gcc", "clang"):
         for dialect in DIALECTS.values():
             run([compiler, *dialect, *STRICT, "-fsyntax-only", str(source)])

@@ -6,19 +6,16 @@
  *   3. The core function runs.
  *   4. witcall_leave_requests and witcall_leave carry what it answered into the caller in the same way.
  *
- * shop.h has the package's types as they lie in a memory. It is made of shop.wit by wit-explain bind c.
+ * shop.h has the package's types as they lie in a memory, and functions for both sides of a call. It is made of shop.wit by
+ * wit-explain bind c. Here its names are used without the package's.
  */
+#define WIT_SHORT_NAMES
 #include "shop.h"
 #include "witcall.h"
 #include <stdbool.h>
 #include <stdio.h>
 #include <stdlib.h>
 #include <string.h>
-
-typedef demo_shop_desk_line line;
-typedef demo_shop_desk_receipt receipt;
-typedef wit_list_demo_shop_desk_line line_list;
-typedef demo_shop_desk_order_parameters arguments;
 
 /* A string constant as bytes and their number. */
 #define BYTES(text) (const uint8_t *)(text), strlen(text)
@@ -56,9 +53,9 @@ static void print_text(const uint8_t *memory, wit_string text) {
     printf("%.*s", (int)text.length, (const char *)memory + text.address);
 }
 
-static void print_lines(const uint8_t *memory, line_list lines) {
+static void print_lines(const uint8_t *memory, wit_list_desk_line lines) {
     for (uint32_t i = 0; i < lines.length; i++) {
-        line one = wit_list_demo_shop_desk_line_get(memory, lines, i);
+        desk_line one = wit_list_desk_line_get(memory, lines, i);
         printf("  %u ", one.count);
         print_text(memory, one.item);
         printf("\n");
@@ -75,28 +72,28 @@ static wit_string put_text(const char *text) {
 }
 
 /* The caller's arguments: a name, and two lines in a block of their own. */
-static arguments make_arguments(void) {
-    arguments made = {.customer = put_text("M\303\274ller"), .lines = {.length = 2}};
-    made.lines.address = caller_alloc(alignof(line), 2 * sizeof(line));
-    wit_list_demo_shop_desk_line_set(caller, made.lines, 0, (line){.item = put_text("tea"), .count = 2});
-    wit_list_demo_shop_desk_line_set(caller, made.lines, 1, (line){.item = put_text("coffee"), .count = 1});
+static desk_order_parameters make_arguments(void) {
+    desk_order_parameters made = {.customer = put_text("M\303\274ller"), .lines = {.length = 2}};
+    made.lines.address = caller_alloc(alignof(desk_line), 2 * sizeof(desk_line));
+    wit_list_desk_line_set(caller, made.lines, 0, (desk_line){.item = put_text("tea"), .count = 2});
+    wit_list_desk_line_set(caller, made.lines, 1, (desk_line){.item = put_text("coffee"), .count = 1});
     return made;
 }
 
 /* The callee's core function, of customer and lines as they are flat. It returns the address of a receipt, on which each line is
    there once more. */
-static uint32_t order(wit_string customer, line_list lines) {
-    uint32_t at = callee_alloc(alignof(receipt), sizeof(receipt));
-    wit_string note = {callee_alloc(1, 8 + customer.length), 8 + customer.length};
+static witcall_value order(const witcall_value *handed) {
+    desk_order_parameters given = desk_order_receive(handed);
+    uint32_t at = callee_alloc(DESK_ORDER_AREA_ALIGN, DESK_ORDER_AREA_SIZE);
+    wit_string note = {callee_alloc(1, 8 + given.customer.length), 8 + given.customer.length};
     memcpy(callee + note.address, "Thanks, ", 8);
-    memcpy(callee + note.address + 8, callee + customer.address, customer.length);
-    for (uint32_t i = 0; i < lines.length; i++) {
-        line one = wit_list_demo_shop_desk_line_get(callee, lines, i);
+    memcpy(callee + note.address + 8, callee + given.customer.address, given.customer.length);
+    for (uint32_t i = 0; i < given.lines.length; i++) {
+        desk_line one = wit_list_desk_line_get(callee, given.lines, i);
         one.count += 1;
-        wit_list_demo_shop_desk_line_set(callee, lines, i, one);
+        wit_list_desk_line_set(callee, given.lines, i, one);
     }
-    demo_shop_desk_receipt_store(callee, at, (receipt){.number = 4711, .lines = lines, .note = note});
-    return at;
+    return desk_order_answer(callee, at, (desk_receipt){.number = 4711, .lines = given.lines, .note = note});
 }
 
 /* ---- the host ---- */
@@ -126,12 +123,12 @@ static void enter(witcall_package *package, uint32_t func, const witcall_value *
     witcall_request asked[MOST_BLOCKS];
     witcall_block blocks[MOST_BLOCKS];
     witcall_status status = witcall_enter_requests(
-        package, func, flats, DEMO_SHOP_DESK_ORDER_FLATS, caller, LENGTH, asked, MOST_BLOCKS, LENGTH);
+        package, func, flats, DESK_ORDER_FLATS, caller, LENGTH, asked, MOST_BLOCKS, LENGTH);
     check(status);
     check_room(status.count <= MOST_BLOCKS);
     grant("callee", callee_alloc, asked, status.count, blocks);
     check(witcall_enter(
-        package, func, flats, DEMO_SHOP_DESK_ORDER_FLATS, caller, LENGTH, callee, LENGTH, blocks, status.count, handed,
+        package, func, flats, DESK_ORDER_FLATS, caller, LENGTH, callee, LENGTH, blocks, status.count, handed,
         WITCALL_MAX_VALUES));
 }
 
@@ -146,7 +143,7 @@ static void leave(witcall_package *package, uint32_t func, const witcall_value *
     grant("caller", caller_alloc, asked, status.count, blocks);
     witcall_value back[WITCALL_MAX_VALUES];
     check(witcall_leave(
-        package, func, flats, DEMO_SHOP_DESK_ORDER_FLATS, &answer, 1, callee, LENGTH, caller, LENGTH, blocks, status.count,
+        package, func, flats, DESK_ORDER_FLATS, &answer, 1, callee, LENGTH, caller, LENGTH, blocks, status.count,
         back, WITCALL_MAX_VALUES));
 }
 
@@ -171,21 +168,19 @@ static void print_layout(witcall_package *package, uint32_t func) {
 int main(void) {
     witcall_package package = WITCALL_NONE;
     check(witcall_open(BYTES(demo_shop_text), &package));
-    witcall_status found = witcall_find(&package, BYTES(DEMO_SHOP_DESK_INTERFACE), BYTES(DEMO_SHOP_DESK_ORDER_NAME));
+    witcall_status found = witcall_find(&package, BYTES(DESK_INTERFACE), BYTES(DESK_ORDER_NAME));
     check(found);
     uint32_t func = found.count;
     print_layout(&package, func);
 
-    arguments given = make_arguments();
-    uint32_t area = caller_alloc(alignof(receipt), sizeof(receipt));
-    witcall_value flats[DEMO_SHOP_DESK_ORDER_FLATS], handed[WITCALL_MAX_VALUES];
-    demo_shop_desk_order_fill(flats, &given, area);
+    desk_order_parameters given = make_arguments();
+    uint32_t area = caller_alloc(DESK_ORDER_AREA_ALIGN, DESK_ORDER_AREA_SIZE);
+    witcall_value flats[DESK_ORDER_FLATS], handed[WITCALL_MAX_VALUES];
+    desk_order_fill(flats, &given, area);
     enter(&package, func, flats, handed);
-    uint32_t answer = order(
-        (wit_string){handed[0].bits, handed[1].bits}, (line_list){handed[2].bits, handed[3].bits});
-    leave(&package, func, flats, (witcall_value){.bits = answer});
+    leave(&package, func, flats, order(handed));
 
-    receipt back = demo_shop_desk_order_read(caller, area);
+    desk_receipt back = desk_order_read(caller, area);
     printf("number %u\n", back.number);
     print_lines(caller, back.lines);
     print_text(caller, back.note);

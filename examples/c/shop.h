@@ -169,6 +169,8 @@ static_assert(sizeof(demo_shop_desk_order_parameters) == 16 && alignof(demo_shop
 static_assert(offsetof(demo_shop_desk_order_parameters, customer) == 0, "layout");
 static_assert(offsetof(demo_shop_desk_order_parameters, lines) == 8, "layout");
 #define DEMO_SHOP_DESK_ORDER_FLATS 5
+#define DEMO_SHOP_DESK_ORDER_AREA_SIZE 20
+#define DEMO_SHOP_DESK_ORDER_AREA_ALIGN 4
 
 /* Makes the DEMO_SHOP_DESK_ORDER_FLATS core values of a call. area is a block of the caller's for the result,
  * of 20 bytes and alignment 4. */
@@ -187,6 +189,52 @@ static inline demo_shop_desk_receipt demo_shop_desk_order_read(const uint8_t *me
     memcpy(&value, memory + area, sizeof value);
     return value;
 }
+
+/* For the callee: reads the parameters out of the core values that witcall_enter gave. */
+static inline demo_shop_desk_order_parameters demo_shop_desk_order_receive(const witcall_value *flats) {
+    demo_shop_desk_order_parameters parameters;
+    memset(&parameters, 0, sizeof parameters);
+    parameters.customer.address = wit_i32(&flats[0]);
+    parameters.customer.length = wit_i32(&flats[1]);
+    parameters.lines.address = wit_i32(&flats[2]);
+    parameters.lines.length = wit_i32(&flats[3]);
+    return parameters;
+}
+
+/* For the callee: stores the result at area, a block of the callee's of 20 bytes and alignment 4, and makes
+ * the core value that the callee returns. */
+static inline witcall_value demo_shop_desk_order_answer(uint8_t *memory, uint32_t area, demo_shop_desk_receipt value) {
+    witcall_value flats[1];
+    memcpy(memory + area, &value, sizeof value);
+    wit_begin(flats, "i");
+    wit_put(flats, 0, area);
+    return flats[0];
+}
 #endif /* WIT_INTERFACE_DEMO_SHOP_DESK */
+
+/* Short names: without the package's, if nothing else has them. Define WIT_SHORT_NAMES to have them. */
+#ifdef WIT_SHORT_NAMES
+#define DESK_INTERFACE DEMO_SHOP_DESK_INTERFACE
+typedef demo_shop_desk_line desk_line;
+#define desk_line_load(...) demo_shop_desk_line_load(__VA_ARGS__)
+#define desk_line_store(...) demo_shop_desk_line_store(__VA_ARGS__)
+typedef wit_list_demo_shop_desk_line wit_list_desk_line;
+#define wit_list_desk_line_load(...) wit_list_demo_shop_desk_line_load(__VA_ARGS__)
+#define wit_list_desk_line_store(...) wit_list_demo_shop_desk_line_store(__VA_ARGS__)
+#define wit_list_desk_line_get(...) wit_list_demo_shop_desk_line_get(__VA_ARGS__)
+#define wit_list_desk_line_set(...) wit_list_demo_shop_desk_line_set(__VA_ARGS__)
+typedef demo_shop_desk_receipt desk_receipt;
+#define desk_receipt_load(...) demo_shop_desk_receipt_load(__VA_ARGS__)
+#define desk_receipt_store(...) demo_shop_desk_receipt_store(__VA_ARGS__)
+#define DESK_ORDER_NAME DEMO_SHOP_DESK_ORDER_NAME
+typedef demo_shop_desk_order_parameters desk_order_parameters;
+#define desk_order_fill(...) demo_shop_desk_order_fill(__VA_ARGS__)
+#define desk_order_read(...) demo_shop_desk_order_read(__VA_ARGS__)
+#define DESK_ORDER_FLATS DEMO_SHOP_DESK_ORDER_FLATS
+#define desk_order_receive(...) demo_shop_desk_order_receive(__VA_ARGS__)
+#define desk_order_answer(...) demo_shop_desk_order_answer(__VA_ARGS__)
+#define DESK_ORDER_AREA_SIZE DEMO_SHOP_DESK_ORDER_AREA_SIZE
+#define DESK_ORDER_AREA_ALIGN DEMO_SHOP_DESK_ORDER_AREA_ALIGN
+#endif /* WIT_SHORT_NAMES */
 
 #endif /* WIT_DEMO_SHOP_H */

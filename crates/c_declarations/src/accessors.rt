@@ -1,6 +1,7 @@
 //! How values are loaded and stored.
 
 use crate::header::Header;
+use c_types::c_names::NameKind;
 use std::alloc::AllocError;
 use std::fmt::Write;
 
@@ -8,8 +9,8 @@ impl<'a> Header<'a> {
     /// Writes how a type of this name is loaded and stored.
     pub(crate) fn put_access(&mut self, c: &str) -> Result<(), AllocError> {
         let alloc = self.alloc;
-        let load = self.names.take(format!(in alloc; "{c}_load")?)?;
-        let store = self.names.take(format!(in alloc; "{c}_store")?)?;
+        let load = self.take_own(NameKind::Function, format!(in alloc; "{c}_load")?)?;
+        let store = self.take_own(NameKind::Function, format!(in alloc; "{c}_store")?)?;
         push_load(&mut self.text, c, load.as_str())?;
         push_store(&mut self.text, c, store.as_str())
     }
@@ -17,8 +18,8 @@ impl<'a> Header<'a> {
     /// Writes how an element of a list is loaded and stored.
     pub(crate) fn put_elements(&mut self, c: &str, element: &str) -> Result<(), AllocError> {
         let alloc = self.alloc;
-        let get = self.names.take(format!(in alloc; "{c}_get")?)?;
-        let set = self.names.take(format!(in alloc; "{c}_set")?)?;
+        let get = self.take_own(NameKind::Function, format!(in alloc; "{c}_get")?)?;
+        let set = self.take_own(NameKind::Function, format!(in alloc; "{c}_set")?)?;
         push_get(&mut self.text, c, element, get.as_str())?;
         push_set(&mut self.text, c, element, set.as_str())
     }

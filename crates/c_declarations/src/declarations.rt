@@ -2,7 +2,7 @@
 
 use crate::header::Header;
 use atoms::Label;
-use c_types::c_names::{c_label, c_word};
+use c_types::c_names::{NameKind, c_label, c_word};
 use c_types::{Form, Part, Row, tag_bits};
 use std::alloc::{AllocError, Global};
 use std::fmt::Write;
@@ -68,7 +68,7 @@ impl<'a> Header<'a> {
         comment: &str,
     ) -> Result<(), AllocError> {
         let alloc = self.alloc;
-        let name = self.names.take(entry.scope.name(alloc, entry.label)?)?;
+        let name = self.take_own(NameKind::Type, entry.scope.name(alloc, entry.label)?)?;
         let (name, c) = (name.as_str(), self.types.c(target));
         write!(self.text, "\n/* {comment} */\ntypedef {c} {name};\n")?;
         self.put_extent(name, target)?;
@@ -126,7 +126,7 @@ impl<'a> Header<'a> {
     fn put_heading(&mut self, word: &str, entry: &Entry<'_>) -> Result<String, AllocError> {
         let alloc = self.alloc;
         let (full_name, label) = (entry.scope.full_name.as_str(), entry.label);
-        let c = self.names.take(entry.scope.name(alloc, label)?)?;
+        let c = self.take_own(NameKind::Type, entry.scope.name(alloc, label)?)?;
         write!(self.text, "\n/* {word} {full_name} {label} */\n")?;
         Ok(c)
     }
@@ -172,7 +172,7 @@ impl<'a> Header<'a> {
         Ok(Part {
             label: c_label(alloc, label)?,
             ty,
-            constant: self.take_upper(name.as_str())?,
+            constant: self.take_constant(name.as_str())?,
         })
     }
 

@@ -1,7 +1,7 @@
 //! What is written.
 
 use atoms::KeyedState;
-use c_types::c_names::Names;
+use c_types::c_names::{NameKind, Names, ShortNames};
 use c_types::{Laid, Types};
 use std::alloc::{AllocError, Global};
 use std::fmt::Write;
@@ -14,6 +14,9 @@ pub struct Header<'a> {
     pub text: String,
     pub names: Names,
     pub types: Types<'a>,
+    short_names: ShortNames,
+    /// What the names of the package begin with that is written.
+    front: String,
 }
 
 impl<'a> Header<'a> {
@@ -23,7 +26,15 @@ impl<'a> Header<'a> {
             text: String::new(alloc),
             names: Names::new(alloc, keyed)?,
             types: Types::new(alloc, laid, keyed)?,
+            short_names: ShortNames::new(alloc, keyed),
+            front: String::new(alloc),
         })
+    }
+
+    /// Begins a package, whose names begin with a prefix and `_`.
+    pub fn begin_package(&mut self, prefix: &str) -> Result<(), AllocError> {
+        self.front = format!(in self.alloc; "{prefix}_")?;
+        Ok(())
     }
 
     /// Begins a text of its own, and gives the text before it.
@@ -40,6 +51,25 @@ impl<'a> Header<'a> {
     pub fn take_upper(&mut self, name: &str) -> Result<String, AllocError> {
         let upper = name.to_ascii_uppercase(self.alloc)?;
         self.names.take(upper)
+    }
+
+    /// Takes a name of a type or a function of the package.
+    pub fn take_own(&mut self, kind: NameKind, name: String) -> Result<String, AllocError> {
+        let full = self.names.take(name)?;
+        self.short_names
+            .add(kind, self.front.as_str(), full.as_str())?;
+        Ok(full)
+    }
+
+    /// Takes a name of a constant of the package, in upper case.
+    pub fn take_constant(&mut self, name: &str) -> Result<String, AllocError> {
+        let upper = name.to_ascii_uppercase(self.alloc)?;
+        self.take_own(NameKind::Constant, upper)
+    }
+
+    /// Writes the short names that nothing else has.
+    pub fn put_short_names(&mut self) -> Result<(), AllocError> {
+        self.short_names.push_lines(&mut self.text, &self.names)
     }
 
     /// Writes a text that takes effect once, though several headers have it. It is guarded by this name in upper case.

@@ -1,9 +1,9 @@
-//! The types of packages as C declares them, with assertions of how they lie in a linear memory, and with functions that load and store
-//! them.
+//! The types of packages as C declares them, with assertions of how they lie in a linear memory, and with functions
+//! that load and store them.
 //!
-//! `Header` is what is written so far, with the names that are taken. `Header::put_types` writes types of an interface, and
-//! `Header::put_inners` those without a name that come first. It writes nothing of functions or of packages. It stands on `c_types`,
-//! which has the numbers and the names, and on `tables`.
+//! `Header` is what is written so far, with the names that are taken and the short ones. `Header::put_types` writes types
+//! of an interface, and `Header::put_inners` those without a name that come first. It writes nothing of functions or of
+//! packages. It stands on `c_types`, which has the numbers and the names, and on `tables`.
 #![tactic(auto)]
 
 mod accessors;

@@ -2,6 +2,7 @@
 
 use crate::declarations::Entry;
 use crate::header::Header;
+use c_types::c_names::NameKind;
 use c_types::{Form, Inner, Row, first_inner, inner_of, made_of};
 use std::alloc::AllocError;
 use std::fmt::Write;
@@ -39,7 +40,7 @@ impl<'a> Header<'a> {
         Ok(Row {
             end,
             spelling: String::new(alloc),
-            c: self.names.take(format!(in alloc; "wit_{}", key.as_str())?)?,
+            c: self.take_own(NameKind::Type, format!(in alloc; "wit_{}", key.as_str())?)?,
             key,
             form,
             parts,

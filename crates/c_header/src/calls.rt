@@ -1,9 +1,12 @@
-//! What is made for a function: the record of its parameters, and the names of what makes its core values and reads its result.
+//! What is made for a function: the record of its parameters, the blocks that a call needs, and the names of what makes
+//! and reads its core values and its result.
 
+use crate::answers::push_answer;
 use crate::fills::push_fill;
 use crate::reads::push_read;
+use crate::receives::push_receive;
 use c_declarations::{Header, Scope};
-use c_types::c_names::c_label;
+use c_types::c_names::{NameKind, c_label};
 use c_types::{Form, Laid, Part, Passing, Row, Types, parameters_of};
 use std::alloc::{AllocError, Global};
 use std::fmt::Write;
@@ -24,6 +27,8 @@ pub struct CallNames {
     pub fill: String,
     pub read: String,
     pub count: String,
+    pub receive: String,
+    pub answer: String,
 }
 
 /// What is made for a function.
@@ -85,9 +90,23 @@ fn push_signature(
 /// Writes the name of a function.
 fn put_name(header: &mut Header<'_>, stem: &str, name: &str) -> Result<(), AllocError> {
     let constant = format!(in header.alloc; "{stem}_name")?;
-    let constant = header.take_upper(constant.as_str())?;
+    let constant = header.take_constant(constant.as_str())?;
     writeln!(header.text, "#define {} \"{name}\"", constant.as_str())?;
     Ok(())
+}
+
+/// Takes a name. It has a short one if it is written.
+fn take_if(
+    header: &mut Header<'_>,
+    is_written: bool,
+    kind: NameKind,
+    name: String,
+) -> Result<String, AllocError> {
+    if is_written {
+        header.take_own(kind, name)
+    } else {
+        header.names.take(name)
+    }
 }
 
 /// Takes the name of the record of parameters, and writes it if there are some.
@@ -97,30 +116,51 @@ fn put_parameters(
     called: &Called<'_>,
 ) -> Result<Row, AllocError> {
     let alloc = header.alloc;
+    let parts = parameter_parts(alloc, called.function.params.as_slice())?;
+    let has_parts = !parts.is_empty();
+    let name = format!(in alloc; "{stem}_parameters")?;
     let row = Row {
         end: called.ty,
         spelling: String::new(alloc),
-        c: header.names.take(format!(in alloc; "{stem}_parameters")?)?,
+        c: take_if(header, has_parts, NameKind::Type, name)?,
         key: String::new(alloc),
         form: Form::Record,
-        parts: parameter_parts(alloc, called.function.params.as_slice())?,
+        parts,
     };
-    if !row.parts.is_empty() {
+    if has_parts {
         header.put_struct(called.ty, &row)?;
     }
     Ok(row)
 }
 
+/// Takes the name of a function in C that is made for a function, and that ends so.
+fn take_function(
+    header: &mut Header<'_>,
+    is_written: bool,
+    stem: &str,
+    word: &str,
+) -> Result<String, AllocError> {
+    let name = format!(in header.alloc; "{stem}_{word}")?;
+    take_if(header, is_written, NameKind::Function, name)
+}
+
 /// Takes the names of what is made for a function.
-fn names_of(header: &mut Header<'_>, stem: &str) -> Result<CallNames, AllocError> {
-    let alloc = header.alloc;
-    let fill = header.names.take(format!(in alloc; "{stem}_fill")?)?;
-    let read = header.names.take(format!(in alloc; "{stem}_read")?)?;
-    let count = format!(in alloc; "{stem}_flats")?;
+fn names_of(
+    header: &mut Header<'_>,
+    stem: &str,
+    function: &Function,
+) -> Result<CallNames, AllocError> {
+    let has_parameters = !function.params.as_slice().is_empty();
+    let has_result = function.result.is_some();
+    let fill = take_function(header, true, stem, "fill")?;
+    let read = take_function(header, has_result, stem, "read")?;
+    let count = format!(in header.alloc; "{stem}_flats")?;
     Ok(CallNames {
         fill,
         read,
-        count: header.take_upper(count.as_str())?,
+        count: header.take_constant(count.as_str())?,
+        receive: take_function(header, has_parameters, stem, "receive")?,
+        answer: take_function(header, has_result, stem, "answer")?,
     })
 }
 
@@ -131,7 +171,7 @@ fn call_of<'a>(
     called: Called<'a>,
 ) -> Result<Call<'a>, AllocError> {
     let parameters = put_parameters(header, stem, &called)?;
-    let names = names_of(header, stem)?;
+    let names = names_of(header, stem, called.function)?;
     Ok(Call {
         called,
         parameters,
@@ -139,16 +179,47 @@ fn call_of<'a>(
     })
 }
 
-/// Writes the functions that make the core values of a call and read its result.
+/// Writes the size and the alignment of a block for a value of a type, under names that begin so.
+fn put_block(header: &mut Header<'_>, front: &str, ty: ValType) -> Result<(), AllocError> {
+    let alloc = header.alloc;
+    let size = format!(in alloc; "{front}_size")?;
+    let size = header.take_constant(size.as_str())?;
+    let align = format!(in alloc; "{front}_align")?;
+    let align = header.take_constant(align.as_str())?;
+    let (bytes, alignment) = (header.types.laid.size(ty), header.types.laid.align(ty));
+    writeln!(header.text, "#define {} {bytes}", size.as_str())?;
+    writeln!(header.text, "#define {} {alignment}", align.as_str())?;
+    Ok(())
+}
+
+/// Writes the number of core values of a call, and the blocks that it needs.
+fn put_numbers(header: &mut Header<'_>, stem: &str, call: &Call<'_>) -> Result<(), AllocError> {
+    let alloc = header.alloc;
+    let (called, count) = (&call.called, call.names.count.as_str());
+    let flats = called.passing.lowered.params.len();
+    writeln!(header.text, "#define {count} {flats}")?;
+    if called.passing.is_spilled {
+        let front = format!(in alloc; "{stem}_parameters")?;
+        put_block(header, front.as_str(), called.ty)?;
+    }
+    if let Some(ty) = called.function.result
+        && called.passing.has_area()
+    {
+        let front = format!(in alloc; "{stem}_area")?;
+        put_block(header, front.as_str(), ty)?;
+    }
+    Ok(())
+}
+
+/// Writes the functions that make the core values of a call and read its result, and those of its callee.
 fn push_call(text: &mut String, types: &Types<'_>, call: &Call<'_>) -> Result<(), AllocError> {
-    let (count, flats) = (
-        call.names.count.as_str(),
-        call.called.passing.lowered.params.len(),
-    );
-    writeln!(text, "#define {count} {flats}")?;
     push_fill(text, types, call)?;
+    if let Some(ty) = call.called.function.result {
+        push_read(text, types, call, ty)?;
+    }
+    push_receive(text, types, call)?;
     match call.called.function.result {
-        Some(ty) => push_read(text, types, call, ty),
+        Some(ty) => push_answer(text, types, call, ty),
         None => Ok(()),
     }
 }
@@ -172,5 +243,6 @@ pub fn put_function(
     let stem = scope.name(header.alloc, called.function.name.as_str())?;
     put_heading(header, stem.as_str(), called.function)?;
     let call = call_of(header, stem.as_str(), called)?;
+    put_numbers(header, stem.as_str(), &call)?;
     push_call(&mut header.text, &header.types, &call)
 }

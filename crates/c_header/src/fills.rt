@@ -20,7 +20,7 @@ fn push_kinds(text: &mut String, kinds: &[CoreKind]) -> Result<(), AllocError> {
 }
 
 /// Appends the size and the alignment of a block for a value of a type.
-fn push_extent(comment: &mut String, laid: &Laid<'_>, ty: ValType) -> Result<(), AllocError> {
+pub fn push_extent(comment: &mut String, laid: &Laid<'_>, ty: ValType) -> Result<(), AllocError> {
     let (size, align) = (laid.size(ty), laid.align(ty));
     write!(comment, "{size} bytes and alignment {align}")?;
     Ok(())

@@ -49,7 +49,7 @@ fn put_functions(
 /// Writes the full name of an interface as a constant.
 fn put_full_name(header: &mut Header<'_>, scope: &Scope) -> Result<(), AllocError> {
     let constant = format!(in header.alloc; "{}_interface", scope.prefix.as_str())?;
-    let constant = header.take_upper(constant.as_str())?;
+    let constant = header.take_constant(constant.as_str())?;
     let (constant, full_name) = (constant.as_str(), scope.full_name.as_str());
     writeln!(header.text, "#define {constant} \"{full_name}\"")?;
     Ok(())
@@ -122,11 +122,19 @@ fn put_packages(
     for (place, package) in packages.iter().enumerate() {
         if let Some(text) = texts.get(place) {
             let prefix = prefix_of(header.alloc, stems, package)?;
+            header.begin_package(prefix.as_str())?;
             put_text(header, prefix.as_str(), package, text.as_str())?;
             put_interfaces(header, place, prefix.as_str(), package)?;
         }
     }
     Ok(())
+}
+
+/// Writes the short names, which a host asks for.
+fn put_short_names(header: &mut Header<'_>) -> Result<(), AllocError> {
+    header.text.push_str(SHORT_NAMES)?;
+    header.put_short_names()?;
+    header.text.push_str("#endif /* WIT_SHORT_NAMES */\n")
 }
 
 /// Takes the guard of a header that is called by this package.
@@ -155,12 +163,13 @@ fn put_header(
     )?;
     write!(header.text, "#ifndef {guard}\n#define {guard}\n\n{COMMON}")?;
     put_packages(header, stems, texts)?;
+    put_short_names(header)?;
     write!(header.text, "\n#endif /* {guard} */\n")?;
     Ok(())
 }
 
-/// The header of packages that have these canonical texts, each package after those that it uses. It is called by the main one, of
-/// this number. No text if there is no such package.
+/// The header of packages that have these canonical texts, each package after those that it uses. It is called by the
+/// main one, of this number. No text if there is no such package.
 pub fn header_of(
     alloc: Global,
     laid: Laid<'_>,
@@ -175,3 +184,8 @@ pub fn header_of(
     }
     Ok(header.text)
 }
+
+static SHORT_NAMES: &str = "
+/* Short names: without the package's, if nothing else has them. Define WIT_SHORT_NAMES to have them. */
+#ifdef WIT_SHORT_NAMES
+";

@@ -34,7 +34,8 @@ fn is_repeated(stems: &[String], stem: &str) -> bool {
     false
 }
 
-/// What the names of a package begin with: its namespace and name, and its version if another package differs in nothing else.
+/// What the names of a package begin with: its namespace and name, and its version if another package differs in
+/// nothing else.
 pub fn prefix_of(
     alloc: Global,
     stems: &[String],

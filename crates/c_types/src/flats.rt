@@ -1,11 +1,21 @@
-//! How the core values of a value are made.
+//! How the core values of values are made, and how values are read out of them.
 
+use crate::laid::tag_bits;
 use crate::types::{Form, Part, Types, has_held};
 use std::alloc::{AllocError, Global};
 use std::fmt::Write;
 use tables::{Primitive, ValType};
 
-/// A value whose core values are still to be made.
+/// Which way values go.
+#[derive(Clone, Copy)]
+enum Way {
+    /// Core values are made of a value.
+    Made,
+    /// A value is read out of its core values.
+    Read,
+}
+
+/// A value that is still to be written.
 #[derive(Drop)]
 struct Value {
     ty: ValType,
@@ -14,6 +24,41 @@ struct Value {
     /// The number of its first core value.
     place: usize,
     indent: String,
+}
+
+/// A member of a value that is a core value of its own.
+#[derive(Clone, Copy)]
+struct Member {
+    name: &'static str,
+    /// The core values of the value before it.
+    step: usize,
+    /// What makes it of 32 bits.
+    cast: &'static str,
+}
+
+const ADDRESS: Member = Member {
+    name: "address",
+    step: 0,
+    cast: "",
+};
+
+const LENGTH: Member = Member {
+    name: "length",
+    step: 1,
+    cast: "",
+};
+
+/// The number of one of so many cases.
+fn tag_of(cases: usize) -> Member {
+    Member {
+        name: "tag",
+        step: 0,
+        cast: match tag_bits(cases) {
+            8 => "(uint8_t)",
+            16 => "(uint16_t)",
+            _ => "",
+        },
+    }
 }
 
 /// What is still to be written.
@@ -130,25 +175,57 @@ impl<'a> Types<'a> {
             _ => String::from_str(alloc, path),
         }
     }
+
+    /// The number that a core value has.
+    fn number(&self, value: &Value) -> Result<String, AllocError> {
+        let (alloc, place, c) = (self.alloc, value.place, self.c(value.ty));
+        match self.end(value.ty) {
+            ValType::Primitive(Primitive::Bool) => {
+                format!(in alloc; "wit_i32(&flats[{place}]) != 0")
+            }
+            ValType::Primitive(Primitive::S64 | Primitive::U64) => {
+                format!(in alloc; "({c})wit_i64(&flats[{place}])")
+            }
+            _ => format!(in alloc; "({c})wit_i32(&flats[{place}])"),
+        }
+    }
+
+    /// Writes how a number becomes a core value, or the other way round.
+    fn push_number(&self, text: &mut String, way: Way, value: &Value) -> Result<(), AllocError> {
+        let (indent, place, path) = (value.indent.as_str(), value.place, value.path.as_str());
+        match way {
+            Way::Made => {
+                let bits = self.bits(value)?;
+                writeln!(text, "{indent}wit_put(flats, {place}, {});", bits.as_str())?;
+            }
+            Way::Read => {
+                let number = self.number(value)?;
+                writeln!(text, "{indent}{path} = {};", number.as_str())?;
+            }
+        }
+        Ok(())
+    }
 }
 
-/// Writes how a core value of a value is made.
-fn push_flat(text: &mut String, value: &Value, step: usize, bits: &str) -> Result<(), AllocError> {
-    let (indent, place) = (value.indent.as_str(), value.place.saturating_add(step));
-    writeln!(text, "{indent}wit_put(flats, {place}, {bits});")?;
-    Ok(())
-}
-
-/// Writes how one core value is made of a member of a value.
+/// Writes how a member of a value becomes a core value, or the other way round.
 fn push_member(
     text: &mut String,
+    way: Way,
     value: &Value,
-    step: usize,
-    member: &str,
+    member: Member,
 ) -> Result<(), AllocError> {
     let (indent, path) = (value.indent.as_str(), value.path.as_str());
-    let place = value.place.saturating_add(step);
-    writeln!(text, "{indent}wit_put(flats, {place}, {path}.{member});")?;
+    let (name, place) = (member.name, value.place.saturating_add(member.step));
+    match way {
+        Way::Made => writeln!(text, "{indent}wit_put(flats, {place}, {path}.{name});")?,
+        Way::Read => {
+            let cast = member.cast;
+            writeln!(
+                text,
+                "{indent}{path}.{name} = {cast}wit_i32(&flats[{place}]);"
+            )?;
+        }
+    }
     Ok(())
 }
 
@@ -161,42 +238,84 @@ impl<'a> Types<'a> {
         self.field_steps(front.as_str(), place, indent, self.parts(value.ty))
     }
 
+    /// Writes the tag of a variant. The steps for its payload.
+    fn push_variant(
+        &self,
+        text: &mut String,
+        way: Way,
+        value: &Value,
+    ) -> Result<Vec<Step>, AllocError> {
+        let parts = self.parts(value.ty);
+        push_member(text, way, value, tag_of(parts.len()))?;
+        self.case_steps(value, parts)
+    }
+
     /// Writes what comes first of a value. The steps for the rest of it.
-    fn push_value(&self, text: &mut String, value: &Value) -> Result<Vec<Step>, AllocError> {
+    fn push_value(
+        &self,
+        text: &mut String,
+        way: Way,
+        value: &Value,
+    ) -> Result<Vec<Step>, AllocError> {
         match self.form(value.ty) {
             Form::Number => {
-                let bits = self.bits(value)?;
-                push_flat(text, value, 0, bits.as_str())?;
+                self.push_number(text, way, value)?;
                 Ok(Vec::new(self.alloc))
             }
             Form::Pair => {
-                push_member(text, value, 0, "address")?;
-                push_member(text, value, 1, "length")?;
+                push_member(text, way, value, ADDRESS)?;
+                push_member(text, way, value, LENGTH)?;
                 Ok(Vec::new(self.alloc))
             }
             Form::Record => self.record_steps(value),
-            Form::Variant => {
-                push_member(text, value, 0, "tag")?;
-                self.case_steps(value, self.parts(value.ty))
-            }
+            Form::Variant => self.push_variant(text, way, value),
         }
     }
 
-    /// Writes how the core values of parameters are made. Each step writes a line, so memory ends before the steps do.
-    pub fn push_flats(&self, text: &mut String, parameters: &[Part]) -> Result<(), AllocError> {
+    /// Writes these steps. Each writes a line, so memory ends before the steps do.
+    fn push_steps_of(
+        &self,
+        text: &mut String,
+        way: Way,
+        steps: Vec<Step>,
+    ) -> Result<(), AllocError> {
         let mut stack = Vec::new(self.alloc);
-        let steps = self.field_steps("parameters->", 0, "    ", parameters)?;
         push_steps(&mut stack, steps)?;
         for _ in 0..usize::MAX {
             match stack.pop() {
                 Some(Step::Line(line)) => text.push_str(line.as_str())?,
                 Some(Step::Value(value)) => {
-                    let steps = self.push_value(text, &value)?;
+                    let steps = self.push_value(text, way, &value)?;
                     push_steps(&mut stack, steps)?;
                 }
                 None => return Ok(()),
             }
         }
         Err(AllocError)
+    }
+
+    /// Writes how the core values of parameters are made.
+    pub fn push_flats(&self, text: &mut String, parameters: &[Part]) -> Result<(), AllocError> {
+        let steps = self.field_steps("parameters->", 0, "    ", parameters)?;
+        self.push_steps_of(text, Way::Made, steps)
+    }
+
+    /// Writes how parameters are read out of their core values.
+    pub fn push_received(&self, text: &mut String, parameters: &[Part]) -> Result<(), AllocError> {
+        let steps = self.field_steps("parameters.", 0, "    ", parameters)?;
+        self.push_steps_of(text, Way::Read, steps)
+    }
+
+    /// Writes how the core values of one value of a type are made.
+    pub fn push_answered(&self, text: &mut String, ty: ValType) -> Result<(), AllocError> {
+        let alloc = self.alloc;
+        let mut steps = Vec::new(alloc);
+        steps.push(Step::Value(Value {
+            ty,
+            path: String::from_str(alloc, "value")?,
+            place: 0,
+            indent: String::from_str(alloc, "    ")?,
+        }))?;
+        self.push_steps_of(text, Way::Made, steps)
     }
 }

@@ -1,8 +1,8 @@
-//! Types in C: their forms, names and parts, how their core values are made, and how one core value is read.
+//! Types in C: their forms, names and parts, how their core values are made, and how core values are read.
 //!
-//! `Types` has what each row of a table is in C. Sizes, alignments, offsets and core values are those of `Laid`, whose contracts speak
-//! of `canonical_abi`. It writes no definitions. Names in C are those of its module
-//! `c_names`. It stands on `layout` and `tables`.
+//! `Types` has what each row of a table is in C. Sizes, alignments, offsets and core values are those of `Laid`, whose
+//! contracts speak of `canonical_abi`. It writes no definitions. Names in C are those of its module `c_names`. It
+//! stands on `layout` and `tables`.
 #![tactic(auto)]
 
 pub mod c_names;

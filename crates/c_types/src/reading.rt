@@ -9,7 +9,8 @@ use std::fmt::Write;
 use tables::{Primitive, ValType};
 
 impl<'a> Types<'a> {
-    /// A record of one core value is that of its first field, and so on: the fields to the value that has it, and its type.
+    /// A record of one core value is that of its first field, and so on: the fields to the value that has it, and its
+    /// type.
     fn first_value(&self, ty: ValType) -> Result<(String, ValType), AllocError> {
         let (mut path, mut end) = (String::from_str(self.alloc, "value")?, self.end(ty));
         for _ in 0..MAX_DEPTH {

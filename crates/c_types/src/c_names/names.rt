@@ -6,8 +6,8 @@ use std::alloc::{AllocError, Global};
 
 /// The names of the part that all headers have.
 static COMMON: &str = "\
-WIT_COMMON WIT_ERROR WIT_NONE WIT_OK WIT_SOME wit_begin wit_bool wit_char wit_i32 wit_i64 wit_put wit_string wit_string_load
-wit_string_store
+WIT_COMMON WIT_ERROR WIT_NONE WIT_OK WIT_SHORT_NAMES WIT_SOME wit_begin wit_bool wit_char wit_i32 wit_i64 wit_put
+wit_string wit_string_load wit_string_store
 ";
 
 /// The names that are taken.
@@ -25,6 +25,11 @@ impl Names {
             taken.insert(String::from_str(alloc, name)?)?;
         }
         Ok(Names { alloc, taken })
+    }
+
+    /// Whether something has this name.
+    pub(crate) fn has(&self, name: &str) -> bool {
+        self.taken.contains(name)
     }
 
     /// A name that nothing else has, which is taken now: the one that is wanted, or that with a number after it.
