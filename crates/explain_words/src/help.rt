@@ -4,15 +4,16 @@
 pub static VERSION: &str = "wit-explain 0.2.0\n";
 
 static PROGRAM: &str = "\
-wit-explain: faults of WIT files with their lines, pictures of their types, calls step by step, and headers for C
+wit-explain: faults of WIT files with lines, pictures of types, calls step by step, and bindings for C and TypeScript
 
 usage: wit-explain check [--json] PATH..
        wit-explain show PATH..
        wit-explain text PATH
        wit-explain bin -o FILE PATH
+       wit-explain encode [--world NAME] -o FILE PATH
        wit-explain layout [--svg FILE] PATH [TYPE]
        wit-explain call PATH INTERFACE FUNCTION ARGUMENTS [ANSWER]
-       wit-explain bind c PATH
+       wit-explain bind c|ts PATH
        wit-explain COMMAND --help
        wit-explain --help | --version
 
@@ -48,8 +49,16 @@ packages it is the last that is no dependency.
 static BIN: &str = "\
 usage: wit-explain bin [--color WHEN] -o FILE PATH
 
-Writes the package of these files to FILE as a binary, as `witcall bin` does. Of several packages it is the last that is no
-dependency. --output FILE is the same.
+Writes the package of these files to FILE as a binary, as `witcall bin` does. Of several packages it is the last that is
+no dependency. --output FILE is the same.
+";
+
+static ENCODE: &str = "\
+usage: wit-explain encode [--world NAME] [--color WHEN] -o FILE PATH
+
+Writes the package of these files to FILE as wit-component encodes it: what wasm-tools reads in place of WIT text. With
+--world, writes that world alone, as wit-bindgen puts it into the section `component-type` of a module. Of several
+packages it is the last that is no dependency. --output FILE is the same as -o FILE.
 ";
 
 static LAYOUT: &str = "\
@@ -64,17 +73,20 @@ if FILE is `-`.
 static CALL: &str = "\
 usage: wit-explain call [--color WHEN] PATH INTERFACE FUNCTION ARGUMENTS [ANSWER]
 
-Makes a call as `witcall call` does, and shows what it did: the core values on each side, the blocks that were requested,
-and the bytes in them, field by field. INTERFACE is a full name, as `demo:shop/desk`. ARGUMENTS is a JSON array of one
-value for each parameter. ANSWER is a JSON array of the value that the callee returns; leave it out if there is none.
+Makes a call as `witcall call` does, and shows what it did: the core values on each side, the blocks that were
+requested, and the bytes in them, field by field. INTERFACE is a full name, as `demo:shop/desk`. ARGUMENTS is a JSON
+array of one value for each parameter. ANSWER is a JSON array of the value that the callee returns; leave it out if
+there is none.
 ";
 
 static BIND: &str = "\
-usage: wit-explain bind c PATH
+usage: wit-explain bind c|ts PATH
 
-Prints a C header with the types and functions of these packages, dependencies too. Types are structs as they lie in a
-memory, with assertions of sizes, alignments and offsets. For each function there is one that makes the core values of a
-call, and one that reads its result.
+bind c prints a C header with the types and functions of these packages, dependencies too. Types are structs as they lie
+in a memory, with assertions of sizes, alignments and offsets. For each function there is one that makes the core values
+of a call, and one that reads its result.
+bind ts prints declarations for TypeScript of a package and of what it uses: the types of the values that the JavaScript
+package of witcall takes and returns. Of several packages it is the last that is no dependency.
 ";
 
 /// The help of the program, or that of a command. None if there is no such command.
@@ -85,6 +97,7 @@ pub fn help_of(command: Option<&str>) -> Option<&'static str> {
         Some("show") => Some(SHOW),
         Some("text") => Some(TEXT),
         Some("bin") => Some(BIN),
+        Some("encode") => Some(ENCODE),
         Some("layout") => Some(LAYOUT),
         Some("call") => Some(CALL),
         Some("bind") => Some(BIND),

@@ -16,6 +16,7 @@ enum Pending {
     Color,
     Svg,
     Output,
+    World,
 }
 
 /// What the words say.
@@ -30,6 +31,8 @@ pub struct Options<'a> {
     pub svg: Option<&'a str>,
     /// The file for a binary.
     pub output: Option<&'a str>,
+    /// The name of the world that is wanted.
+    pub world: Option<&'a str>,
     pending: Option<Pending>,
 }
 
@@ -48,6 +51,7 @@ impl<'a> Options<'a> {
         match option {
             Pending::Svg => self.svg = Some(word),
             Pending::Output => self.output = Some(word),
+            Pending::World => self.world = Some(word),
             Pending::Color => match color_of(word) {
                 Some(color) => self.color = color,
                 None => return false,
@@ -64,10 +68,12 @@ impl<'a> Options<'a> {
             "--color" => self.pending = Some(Pending::Color),
             "--svg" => self.pending = Some(Pending::Svg),
             "--output" => self.pending = Some(Pending::Output),
+            "--world" => self.pending = Some(Pending::World),
             _ => match word.split_once('=') {
                 Some(("--color", color)) => return self.take_value(Pending::Color, color),
                 Some(("--svg", file)) => return self.take_value(Pending::Svg, file),
                 Some(("--output", file)) => return self.take_value(Pending::Output, file),
+                Some(("--world", name)) => return self.take_value(Pending::World, name),
                 _ => return false,
             },
         }
@@ -101,6 +107,7 @@ pub fn options_of<'a>(alloc: Global, words: &[&'a str]) -> Result<Option<Options
         is_help: false,
         svg: None,
         output: None,
+        world: None,
         pending: None,
     };
     for word in words {

@@ -1,11 +1,12 @@
 //! The commands.
 
-use crate::binding::{header_for_c, main_of};
-use crate::calling::{CallWords, report_call};
-use crate::checking::{Checked, CheckedSet, check_sources};
-use crate::writing::{binary_of, push_contents, text_of};
+use call_command::{CallWords, report_call};
+use checked_packages::{CheckedSet, check_sources, main_of};
 use explain_words::{ColorChoice, Options, VERSION, help_of, options_of, usage};
-use layout_picture::{Form, Sheet};
+use layout_picture::Form;
+use package_commands::{
+    binary_of, declarations_for_ts, encoded, header_for_c, picture_of, push_contents, text_of,
+};
 use std::alloc::AllocError;
 use std::fmt::{Display, Write};
 use std::io::IsTerminal;
@@ -124,14 +125,25 @@ fn binary(
     Ok(report)
 }
 
-/// Draws the packages that are no dependencies.
-fn draw(sheet: &mut Sheet, packages: &[Checked], wanted: Option<&str>) -> Result<(), AllocError> {
-    for package in packages {
-        if !package.is_dependency {
-            sheet.draw(&package.tables, &package.layouts, wanted)?;
+/// Writes the last package of a path that is no dependency to a file as other tools read it, or a world of it.
+fn encode(
+    rt: &HostRuntime,
+    options: &Options<'_>,
+    path: &str,
+    file: &str,
+) -> Result<Report, AllocError> {
+    let mut report = new_report(rt, options);
+    let packages = checked_paths(rt, &mut report, &[path])?;
+    let list = packages.list.as_slice();
+    if report.status == 0
+        && let Some(package) = list.get(main_of(list))
+    {
+        match encoded(rt.alloc(), package, options.world) {
+            Ok(bytes) => save(rt, &mut report, file, bytes.as_slice())?,
+            Err(error) => refuse(&mut report, path, &error)?,
         }
     }
-    Ok(())
+    Ok(report)
 }
 
 /// Prints a picture, or writes it to a file that is not `-`.
@@ -164,17 +176,14 @@ fn layout(
     } else {
         Form::Boxes
     };
-    let mut sheet = Sheet::new(rt.alloc(), form);
-    draw(&mut sheet, packages.list.as_slice(), wanted)?;
-    if let Some(name) = wanted
-        && sheet.is_empty()
-    {
-        report.status = 1;
-        writeln!(report.text, "{path}: no type `{name}`")?;
-        return Ok(report);
+    let list = packages.list.as_slice();
+    match picture_of(rt.alloc(), list, form, wanted)? {
+        Some(picture) => show(rt, &mut report, options.svg, picture.as_str())?,
+        None => {
+            report.status = 1;
+            writeln!(report.text, "{path}: no type `{}`", wanted.unwrap_or(""))?;
+        }
     }
-    let picture = sheet.finish()?;
-    show(rt, &mut report, options.svg, picture.as_str())?;
     Ok(report)
 }
 
@@ -188,6 +197,17 @@ fn bind_c(rt: &HostRuntime, options: &Options<'_>, path: &str) -> Result<Report,
     match header_for_c(rt.alloc(), &packages) {
         Ok(header) => report.text.push_str(header.as_str())?,
         Err(cause) => refuse(&mut report, path, &cause)?,
+    }
+    Ok(report)
+}
+
+/// Writes declarations for TypeScript of the packages of a path.
+fn bind_ts(rt: &HostRuntime, options: &Options<'_>, path: &str) -> Result<Report, AllocError> {
+    let mut report = new_report(rt, options);
+    let packages = checked_paths(rt, &mut report, &[path])?;
+    if report.status == 0 {
+        let declarations = declarations_for_ts(rt.alloc(), &packages)?;
+        report.text.push_str(declarations.as_str())?;
     }
     Ok(report)
 }
@@ -247,6 +267,7 @@ fn run_plain(
         ["text", path] => text(rt, options, path),
         ["call", path, words @ ..] => run_call(rt, options, path, words),
         ["bind", "c", path] => bind_c(rt, options, path),
+        ["bind", "ts", path] => bind_ts(rt, options, path),
         _ => Report::said(rt.alloc(), usage(), 2),
     }
 }
@@ -259,6 +280,10 @@ fn run_options(rt: &HostRuntime, options: &Options<'_>) -> Result<Report, AllocE
     }
     let output = options.output;
     match (words, output) {
+        (["encode", path], Some(file)) if !options.is_json && options.svg.is_none() => {
+            encode(rt, options, path, file)
+        }
+        _ if options.world.is_some() => Report::said(rt.alloc(), usage(), 2),
         (["--version"], None) => Report::said(rt.alloc(), VERSION, 0),
         (["check", paths @ ..], None) if !paths.is_empty() && options.svg.is_none() => {
             check(rt, options, paths)

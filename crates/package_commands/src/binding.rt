@@ -1,12 +1,13 @@
-//! Headers for C.
+//! Headers for C, and declarations for TypeScript.
 ghost use Rattle.std.specs.Prelude.{◌<◌, length};
 
-use crate::checking::{Checked, CheckedSet};
 use c_header::{Laid, header_of};
+use checked_packages::{CheckedSet, main_of};
 use layout::Layouts;
 use package_adding::PackageSet;
 use std::alloc::{AllocError, Global};
 use tables::PackageId;
+use ts_declarations::declarations_of;
 use wit_faults::Cause;
 use wit_files::MAX_TEXT;
 use wit_text::TextError;
@@ -35,17 +36,6 @@ fn texts_of(alloc: Global, set: &PackageSet) -> Result<Vec<String>, TextError> {
     Ok(texts)
 }
 
-/// The place of the last package that is no dependency.
-pub(crate) fn main_of(packages: &[Checked]) -> usize {
-    let mut main = 0;
-    for (place, package) in packages.iter().enumerate() {
-        if !package.is_dependency {
-            main = place;
-        }
-    }
-    main
-}
-
 fn header(
     alloc: Global,
     laid: Laid<'_>,
@@ -66,4 +56,14 @@ pub fn header_for_c(alloc: Global, packages: &CheckedSet) -> Result<String, Caus
     let laid = Laid::new(resolve, &layouts);
     let main = main_of(packages.list.as_slice());
     Ok(header(alloc, laid, texts.as_slice(), main)?)
+}
+
+/// The declarations for TypeScript of the last package that is no dependency, and of what it uses. No text if there is
+/// no package.
+pub fn declarations_for_ts(alloc: Global, packages: &CheckedSet) -> Result<String, AllocError> {
+    let list = packages.list.as_slice();
+    match list.get(main_of(list)) {
+        Some(package) => declarations_of(alloc, &package.tables),
+        None => Ok(String::new(alloc)),
+    }
 }

@@ -1,5 +1,5 @@
 use Rattle.std.proofs.Math.Logic.{∥∥₁_map}
-use Rattle.explanation.proofs.calling.is_in_form.Goals as goal
+use Rattle.checked_packages.proofs.checking.is_in_form.Goals as goal
 
 pub returns-clause-form : goal.returns-clause-form
 returns-clause-form c = ∥∥₁_map c.requires (λ w. w.form)

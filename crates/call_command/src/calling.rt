@@ -1,13 +1,8 @@
 //! Calls of functions of packages.
-ghost use Rattle.std.specs.Prelude.{All};
-ghost use Rattle.package_form.specs.Form.{IsInPackageForm};
-ghost use Rattle.package_form.specs.Naming.{package_scopes};
-ghost use Rattle.package_form.specs.Scope.{AreDistinct};
-ghost use Rattle.package_text.specs.Writable.{IsWritable};
 ghost use Rattle.tables.specs.Closed.{IsFunction};
 
-use crate::checking::Checked;
 use call_picture::{Call, JsonError, Picture};
+use checked_packages::{Checked, is_in_form};
 use json_faults::{Fault, first_fault};
 use serde_json::Value as Json;
 use std::alloc::{AllocError, Global};
@@ -130,13 +125,6 @@ fn report_refused(
     Ok(())
 }
 
-/// A package that can be written is in form, and its names differ in each scope.
-pub(crate) fn is_in_form(_tables: &Resolve)
-    requires { ∥ IsWritable _tables.now ∥₁ }
-    ensures form { ∥ IsInPackageForm _tables.now ∥₁ }
-    ensures distinct { ∥ All AreDistinct (package_scopes _tables.now) ∥₁ }
-{}
-
 /// Reports a call of a function of a package.
 fn report_picture(
     alloc: Global,
@@ -230,13 +218,14 @@ fn report_missing(
     }
     writeln!(
         report.text,
-        "wit-explain: error 63 no function\n   = no package has a function `{function}` in an interface `{interface}`; its full name is `NAMESPACE:PACKAGE/NAME`, with `@VERSION` if there is one"
+        "wit-explain: error 63 no function\n   = no package has a function `{function}` in an interface `{interface}`; \
+         its full name is `NAMESPACE:PACKAGE/NAME`, with `@VERSION` if there is one"
     )?;
     Ok(())
 }
 
-/// Calls the function of the first package that has it, and reports what the call did. The status is 1 if there is none, if a
-/// text of JSON says no values of its types, or if there is a trap.
+/// Calls the function of the first package that has it, and reports what the call did. The status is 1 if there is
+/// none, if a text of JSON says no values of its types, or if there is a trap.
 pub fn report_call(
     alloc: Global,
     report: &mut Report,

@@ -1,6 +1,9 @@
 //! Packages checked in the order in which their packages depend on each other.
 ghost use Rattle.std.specs.Prelude.{◌≡◌, ◌+◌, ◌<◌, ◌≤◌, All, IfOk, OnOk, length};
 ghost use Rattle.layout.specs.Layout.{AreWithin, layouts_of};
+ghost use Rattle.package_form.specs.Form.{IsInPackageForm};
+ghost use Rattle.package_form.specs.Naming.{package_scopes};
+ghost use Rattle.package_form.specs.Scope.{AreDistinct};
 ghost use Rattle.package_text.specs.Writable.{IsWritable};
 
 use crate::graph::graph_of;
@@ -40,6 +43,24 @@ impl CheckedSet {
             list: Vec::new(alloc),
         }
     }
+}
+
+/// A package that can be written is in form, and its names differ in each scope.
+pub fn is_in_form(_tables: &Resolve)
+    requires { ∥ IsWritable _tables.now ∥₁ }
+    ensures form { ∥ IsInPackageForm _tables.now ∥₁ }
+    ensures distinct { ∥ All AreDistinct (package_scopes _tables.now) ∥₁ }
+{}
+
+/// The place of the last package that is no dependency.
+pub fn main_of(packages: &[Checked]) -> usize {
+    let mut main = 0;
+    for (place, package) in packages.iter().enumerate() {
+        if !package.is_dependency {
+            main = place;
+        }
+    }
+    main
 }
 
 /// The packages so far.
@@ -101,7 +122,8 @@ impl<'a> Checker<'a> {
         member: &Member<'_>,
         used: &[usize],
     ) -> Result<(), AllocError>
-        ensures { OnOk result (report.new.status ≡ 0 → (report.old.status ≡ 0) × (length self.new.checked.items ≡ length self.old.checked.items + 1)) }
+        ensures { OnOk result (report.new.status ≡ 0 → (report.old.status ≡ 0)
+            × (length self.new.checked.items ≡ length self.old.checked.items + 1)) }
     {
         if let Some(package) = self.first_bad(used) {
             return report.leave_out(self.alloc, member.files.as_slice(), package);
@@ -182,8 +204,9 @@ fn report_ring(
     report.add_found(alloc, first_path(files, second), words.as_str(), hint)
 }
 
-/// Checks these members, each after those that it depends on, and reports each fault. Packages that depend on each other are
-/// reported, and then nothing else is checked. No fault is dropped: if the status is 0, each member's package was checked.
+/// Checks these members, each after those that it depends on, and reports each fault. Packages that depend on each
+/// other are reported, and then nothing else is checked. No fault is dropped: if the status is 0, each member's package
+/// was checked.
 pub fn check_members<'a>(
     alloc: Global,
     report: &mut Report,

@@ -1,0 +1,21 @@
+//! What packages have.
+
+use checked_packages::Checked;
+use overview::shown;
+use std::alloc::{AllocError, Global};
+use wit_faults::Report;
+
+/// Appends what each package has that is no dependency: the lines of `witcall show`.
+pub fn push_contents(
+    alloc: Global,
+    report: &mut Report,
+    packages: &[Checked],
+) -> Result<(), AllocError> {
+    for package in packages {
+        if !package.is_dependency {
+            let lines = shown(alloc, &package.tables)?;
+            report.text.push_str(lines.as_str())?;
+        }
+    }
+    Ok(())
+}

@@ -1,0 +1,24 @@
+//! What the commands of `wit-explain` do with checked packages, but for calls.
+//!
+//! `push_contents` says what packages have, and `picture_of` draws their types. `text_of`, `binary_of` and `encoded`
+//! write one, `header_for_c` writes a header of all, and `declarations_for_ts` declarations of one and of what it uses.
+//! Texts are those of `package_text`, binaries those of `wit_component` and of `component_encoding`, lines those of
+//! `overview`, pictures those of `layout_picture`, headers those of `c_header`, and declarations those of
+//! `ts_declarations`.
+#![tactic(auto)]
+
+mod binary;
+mod binding;
+mod canonical_text;
+mod contents;
+mod encoding;
+mod pictures;
+mod refusal;
+
+pub use binary::binary_of;
+pub use binding::{declarations_for_ts, header_for_c};
+pub use canonical_text::text_of;
+pub use contents::push_contents;
+pub use encoding::{Unencoded, encoded};
+pub use pictures::picture_of;
+pub use refusal::Unwritten;

@@ -1,0 +1,30 @@
+//! Pictures of types.
+
+use checked_packages::Checked;
+use layout_picture::{Form, Sheet};
+use std::alloc::{AllocError, Global};
+
+/// Draws the packages that are no dependencies.
+fn draw(sheet: &mut Sheet, packages: &[Checked], wanted: Option<&str>) -> Result<(), AllocError> {
+    for package in packages {
+        if !package.is_dependency {
+            sheet.draw(&package.tables, &package.layouts, wanted)?;
+        }
+    }
+    Ok(())
+}
+
+/// The pictures of the types of packages that are no dependencies, or of those of a name. None if no type has the name.
+pub fn picture_of(
+    alloc: Global,
+    packages: &[Checked],
+    form: Form,
+    wanted: Option<&str>,
+) -> Result<Option<String>, AllocError> {
+    let mut sheet = Sheet::new(alloc, form);
+    draw(&mut sheet, packages, wanted)?;
+    if wanted.is_some() && sheet.is_empty() {
+        return Ok(None);
+    }
+    Ok(Some(sheet.finish()?))
+}

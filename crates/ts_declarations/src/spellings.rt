@@ -1,0 +1,259 @@
+//! Types as TypeScript spells them, and as WIT does.
+
+use crate::labels::{push_key, type_name};
+use std::alloc::{AllocError, Global};
+use std::fmt::Write;
+use tables::{Definition, Primitive, Resolve, TypeDefKind, ValType};
+
+/// What matters of a type to those that are made of it. Other names of a type mean the same.
+#[derive(Clone, Copy, Debug)]
+pub enum Meaning {
+    /// A number, which this typed array may have.
+    Number(&'static str),
+    /// A list of such numbers.
+    Numbers(&'static str),
+    Option,
+    Other,
+}
+
+/// A type of a row of the table.
+#[derive(Debug, Drop)]
+pub struct Spelling {
+    /// As TypeScript spells it.
+    pub text: String,
+    /// As WIT spells it.
+    pub wit: String,
+    /// Whether the text is a union, which is put in brackets before `[]`.
+    pub is_union: bool,
+    pub meaning: Meaning,
+}
+
+/// The types of a table.
+#[derive(Drop)]
+pub struct Spellings {
+    alloc: Global,
+    rows: Vec<Spelling>,
+}
+
+/// A primitive type as TypeScript spells it, and as WIT does.
+fn words_of(primitive: Primitive) -> (&'static str, &'static str) {
+    match primitive {
+        Primitive::Bool => ("boolean", "bool"),
+        Primitive::S8 => ("number", "s8"),
+        Primitive::U8 => ("number", "u8"),
+        Primitive::S16 => ("number", "s16"),
+        Primitive::U16 => ("number", "u16"),
+        Primitive::S32 => ("number", "s32"),
+        Primitive::U32 => ("number", "u32"),
+        Primitive::S64 => ("bigint", "s64"),
+        Primitive::U64 => ("bigint", "u64"),
+        Primitive::Char => ("string", "char"),
+    }
+}
+
+/// Numbers of 64 bits have no typed array in the oldest libraries of TypeScript.
+fn meaning_of(primitive: Primitive) -> Meaning {
+    match primitive {
+        Primitive::S8 => Meaning::Number("Int8Array"),
+        Primitive::U8 => Meaning::Number("Uint8Array"),
+        Primitive::S16 => Meaning::Number("Int16Array"),
+        Primitive::U16 => Meaning::Number("Uint16Array"),
+        Primitive::S32 => Meaning::Number("Int32Array"),
+        Primitive::U32 => Meaning::Number("Uint32Array"),
+        Primitive::Bool | Primitive::S64 | Primitive::U64 | Primitive::Char => Meaning::Other,
+    }
+}
+
+impl Spellings {
+    /// The types of a table.
+    pub fn of(alloc: Global, resolve: &Resolve) -> Result<Spellings, AllocError> {
+        let mut spellings = Spellings {
+            alloc,
+            rows: Vec::new(alloc),
+        };
+        for definition in resolve.definitions.as_slice() {
+            let row = spellings.row_of(definition)?;
+            spellings.rows.push(row)?;
+        }
+        Ok(spellings)
+    }
+
+    fn blank(&self) -> Spelling {
+        Spelling {
+            text: String::new(self.alloc),
+            wit: String::new(self.alloc),
+            is_union: false,
+            meaning: Meaning::Other,
+        }
+    }
+
+    fn row_of(&self, definition: &Definition) -> Result<Spelling, AllocError> {
+        match definition {
+            Definition::Function(_) => Ok(self.blank()),
+            Definition::Type(definition) => match &definition.name {
+                None => self.unnamed(&definition.kind),
+                Some(name) => self.named(name.name.as_str(), &definition.kind),
+            },
+        }
+    }
+
+    /// A type of an interface, by its label.
+    fn named(&self, label: &str, kind: &TypeDefKind) -> Result<Spelling, AllocError> {
+        Ok(Spelling {
+            text: type_name(self.alloc, label)?,
+            wit: String::from_str(self.alloc, label)?,
+            is_union: false,
+            meaning: self.meaning_of_kind(kind),
+        })
+    }
+
+    /// A type without a name.
+    pub fn unnamed(&self, kind: &TypeDefKind) -> Result<Spelling, AllocError> {
+        let mut row = self.blank();
+        row.meaning = self.meaning_of_kind(kind);
+        row.is_union = matches!(kind, TypeDefKind::Option(_) | TypeDefKind::Result(_, _));
+        self.push_unnamed(&mut row.text, kind)?;
+        self.push_wit(&mut row.wit, kind)?;
+        Ok(row)
+    }
+
+    fn row(&self, ty: ValType) -> Option<&Spelling> {
+        match ty {
+            ValType::Id(id) => self.rows.get(id.0 as usize),
+            _ => None,
+        }
+    }
+
+    /// A type as TypeScript spells it.
+    pub fn text(&self, ty: ValType) -> &str {
+        match ty {
+            ValType::Primitive(primitive) => words_of(primitive).0,
+            ValType::String => "string",
+            ValType::Id(_) => match self.row(ty) {
+                Some(row) => row.text.as_str(),
+                None => "",
+            },
+        }
+    }
+
+    /// A type as WIT spells it.
+    pub fn wit(&self, ty: Option<ValType>) -> &str {
+        match ty {
+            None => "_",
+            Some(ValType::Primitive(primitive)) => words_of(primitive).1,
+            Some(ValType::String) => "string",
+            Some(ty) => match self.row(ty) {
+                Some(row) => row.wit.as_str(),
+                None => "",
+            },
+        }
+    }
+
+    /// What matters of a type to those that are made of it.
+    pub fn meaning(&self, ty: ValType) -> Meaning {
+        match ty {
+            ValType::Primitive(primitive) => meaning_of(primitive),
+            ValType::String => Meaning::Other,
+            ValType::Id(_) => match self.row(ty) {
+                Some(row) => row.meaning,
+                None => Meaning::Other,
+            },
+        }
+    }
+
+    fn meaning_of_kind(&self, kind: &TypeDefKind) -> Meaning {
+        match kind {
+            TypeDefKind::Use(target) => self.meaning(ValType::Id(*target)),
+            TypeDefKind::Alias(target) => self.meaning(*target),
+            TypeDefKind::Option(_) => Meaning::Option,
+            TypeDefKind::List(element) => match self.meaning(*element) {
+                Meaning::Number(array) => Meaning::Numbers(array),
+                _ => Meaning::Other,
+            },
+            _ => Meaning::Other,
+        }
+    }
+
+    fn push_list(&self, text: &mut String, element: ValType) -> Result<(), AllocError> {
+        let spelled = self.text(element);
+        match self.row(element) {
+            Some(row) if row.is_union => write!(text, "({spelled})[]")?,
+            _ => write!(text, "{spelled}[]")?,
+        }
+        Ok(())
+    }
+
+    fn push_option(&self, text: &mut String, payload: ValType) -> Result<(), AllocError> {
+        let spelled = self.text(payload);
+        match self.meaning(payload) {
+            Meaning::Option => write!(text, "\"none\" | {{ some: {spelled} }}")?,
+            _ => write!(text, "{spelled} | undefined")?,
+        }
+        Ok(())
+    }
+
+    /// Appends a case: its label, or an object with its payload under this key.
+    fn push_case(
+        &self,
+        text: &mut String,
+        label: &str,
+        payload: Option<ValType>,
+    ) -> Result<(), AllocError> {
+        match payload {
+            None => write!(text, "\"{label}\"")?,
+            Some(ty) => {
+                text.push_str("{ ")?;
+                push_key(text, label)?;
+                write!(text, ": {} }}", self.text(ty))?;
+            }
+        }
+        Ok(())
+    }
+
+    fn push_tuple(&self, text: &mut String, types: &[ValType]) -> Result<(), AllocError> {
+        text.push('[')?;
+        for (index, ty) in types.iter().enumerate() {
+            text.push_str(if index == 0 { "" } else { ", " })?;
+            text.push_str(self.text(*ty))?;
+        }
+        text.push(']')
+    }
+
+    fn push_unnamed(&self, text: &mut String, kind: &TypeDefKind) -> Result<(), AllocError> {
+        match kind {
+            TypeDefKind::List(element) => self.push_list(text, *element),
+            TypeDefKind::Option(payload) => self.push_option(text, *payload),
+            TypeDefKind::Tuple(types) => self.push_tuple(text, types.as_slice()),
+            TypeDefKind::Result(ok, error) => {
+                self.push_case(text, "ok", *ok)?;
+                text.push_str(" | ")?;
+                self.push_case(text, "error", *error)
+            }
+            _ => Ok(()),
+        }
+    }
+
+    fn push_wit_tuple(&self, wit: &mut String, types: &[ValType]) -> Result<(), AllocError> {
+        wit.push_str("tuple<")?;
+        for (index, ty) in types.iter().enumerate() {
+            wit.push_str(if index == 0 { "" } else { ", " })?;
+            wit.push_str(self.wit(Some(*ty)))?;
+        }
+        wit.push('>')
+    }
+
+    fn push_wit(&self, wit: &mut String, kind: &TypeDefKind) -> Result<(), AllocError> {
+        match kind {
+            TypeDefKind::List(element) => write!(wit, "list<{}>", self.wit(Some(*element)))?,
+            TypeDefKind::Option(payload) => write!(wit, "option<{}>", self.wit(Some(*payload)))?,
+            TypeDefKind::Result(None, None) => wit.push_str("result")?,
+            TypeDefKind::Result(ok, None) => write!(wit, "result<{}>", self.wit(*ok))?,
+            TypeDefKind::Result(ok, error) => {
+                write!(wit, "result<{}, {}>", self.wit(*ok), self.wit(*error))?
+            }
+            TypeDefKind::Tuple(types) => self.push_wit_tuple(wit, types.as_slice())?,
+            _ => {}
+        }
+        Ok(())
+    }
+}

@@ -1,0 +1,169 @@
+//! The types of an interface.
+
+use crate::labels::push_key;
+use crate::pages::Page;
+use atoms::Label;
+use std::alloc::AllocError;
+use std::fmt::Write;
+use tables::{Case, Definition, Field, TypeDefKind, TypeId, TypeName, ValType};
+
+impl<'a> Page<'a> {
+    /// Writes the comment of a type, and what comes before its name.
+    fn put_heading(&mut self, word: &str, label: &str, keyword: &str) -> Result<(), AllocError> {
+        writeln!(self.text, "  /** {word} {label} */")?;
+        write!(self.text, "  export {keyword} ")?;
+        Ok(())
+    }
+
+    /// Writes a member of an object: its type in WIT as a comment, its key and its type.
+    fn put_member(&mut self, label: &str, ty: ValType) -> Result<(), AllocError> {
+        write!(self.text, "/** {} */ ", self.spellings.wit(Some(ty)))?;
+        push_key(&mut self.text, label)?;
+        write!(self.text, ": {}", self.spellings.text(ty))?;
+        Ok(())
+    }
+
+    fn put_record(&mut self, label: &str, id: TypeId, fields: &[Field]) -> Result<(), AllocError> {
+        self.put_heading("record", label, "interface")?;
+        writeln!(self.text, "{} {{", self.spellings.text(ValType::Id(id)))?;
+        for field in fields {
+            self.text.push_str("    ")?;
+            self.put_member(field.name.as_str(), field.ty)?;
+            self.text.push_str(";\n")?;
+        }
+        self.text.push_str("  }\n")
+    }
+
+    fn put_case(&mut self, case: &Case) -> Result<(), AllocError> {
+        let label = case.name.as_str();
+        match case.ty {
+            None => write!(self.text, "\n    | \"{label}\"")?,
+            Some(ty) => {
+                self.text.push_str("\n    | { ")?;
+                self.put_member(label, ty)?;
+                self.text.push_str(" }")?;
+            }
+        }
+        Ok(())
+    }
+
+    fn put_variant(&mut self, label: &str, id: TypeId, cases: &[Case]) -> Result<(), AllocError> {
+        self.put_heading("variant", label, "type")?;
+        write!(self.text, "{} =", self.spellings.text(ValType::Id(id)))?;
+        for case in cases {
+            self.put_case(case)?;
+        }
+        self.text.push_str(";\n")
+    }
+
+    fn put_labels(&mut self, labels: &[Label]) -> Result<(), AllocError> {
+        for label in labels {
+            write!(self.text, "\n    | \"{}\"", label.as_str())?;
+        }
+        Ok(())
+    }
+
+    fn put_enum(&mut self, label: &str, id: TypeId, labels: &[Label]) -> Result<(), AllocError> {
+        self.put_heading("enum", label, "type")?;
+        write!(self.text, "{} =", self.spellings.text(ValType::Id(id)))?;
+        self.put_labels(labels)?;
+        self.text.push_str(";\n")
+    }
+
+    /// Writes flags, which are the labels that are set.
+    fn put_flags(&mut self, label: &str, id: TypeId, labels: &[Label]) -> Result<(), AllocError> {
+        writeln!(
+            self.text,
+            "  /** flags {label}: those that are set, in this order */"
+        )?;
+        let name = self.spellings.text(ValType::Id(id));
+        write!(self.text, "  export type {name} = (")?;
+        self.put_labels(labels)?;
+        self.text.push_str("\n  )[];\n")
+    }
+
+    /// Writes another name of a type that TypeScript and WIT spell so.
+    fn put_alias(
+        &mut self,
+        label: &str,
+        id: TypeId,
+        text: &str,
+        wit: &str,
+    ) -> Result<(), AllocError> {
+        writeln!(self.text, "  /** type {label} = {wit} */")?;
+        let name = self.spellings.text(ValType::Id(id));
+        writeln!(self.text, "  export type {name} = {text};")?;
+        Ok(())
+    }
+
+    fn put_type_alias(
+        &mut self,
+        label: &str,
+        id: TypeId,
+        target: ValType,
+    ) -> Result<(), AllocError> {
+        let alloc = self.alloc;
+        let text = String::from_str(alloc, self.spellings.text(target))?;
+        let wit = String::from_str(alloc, self.spellings.wit(Some(target)))?;
+        self.put_alias(label, id, text.as_str(), wit.as_str())
+    }
+
+    /// Writes another name of a type without a name.
+    fn put_unnamed(
+        &mut self,
+        label: &str,
+        id: TypeId,
+        kind: &TypeDefKind,
+    ) -> Result<(), AllocError> {
+        let row = self.spellings.unnamed(kind)?;
+        self.put_alias(label, id, row.text.as_str(), row.wit.as_str())
+    }
+
+    /// Writes a used name.
+    fn put_use(&mut self, label: &str, id: TypeId, target: TypeId) -> Result<(), AllocError> {
+        let Some((_, used)) = self.named(target) else {
+            return Ok(());
+        };
+        let full_name = self.interface_name(used.interface)?;
+        let (full_name, other) = (full_name.as_str(), used.name.as_str());
+        writeln!(self.text, "  /** type {label} = {full_name} {other} */")?;
+        let name = self.spellings.text(ValType::Id(id));
+        let namespace = self.namespaces.interface(used.interface.0 as usize);
+        let text = self.spellings.text(ValType::Id(target));
+        writeln!(self.text, "  export type {name} = {namespace}.{text};")?;
+        Ok(())
+    }
+
+    /// The type of a row, if it has a name.
+    fn named(&self, id: TypeId) -> Option<(&'a TypeDefKind, &'a TypeName)> {
+        let found = self.resolve.definitions.as_slice().get(id.0 as usize);
+        let Some(Definition::Type(definition)) = found else {
+            return None;
+        };
+        let name = definition.name.as_ref()?;
+        Some((&definition.kind, name))
+    }
+
+    fn put_type(&mut self, label: &str, id: TypeId, kind: &TypeDefKind) -> Result<(), AllocError> {
+        match kind {
+            TypeDefKind::Use(target) => self.put_use(label, id, *target),
+            TypeDefKind::Alias(target) => self.put_type_alias(label, id, *target),
+            TypeDefKind::Record(fields) => self.put_record(label, id, fields.as_slice()),
+            TypeDefKind::Variant(cases) => self.put_variant(label, id, cases.as_slice()),
+            TypeDefKind::Enum(labels) => self.put_enum(label, id, labels.as_slice()),
+            TypeDefKind::Flags(labels) => self.put_flags(label, id, labels.as_slice()),
+            _ => self.put_unnamed(label, id, kind),
+        }
+    }
+
+    /// Writes these types, with an empty line after each.
+    pub fn put_types(&mut self, ids: &[TypeId]) -> Result<(), AllocError> {
+        for id in ids {
+            if let Some((kind, name)) = self.named(*id) {
+                self.put_type(name.name.as_str(), *id, kind)?;
+                self.text.push('\n')?;
+            }
+        }
+        Ok(())
+    }
+}
