@@ -24,7 +24,8 @@
 # | engine         | core modules in Node's engine, their traps        | clang, lld, Node with its headers                   |
 # | js             | the same modules, linked by bindings/js           | clang, lld, Node, the module of the release         |
 # | js-tests       | the tests of bindings/js, and the stored calls    | Node, python3, the module of the release            |
-# | python         | the tests of bindings/python, both kinds of rows  | Python 3.9 or newer                                 |
+# | python         | the tests of bindings/python, both kinds of rows, | Python 3.9 or newer                                 |
+# |                | documents of packages by tools/check_document.py  |                                                     |
 # | languages      | the programs of docs/LANGUAGES.md                 | python3, and the tools of each language             |
 # | crate          | the tests of bindings/rust, both kinds of rows    | cargo, python3; clippy and rustfmt if they are there |
 #
@@ -183,6 +184,11 @@ python_rows() {
     WITCALL_LIBRARY="$prefix/lib/libwitcall.so" python3 -B "$here/c/$program.py" "$root/bindings/python/tests/$program.py" "$@"
 }
 
+# Compares the documents of packages with the models and the schema.
+python_documents() {
+    WITCALL_LIBRARY="$prefix/lib/libwitcall.so" python3 -B "$root/tools/check_document.py"
+}
+
 # Runs cargo for bindings/rust.
 crate() {
     what=$1
@@ -268,6 +274,7 @@ if has js-tests node python3 && has_module js-tests; then
 fi
 if has python python3 && has_new_python python; then
     step python-tests python_tests
+    step python-documents python_documents
     same python-vectors "$here/c/vectors.expected" python_rows vectors
     same python-json_vectors "$root/bindings/python/tests/json_vectors.expected" python_rows json_vectors room blocks
 fi

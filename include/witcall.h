@@ -73,7 +73,7 @@ extern "C" {
 
 /* Refusals of this library alone, and of texts of JSON. */
 #define WITCALL_BAD_JSON 61      /* the text is no UTF-8, no JSON, or nests more than 127 deep */
-#define WITCALL_NOT_THIS_TYPE 62 /* the JSON is no array of the function's arguments */
+#define WITCALL_NOT_THIS_TYPE 62 /* the JSON is no array of the function's arguments: witcall_json_fault tells where */
 #define WITCALL_NO_FUNCTION 63 /* no function has this name or this number */
 #define WITCALL_NOT_OPEN 70    /* the handle is WITCALL_NONE, closed, or stands for a package that was refused */
 #define WITCALL_NO_ROOM 71     /* an array has less room than count */
@@ -247,6 +247,10 @@ witcall_status witcall_owner_name(witcall_package *package, uint32_t owner_kind,
 witcall_status witcall_to_binary(witcall_package *package, uint8_t *bytes, size_t bytes_len);
 witcall_status witcall_to_text(witcall_package *package, uint8_t *text, size_t text_len);
 
+/* The package as one JSON document, with all packages of a set: interfaces, worlds, and each row of the table with its members, sizes, alignments,
+ * offsets and core signatures. docs/package.schema.json is its schema. count bytes; if there is no room, this is 71, and count is the length. */
+witcall_status witcall_describe(witcall_package *package, uint8_t *json, size_t json_len);
+
 /* How the parameters and the result of a function lie in memory; count parts. */
 witcall_status witcall_parameters(witcall_package *package, uint32_t func, witcall_part *parts, size_t parts_len);
 witcall_status witcall_result(witcall_package *package, uint32_t func, witcall_part *parts, size_t parts_len);
@@ -304,6 +308,12 @@ witcall_status witcall_json_requests(witcall_package *package, uint32_t func, co
 witcall_status witcall_fill_json(witcall_package *package, uint32_t func, const uint8_t *json, size_t json_len,
                                  uint8_t *memory, size_t memory_len, const witcall_block *blocks, size_t blocks_len,
                                  witcall_value *handed, size_t handed_len);
+
+/* After 62: what is wrong in the text, as one line with no line end: count bytes of UTF-8. It begins with the first place, as [0].lines[2].count,
+ * and says behind ": " what has to stand there, and what does. If the text is no array of as many values, the line has no place, and begins
+ * with a letter. If the text is an array of the arguments, this is 0 bytes. If there is no room, this is 71, and count is the length. */
+witcall_status witcall_json_fault(witcall_package *package, uint32_t func, const uint8_t *json, size_t json_len,
+                                  uint8_t *line, size_t line_len);
 
 /* The result that the core function answered, as compact JSON: count bytes, 0 if the function has no result. It is the value alone, with no
  * array around it. The memory is only read. If there is no room, this is 71, and count is the length. limit is as that of

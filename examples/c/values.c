@@ -4,6 +4,8 @@
  *   2. witcall_fill_json puts the arguments into these blocks, and answers the values for the core function.
  *   3. The core function runs.
  *   4. witcall_read_json writes what it answered as JSON.
+ *
+ * witcall_json_fault says what is wrong in arguments that are refused, and witcall_describe has all of the package in one document.
  */
 #include "witcall.h"
 #include <stdio.h>
@@ -96,9 +98,26 @@ static void read_result(uint32_t func, uint32_t answer) {
     printf("%.*s\n", (int)length, (const char *)json);
 }
 
-/* Prints why a text is refused. */
+/* Prints why a text is refused, and where it is wrong. */
 static void refuse(uint32_t func, const char *json) {
-    print_status(witcall_json_requests(&package, func, BYTES(json), NULL, 0, LENGTH));
+    uint8_t line[256];
+    witcall_status status = witcall_json_requests(&package, func, BYTES(json), NULL, 0, LENGTH);
+    print_status(status);
+    if (status.number != WITCALL_NOT_THIS_TYPE)
+        return;
+    uint32_t length = done(witcall_json_fault(&package, func, BYTES(json), line, sizeof line));
+    printf("  %.*s\n", (int)length, (const char *)line);
+}
+
+/* Prints the package as one document. */
+static void describe(void) {
+    witcall_status asked = witcall_describe(&package, NULL, 0);
+    uint8_t *json = malloc(asked.count);
+    if (!json)
+        exit(1);
+    uint32_t length = done(witcall_describe(&package, json, asked.count));
+    printf("%.*s\n", (int)length, (const char *)json);
+    free(json);
 }
 
 int main(void) {
@@ -110,7 +129,9 @@ int main(void) {
            (uint32_t)handed[3].bits);
     read_result(func, core_double(handed[0].bits, handed[1].bits, handed[2].bits, handed[3].bits));
     refuse(func, "[{\"title\":\"B\"");
-    refuse(func, "[{\"title\":\"B\",\"pages\":[70000]}]");
+    refuse(func, "[{\"title\":\"B\",\"pages\":[7,70000]}]");
+    refuse(func, "[]");
+    describe();
     witcall_close(&package);
     return 0;
 }

@@ -56,6 +56,27 @@ static bool is_no_json(witcall_status status) {
     return is_refused(status, WITCALL_BAD_JSON) || is_refused(status, WITCALL_NOT_THIS_TYPE);
 }
 
+/* Of a text that is no arguments a line tells where, of arguments none, and what is no JSON has none either. */
+static void check_fault(call *c, witcall_status asked) {
+    static uint8_t line[MOST_JSON + 4096];
+    witcall_status counted = witcall_json_fault(&c->package, c->func, c->json, c->json_len, NULL, 0);
+    check_any_status(counted);
+    if (is_refused(asked, WITCALL_BAD_JSON)) {
+        HOLDS(is_same(counted, asked));
+        return;
+    }
+    if (!is_refused(asked, WITCALL_NOT_THIS_TYPE)) {
+        HOLDS(is_done(counted) && counted.count == 0);
+        return;
+    }
+    HOLDS(is_refused(counted, WITCALL_NO_ROOM) && counted.count > 0 && counted.count <= sizeof line);
+    witcall_status told = witcall_json_fault(&c->package, c->func, c->json, c->json_len, line, counted.count);
+    HOLDS(is_done(told) && told.count == counted.count);
+    HOLDS(line[0] == '[' || (line[0] >= 'a' && line[0] <= 'z'));
+    HOLDS(!memchr(line, '\n', told.count));
+    mark(24, bits(told.count));
+}
+
 /* Whether a list has more bytes than one may have. */
 static bool is_too_large(witcall_status status) {
     return status.code == WITCALL_TRAP && status.number == 4 && status.step == WITCALL_PLACE;
@@ -64,6 +85,7 @@ static bool is_too_large(witcall_status status) {
 static asked check_ask(call *c) {
     asked a = ask_for(c, ask, c->at_end);
     check_any_status(a.status);
+    check_fault(c, a.status);
     mark_status(20, a.status);
     mark(21, is_done(a.status) && a.status.count < 32 ? a.status.count : 32 + bits(a.status.count));
     if (is_done(a.status)) {

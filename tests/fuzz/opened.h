@@ -45,6 +45,29 @@ static inline void check_again(
     free(bytes), free(all), free(same);
 }
 
+/* The document of a package has a row for each of its table, and its marks are those of whole JSON. */
+static inline void check_document(witcall_package *package) {
+    static const char HEAD[] = "{\"packages\":[", KIND[] = "{\"kind\":";
+    size_t len, rows = 0, depth = 0;
+    witcall_row_info row;
+    uint8_t *json = written(package, witcall_describe, UINT32_MAX, &len);
+    HOLDS(len > sizeof HEAD && memcmp(json, HEAD, sizeof HEAD - 1) == 0);
+    bool is_word = false;
+    for (size_t i = 0; i < len; i++) {
+        HOLDS(json[i] > ' ' && json[i] < 127 && json[i] != '\\');
+        is_word ^= json[i] == '"';
+        rows += len - i > sizeof KIND && memcmp(json + i, KIND, sizeof KIND - 1) == 0;
+        if (!is_word && strchr("{[", json[i]))
+            depth++;
+        if (!is_word && strchr("]}", json[i]))
+            HOLDS(depth-- > (i + 1 < len));
+    }
+    HOLDS(depth == 0 && !is_word);
+    HOLDS(rows == 0 || is_done(witcall_row(package, (uint32_t)rows - 1, &row)));
+    HOLDS(is_refused(witcall_row(package, (uint32_t)rows, &row), WITCALL_NOT_THERE));
+    free(json);
+}
+
 static inline void check_type(witcall_package *package, witcall_type_info type) {
     witcall_row_info row;
     HOLDS(type.kind <= WITCALL_FUNCTION);
@@ -101,12 +124,14 @@ static inline void check_opened(
     mark_status(1, status);
     if (is_done(status)) {
         check_rows(package);
+        check_document(package);
         check_again(package, witcall_to_binary, 17, before, lengths, count);
         check_again(package, witcall_to_text, 36, before, lengths, count);
         HOLDS(witcall_line(package, NULL, 0).count == 0);
     } else {
         check_line(package, status);
         HOLDS(is_refused(witcall_to_text(package, NULL, 0), WITCALL_NOT_OPEN));
+        HOLDS(is_refused(witcall_describe(package, NULL, 0), WITCALL_NOT_OPEN));
     }
 }
 #endif

@@ -177,6 +177,61 @@ class Tables(unittest.TestCase):
             self.assertEqual(len(package.types), 2001)
 
 
+def described_row(kind, name, owner, layout, **more):
+    """A row of a document, whose layout is its size, its alignment and its flat kinds."""
+    size, align, flat = layout
+    named = {"kind": kind, "name": name, "owner": owner}
+    return {**named, "size": size, "align": align, "flat": flat, **more}
+
+
+class Documents(unittest.TestCase):
+    def test_a_package_is_described(self):
+        member = dict(zip(("name", "type", "size", "align", "offset"), ("x", 0, 8, 4, 0)))
+        desk = {"interface": 0}
+        two = ["i32", "i32"]
+        with witcall.open("package a:b; interface c { f: func(x: list<u8>) -> u64; }") as package:
+            described = package.describe()
+        row = described_row("list", None, None, (8, 4, two), type="u8")
+        core = {"parameters": two, "results": ["i64"]}
+        function = {
+            "kind": "function",
+            "name": "f",
+            "owner": desk,
+            "parameters": [member],
+            "result": {"type": "u64", "size": 8, "align": 8},
+            "record": None,
+            "area": None,
+            "export": core,
+            "import": core,
+        }
+        interface = {"name": "a:b/c", "package": 0, "uses": [], "types": [], "functions": [1]}
+        wanted = {"packages": ["a:b"], "interfaces": [interface], "worlds": []}
+        self.assertEqual(described, {**wanted, "rows": [row, function]})
+
+    def test_rows_have_the_numbers_and_layouts_of_types_and_functions(self):
+        paths = [TOP / f"examples/wasi/{name}.wit" for name in ("clocks", "random", "cli", "app")]
+        with witcall.open(*paths) as package:
+            rows = package.describe()["rows"]
+            self.assertEqual(len(rows), len(package.types) + len(package.functions))
+            for it in package.types:
+                row = rows[it.number]
+                wanted = (it.kind, it.name or None, it.size, it.alignment)
+                self.assertEqual((row["kind"], row["name"], row["size"], row["align"]), wanted)
+                members = row.get("fields", row.get("cases", row.get("labels", [])))
+                self.assertEqual(len(members), len(it.members))
+            for it in package.functions:
+                row = rows[it.number]
+                self.assertEqual((row["kind"], row["name"]), ("function", it.name))
+                self.assertEqual(row["export"]["parameters"], list(it.lifted.parameters))
+                self.assertEqual(row["import"]["results"], list(it.lowered.results))
+
+    def test_a_closed_package_is_not_described(self):
+        package = witcall.open(TEXT)
+        package.close()
+        with self.assertRaisesRegex(witcall.Refused, "^error 70 not open$"):
+            package.describe()
+
+
 class Threads(unittest.TestCase):
     def test_threads_share_a_package(self):
         texts = []

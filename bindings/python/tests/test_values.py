@@ -4,7 +4,7 @@ import json
 import unittest
 
 import witcall
-from witcall import ArrayMemory, Refused, Stopped, Trap
+from witcall import ArrayMemory, NotThisType, Refused, Stopped, Trap
 
 PAGE = 65536
 # With more than 16 core values the record goes through memory, as its result does.
@@ -117,6 +117,30 @@ class Values(unittest.TestCase):
                 made(name, *arguments)
             self.assertEqual(raised.exception.number, 62, (name, arguments))
         self.assertEqual(made.got, [])
+
+    def test_a_value_of_another_type_is_refused_with_its_place(self):
+        made = Component()
+        wrong = [
+            (("add", 1), "", "array of one value for each parameter"),
+            (("add", 1, 2, 3), "", "array of one value for each parameter"),
+            (("add", 2**31, 0), "[0]", "s32"),
+            (("add", 0, "2"), "[1]", "s64"),
+            (("same", {**VALUE, "more": 1}), "[0]", "record"),
+            (("same", {**VALUE, "bytes": [0, 256]}), "[0].bytes[1]", "u8"),
+            (("same", {**VALUE, "pairs": [(1, "a"), (1, 2)]}), "[0].pairs[1][1]", "string"),
+            (("same", {**VALUE, "shape": {"dot": (1,)}}), "[0].shape.dot", "tuple"),
+            (("same", {**VALUE, "some": -1}), "[0].some.some", "u32"),
+            (("same", {**VALUE, "marks": ["fourth"]}), "[0].marks", "flags"),
+        ]
+        for (name, *arguments), path, word in wrong:
+            with self.subTest(path=path), self.assertRaises(NotThisType) as raised:
+                made(name, *arguments)
+            error = raised.exception
+            self.assertEqual((error.number, error.line), (62, "error 62 not this type"))
+            self.assertEqual(error.path, path)
+            self.assertIn(word, error.fault)
+            place = f" at {path}" if path else ""
+            self.assertEqual(str(error), f"{error.line}{place}: {error.fault}")
 
     def test_a_full_memory_is_a_trap(self):
         with self.assertRaisesRegex(Trap, "trap K6 full in place"):

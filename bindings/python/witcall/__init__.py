@@ -6,7 +6,7 @@ f
 """
 
 from ._calls import Block, Call, CoreValue, Request
-from ._errors import OutOfMemory, Refused, Status, Trap, WitcallError
+from ._errors import NotThisType, OutOfMemory, Refused, Status, Trap, WitcallError
 from ._library import version
 from ._link import ArrayMemory, Memory, Stopped, grant, link
 from ._package import Package, open
@@ -22,6 +22,7 @@ __all__ = [
     "Function",
     "Member",
     "Memory",
+    "NotThisType",
     "OutOfMemory",
     "Package",
     "Refused",

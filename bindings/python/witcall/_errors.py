@@ -7,6 +7,8 @@ from typing import NamedTuple
 
 # A line such as `trap K5 utf8 in lift-args`: the word of the kind, and that of the step.
 _TRAP = re.compile(r"trap K\d (\S+) in (\S+)")
+# What is wrong in JSON, such as `[0].count: a `u8` is ..`: the place, and what has to stand there.
+_FAULT = re.compile(r"(\[\S*): (.+)", re.DOTALL)
 
 
 class Status(NamedTuple):
@@ -36,6 +38,25 @@ class WitcallError(Exception):
 
 class Refused(WitcallError):
     """A package, a name, or blocks that the library refuses."""
+
+
+class NotThisType(Refused):
+    """JSON that is no array of a function's arguments: `62 not this type`.
+
+    Attributes:
+        path: the first place that is wrong, as `[0].lines[2].count`; empty if the JSON is no array
+            of as many values
+        fault: what has to stand there, and what does
+    """
+
+    def __init__(self, status: Status, line: str, fault: str) -> None:
+        super().__init__(status, line)
+        found = _FAULT.fullmatch(fault)
+        self.path, self.fault = found.groups() if found else ("", fault)
+
+    def __str__(self) -> str:
+        place = f" at {self.path}" if self.path else ""
+        return f"{self.line}{place}: {self.fault}"
 
 
 class OutOfMemory(WitcallError, MemoryError):

@@ -19,7 +19,7 @@ MAX_STATUS_LINE = 64
 
 # Codes of a status, and numbers of refusals.
 DONE, REFUSED, TRAP = 0, 1, 2
-NOT_OPEN, NO_ROOM, NOT_THERE = 70, 71, 75
+NOT_THIS_TYPE, NOT_OPEN, NO_ROOM, NOT_THERE = 62, 70, 71, 75
 
 # Bytes that most names and lines have room in.
 _ROOM = 256
@@ -93,12 +93,14 @@ PARAMETERS: dict[str, list[Any]] = {
     "witcall_owner_name": [*_HANDLE, c_uint32, c_uint32, *_BYTES],
     "witcall_to_binary": [*_HANDLE, *_BYTES],
     "witcall_to_text": [*_HANDLE, *_BYTES],
+    "witcall_describe": [*_HANDLE, *_BYTES],
     "witcall_lifted_params": [*_OF_FUNCTION, *_KINDS],
     "witcall_lifted_result": [*_OF_FUNCTION, *_KINDS],
     "witcall_lowered_params": [*_OF_FUNCTION, *_KINDS],
     "witcall_lowered_result": [*_OF_FUNCTION, *_KINDS],
     "witcall_json_requests": [*_OF_FUNCTION, *_BYTES, *_REQUESTS],
     "witcall_fill_json": [*_OF_FUNCTION, *_BYTES, *_BYTES, *_BLOCKS, *_VALUES],
+    "witcall_json_fault": [*_OF_FUNCTION, *_BYTES, *_BYTES],
     "witcall_read_json": [*_OF_FUNCTION, *_VALUES, *_BYTES, *_BYTES, c_uint64],
     "witcall_begin": [*_OF_FUNCTION, *_VALUES, POINTER(CCall)],
     "witcall_call_enter_requests": [*_OF_CALL, *_BYTES, *_REQUESTS],

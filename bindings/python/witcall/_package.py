@@ -3,6 +3,7 @@
 from __future__ import annotations
 
 import ctypes
+import json
 import os
 import pathlib
 import threading
@@ -130,6 +131,11 @@ class Package:
     def to_binary(self) -> bytes:
         """The package as a binary. Of several it is the last one, as in `to_text`."""
         return self.told("witcall_to_binary")
+
+    def describe(self) -> dict[str, Any]:
+        """The package and those that it depends on, as docs/package.schema.json has them."""
+        described: dict[str, Any] = json.loads(self.told("witcall_describe"))
+        return described
 
     @property
     def closed(self) -> bool:

@@ -6,7 +6,8 @@ import json
 from typing import TYPE_CHECKING, Any, Callable, Iterable, Mapping, Optional, Sequence
 
 from ._calls import Flat, Lent, Writable, blocks_of, core_values, numbers_of, requests_of
-from ._library import MAX_VALUES, CValue, bytes_of, checked
+from ._errors import NotThisType, Refused
+from ._library import MAX_VALUES, NOT_THIS_TYPE, CValue, bytes_of, checked
 from ._link import BODY, LIMIT, POST, Body, Memory, Stopped, exported, grant, run, values_of
 
 if TYPE_CHECKING:
@@ -25,14 +26,21 @@ def fill(
         limit: the greatest size of the memory
 
     Raises:
-        Refused: `61 bad JSON`, `62 not this type`, or the blocks have more bytes than the limit
+        NotThisType: the text is no array of the arguments
+        Refused: `61 bad JSON`, or the blocks have more bytes than the limit
         Trap: the memory has no room
     """
     given = text.encode()
     words = (function.number, given, len(given))
-    asked = requests_of(
-        lambda array, room: package.ask("witcall_json_requests", *words, array, room, limit)
-    )
+    try:
+        asked = requests_of(
+            lambda array, room: package.ask("witcall_json_requests", *words, array, room, limit)
+        )
+    except Refused as error:
+        if error.number != NOT_THIS_TYPE:
+            raise
+        fault = package.told("witcall_json_fault", *words).decode()
+        raise NotThisType(error.status, error.line, fault) from None
     blocks = blocks_of(grant(memory, asked))
     told = (CValue * MAX_VALUES)()
     with Lent(memory.data) as lent:
@@ -157,8 +165,8 @@ def bind(
         stops: classes of what a body raises if its component stops, besides `Stopped`
 
     Returns:
-        functions, by the same names. A call may end in a `Trap`, or in `Refused` if an argument is
-        no value of its type.
+        functions, by the same names. A call may end in a `Trap`, or in `NotThisType` if an argument
+        is no value of its type.
     """
     stopping = (Stopped, *stops)
 

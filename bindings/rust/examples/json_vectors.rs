@@ -39,8 +39,11 @@ fn listed(parts: impl Iterator<Item = String>) -> String {
 
 /// Why nothing was done, as a member.
 fn error_told(error: &Error) -> String {
-    let kind = if matches!(error, Error::Trap(_)) { "trap" } else { "refused" };
-    format!("\"{kind}\":\"{error}\"")
+    match error {
+        Error::Trap(trap) => format!("\"trap\":\"{trap}\""),
+        Error::NotThisType { .. } => "\"refused\":\"error 62 not this type\"".to_owned(),
+        other => format!("\"refused\":\"{other}\""),
+    }
 }
 
 /// The core values up to the last that was put.

@@ -83,7 +83,8 @@ pub struct Trap {
     pub step: Step,
 }
 
-/// Why the library did not do what it was asked for. It is displayed as the library's line.
+/// Why the library did not do what it was asked for. It is displayed as the library's line; of [`Error::NotThisType`] the
+/// place and the rest follow.
 #[derive(Clone, Debug, PartialEq, Eq)]
 #[non_exhaustive]
 pub enum Error {
@@ -93,6 +94,13 @@ pub enum Error {
         number: u32,
         /// the library's line, as `error 41 unknown size`
         line: String,
+    },
+    /// JSON that is no array of a function's arguments: 62.
+    NotThisType {
+        /// the first place that is wrong, as `[0].lines[2].count`; empty if the JSON is no array of as many values
+        path: String,
+        /// what has to stand there, and what does
+        fault: String,
     },
     /// A trap of a call.
     Trap(Trap),
@@ -112,6 +120,14 @@ impl Error {
             sys::REFUSED => refused(),
             sys::TRAP => trap_of(status).map_or_else(refused, Error::Trap),
             _ => Error::OutOfMemory,
+        }
+    }
+
+    /// What is wrong in JSON, from the library's line: the place and the rest, if there is a place.
+    pub(crate) fn not_this_type(line: String) -> Error {
+        match line.split_once(": ").filter(|(place, _)| place.starts_with('[')) {
+            Some((path, fault)) => Error::NotThisType { path: path.to_owned(), fault: fault.to_owned() },
+            None => Error::NotThisType { path: String::new(), fault: line },
         }
     }
 
@@ -150,6 +166,10 @@ impl fmt::Display for Error {
     fn fmt(&self, out: &mut fmt::Formatter<'_>) -> fmt::Result {
         match self {
             Error::Refused { line, .. } => out.write_str(line),
+            Error::NotThisType { path, fault } => {
+                let place = if path.is_empty() { "" } else { " at " };
+                write!(out, "error {} not this type{place}{path}: {fault}", sys::NOT_THIS_TYPE)
+            }
             Error::Trap(trap) => trap.fmt(out),
             Error::OutOfMemory => write!(out, "error {NO_MEMORY} no memory"),
             Error::OtherInterface(abi) => {

@@ -113,10 +113,32 @@ impl Package {
         told(|room| self.ask(|handle| handle.write_binary(room)))
     }
 
+    /// The package and those that it depends on as one JSON document, of which `docs/package.schema.json` is the schema.
+    ///
+    /// ```
+    /// let described = witcall::Package::open("package a:b; interface c { type d = u32; }")?.describe()?;
+    /// assert!(described.starts_with(r#"{"packages":["a:b"],"interfaces":[{"name":"a:b/c","#));
+    /// # Ok::<(), witcall::Error>(())
+    /// ```
+    pub fn describe(&self) -> Result<String, Error> {
+        self.text(Handle::describe)
+    }
+
+    /// The same error; of JSON that is none of the arguments the one that says where.
+    fn located(&self, function: &Function, json: &str, error: Error) -> Error {
+        match error {
+            Error::Refused { number: sys::NOT_THIS_TYPE, .. } => self
+                .text(|handle, room| handle.json_fault(function.number, json, room))
+                .map_or_else(|other| other, Error::not_this_type),
+            other => other,
+        }
+    }
+
     /// The blocks that arguments need in the memory of the component that is called. They are a JSON array of one value
     /// for each parameter (docs/FORMATS.md). `limit` is the greatest size of that memory.
     pub fn json_requests(&self, function: &Function, json: &str, limit: u64) -> Result<Vec<Request>, Error> {
         call::requests(|room| self.ask(|handle| handle.json_requests(function.number, json, room, limit)))
+            .map_err(|error| self.located(function, json, error))
     }
 
     /// Puts the same arguments into the blocks: the values for the core function.
@@ -129,6 +151,7 @@ impl Package {
     ) -> Result<Vec<Value>, Error> {
         let blocks = call::raw_blocks(blocks);
         call::values(|told| self.ask(|handle| handle.fill_json(function.number, json, memory, &blocks, told)))
+            .map_err(|error| self.located(function, json, error))
     }
 
     /// The result that a core function answered, as JSON; an empty text if the function has none. `limit` bounds the

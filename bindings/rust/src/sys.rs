@@ -16,6 +16,7 @@ pub const MAX_VALUES: usize = 17;
 pub const DONE: u32 = 0;
 pub const REFUSED: u32 = 1;
 pub const TRAP: u32 = 2;
+pub const NOT_THIS_TYPE: u32 = 62;
 pub const NOT_OPEN: u32 = 70;
 pub const NO_ROOM: u32 = 71;
 pub const NOT_THERE: u32 = 75;
@@ -149,6 +150,7 @@ extern "C" {
     fn witcall_owner_name(package: *mut Handle, owner_kind: u32, owner: u32, name: *mut u8, name_len: usize) -> Status;
     fn witcall_to_binary(package: *mut Handle, bytes: *mut u8, bytes_len: usize) -> Status;
     fn witcall_to_text(package: *mut Handle, text: *mut u8, text_len: usize) -> Status;
+    fn witcall_describe(package: *mut Handle, json: *mut u8, json_len: usize) -> Status;
     fn witcall_lifted_params(package: *mut Handle, func: u32, kinds: *mut u32, kinds_len: usize) -> Status;
     fn witcall_lifted_result(package: *mut Handle, func: u32, kinds: *mut u32, kinds_len: usize) -> Status;
     fn witcall_lowered_params(package: *mut Handle, func: u32, kinds: *mut u32, kinds_len: usize) -> Status;
@@ -226,6 +228,14 @@ extern "C" {
         blocks_len: usize,
         handed: *mut RawValue,
         handed_len: usize,
+    ) -> Status;
+    fn witcall_json_fault(
+        package: *mut Handle,
+        func: u32,
+        json: *const u8,
+        json_len: usize,
+        line: *mut u8,
+        line_len: usize,
     ) -> Status;
     fn witcall_read_json(
         package: *mut Handle,
@@ -337,6 +347,11 @@ impl Handle {
         unsafe { witcall_to_text(self, text.as_mut_ptr(), text.len()) }
     }
 
+    pub fn describe(&mut self, json: &mut [u8]) -> Status {
+        // SAFETY: as above.
+        unsafe { witcall_describe(self, json.as_mut_ptr(), json.len()) }
+    }
+
     pub fn kinds(&mut self, side: Side, func: u32, kinds: &mut [u32]) -> Status {
         let ask = match side {
             Side::LiftedParameters => witcall_lifted_params,
@@ -423,6 +438,13 @@ impl Handle {
         unsafe {
             witcall_fill_json(self, func, json.as_ptr(), json.len(), to, to_len, granted, count, told, MAX_VALUES)
         }
+    }
+
+    /// What is wrong in JSON that is none of the arguments, as a line.
+    pub fn json_fault(&mut self, func: u32, json: &str, line: &mut [u8]) -> Status {
+        let (to, room) = (line.as_mut_ptr(), line.len());
+        // SAFETY: each pointer goes with the length of its slice, and no two slices overlap.
+        unsafe { witcall_json_fault(self, func, json.as_ptr(), json.len(), to, room) }
     }
 
     /// Writes the result that a core function answered as JSON.

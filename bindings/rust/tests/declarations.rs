@@ -74,7 +74,7 @@ fn functions_are_those_of_the_header() {
     let (of_header, mut declared) = (functions_of_header(), functions_of_rust());
     assert_eq!(declared.remove("witcall_abi").unwrap(), ["uint32_t"]);
     assert!(HEADER.contains("uint32_t witcall_abi(void);"));
-    assert_eq!(declared.len(), 27);
+    assert_eq!(declared.len(), 29);
     for (name, types) in declared {
         assert_eq!(types, of_header[&name], "{name}");
     }
@@ -82,7 +82,7 @@ fn functions_are_those_of_the_header() {
 
 #[test]
 fn numbers_are_those_of_the_header() {
-    for name in ["ABI", "MAX_VALUES", "DONE", "REFUSED", "TRAP", "NOT_OPEN", "NO_ROOM", "NOT_THERE"] {
+    for name in ["ABI", "MAX_VALUES", "DONE", "REFUSED", "TRAP", "NOT_THIS_TYPE", "NOT_OPEN", "NO_ROOM", "NOT_THERE"] {
         let defined =
             HEADER.lines().find_map(|line| line.strip_prefix(&format!("#define WITCALL_{name} ")[..])).unwrap();
         let number = defined.split_whitespace().next().unwrap();

@@ -59,6 +59,26 @@ fn types_have_their_layouts() -> Result<(), Error> {
 }
 
 #[test]
+fn a_package_is_described() -> Result<(), Error> {
+    let text =
+        "package a:b@1.0.0; interface c { f: func(x: list<u8>) -> u64; } world w { import c; export g: func(); }";
+    let wanted = concat!(
+        r#"{"packages":["a:b@1.0.0"],"#,
+        r#""interfaces":[{"name":"a:b/c@1.0.0","package":0,"uses":[],"types":[],"functions":[1]}],"#,
+        r#""worlds":[{"name":"a:b/w@1.0.0","package":0,"imports":[{"interface":0}],"exports":[{"function":2}]}],"#,
+        r#""rows":[{"kind":"list","name":null,"owner":null,"size":8,"align":4,"flat":["i32","i32"],"type":"u8"},"#,
+        r#"{"kind":"function","name":"f","owner":{"interface":0},"#,
+        r#""parameters":[{"name":"x","type":0,"size":8,"align":4,"offset":0}],"#,
+        r#""result":{"type":"u64","size":8,"align":8},"record":null,"area":null,"#,
+        r#""export":{"parameters":["i32","i32"],"results":["i64"]},"import":{"parameters":["i32","i32"],"results":["i64"]}},"#,
+        r#"{"kind":"function","name":"g","owner":{"world":0},"parameters":[],"result":null,"record":null,"area":null,"#,
+        r#""export":{"parameters":[],"results":[]},"import":{"parameters":[],"results":[]}}]}"#,
+    );
+    assert_eq!(Package::open(text)?.describe()?, wanted);
+    Ok(())
+}
+
+#[test]
 fn functions_of_worlds_and_of_sets_are_found() -> Result<(), Error> {
     let package = Package::open("package a:b; world w { import f: func(); export f: func(x: u64) -> u64; }")?;
     let [import, export] = [package.find_import("a:b/w", "f")?, package.find_export("a:b/w", "f")?];

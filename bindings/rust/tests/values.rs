@@ -62,6 +62,7 @@ fn a_function_without_a_result_answers_nothing() {
 fn what_is_no_argument_is_refused_before_the_core_function_runs() {
     let number_of = |arguments: &str, limit: u64| match called("total", arguments, limit, &mut no_core) {
         Err(Error::Refused { number, .. }) => number,
+        Err(Error::NotThisType { .. }) => 62,
         other => panic!("{other:?}"),
     };
     assert_eq!(number_of("[", 1024), 61);
@@ -70,6 +71,26 @@ fn what_is_no_argument_is_refused_before_the_core_function_runs() {
     assert_eq!(number_of(r#"[[{"name":"tea","count":256}],"open"]"#, 1024), 62);
     // a line of 12 bytes, and a text of three
     assert_eq!(number_of(r#"[[{"name":"tea","count":1}],"open"]"#, 14), 76);
+}
+
+#[test]
+fn an_argument_of_another_type_is_refused_with_its_place() {
+    let rows = [
+        ("[[]]", "", ""),
+        ("{}", "", ""),
+        (r#"[[{"name":"tea"}],"open"]"#, "[0][0]", "record"),
+        (r#"[[{"name":"tea","count":1},{"name":"tea","count":256}],"open"]"#, "[0][1].count", "u8"),
+        (r#"[[],{"paid":"12"}]"#, "[1].paid", "u64"),
+        (r#"[[],"late"]"#, "[1]", "variant"),
+    ];
+    for (arguments, wanted, ty) in rows {
+        let error = called("total", arguments, 1024, &mut no_core).unwrap_err();
+        let Error::NotThisType { path, fault } = &error else { panic!("{error:?}") };
+        assert_eq!(path, wanted, "{arguments}");
+        assert!(fault.contains(ty), "{fault}");
+        let place = if wanted.is_empty() { String::new() } else { format!(" at {wanted}") };
+        assert_eq!(error.to_string(), format!("error 62 not this type{place}: {fault}"));
+    }
 }
 
 #[test]

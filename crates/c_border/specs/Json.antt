@@ -1,5 +1,5 @@
 -- Arguments and a result as texts of JSON, in memories and arrays of a host's own.
-use Rattle.std.specs.Prelude.{◌≡◌, ◌⊎◌, ◌<◌, ◌∷◌, [], ℕ, List, Result, Err, Option, Some, None, MatchResult}
+use Rattle.std.specs.Prelude.{◌≡◌, ◌⊎◌, ◌<◌, ◌∷◌, [], ℕ, List, Result, Ok, Err, Option, Some, None, MatchResult}
 use Rattle.std.specs.Str.{IsUtf8}
 use Rattle.c_border.specs.Functions.{OfFunction}
 use Rattle.canonical_abi.specs.Layout.{max_flat_params}
@@ -17,7 +17,8 @@ use Rattle.host_values.specs.Requests.{AreNotTold}
 use Rattle.memory.specs.declared.block.Block.{Block}
 use Rattle.opening.specs.declared.package.Package.{Package}
 use Rattle.package_values.specs.Calls.{IsNoText, TextFilled}
-use Rattle.package_values.specs.Json.{IsArrayTextOf, IsCompactTextOf, IsTextOfOnly}
+use Rattle.package_values.specs.Json.{IsArrayTextOf, IsArrayTextOfNone, IsCompactTextOf, IsTextOfOnly}
+use Rattle.serde_json.specs.Read.{read}
 use Rattle.tables.specs.Closed.{function_at, function_type}
 use Rattle.tables.specs.declared.tables.FunctionId.{FunctionId}
 use Rattle.tables.specs.declared.tables.Resolve.{Resolve}
@@ -60,6 +61,14 @@ ReadsText r func answer memory limit old done new =
     × IsResultText r (function_signature (function_at r func)).result vs text × BytesDone text old done new)
     ⊎ ((e : CallError) × ResultIsNotRead (function_type r func) answer memory limit e × (done ≡ Err e) × (new ≡ old))
 
+-- What is told of a text that ought to be arguments: nothing if it is; a line of one that says others, in front of the array, or how long it is; or
+-- the text is no JSON (61), or there is no memory. The words of the line are tested.
+abbrev pub TellsFault : Resolve → FunctionId → List ℕ → List ℕ → Result ℕ CallError → List ℕ → Type 0
+TellsFault r func text old done new =
+    ((vs : List Semantic.Value) × IsArrayTextOf r (parameters_of r func) text vs × (done ≡ Ok 0) × (new ≡ old))
+    ⊎ (((line : List ℕ) × IsArrayTextOfNone r (parameters_of r func) text × BytesDone line old done new)
+    ⊎ ((e : CallError) × (done ≡ Err e) × (new ≡ old) × ((e ≡ error.NoMemory) ⊎ ((e ≡ error.BadJson) × (read text ≡ None)))))
+
 -- the requests of the arguments that a text says, for the function of this number
 abbrev pub JsonAsks : Option Package → ℕ → List ℕ → ℕ → List Request → Result ℕ CallError → List Request → Type 0
 JsonAsks opened number text limit old done new =
@@ -76,3 +85,7 @@ JsonFills opened number text old blocks handed done new handed' =
 abbrev pub JsonReads : Option Package → ℕ → List Value → List ℕ → ℕ → List ℕ → Result ℕ CallError → List ℕ → Type 0
 JsonReads opened number answer memory limit old done new =
     OfFunction opened number (λ r func d. ReadsText r func answer memory limit old d new) (new ≡ old) done
+
+-- where a text is none of the arguments of the function of this number
+abbrev pub JsonFaults : Option Package → ℕ → List ℕ → List ℕ → Result ℕ CallError → List ℕ → Type 0
+JsonFaults opened number text old done new = OfFunction opened number (λ r func. OfText text (λ d. TellsFault r func text old d new) (new ≡ old)) (new ≡ old) done

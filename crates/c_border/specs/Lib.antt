@@ -3,3 +3,4 @@ pub mod Functions
 pub mod Inputs
 pub mod Json
 pub mod Line
+pub mod Written

@@ -5,7 +5,8 @@ ghost use Rattle.c_border.specs.Line.{LineDone};
 use host_calls::CallError;
 use std::fmt::{self, Display, Write};
 
-/// A line that is told at the front of an array, and how many bytes it has: those for which there is no room are counted alone.
+/// A line that is told at the front of an array, and how many bytes it has: those for which there is no room are
+/// counted alone.
 #[derive(Drop)]
 struct Line<'a> {
     out: &'a mut [u8],

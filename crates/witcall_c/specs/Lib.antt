@@ -1,4 +1,3 @@
 pub mod Calls
 pub mod Handle
 pub mod Version
-pub mod Written

@@ -51,7 +51,8 @@ impl NumberedHalf<'_> {
         handed: &mut [Value],
     ) -> Result<usize, CallError>
         ensures done { CallsFunction (held_package (option_map (λ held. held.value) held.now)) self.now.number
-            (λ f done. EnterDone f self.now.flats.now caller.old callee.old self.now.blocks.now handed.old done callee.new handed.new)
+            (λ f done. EnterDone f self.now.flats.now caller.old callee.old self.now.blocks.now handed.old done
+            callee.new handed.new)
             ((callee.new ≡ callee.old) × (handed.new ≡ handed.old)) result }
         ensures same_caller { caller.new ≡ caller.old }
     {
@@ -75,7 +76,8 @@ impl NumberedHalf<'_> {
         back: &mut [Value],
     ) -> Result<usize, CallError>
         ensures done { CallsFunction (held_package (option_map (λ held. held.value) held.now)) self.now.number
-            (λ f done. LeaveDone f self.now.flats.now callee.old answer.now caller.old self.now.blocks.now back.old done caller.new back.new)
+            (λ f done. LeaveDone f self.now.flats.now callee.old answer.now caller.old self.now.blocks.now back.old done
+            caller.new back.new)
             ((caller.new ≡ caller.old) × (back.new ≡ back.old)) result }
         ensures same_callee { callee.new ≡ callee.old }
     {
@@ -100,7 +102,8 @@ pub fn enter_requests(
     limit: u64,
 ) -> Result<usize, CallError>
     ensures done { CallsFunction (held_package (option_map (λ held. held.value) held.now)) number
-        (λ f done. EnterAsks f flats.now caller.old limit requests.old done requests.new) (requests.new ≡ requests.old) result }
+        (λ f done. EnterAsks f flats.now caller.old limit requests.old done requests.new) (requests.new ≡ requests.old)
+        result }
     ensures same_caller { caller.new ≡ caller.old }
 {
     let (types, func) = function(held, number)?;
@@ -117,7 +120,8 @@ pub fn leave_requests(
     limit: u64,
 ) -> Result<usize, CallError>
     ensures done { CallsFunction (held_package (option_map (λ held. held.value) held.now)) number
-        (λ f done. LeaveAsks f answer.now callee.old limit requests.old done requests.new) (requests.new ≡ requests.old) result }
+        (λ f done. LeaveAsks f answer.now callee.old limit requests.old done requests.new) (requests.new ≡ requests.old)
+        result }
     ensures same_callee { callee.new ≡ callee.old }
 {
     let (types, func) = function(held, number)?;
@@ -126,7 +130,8 @@ pub fn leave_requests(
 
 /// How the parameters lie in memory.
 pub fn parameter_parts(held: &Target, number: u32, out: &mut [Part]) -> Result<usize, CallError>
-    ensures { CallsFunction (held_package (option_map (λ held. held.value) held.now)) number (λ f done. PartsDone f.params out.old done out.new) (out.new ≡ out.old) result }
+    ensures { CallsFunction (held_package (option_map (λ held. held.value) held.now)) number
+        (λ f done. PartsDone f.params out.old done out.new) (out.new ≡ out.old) result }
 {
     let (types, func) = function(held, number)?;
     host_calls::parameter_parts(&types, func, out)
@@ -134,7 +139,8 @@ pub fn parameter_parts(held: &Target, number: u32, out: &mut [Part]) -> Result<u
 
 /// How the result lies in memory.
 pub fn result_part(held: &Target, number: u32, out: &mut [Part]) -> Result<usize, CallError>
-    ensures { CallsFunction (held_package (option_map (λ held. held.value) held.now)) number (λ f done. PartsDone (result_fields f.result) out.old done out.new) (out.new ≡ out.old) result }
+    ensures { CallsFunction (held_package (option_map (λ held. held.value) held.now)) number
+        (λ f done. PartsDone (result_fields f.result) out.old done out.new) (out.new ≡ out.old) result }
 {
     let (types, func) = function(held, number)?;
     host_calls::result_part(&types, func, out)

@@ -14,17 +14,18 @@ ghost use Rattle.host_calls.specs.Rows.{row_info_at};
 ghost use Rattle.host_calls.specs.Told.{BytesDone, TellsName, TellsNewName, TellsOfTable};
 ghost use Rattle.opening.specs.Sets.{all_bytes};
 ghost use Rattle.c_border.specs.CallObject.{BeginsCall, flats_of};
-ghost use Rattle.c_border.specs.Json.{JsonAsks, JsonFills, JsonReads};
+ghost use Rattle.c_border.specs.Json.{JsonAsks, JsonFaults, JsonFills, JsonReads};
 ghost use Rattle.c_border.specs.Line.{LineDone};
+ghost use Rattle.c_border.specs.Written.{Describes, WritesBinary, WritesText};
 ghost use Rattle.tables.specs.declared.tables.Direction.TheVariants.{Import, Export};
-ghost use Rattle.witcall_c.specs.Calls.{FindsFunction, FindsOfWorld, LineOf, Opens, OpensPieces, CallsOf, TellsOf, held_package, stands_for, held_table};
+ghost use Rattle.witcall_c.specs.Calls.{FindsFunction, FindsOfWorld, LineOf, Opens, OpensPieces, CallsOf, TellsOf};
+ghost use Rattle.witcall_c.specs.Calls.{held_package, stands_for, held_table};
 ghost use Rattle.witcall_c.specs.Version.{abi, library_version};
-ghost use Rattle.witcall_c.specs.Written.{WritesBinary, WritesText};
 
+use crate::calls;
 use crate::calls::{NumberedHalf, SignaturePart};
 use crate::handle::Handle;
 use crate::held::{Held, find, find_of_world, line_of, package, types};
-use crate::{calls, writing};
 use adapter::Request;
 use c_border::{Call, JsonCall, pieces, tell_line};
 use host_calls::host_lists::{MemberInfo, RowInfo, tell_bytes};
@@ -36,7 +37,8 @@ use tables::Direction;
 /// The version of the library, which VERSION has for all of the repository.
 const VERSION: &[u8] = b"0.2.0";
 
-/// The number of the binary interface that the header declares. Another number means that a host has to be compiled anew.
+/// The number of the binary interface that the header declares. Another number means that a host has to be compiled
+/// anew.
 const ABI: u32 = 2;
 
 /// The number of the binary interface.
@@ -50,7 +52,8 @@ pub extern "C" fn witcall_abi() -> u32
 /// The version's bytes, with no end.
 #[unsafe(no_mangle)]
 pub extern "C" fn witcall_version(bytes: &mut [u8]) -> Status
-    ensures { (done : Result ℕ CallError) × (result ≡ status_of done) × BytesDone library_version bytes.old done bytes.new }
+    ensures { (done : Result ℕ CallError) × (result ≡ status_of done)
+        × BytesDone library_version bytes.old done bytes.new }
 {
     Status::of(tell_bytes(VERSION, bytes))
 }
@@ -74,7 +77,8 @@ fn open(alloc: Global, inputs: &[&[u8]], handle: &mut Handle) -> Status
     }
 }
 
-/// Opens a package. The handle is written in any case; after 66 no memory it holds nothing. It does not free what the handle held before: close that first.
+/// Opens a package. The handle is written in any case; after 66 no memory it holds nothing. It does not free what the
+/// handle held before: close that first.
 #[unsafe(no_mangle)]
 pub extern "C" fn witcall_open(alloc: Global, bytes: &[u8], handle: &mut Handle) -> Status
     ensures { Opens (bytes.now ∷ []) (stands_for handle.new) result }
@@ -109,10 +113,12 @@ pub extern "C" fn witcall_close(alloc: Global, handle: &mut Handle)
     drop(handle.take(alloc));
 }
 
-/// The line of the refusal of what a handle stands for, as the program writes it, with no line end; 0 bytes where it is open.
+/// The line of the refusal of what a handle stands for, as the program writes it, with no line end; 0 bytes where it is
+/// open.
 #[unsafe(no_mangle)]
 pub extern "C" fn witcall_line(alloc: Global, handle: &mut Handle, line: &mut [u8]) -> Status
-    ensures { TellsOf (stands_for handle.old) (stands_for handle.new) result (λ held done. LineOf held line.old line.new done) }
+    ensures { TellsOf (stands_for handle.old) (stands_for handle.new) result
+        (λ held done. LineOf held line.old line.new done) }
 {
     let held = handle.take(alloc);
     let done = line_of(&held, line);
@@ -136,7 +142,8 @@ pub extern "C" fn witcall_find(
     interface: &[u8],
     function: &[u8],
 ) -> Status
-    ensures { TellsOf (stands_for handle.old) (stands_for handle.new) result (λ held done. FindsFunction (held_package held) interface.now function.now done) }
+    ensures { TellsOf (stands_for handle.old) (stands_for handle.new) result
+        (λ held done. FindsFunction (held_package held) interface.now function.now done) }
 {
     let held = handle.take(alloc);
     let done = find(&held, interface, function);
@@ -152,7 +159,8 @@ pub extern "C" fn witcall_find_import(
     world: &[u8],
     function: &[u8],
 ) -> Status
-    ensures { TellsOf (stands_for handle.old) (stands_for handle.new) result (λ held done. FindsOfWorld (held_package held) world.now Import function.now done) }
+    ensures { TellsOf (stands_for handle.old) (stands_for handle.new) result
+        (λ held done. FindsOfWorld (held_package held) world.now Import function.now done) }
 {
     let held = handle.take(alloc);
     let done = find_of_world(&held, world, Direction::Import, function);
@@ -168,7 +176,8 @@ pub extern "C" fn witcall_find_export(
     world: &[u8],
     function: &[u8],
 ) -> Status
-    ensures { TellsOf (stands_for handle.old) (stands_for handle.new) result (λ held done. FindsOfWorld (held_package held) world.now Export function.now done) }
+    ensures { TellsOf (stands_for handle.old) (stands_for handle.new) result
+        (λ held done. FindsOfWorld (held_package held) world.now Export function.now done) }
 {
     let held = handle.take(alloc);
     let done = find_of_world(&held, world, Direction::Export, function);
@@ -189,7 +198,8 @@ pub extern "C" fn witcall_enter(
     handed: &mut [Value],
 ) -> Status
     ensures done { CallsOf (stands_for handle.old) (stands_for handle.new) func result
-        (λ f d. EnterDone f flats.now caller.old callee.old blocks.now handed.old d callee.new handed.new) ((callee.new ≡ callee.old) × (handed.new ≡ handed.old)) }
+        (λ f d. EnterDone f flats.now caller.old callee.old blocks.now handed.old d callee.new handed.new)
+        ((callee.new ≡ callee.old) × (handed.new ≡ handed.old)) }
     ensures same { caller.new ≡ caller.old }
 {
     let held = handle.take(alloc);
@@ -218,7 +228,8 @@ pub extern "C" fn witcall_leave(
     back: &mut [Value],
 ) -> Status
     ensures done { CallsOf (stands_for handle.old) (stands_for handle.new) func result
-        (λ f d. LeaveDone f flats.now callee.old answer.now caller.old blocks.now back.old d caller.new back.new) ((caller.new ≡ caller.old) × (back.new ≡ back.old)) }
+        (λ f d. LeaveDone f flats.now callee.old answer.now caller.old blocks.now back.old d caller.new back.new)
+        ((caller.new ≡ caller.old) × (back.new ≡ back.old)) }
     ensures same { callee.new ≡ callee.old }
 {
     let held = handle.take(alloc);
@@ -293,7 +304,8 @@ pub extern "C" fn witcall_call_leave(
     back: &mut [Value],
 ) -> Status
     ensures done { CallsOf (stands_for handle.old) (stands_for handle.new) call.now.func result
-        (λ f d. LeaveDone f (flats_of call.now) callee.old answer.now caller.old blocks.now back.old d caller.new back.new)
+        (λ f d. LeaveDone f (flats_of call.now) callee.old answer.now caller.old blocks.now back.old d caller.new
+        back.new)
         ((caller.new ≡ caller.old) × (back.new ≡ back.old)) }
     ensures same { callee.new ≡ callee.old }
 {
@@ -322,7 +334,8 @@ pub extern "C" fn witcall_call_enter_requests(
     limit: u64,
 ) -> Status
     ensures done { CallsOf (stands_for handle.old) (stands_for handle.new) call.now.func result
-        (λ f d. EnterAsks f (flats_of call.now) caller.old limit requests.old d requests.new) (requests.new ≡ requests.old) }
+        (λ f d. EnterAsks f (flats_of call.now) caller.old limit requests.old d requests.new)
+        (requests.new ≡ requests.old) }
     ensures same { caller.new ≡ caller.old }
 {
     witcall_enter_requests(
@@ -432,7 +445,8 @@ pub extern "C" fn witcall_fill_json(
     handed: &mut [Value],
 ) -> Status
     ensures { TellsOf (stands_for handle.old) (stands_for handle.new) result
-        (λ held done. JsonFills (held_package held) func json.now memory.old blocks.now handed.old done memory.new handed.new) }
+        (λ held done. JsonFills (held_package held) func json.now memory.old blocks.now handed.old done memory.new
+        handed.new) }
 {
     let held = handle.take(alloc);
     let call = JsonCall {
@@ -467,6 +481,29 @@ pub extern "C" fn witcall_read_json(
         number: func,
     };
     let done = call.read(answer, memory, json, limit);
+    handle.give(held);
+    Status::of(done)
+}
+
+/// What is wrong in a text of JSON that is none of the arguments, as a line; 0 bytes if it is.
+#[unsafe(no_mangle)]
+pub extern "C" fn witcall_json_fault(
+    alloc: Global,
+    handle: &mut Handle,
+    func: u32,
+    json: &[u8],
+    line: &mut [u8],
+) -> Status
+    ensures { TellsOf (stands_for handle.old) (stands_for handle.new) result
+        (λ held done. JsonFaults (held_package held) func json.now line.old done line.new) }
+{
+    let held = handle.take(alloc);
+    let call = JsonCall {
+        alloc,
+        package: package(&held),
+        number: func,
+    };
+    let done = call.fault(json, line);
     handle.give(held);
     Status::of(done)
 }
@@ -664,10 +701,11 @@ pub extern "C" fn witcall_owner_name(
 /// The package as a binary.
 #[unsafe(no_mangle)]
 pub extern "C" fn witcall_to_binary(alloc: Global, handle: &mut Handle, bytes: &mut [u8]) -> Status
-    ensures { TellsOf (stands_for handle.old) (stands_for handle.new) result (λ held done. WritesBinary (held_package held) bytes.old done bytes.new) }
+    ensures { TellsOf (stands_for handle.old) (stands_for handle.new) result
+        (λ held done. WritesBinary (held_package held) bytes.old done bytes.new) }
 {
     let held = handle.take(alloc);
-    let done = writing::to_binary(&held, alloc, bytes);
+    let done = c_border::to_binary(package(&held), alloc, bytes);
     handle.give(held);
     Status::of(done)
 }
@@ -675,10 +713,23 @@ pub extern "C" fn witcall_to_binary(alloc: Global, handle: &mut Handle, bytes: &
 /// The package as a text.
 #[unsafe(no_mangle)]
 pub extern "C" fn witcall_to_text(alloc: Global, handle: &mut Handle, text: &mut [u8]) -> Status
-    ensures { TellsOf (stands_for handle.old) (stands_for handle.new) result (λ held done. WritesText (held_package held) text.old done text.new) }
+    ensures { TellsOf (stands_for handle.old) (stands_for handle.new) result
+        (λ held done. WritesText (held_package held) text.old done text.new) }
 {
     let held = handle.take(alloc);
-    let done = writing::to_text(&held, alloc, text);
+    let done = c_border::to_text(package(&held), alloc, text);
+    handle.give(held);
+    Status::of(done)
+}
+
+/// The package as one JSON document, with those before it.
+#[unsafe(no_mangle)]
+pub extern "C" fn witcall_describe(alloc: Global, handle: &mut Handle, json: &mut [u8]) -> Status
+    ensures { TellsOf (stands_for handle.old) (stands_for handle.new) result
+        (λ held done. Describes (held_package held) json.old done json.new) }
+{
+    let held = handle.take(alloc);
+    let done = c_border::describe(package(&held), alloc, json);
     handle.give(held);
     Status::of(done)
 }

@@ -3,7 +3,8 @@ ghost use Rattle.std.specs.Prelude.{◌≡◌, ◌<◌, IfOk, IfErr, length};
 ghost use Rattle.std.specs.Option.{option_map};
 ghost use Rattle.opening.specs.Sets.{all_bytes};
 ghost use Rattle.c_border.specs.Functions.{HasNoFunction};
-ghost use Rattle.witcall_c.specs.Calls.{IsOpening, opening_status, FindsFunction, FindsOfWorld, HasFunction, LineOf, held_indexed, held_package, held_table};
+ghost use Rattle.witcall_c.specs.Calls.{IsOpening, opening_status, FindsFunction, FindsOfWorld, HasFunction, LineOf};
+ghost use Rattle.witcall_c.specs.Calls.{held_indexed, held_package, held_table};
 
 use c_border::tell_line;
 use error_numbers::Numbered;
@@ -61,7 +62,8 @@ pub fn line_of(held: &Target, line: &mut [u8]) -> Result<usize, CallError>
     }
 }
 
-/// The number of a function by the full name of its interface and its own: 70 where nothing is open, 63 where no function is called so.
+/// The number of a function by the full name of its interface and its own: 70 where nothing is open, 63 where no
+/// function is called so.
 pub fn find(held: &Target, interface: &[u8], name: &[u8]) -> Result<usize, CallError>
     ensures { FindsFunction (held_package (option_map (λ held. held.value) held.now)) interface.now name.now result }
 {
@@ -77,8 +79,8 @@ pub fn find(held: &Target, interface: &[u8], name: &[u8]) -> Result<usize, CallE
     }
 }
 
-/// The number of a function that a world imports or exports, by the full name of the world and its own: 70 where nothing is open, 63 where no
-/// function of that side is called so.
+/// The number of a function that a world imports or exports, by the full name of the world and its own: 70 where
+/// nothing is open, 63 where no function of that side is called so.
 pub fn find_of_world(
     held: &Target,
     world: &[u8],
@@ -132,9 +134,11 @@ pub fn types(held: &Target) -> Option<Types<'_>>
     }
 }
 
-/// The function of this number, with the types of its package: 70 where nothing is open, 63 where no function has this number.
+/// The function of this number, with the types of its package: 70 where nothing is open, 63 where no function has this
+/// number.
 pub fn function(held: &Target, number: u32) -> Result<(Types<'_>, FunctionId), CallError>
-    ensures ok { IfOk result (λ x. HasFunction (held_package (option_map (λ held. held.value) held.now)) number x.0 x.1) }
+    ensures ok { IfOk result (λ x. HasFunction (held_package (option_map (λ held. held.value) held.now)) number x.0
+        x.1) }
     ensures err { IfErr result (HasNoFunction (held_package (option_map (λ held. held.value) held.now)) number) }
 {
     match c_border::function(package(held), number) {

@@ -1,4 +1,4 @@
--- Binary.md and WIT.md: the package of a handle, written as a binary and as a text.
+-- Binary.md and WIT.md: a package, written as a binary, as a text and as a document.
 use Rattle.std.specs.Prelude.{◌≡◌, ◌⊎◌, ℕ, List, Result, Err, Option, Some, None}
 use Rattle.host_calls.specs.declared.error.CallError.{CallError}
 use Rattle.host_calls.specs.declared.error.CallError.TheVariants as error
@@ -37,3 +37,8 @@ AnswersLongText p e = (e ≡ error.LongText) × HasLongText p.resolve
 abbrev pub WritesText : Option Package → List ℕ → Result ℕ CallError → List ℕ → Type 0
 WritesText None old done new = (done ≡ Err error.NotOpen) × (new ≡ old)
 WritesText (Some p) old done new = Writes (IsText p) (AnswersLongText p) old done new
+
+-- a text of the package in front of an array, or how long it is; out of memory, or 70 if no package is open. What the text says is tested.
+abbrev pub Describes : Option Package → List ℕ → Result ℕ CallError → List ℕ → Type 0
+Describes None old done new = (done ≡ Err error.NotOpen) × (new ≡ old)
+Describes (Some p) old done new = ((text : List ℕ) × BytesDone text old done new) ⊎ ((done ≡ Err error.NoMemory) × (new ≡ old))
