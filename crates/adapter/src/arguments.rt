@@ -10,9 +10,9 @@ use crossing::Walk;
 use lift_lower::Flats;
 use tables::{TypeId, ValType};
 
-/// Puts the arguments, as the walk's source holds them, into the callee: the flat values that carry them there into `handed`, where
-/// there were none, and in `nodes` how many nodes were visited, those up to the fault where there was one. The kinds of all flat
-/// values come first. Takes no memory of the host.
+/// Puts the arguments, as the walk's source holds them, into the callee: the flat values that carry them there into
+/// `handed`, which was empty, and in `nodes` how many nodes were visited, those up to the fault if there was
+/// one. The kinds of all flat values come first. Takes no memory of the host.
 pub(crate) fn pass_arguments<E: Guest>(
     walk: &Walk,
     call: &Invocation,
@@ -24,9 +24,11 @@ pub(crate) fn pass_arguments<E: Guest>(
     requires short { length walk.now.source.now < 2 ^ 32 }
     requires empty { handed.old.items ≡ [] }
     requires fresh { nodes.old ≡ 0 }
-    ensures entered { OnOk result (HasEntered E.allocates (function_type walk.now.types.now call.now.func) call.now.flats.now walk.now.source.now
+    ensures entered { OnOk result (HasEntered E.allocates (function_type walk.now.types.now call.now.func)
+        call.now.flats.now walk.now.source.now
         (E.memory callee.old) handed.new.items (E.memory callee.new) nodes.new) }
-    ensures fault { IfErr result (λ fault. EntryFails E.allocates (function_type walk.now.types.now call.now.func) call.now.flats.now walk.now.source.now
+    ensures fault { IfErr result (λ fault. EntryFails E.allocates (function_type walk.now.types.now call.now.func)
+        call.now.flats.now walk.now.source.now
         (E.memory callee.old) fault (E.memory callee.new) nodes.new) }
 {
     let layouts = walk.types.layouts();

@@ -1,4 +1,4 @@
-//! What stands behind a call: a component's core functions.
+//! What a call runs: a component's core functions.
 ghost use Rattle.std.specs.Prelude.{◌≡◌, ℕ, List, option_map};
 ghost use Rattle.std.specs.Result.{result_ok};
 ghost use Rattle.canonical_abi.specs.Call.{Run, PostRun, AllowsSameRuns, AllowsSamePosts};
@@ -12,7 +12,7 @@ use values::FlatResults;
 pub struct Stopped;
 
 /// A component's core function and its post-return, over a memory of the kind `G`. It may do anything that
-/// the runs which it tells allow.
+/// the runs which it declares allow.
 pub trait Body<G: Guest> {
     // What it keeps, as a list of numbers.
     ghost state: { Self → List ℕ };
@@ -48,7 +48,8 @@ pub trait Export: Drop {
 
     fn call(&mut self, memory: &mut Space, arguments: &[Flat]) -> Result<FlatResults, Stopped>
         ensures run { runs self.old (state self.old) (⟦<Space as Guest>⟧.memory memory.old) arguments.now
-            (state self.new) (⟦<Space as Guest>⟧.memory memory.new) (option_map (λ flats. flats.items) (result_ok result)) }
+            (state self.new) (⟦<Space as Guest>⟧.memory memory.new)
+            (option_map (λ flats. flats.items) (result_ok result)) }
         ensures same_runs { AllowsSameRuns (runs self.old) (runs self.new) }
         ensures same_posts { AllowsSamePosts (posts self.old) (posts self.new) };
 

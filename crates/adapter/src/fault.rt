@@ -11,7 +11,7 @@ pub(crate) fn trap(kind: TrapKind, step: Step) -> Fault
     Fault::Trap(Trap { kind, step })
 }
 
-/// The trap of a way that stopped: in the step `lift` where its source was at fault, in `lower` where a request failed.
+/// The trap of a way that stopped: in the step `lift` if its source was at fault, in `lower` if a request failed.
 pub(crate) fn fault_of(stopped: Stopped, lift: Step, lower: Step) -> Fault
     ensures { result ≡ fault_in lift lower stopped }
 {

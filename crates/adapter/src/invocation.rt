@@ -3,7 +3,7 @@
 use canonical_abi::Flat;
 use tables::FunctionId;
 
-/// A function, with the flat values that a caller calls it with: the return area's address stands behind the arguments.
+/// A function, with the flat values that a caller calls it with: the return area's address comes after the arguments.
 #[derive(Clone, Copy)]
 pub struct Invocation<'a> {
     pub func: FunctionId,

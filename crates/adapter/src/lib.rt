@@ -1,8 +1,8 @@
 //! Carries a call from one component to another.
 //!
-//! `Link::call` carries the promise: for any caller, callee and body, honest or not, it is the call relation
-//! of `canonical_abi`. A `Body` is what stands behind a component's functions, and a `BoxedBody` one that is
-//! chosen when the program runs. Stands on `crossing` (both ways of a call), `values` (lists of core values, types)
+//! The contract of `Link::call` proves: for any caller, callee and body, honest or not, it is the call relation
+//! of `canonical_abi`. A `Body` is what a component's functions run, and a `BoxedBody` one that is
+//! chosen when the program runs. Depends on `crossing` (both ways of a call), `values` (lists of core values, types)
 //! and `memory` (guests).
 #![tactic(auto)]
 

@@ -4,7 +4,8 @@ ghost use Rattle.adapter.specs.Asking.{IsToldAhead};
 ghost use Rattle.canonical_abi.specs.Call.{Calls, Ways, exact, AllowsSameRuns, AllowsSamePosts, KindsFit};
 ghost use Rattle.canonical_abi.specs.Few.{AreFewNodes};
 ghost use Rattle.canonical_abi.specs.Flat.{Denotes, DenotesFault};
-ghost use Rattle.canonical_abi.specs.Halves.{as_world, HasEntered, EntryFails, HasReturned, ReturnFails, RunsBetween, CallsInHalves};
+ghost use Rattle.canonical_abi.specs.Halves.{as_world, HasEntered, EntryFails, HasReturned, ReturnFails, RunsBetween};
+ghost use Rattle.canonical_abi.specs.Halves.{CallsInHalves};
 ghost use Rattle.canonical_abi.specs.Headline.{IsLinkPromised, AreArguments, IsArgumentFault};
 ghost use Rattle.canonical_abi.specs.Layout.{max_flat_params, max_flat_results, size};
 ghost use Rattle.canonical_abi.specs.Requests.{params_requests, fields_requests};
@@ -70,11 +71,11 @@ impl<'a> Link<'a> {
         }
     }
 
-    /// How many nodes of values the last call visited: on the way of its arguments, and on that of its result. Each node of
-    /// the values counts once, a record that is spilled aside; where a way was broken off, those up to the one that was at
-    /// fault or whose block was refused count, and none where it was not begun, or ended by the tests of kinds and addresses
-    /// that come before its nodes. Each is at most 64 times the bytes that were granted on its way, the return area among
-    /// them, and sixteen more. A count stays at 2^64 - 1 once it is there.
+    /// How many nodes of values the last call visited: on the way of its arguments, and on that of its result. Each
+    /// node of the values counts once, a record that is spilled aside; if a way was broken off, those up to the one
+    /// that was at fault or whose block was refused count, and none if it was not begun, or ended by the tests of
+    /// kinds and addresses that come before its nodes. Each is at most 64 times the bytes that were granted on its way,
+    /// the return area among them, and sixteen more. A count stays at 2^64 - 1 once it is there.
     pub fn nodes(&self) -> (u64, u64)
         ensures there { result.0 ≡ self.now.there }
         ensures back { result.1 ≡ self.now.back }
@@ -82,12 +83,12 @@ impl<'a> Link<'a> {
         (self.there, self.back)
     }
 
-    /// The first half of a call, for a host that runs the core function itself: the arguments are lifted from the caller, which is
-    /// only read, and lowered into the callee. Puts the flat values for the core function into `handed`, whatever that held. A fault
-    /// is in `lift-args` or `lower-args`; then `handed` says nothing, and nothing may be run.
-    /// With one run of the core function, `leave` and one run of post-return this is a call (`laws::halves_are_a_call` of
-    /// `canonical_abi`), and keeps its promise. `nodes` then tells the nodes of this half, and none of the other.
-    /// Takes no memory of the host.
+    /// The first half of a call, for a host that runs the core function itself: the arguments are lifted from the
+    /// caller, which is only read, and lowered into the callee. Puts the flat values for the core function into
+    /// `handed`, whatever that held. A fault is in `lift-args` or `lower-args`; then `handed` says nothing, and nothing
+    /// may be run. With one run of the core function, `leave` and one run of post-return this is a call
+    /// (`laws::halves_are_a_call` of `canonical_abi`), and keeps its promise. `nodes` then counts the nodes of this
+    /// half, and none of the other. Takes no memory of the host.
     pub fn enter<C: Guest, E: Guest>(
         &mut self,
         call: &Invocation,
@@ -96,9 +97,11 @@ impl<'a> Link<'a> {
         handed: &mut Flats,
     ) -> Result<(), Fault>
         requires function { IsFunction self.old.resolve call.now.func }
-        ensures entered { OnOk result (HasEntered E.allocates (function_type self.old.resolve call.now.func) call.now.flats.now (C.memory caller.now).bytes
+        ensures entered { OnOk result (HasEntered E.allocates (function_type self.old.resolve call.now.func)
+            call.now.flats.now (C.memory caller.now).bytes
             (E.memory callee.old) handed.new.items (E.memory callee.new) self.new.there) }
-        ensures fault { IfErr result (λ fault. EntryFails E.allocates (function_type self.old.resolve call.now.func) call.now.flats.now (C.memory caller.now).bytes
+        ensures fault { IfErr result (λ fault. EntryFails E.allocates (function_type self.old.resolve call.now.func)
+            call.now.flats.now (C.memory caller.now).bytes
             (E.memory callee.old) fault (E.memory callee.new) self.new.there) }
         ensures no_memory { result ≢ Err Fault.NoMemory }
         ensures back { self.new.back ≡ 0 }
@@ -117,12 +120,12 @@ impl<'a> Link<'a> {
         pass_arguments(&walk, call, callee, handed, &mut self.there)
     }
 
-    /// What `enter` will ask the callee for, in its order, without it: the first requests are put over the slots, as many as
-    /// there are, and the answer is how many there are in all, as far as 64 bits count. So a host may ask with no slot first, and
-    /// have the blocks at hand when `enter` asks for them. Where the flat values denote no arguments over the caller, it answers
-    /// the trap in `lift-args` that `enter` comes to where the callee refuses nothing before, and the slots say nothing.
-    /// Takes no memory of the host. `nodes` then tells as the first how many values were visited, whatever the answer is:
-    /// elements that ask for nothing whatever their bytes are, aren't.
+    /// What `enter` will ask the callee for, in its order, without it: the first requests are written to the slots, as
+    /// many as there are, and the answer is how many there are in all, as far as 64 bits count. So a host may ask with
+    /// no slot first, and have the blocks at hand when `enter` asks for them. If the flat values denote no arguments
+    /// over the caller, it returns the trap in `lift-args` that `enter` comes to if the callee refuses nothing
+    /// before, and the slots say nothing. Takes no memory of the host. `nodes` then counts as the first how many values
+    /// were visited, whatever the answer is: elements that ask for nothing whatever their bytes are, aren't.
     pub fn enter_requests<C: Guest>(
         &mut self,
         func: FunctionId,
@@ -134,9 +137,11 @@ impl<'a> Link<'a> {
         requires function { IsFunction self.old.resolve func }
         ensures kinds { IfOk result (λ _. KindsFit (function_type self.old.resolve func) flats.now) }
         ensures told { let f = function_type self.old.resolve func in
-            IfOk result (IsToldAhead (AreArguments f flats.now (C.memory caller.now)) (params_requests max_flat_params f.params) limit slots.old slots.new) }
+            IfOk result (IsToldAhead (AreArguments f flats.now (C.memory caller.now))
+            (params_requests max_flat_params f.params) limit slots.old slots.new) }
         ensures fault { let f = function_type self.old.resolve func in
-            IfErr result (IsUnasked LiftArgs (AreArguments f flats.now (C.memory caller.now)) (IsArgumentFault f flats.now (C.memory caller.now)) (params_requests max_flat_params f.params) limit) }
+            IfErr result (IsUnasked LiftArgs (AreArguments f flats.now (C.memory caller.now))
+            (IsArgumentFault f flats.now (C.memory caller.now)) (params_requests max_flat_params f.params) limit) }
         ensures few { self.new.there ≤ 64 * (limit + 16) }
         ensures each { IfOk result (λ count. count ≤ self.new.there + 1) }
         ensures back { self.new.back ≡ self.old.back }
@@ -147,9 +152,9 @@ impl<'a> Link<'a> {
         ask_arguments(table, func, flats, caller, slots, limit, &mut self.there)
     }
 
-    /// What `leave` will ask the caller for, in the same way: for what the answer denotes over the callee, the return area
-    /// aside, for which nothing is asked. Where it denotes nothing, the answer is the trap in `lift-result`. `nodes` then tells
-    /// as the second how many values were visited.
+    /// What `leave` will ask the caller for, in the same way: for what the answer denotes over the callee, the return
+    /// area aside, for which nothing is asked. If it denotes nothing, the answer is the trap in `lift-result`.
+    /// `nodes` then counts as the second how many values were visited.
     pub fn leave_requests<E: Guest>(
         &mut self,
         func: FunctionId,
@@ -160,10 +165,13 @@ impl<'a> Link<'a> {
     ) -> Result<usize, Unasked>
         requires function { IsFunction self.old.resolve func }
         ensures told { let fs = result_fields (function_type self.old.resolve func).result in
-            IfOk result (IsToldAhead (Denotes max_flat_results fs (E.memory callee.now).bytes answer.now) (fields_requests fs) limit slots.old slots.new) }
+            IfOk result (IsToldAhead (Denotes max_flat_results fs (E.memory callee.now).bytes answer.now)
+            (fields_requests fs) limit slots.old slots.new) }
         ensures fault { let fs = result_fields (function_type self.old.resolve func).result in
-            IfErr result (IsUnasked LiftResult (Denotes max_flat_results fs (E.memory callee.now).bytes answer.now) (DenotesFault max_flat_results fs (E.memory callee.now).bytes answer.now) (fields_requests fs) limit) }
-        ensures few { let f = function_type self.old.resolve func in self.new.back ≤ 64 * (limit + size (record_type (result_fields f.result)) + 16) }
+            IfErr result (IsUnasked LiftResult (Denotes max_flat_results fs (E.memory callee.now).bytes answer.now)
+            (DenotesFault max_flat_results fs (E.memory callee.now).bytes answer.now) (fields_requests fs) limit) }
+        ensures few { let f = function_type self.old.resolve func in self.new.back
+            ≤ 64 * (limit + size (record_type (result_fields f.result)) + 16) }
         ensures each { IfOk result (λ count. count ≤ self.new.back) }
         ensures there { self.new.there ≡ self.old.there }
         ensures same_package { self.new.resolve ≡ self.old.resolve }
@@ -173,11 +181,11 @@ impl<'a> Link<'a> {
         ask_answer(table, func, answer, callee, slots, limit, &mut self.back)
     }
 
-    /// The second half: what the core function answered is lifted from the callee, which is only read, and lowered into the
-    /// caller. Puts the flat values for the caller into `back`, whatever that held. `call` is what `enter` was given. The
-    /// kinds of its flat values are tested first: K8 in `lower-result` if they are not those of the function, with nothing asked for and no byte
-    /// written. A fault is in `lift-result` or `lower-result`; then `back` says nothing, and post-return isn't run. `nodes` then
-    /// tells the nodes of this half beside those that it told.
+    /// The second half: what the core function answered is lifted from the callee, which is only read, and lowered into
+    /// the caller. Puts the flat values for the caller into `back`, whatever that held. `call` is what `enter` was
+    /// given. The kinds of its flat values are tested first: K8 in `lower-result` if they are not those of the
+    /// function, with nothing asked for and no byte written. A fault is in `lift-result` or `lower-result`; then `back`
+    /// says nothing, and post-return isn't run. `nodes` then counts the nodes of this half beside those of the first.
     /// Takes no memory of the host.
     pub fn leave<C: Guest, E: Guest>(
         &mut self,
@@ -188,10 +196,12 @@ impl<'a> Link<'a> {
         back: &mut Flats,
     ) -> Result<(), Fault>
         requires function { IsFunction self.old.resolve call.now.func }
-        ensures returned { OnOk result (HasReturned C.allocates (function_type self.old.resolve call.now.func) call.now.flats.now (E.memory callee.now).bytes answer.now
+        ensures returned { OnOk result (HasReturned C.allocates (function_type self.old.resolve call.now.func)
+            call.now.flats.now (E.memory callee.now).bytes answer.now
             (C.memory caller.old) back.new.items (C.memory caller.new) self.new.back) }
         ensures kinds { OnOk result (KindsFit (function_type self.old.resolve call.now.func) call.now.flats.now) }
-        ensures fault { IfErr result (λ fault. LeaveFails C.allocates (function_type self.old.resolve call.now.func) call.now.flats.now (E.memory callee.now).bytes answer.now
+        ensures fault { IfErr result (λ fault. LeaveFails C.allocates (function_type self.old.resolve call.now.func)
+            call.now.flats.now (E.memory callee.now).bytes answer.now
             (C.memory caller.old) fault (C.memory caller.new) self.new.back) }
         ensures no_memory { result ≢ Err Fault.NoMemory }
         ensures no_shorter { OnOk result (length (C.memory caller.old).bytes ≤ length (C.memory caller.new).bytes) }
@@ -210,12 +220,12 @@ impl<'a> Link<'a> {
         pass_answer(&walk, call, answer, caller, back, &mut self.back)
     }
 
-    /// Calls a function of the package: the flat values are lifted from the caller and lowered into the
-    /// callee, the body makes one run on them, and its answer goes the same way back. Then its post-return
-    /// runs, unless there was a trap. Over honest guests within the limit and a live return area the callee
-    /// finds exactly what the caller holds and is run once, and the caller then holds exactly its answer.
-    /// A fault is the first that is met, node by node: a source's fault or a refused request. No tree of values is made, and
-    /// no memory of the host is taken. After a fault the link can be used again.
+    /// Calls a function of the package: the flat values are lifted from the caller and lowered into the callee, the
+    /// body makes one run on them, and its answer goes the same way back. Then its post-return runs, unless there was a
+    /// trap. With honest guests within the limit and a live return area the callee finds exactly what the caller holds
+    /// and is run once, and the caller then holds exactly its answer. A fault is the first, node by node: a
+    /// source's fault or a refused request. No tree of values is made, and no memory of the host is taken. After a
+    /// fault the link can be used again.
     pub fn call<C: Guest, E: Guest, B: Body<E>>(
         &mut self,
         func: FunctionId,
@@ -226,7 +236,12 @@ impl<'a> Link<'a> {
     ) -> Result<FlatResults, Fault>
         requires function { IsFunction self.old.resolve func }
         ensures call { (ways : Ways) × Calls
-            (record { caller_allocates = C.allocates; callee_allocates = E.allocates; runs = B.runs body.old; posts = B.posts body.old })
+            (record {
+              caller_allocates = C.allocates;
+              callee_allocates = E.allocates;
+              runs = B.runs body.old;
+              posts = B.posts body.old;
+            })
             exact
             (function_type self.old.resolve func)
             flats.now
@@ -237,7 +252,12 @@ impl<'a> Link<'a> {
             × TellsNodes ways self.new
             × AreFewNodes (function_type self.old.resolve func) ways }
         ensures promise { IsLinkPromised
-            (record { caller_allocates = C.allocates; callee_allocates = E.allocates; runs = B.runs body.old; posts = B.posts body.old })
+            (record {
+              caller_allocates = C.allocates;
+              callee_allocates = E.allocates;
+              runs = B.runs body.old;
+              posts = B.posts body.old;
+            })
             C.releases
             E.releases
             exact
@@ -249,7 +269,8 @@ impl<'a> Link<'a> {
         ensures same_runs { AllowsSameRuns (B.runs body.old) (B.runs body.new) }
         ensures same_posts { AllowsSamePosts (B.posts body.old) (B.posts body.new) }
         ensures no_memory { result ≢ Err Fault.NoMemory }
-        ensures no_shorter { IfOk result (λ _. length (C.memory caller.old).bytes ≤ length (C.memory caller.new).bytes) }
+        ensures no_shorter { IfOk result (λ _. length (C.memory caller.old).bytes
+            ≤ length (C.memory caller.new).bytes) }
         ensures same_package { self.new.resolve ≡ self.old.resolve }
         ensures same_layouts { self.new.layouts ≡ self.old.layouts }
     {
@@ -265,8 +286,8 @@ impl<'a> Link<'a> {
         Ok(given)
     }
 
-    /// The first half of a call and the body's run: what the body answered. Core values that cross as they are go to the body as
-    /// they are.
+    /// The first half of a call and the body's run: what the body answered. Core values that cross as they are go to
+    /// the body as they are.
     #[inline(always)]
     fn run<C: Guest, E: Guest, B: Body<E>>(
         &mut self,
@@ -277,7 +298,12 @@ impl<'a> Link<'a> {
     ) -> Result<FlatResults, Fault>
         requires function { IsFunction self.old.resolve call.now.func }
         ensures ran { IfOk result (λ answer. RunsBetween
-            (record { caller_allocates = C.allocates; callee_allocates = E.allocates; runs = B.runs body.old; posts = B.posts body.old })
+            (record {
+              caller_allocates = C.allocates;
+              callee_allocates = E.allocates;
+              runs = B.runs body.old;
+              posts = B.posts body.old;
+            })
             (function_type self.old.resolve call.now.func)
             call.now.flats.now
             (as_world (C.memory caller.now) (E.memory callee.old) (B.state body.old))
@@ -286,7 +312,12 @@ impl<'a> Link<'a> {
             (E.memory callee.new)
             (B.state body.new)) }
         ensures fault { IfErr result (λ fault. CallsInHalves
-            (record { caller_allocates = C.allocates; callee_allocates = E.allocates; runs = B.runs body.old; posts = B.posts body.old })
+            (record {
+              caller_allocates = C.allocates;
+              callee_allocates = E.allocates;
+              runs = B.runs body.old;
+              posts = B.posts body.old;
+            })
             (function_type self.old.resolve call.now.func)
             call.now.flats.now
             (as_world (C.memory caller.now) (E.memory callee.old) (B.state body.old))
@@ -324,7 +355,12 @@ impl<'a> Link<'a> {
         requires function { IsFunction self.old.resolve call.now.func }
         requires plain { PassAsTheyAre (function_type self.old.resolve call.now.func) call.now.flats.now }
         ensures ran { IfOk result (λ answer. RunsBetween
-            (record { caller_allocates = C.allocates; callee_allocates = E.allocates; runs = B.runs body.old; posts = B.posts body.old })
+            (record {
+              caller_allocates = C.allocates;
+              callee_allocates = E.allocates;
+              runs = B.runs body.old;
+              posts = B.posts body.old;
+            })
             (function_type self.old.resolve call.now.func)
             call.now.flats.now
             (as_world (C.memory _caller.now) (E.memory callee.old) (B.state body.old))
@@ -333,7 +369,12 @@ impl<'a> Link<'a> {
             (E.memory callee.new)
             (B.state body.new)) }
         ensures fault { IfErr result (λ fault. CallsInHalves
-            (record { caller_allocates = C.allocates; callee_allocates = E.allocates; runs = B.runs body.old; posts = B.posts body.old })
+            (record {
+              caller_allocates = C.allocates;
+              callee_allocates = E.allocates;
+              runs = B.runs body.old;
+              posts = B.posts body.old;
+            })
             (function_type self.old.resolve call.now.func)
             call.now.flats.now
             (as_world (C.memory _caller.now) (E.memory callee.old) (B.state body.old))
@@ -369,7 +410,12 @@ impl<'a> Link<'a> {
     ) -> Result<FlatResults, Fault>
         requires function { IsFunction self.old.resolve call.now.func }
         ensures ran { IfOk result (λ answer. RunsBetween
-            (record { caller_allocates = C.allocates; callee_allocates = E.allocates; runs = B.runs body.old; posts = B.posts body.old })
+            (record {
+              caller_allocates = C.allocates;
+              callee_allocates = E.allocates;
+              runs = B.runs body.old;
+              posts = B.posts body.old;
+            })
             (function_type self.old.resolve call.now.func)
             call.now.flats.now
             (as_world (C.memory caller.now) (E.memory callee.old) (B.state body.old))
@@ -378,7 +424,12 @@ impl<'a> Link<'a> {
             (E.memory callee.new)
             (B.state body.new)) }
         ensures fault { IfErr result (λ fault. CallsInHalves
-            (record { caller_allocates = C.allocates; callee_allocates = E.allocates; runs = B.runs body.old; posts = B.posts body.old })
+            (record {
+              caller_allocates = C.allocates;
+              callee_allocates = E.allocates;
+              runs = B.runs body.old;
+              posts = B.posts body.old;
+            })
             (function_type self.old.resolve call.now.func)
             call.now.flats.now
             (as_world (C.memory caller.now) (E.memory callee.old) (B.state body.old))
@@ -413,12 +464,15 @@ impl<'a> Link<'a> {
     ) -> Result<FlatResults, Fault>
         requires function { IsFunction self.old.resolve call.now.func }
         requires kinds { KindsFit (function_type self.old.resolve call.now.func) call.now.flats.now }
-        ensures returned { IfOk result (λ given. HasReturned C.allocates (function_type self.old.resolve call.now.func) call.now.flats.now (E.memory callee.now).bytes answer.now
+        ensures returned { IfOk result (λ given. HasReturned C.allocates (function_type self.old.resolve call.now.func)
+            call.now.flats.now (E.memory callee.now).bytes answer.now
             (C.memory caller.old) given.items (C.memory caller.new) self.new.back) }
-        ensures fault { IfErr result (λ fault. ReturnFails C.allocates (function_type self.old.resolve call.now.func) call.now.flats.now (E.memory callee.now).bytes answer.now
+        ensures fault { IfErr result (λ fault. ReturnFails C.allocates (function_type self.old.resolve call.now.func)
+            call.now.flats.now (E.memory callee.now).bytes answer.now
             (C.memory caller.old) fault (C.memory caller.new) self.new.back) }
         ensures no_memory { result ≢ Err Fault.NoMemory }
-        ensures no_shorter { IfOk result (λ _. length (C.memory caller.old).bytes ≤ length (C.memory caller.new).bytes) }
+        ensures no_shorter { IfOk result (λ _. length (C.memory caller.old).bytes
+            ≤ length (C.memory caller.new).bytes) }
         ensures there { self.new.there ≡ self.old.there }
         ensures same_package { self.new.resolve ≡ self.old.resolve }
         ensures same_layouts { self.new.layouts ≡ self.old.layouts }
@@ -442,12 +496,15 @@ impl<'a> Link<'a> {
     ) -> Result<FlatResults, Fault>
         requires function { IsFunction self.old.resolve call.now.func }
         requires kinds { KindsFit (function_type self.old.resolve call.now.func) call.now.flats.now }
-        ensures returned { IfOk result (λ given. HasReturned C.allocates (function_type self.old.resolve call.now.func) call.now.flats.now (E.memory callee.now).bytes answer.now
+        ensures returned { IfOk result (λ given. HasReturned C.allocates (function_type self.old.resolve call.now.func)
+            call.now.flats.now (E.memory callee.now).bytes answer.now
             (C.memory caller.old) given.items (C.memory caller.new) self.new.back) }
-        ensures fault { IfErr result (λ fault. ReturnFails C.allocates (function_type self.old.resolve call.now.func) call.now.flats.now (E.memory callee.now).bytes answer.now
+        ensures fault { IfErr result (λ fault. ReturnFails C.allocates (function_type self.old.resolve call.now.func)
+            call.now.flats.now (E.memory callee.now).bytes answer.now
             (C.memory caller.old) fault (C.memory caller.new) self.new.back) }
         ensures no_memory { result ≢ Err Fault.NoMemory }
-        ensures no_shorter { IfOk result (λ _. length (C.memory caller.old).bytes ≤ length (C.memory caller.new).bytes) }
+        ensures no_shorter { IfOk result (λ _. length (C.memory caller.old).bytes
+            ≤ length (C.memory caller.new).bytes) }
         ensures there { self.new.there ≡ self.old.there }
         ensures same_package { self.new.resolve ≡ self.old.resolve }
         ensures same_layouts { self.new.layouts ≡ self.old.layouts }

@@ -1,5 +1,5 @@
-//! Core values that cross as they are: those of functions of numbers, bools and characters, where each is the very one that carries
-//! its value.
+//! Core values that cross as they are: those of functions of numbers, bools and characters, where each is the very one
+//! that carries its value.
 ghost use Rattle.std.specs.Prelude.{◌≡◌, ◌≤◌, true, length, map, IsTrue, IfSome};
 ghost use Rattle.canonical_abi.specs.Types.{prim_type, result_fields};
 ghost use Rattle.canonical_abi.specs.Layout.{fits_flat, max_flat_results};
@@ -13,7 +13,7 @@ use layout::Shape;
 use lift_lower::{Types, lift_scalar, lower_scalar};
 use tables::{FunctionId, Parameter, Primitive, ValType};
 
-/// Whether a core value is the very one that carries the value that it stands for.
+/// Whether a core value is the very one that carries the value that it denotes.
 #[inline(always)]
 fn is_own(primitive: Primitive, flat: Flat) -> bool
     ensures { IsTrue result → IsOwn (prim_of primitive) flat }
@@ -24,7 +24,7 @@ fn is_own(primitive: Primitive, flat: Flat) -> bool
     }
 }
 
-/// The primitive that a name stands for.
+/// The primitive that a name means.
 fn named_primitive(types: &Types, ty: ValType) -> Option<Primitive>
     requires { IsInside types.now ty }
     ensures { IfSome result (λ p. closed_type types.now ty ≡ prim_type (prim_of p)) }

@@ -18,7 +18,7 @@ use canonical_abi::{Fault, Flat, Guest, Step, TrapKind};
 use lift_lower::{Types, are_kinds};
 use tables::{FunctionId, TypeId, ValType};
 
-/// Why the requests of a half aren't told: a trap, or they ask for more bytes than the limit.
+/// Why the requests of a half aren't listed: a trap, or they ask for more bytes than the limit.
 #[derive(Clone, Copy, Debug, PartialEq, Eq)]
 pub enum Unasked {
     Fault(Fault),
@@ -35,7 +35,7 @@ fn unasked_of(untold: Untold, step: Step) -> Unasked
     }
 }
 
-/// Tells what the arguments will ask the callee for. The kinds of all flat values come first.
+/// Lists what the arguments will ask the callee for. The kinds of all flat values come first.
 pub(crate) fn ask_arguments<C: Guest>(
     table: &Types,
     func: FunctionId,
@@ -48,9 +48,11 @@ pub(crate) fn ask_arguments<C: Guest>(
     requires function { IsFunction table.now func }
     ensures kinds { IfOk result (λ _. KindsFit (function_type table.now func) flats.now) }
     ensures told { let f = function_type table.now func in
-        IfOk result (IsToldAhead (AreArguments f flats.now (C.memory caller.now)) (params_requests max_flat_params f.params) limit slots.old slots.new) }
+        IfOk result (IsToldAhead (AreArguments f flats.now (C.memory caller.now))
+        (params_requests max_flat_params f.params) limit slots.old slots.new) }
     ensures fault { let f = function_type table.now func in
-        IfErr result (IsUnasked LiftArgs (AreArguments f flats.now (C.memory caller.now)) (IsArgumentFault f flats.now (C.memory caller.now)) (params_requests max_flat_params f.params) limit) }
+        IfErr result (IsUnasked LiftArgs (AreArguments f flats.now (C.memory caller.now))
+        (IsArgumentFault f flats.now (C.memory caller.now)) (params_requests max_flat_params f.params) limit) }
     ensures few { ∥ AreWithin table.now ∥₁ → nodes.new ≤ 64 * (limit + 16) }
     ensures each { IfOk result (λ count. count ≤ nodes.new + 1) }
 {
@@ -74,7 +76,7 @@ pub(crate) fn ask_arguments<C: Guest>(
     }
 }
 
-/// Tells what the answer will ask the caller for. The kinds of its flat values come first.
+/// Lists what the answer will ask the caller for. The kinds of its flat values come first.
 pub(crate) fn ask_answer<E: Guest>(
     table: &Types,
     func: FunctionId,
@@ -87,10 +89,13 @@ pub(crate) fn ask_answer<E: Guest>(
     requires within { ∥ AreWithin table.now ∥₁ }
     requires function { IsFunction table.now func }
     ensures told { let fs = result_fields (function_type table.now func).result in
-        IfOk result (IsToldAhead (Denotes max_flat_results fs (E.memory callee.now).bytes answer.now) (fields_requests fs) limit slots.old slots.new) }
+        IfOk result (IsToldAhead (Denotes max_flat_results fs (E.memory callee.now).bytes answer.now)
+        (fields_requests fs) limit slots.old slots.new) }
     ensures fault { let fs = result_fields (function_type table.now func).result in
-        IfErr result (IsUnasked LiftResult (Denotes max_flat_results fs (E.memory callee.now).bytes answer.now) (DenotesFault max_flat_results fs (E.memory callee.now).bytes answer.now) (fields_requests fs) limit) }
-    ensures few { let f = function_type table.now func in nodes.new ≤ 64 * (limit + size (record_type (result_fields f.result)) + 16) }
+        IfErr result (IsUnasked LiftResult (Denotes max_flat_results fs (E.memory callee.now).bytes answer.now)
+        (DenotesFault max_flat_results fs (E.memory callee.now).bytes answer.now) (fields_requests fs) limit) }
+    ensures few { let f = function_type table.now func in nodes.new
+        ≤ 64 * (limit + size (record_type (result_fields f.result)) + 16) }
     ensures each { IfOk result (λ count. count ≤ nodes.new) }
 {
     *nodes = 0;

@@ -13,9 +13,9 @@ use canonical_abi::{Fault, Flat, Guest, Step, TrapKind};
 use crossing::{Returned, Walk};
 use lift_lower::{Flats, are_kinds, low_word};
 
-/// Puts the body's answer, as the walk's source holds it, into the caller: the flat values that carry it there into `back`, where there
-/// were none, and in `nodes` how many nodes were visited, those up to the fault where there was one. The kinds of the caller's flat
-/// values come first, and then those of the answer. Takes no memory of the host.
+/// Puts the body's answer, as the walk's source holds it, into the caller: the flat values that carry it there into
+/// `back`, which was empty, and in `nodes` how many nodes were visited, those up to the fault if there was
+/// one. The kinds of the caller's flat values come first, and then those of the answer. Takes no memory of the host.
 pub(crate) fn pass_answer<C: Guest>(
     walk: &Walk,
     call: &Invocation,
@@ -29,10 +29,12 @@ pub(crate) fn pass_answer<C: Guest>(
     requires short { length walk.now.source.now < 2 ^ 32 }
     requires empty { back.old.items ≡ [] }
     requires fresh { nodes.old ≡ 0 }
-    ensures returned { OnOk result (HasReturned C.allocates (function_type walk.now.types.now call.now.func) call.now.flats.now walk.now.source.now answer.now
+    ensures returned { OnOk result (HasReturned C.allocates (function_type walk.now.types.now call.now.func)
+        call.now.flats.now walk.now.source.now answer.now
         (C.memory caller.old) back.new.items (C.memory caller.new) nodes.new) }
     ensures kinds { OnOk result (KindsFit (function_type walk.now.types.now call.now.func) call.now.flats.now) }
-    ensures fault { IfErr result (λ fault. LeaveFails C.allocates (function_type walk.now.types.now call.now.func) call.now.flats.now walk.now.source.now answer.now
+    ensures fault { IfErr result (λ fault. LeaveFails C.allocates (function_type walk.now.types.now call.now.func)
+        call.now.flats.now walk.now.source.now answer.now
         (C.memory caller.old) fault (C.memory caller.new) nodes.new) }
     ensures no_shorter { OnOk result (length (C.memory caller.old).bytes ≤ length (C.memory caller.new).bytes) }
 {
@@ -59,7 +61,7 @@ pub(crate) fn pass_answer<C: Guest>(
     }
 }
 
-/// The address of the return area: the flat value behind those of the arguments, 0 where there is none.
+/// The address of the return area: the flat value after those of the arguments, 0 if there is none.
 #[tactic(auto, unfolding(canonical_abi::specs::Reading::low_bits))]
 fn area_in(flats: &[Flat], count: usize) -> u32
     ensures { result ≡ low_bits (map number_of flats.now) count 32 }

@@ -22,7 +22,8 @@ pub fn parameter_types(
 ) -> Result<Vec<ValType>, AllocError>
     requires function { IsFunction table.now func }
     requires within { ∥ AreWithin table.now ∥₁ }
-    ensures types { IfOk result (λ types. (function_type table.now func).params ≡ fields_of_types table.now types.items) }
+    ensures types { IfOk result (λ types. (function_type table.now func).params
+        ≡ fields_of_types table.now types.items) }
     ensures named { IfOk result (λ types. (f : Function) → function_at table.now func ≡ Some f
         → types.items ≡ map (λ p. p.ty) f.params) }
     ensures known { IfOk result (λ types. AreTypesOf table.now types.items) }
@@ -48,7 +49,8 @@ pub fn result_type(resolve: &Resolve, func: FunctionId) -> Option<ValType>
     ensures known { IfSome result (IsTypeOf resolve.now) }
     ensures inside { IfSome result (IsInside resolve.now) }
     ensures all_known { AreTypesOf resolve.now (option_to_list result) }
-    ensures fields { fields_of_types resolve.now (option_to_list result) ≡ result_fields (function_type resolve.now func).result }
+    ensures fields { fields_of_types resolve.now (option_to_list result)
+        ≡ result_fields (function_type resolve.now func).result }
 {
     resolve.signature(func).result
 }

@@ -1,8 +1,10 @@
 //! Full names of interfaces and worlds.
-ghost use Rattle.std.specs.Prelude.{◌≡◌, ◌⊎◌, ℕ, IsTrue, ◌<◌, ◌∷◌, ◌++◌, List, Option, IfOk, IfErr, IfSome, IfNone, MatchResult, string_bytes, option_map, not};
+ghost use Rattle.std.specs.Prelude.{◌≡◌, ◌⊎◌, ℕ, IsTrue, ◌<◌, ◌∷◌, ◌++◌, List, Option, IfOk, IfErr, IfSome, IfNone};
+ghost use Rattle.std.specs.Prelude.{MatchResult, string_bytes, option_map, not};
 ghost use Rattle.atoms.specs.Label.{is_label, is_upper};
 ghost use Rattle.std.specs.List.{list_all};
-ghost use Rattle.atoms.specs.FullName.{NameParts, is_package_label, is_version, is_version_or_none, full_name_text, Lacks, IsName, IsFullName};
+ghost use Rattle.atoms.specs.FullName.{NameParts, is_package_label, is_version, is_version_or_none, full_name_text};
+ghost use Rattle.atoms.specs.FullName.{Lacks, IsName, IsFullName};
 ghost use Rattle.atoms.specs.declared.error.AtomError.TheVariants as error;
 
 use crate::error::AtomError;

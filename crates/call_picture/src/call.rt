@@ -38,7 +38,8 @@ pub struct Call<'a> {
     ghost params_known: { AreTypesOf resolve.now params.items },
     pub ghost takes: { ∥ (function_type resolve.now func).params ≡ fields_of_types resolve.now params.items ∥₁ },
     pub ghost results_known: { AreTypesOf resolve.now results.items },
-    pub ghost returns: { ∥ fields_of_types resolve.now results.items ≡ result_fields (function_type resolve.now func).result ∥₁ },
+    pub ghost returns: { ∥ fields_of_types resolve.now results.items
+        ≡ result_fields (function_type resolve.now func).result ∥₁ },
     pub ghost results_small: { size (record_type (fields_of_types resolve.now results.items)) ≤ 16777216 },
 }
 
@@ -51,7 +52,8 @@ fn result_types(
     requires function { IsFunction resolve.now func }
     requires within { ∥ AreWithin resolve.now ∥₁ }
     ensures known { IfOk result (λ ts. AreTypesOf resolve.now ts.items) }
-    ensures fields { IfOk result (λ ts. fields_of_types resolve.now ts.items ≡ result_fields (function_type resolve.now func).result) }
+    ensures fields { IfOk result (λ ts. fields_of_types resolve.now ts.items
+        ≡ result_fields (function_type resolve.now func).result) }
     ensures small { IfOk result (λ ts. size (record_type (fields_of_types resolve.now ts.items)) ≤ 16777216) }
 {
     let mut types = Vec::new(alloc);
@@ -97,7 +99,8 @@ impl<'a> Call<'a> {
 
     /// The arguments that a text of JSON says: an array of one for each parameter.
     pub fn arguments(&self, text: &str) -> Result<Vec<Val>, JsonError>
-        ensures { IfOk result (λ vs. HaveTypes (map value_of vs.items) (function_type self.now.resolve.now self.now.func).params) }
+        ensures { IfOk result (λ vs. HaveTypes (map value_of vs.items)
+            (function_type self.now.resolve.now self.now.func).params) }
     {
         let json = read_json(self.alloc, text)?;
         labels_are_apart(self.resolve);
@@ -112,7 +115,8 @@ impl<'a> Call<'a> {
 
     /// What the callee is to return, as a text of JSON says: an array of the result, or of nothing.
     pub fn answer(&self, text: &str) -> Result<Vec<Val>, JsonError>
-        ensures { IfOk result (λ vs. HaveTypes (map value_of vs.items) (fields_of_types self.now.resolve.now self.now.results.items)) }
+        ensures { IfOk result (λ vs. HaveTypes (map value_of vs.items)
+            (fields_of_types self.now.resolve.now self.now.results.items)) }
     {
         let json = read_json(self.alloc, text)?;
         labels_are_apart(self.resolve);

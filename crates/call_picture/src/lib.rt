@@ -1,8 +1,9 @@
 //! One call, and what it did to the memories of both sides, for a person who writes a host.
 //!
-//! `Call::picture` makes the call over two fresh memories and writes what came of it: the core values on each side, the blocks
-//! that were requested, the bytes in them field by field, and the answer or the trap. The call is that of `adapter`, by halves, and
-//! the offsets are those of `layout_picture`. It stands on these, on `memory` and on `value_json`.
+//! `Call::picture` makes the call over two fresh memories and writes what came of it: the core values on each side, the
+//! blocks that were requested, the bytes in them field by field, and the answer or the trap. The call is that of
+//! `adapter`, by halves, and the offsets are those of `layout_picture`. It stands on these, on `memory` and on
+//! `value_json`.
 #![tactic(auto)]
 
 mod blocks;

@@ -103,7 +103,8 @@ impl Call<'_> {
         }
     }
 
-    /// The result on its way. It is in a block of its own if more than one core value would carry it. None if there is no result.
+    /// The result on its way. It is in a block of its own if more than one core value would carry it. None if there is
+    /// no result.
     fn answer_way<'a>(&self, answer: &'a [Val], is_whole: bool) -> Option<Way<'a>> {
         let ty = *self.results.first()?;
         let value = answer.first()?;
@@ -175,15 +176,18 @@ impl Call<'_> {
         Ok(())
     }
 
-    /// Makes the call over two fresh memories, and says what it did. The interface is that of the function, by its full name.
+    /// Makes the call over two fresh memories, and says what it did. The interface is that of the function, by its full
+    /// name.
     pub fn picture(
         &self,
         interface: &str,
         arguments: &[Val],
         answer: &[Val],
     ) -> Result<Picture, AllocError>
-        requires arguments { HaveTypes (map value_of arguments.now) (function_type self.now.resolve.now self.now.func).params }
-        requires answer { HaveTypes (map value_of answer.now) (fields_of_types self.now.resolve.now self.now.results.items) }
+        requires arguments { HaveTypes (map value_of arguments.now)
+            (function_type self.now.resolve.now self.now.func).params }
+        requires answer { HaveTypes (map value_of answer.now)
+            (fields_of_types self.now.resolve.now self.now.results.items) }
     {
         let mut course = Course::new(self.alloc)?;
         let outcome = self.make(&mut course, arguments, answer);

@@ -112,8 +112,10 @@ impl Call<'_> {
         arguments: &[Val],
         answer: &[Val],
     ) -> Result<Option<Val>, Fault>
-        requires arguments { HaveTypes (map value_of arguments.now) (function_type self.now.resolve.now self.now.func).params }
-        requires answer { HaveTypes (map value_of answer.now) (fields_of_types self.now.resolve.now self.now.results.items) }
+        requires arguments { HaveTypes (map value_of arguments.now)
+            (function_type self.now.resolve.now self.now.func).params }
+        requires answer { HaveTypes (map value_of answer.now)
+            (fields_of_types self.now.resolve.now self.now.results.items) }
     {
         let passed = self.place(course, arguments)?;
         self.enter(course, passed.as_slice())?;

@@ -97,8 +97,8 @@ pub fn own_words(
     format!(in alloc; "{path}: {}{}", ty.as_str(), own.as_str())
 }
 
-/// How many bytes a value has of its own, from its first one on: those of a record are its fields', and those after the number
-/// of a case the payload's.
+/// How many bytes a value has of its own, from its first one on: those of a record are its fields', and those after the
+/// number of a case the payload's.
 pub fn own_size(layout: &TypeLayout<'_>, value: &Val) -> u32 {
     match (value, layout.shape()) {
         (Val::Record(_), _) => 0,

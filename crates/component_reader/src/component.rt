@@ -7,7 +7,11 @@ ghost use Rattle.ctype_bin.specs.FileView.{raw_component_view};
 ghost use Rattle.ctype_format.specs.View.{decl_view, decls_of, type_view};
 ghost use Rattle.ctype_format.specs.Raw.{Component, Instance};
 ghost use Rattle.component_reader.specs.Types.{ReadsAs, Becomes};
-ghost use Rattle.component_reader.specs.Component.{Makes, no_component, alias_read, type_read, instance_named, component_exported, import_read, export_read, declaration_read, declarations_read, package_in_name, has_name, with_package, last_package, candidate_read, candidate_of_decls, candidate_of_type, candidate_of};
+ghost use Rattle.component_reader.specs.Component.{Makes, no_component, alias_read, type_read, instance_named};
+ghost use Rattle.component_reader.specs.Component.{component_exported, import_read, export_read, declaration_read};
+ghost use Rattle.component_reader.specs.Component.{declarations_read, package_in_name, has_name, with_package};
+ghost use Rattle.component_reader.specs.Component.{last_package, candidate_read, candidate_of_decls, candidate_of_type};
+ghost use Rattle.component_reader.specs.Component.{candidate_of};
 ghost use Rattle.component_reader.specs.Names.{parts_view, package_parts};
 ghost use Rattle.component_reader.specs.Readers.{component_view};
 
@@ -107,7 +111,8 @@ impl ComponentReader {
 
     /// Awaits the export of an instance type with these declarations.
     fn read_instance(&mut self, alloc: Global, decls: &[RawDecl]) -> Result<(), Unread>
-        ensures { Becomes (type_read (Instance (decls_of (map decl_view decls.now))) (component_view self.old)) (component_view self.new) result }
+        ensures { Becomes (type_read (Instance (decls_of (map decl_view decls.now))) (component_view self.old))
+            (component_view self.new) result }
     {
         let place = next_interface(&self.interfaces)?;
         let reader = InstanceReader::read(
@@ -127,7 +132,8 @@ impl ComponentReader {
 
     /// Awaits the export of a component type with these declarations.
     fn read_component(&mut self, alloc: Global, decls: &[RawDecl]) -> Result<(), Unread>
-        ensures { Becomes (type_read (Component (decls_of (map decl_view decls.now))) (component_view self.old)) (component_view self.new) result }
+        ensures { Becomes (type_read (Component (decls_of (map decl_view decls.now))) (component_view self.old))
+            (component_view self.new) result }
     {
         let place = next_world(&self.worlds)?;
         let reader = WorldReader::read(
@@ -159,7 +165,8 @@ impl ComponentReader {
     /// Names the instance type that is awaited, as an interface of this full name.
     fn name_instance(&mut self, alloc: Global, name: FullNameParts<'_>) -> Result<(), Unread>
         requires { IsFullName (full_name_text (parts_view name)) (parts_view name) }
-        ensures { Becomes (instance_named (full_name_text (parts_view name.entry)) (component_view self.old)) (component_view self.new) result }
+        ensures { Becomes (instance_named (full_name_text (parts_view name.entry)) (component_view self.old))
+            (component_view self.new) result }
     {
         let Some(reader) = self.awaited.take() else {
             return Err(Unread::NotThisShape);
@@ -175,7 +182,8 @@ impl ComponentReader {
     /// Exports the component type that is awaited, as a world of this full name.
     fn export_component(&mut self, alloc: Global, name: FullNameParts<'_>) -> Result<(), Unread>
         requires { IsFullName (full_name_text (parts_view name)) (parts_view name) }
-        ensures { Becomes (component_exported (full_name_text (parts_view name.entry)) (component_view self.old)) (component_view self.new) result }
+        ensures { Becomes (component_exported (full_name_text (parts_view name.entry)) (component_view self.old))
+            (component_view self.new) result }
     {
         let Some(reader) = self.awaited_world.take() else {
             return Err(Unread::NotThisShape);
@@ -193,7 +201,8 @@ impl ComponentReader {
         name: &ExternName,
         description: &RawDescription,
     ) -> Result<(), Unread>
-        ensures { Becomes (import_read (name_view name.now) description.now (component_view self.old)) (component_view self.new) result }
+        ensures { Becomes (import_read (name_view name.now) description.now (component_view self.old))
+            (component_view self.new) result }
     {
         match (name_parts(name), description) {
             (NameParts::FullName(name), RawDescription::Instance(_)) => {
@@ -209,7 +218,8 @@ impl ComponentReader {
         name: &ExternName,
         description: &RawDescription,
     ) -> Result<(), Unread>
-        ensures { Becomes (export_read (name_view name.now) description.now (component_view self.old)) (component_view self.new) result }
+        ensures { Becomes (export_read (name_view name.now) description.now (component_view self.old))
+            (component_view self.new) result }
     {
         match (name_parts(name), description) {
             (NameParts::FullName(name), RawDescription::Instance(_)) => {
@@ -224,7 +234,8 @@ impl ComponentReader {
 
     #[tactic(auto, unfolding(ctype_format::specs::View::decl_view))]
     fn read(&mut self, alloc: Global, decl: &RawDecl) -> Result<(), Unread>
-        ensures { Becomes (declaration_read (decl_view decl.now) (component_view self.old)) (component_view self.new) result }
+        ensures { Becomes (declaration_read (decl_view decl.now) (component_view self.old)) (component_view self.new)
+            result }
     {
         match decl {
             RawDecl::Alias(alias) => self.alias(alias),
@@ -273,7 +284,8 @@ fn is_same_package(package: &PackageName, name: FullNameParts<'_>) -> bool
 
 /// Whether the last of these packages has the name in a full name.
 fn has_name(packages: &[PackageName], name: FullNameParts<'_>) -> bool
-    ensures { result ≡ has_name (slice_get packages.now (length packages.now - 1)) (package_parts (parts_view name.entry)) }
+    ensures { result ≡ has_name (slice_get packages.now (length packages.now - 1))
+        (package_parts (parts_view name.entry)) }
 {
     match packages.last() {
         Some(package) => is_same_package(package, name),
@@ -311,7 +323,8 @@ fn package_of(
     name: FullNameParts<'_>,
 ) -> Result<PackageId, AllocError>
     requires { IsFullName (full_name_text (parts_view name)) (parts_view name) }
-    ensures packages { OnOk result (packages.new.items ≡ with_package packages.old.items (package_in_name (full_name_text (parts_view name.entry)))) }
+    ensures packages { OnOk result (packages.new.items
+        ≡ with_package packages.old.items (package_in_name (full_name_text (parts_view name.entry)))) }
     ensures last { IfOk result (λ id. id ≡ last_package packages.new.items) }
 {
     if !has_name(packages, name) {

@@ -4,7 +4,10 @@ ghost use Rattle.atoms.specs.Label.{IsLabel};
 ghost use Rattle.ctype_format.specs.View.{decl_view, decls_of, type_view};
 ghost use Rattle.tables.specs.declared.tables.Definition.{Definition};
 ghost use Rattle.component_reader.specs.Types.{ReadsAs, Becomes, both_found, all_found, parameter_read, optional_type};
-ghost use Rattle.component_reader.specs.Instance.{AFunction, nothing_read, settled, with_unnamed, with_index, with_row, with_named, uses_with, types_with, renamed, type_exported, function_exported, exported_read, use_read, defined_read, decl_read, instance_read};
+ghost use Rattle.component_reader.specs.Instance.{AFunction, nothing_read, settled, with_unnamed, with_index, with_row};
+ghost use Rattle.component_reader.specs.Instance.{with_named, uses_with, types_with, renamed, type_exported};
+ghost use Rattle.component_reader.specs.Instance.{function_exported, exported_read, use_read, defined_read, decl_read};
+ghost use Rattle.component_reader.specs.Instance.{instance_read};
 ghost use Rattle.component_reader.specs.Readers.{awaited_view, read_with};
 
 use crate::names::{NameParts, name_parts};
@@ -56,7 +59,9 @@ fn signature(
     indices: &[Option<TypeId>],
     function: &RawFunction,
 ) -> Result<Awaited, Unread>
-    ensures { ReadsAs awaited_view (both_found AFunction (all_found (parameter_read indices.now) function.now.params.items) (optional_type indices.now function.now.result)) result }
+    ensures { ReadsAs awaited_view (both_found AFunction
+        (all_found (parameter_read indices.now) function.now.params.items)
+        (optional_type indices.now function.now.result)) result }
 {
     let params = parameters(alloc, indices, &function.params)?;
     let result = optional_type(indices, function.result)?;
@@ -85,7 +90,8 @@ impl InstanceReader {
         kind: TypeDefKind,
     ) -> Result<(), AllocError>
         requires { self.old.awaited ≡ Awaited.Nothing }
-        ensures { OnOk result (read_with rows.new.items self.new ≡ with_unnamed (read_with rows.old.items self.old) kind) }
+        ensures { OnOk result (read_with rows.new.items self.new
+            ≡ with_unnamed (read_with rows.old.items self.old) kind) }
     {
         let id = TypeId(next_place(rows)?);
         rows.push(Definition::Type(TypeDef { name: None, kind }))?;
@@ -108,7 +114,8 @@ impl InstanceReader {
     fn list_type(&mut self, kind: &TypeDefKind, id: TypeId) -> Result<(), AllocError>
         ensures uses { OnOk result (self.new.uses.items ≡ uses_with self.old.uses.items id kind.now) }
         ensures types { OnOk result (self.new.types.items ≡ types_with self.old.types.items id kind.now) }
-        ensures same { (self.new.indices ≡ self.old.indices) × (self.new.awaited ≡ self.old.awaited) × (self.new.names ≡ self.old.names) × (self.new.functions ≡ self.old.functions) }
+        ensures same { (self.new.indices ≡ self.old.indices) × (self.new.awaited ≡ self.old.awaited)
+            × (self.new.names ≡ self.old.names) × (self.new.functions ≡ self.old.functions) }
     {
         match kind {
             TypeDefKind::Use(_) => self.uses.push(id)?,
@@ -128,7 +135,8 @@ impl InstanceReader {
     ) -> Result<(), AllocError>
         requires awaited { self.old.awaited ≡ Awaited.Nothing }
         requires label { IsLabel name.now }
-        ensures { OnOk result (read_with rows.new.items self.new ≡ with_named place.0 name.now kind (read_with rows.old.items self.old)) }
+        ensures { OnOk result (read_with rows.new.items self.new
+            ≡ with_named place.0 name.now kind (read_with rows.old.items self.old)) }
     {
         let id = TypeId(next_place(rows)?);
         self.list_type(&kind, id)?;
@@ -156,7 +164,8 @@ impl InstanceReader {
     ) -> Result<(), Unread>
         requires awaited { self.old.awaited ≡ Awaited.Nothing }
         requires label { IsLabel name.now }
-        ensures { Becomes (renamed place.0 name.now index (read_with rows.old.items self.old)) (read_with rows.new.items self.new) result }
+        ensures { Becomes (renamed place.0 name.now index (read_with rows.old.items self.old))
+            (read_with rows.new.items self.new) result }
     {
         let target = row_at(&self.indices, index)?;
         let kind = TypeDefKind::Alias(ValType::Id(target));
@@ -173,7 +182,8 @@ impl InstanceReader {
         index: u32,
     ) -> Result<(), Unread>
         requires { IsLabel name.now }
-        ensures { Becomes (type_exported place.0 name.now index (read_with rows.old.items self.old) (awaited_view self.old.awaited)) (read_with rows.new.items self.new) result }
+        ensures { Becomes (type_exported place.0 name.now index (read_with rows.old.items self.old)
+            (awaited_view self.old.awaited)) (read_with rows.new.items self.new) result }
     {
         match std::mem::replace(&mut self.awaited, Awaited::Nothing) {
             Awaited::Nothing => self.rename(alloc, rows, place, name, index),
@@ -191,7 +201,8 @@ impl InstanceReader {
 
     /// Passes a type index that stands for no row.
     pub fn push_index(&mut self) -> Result<(), AllocError>
-        ensures { (rows : List Definition) → OnOk result (read_with rows self.new ≡ with_index (read_with rows self.old)) }
+        ensures { (rows : List Definition)
+            → OnOk result (read_with rows self.new ≡ with_index (read_with rows self.old)) }
     {
         self.indices.push(None)?;
         Ok(())
@@ -204,7 +215,8 @@ impl InstanceReader {
         function: Function,
     ) -> Result<FunctionId, AllocError>
         requires { self.old.awaited ≡ Awaited.Nothing }
-        ensures row { OnOk result (read_with rows.new.items self.new ≡ with_row (Definition.Function function) (read_with rows.old.items self.old)) }
+        ensures row { OnOk result (read_with rows.new.items self.new
+            ≡ with_row (Definition.Function function) (read_with rows.old.items self.old)) }
         ensures id { IfOk result (λ id. id.0 ≡ length rows.old.items) }
     {
         let id = FunctionId(next_place(rows)?);
@@ -222,7 +234,8 @@ impl InstanceReader {
         name: &[u8],
     ) -> Result<(), Unread>
         requires { IsLabel name.now }
-        ensures { Becomes (function_exported place.0 name.now (read_with rows.old.items self.old) (awaited_view self.old.awaited)) (read_with rows.new.items self.new) result }
+        ensures { Becomes (function_exported place.0 name.now (read_with rows.old.items self.old)
+            (awaited_view self.old.awaited)) (read_with rows.new.items self.new) result }
     {
         let awaited = std::mem::replace(&mut self.awaited, Awaited::Nothing);
         let Awaited::Function(params, result) = awaited else {
@@ -248,7 +261,8 @@ impl InstanceReader {
         description: &RawDescription,
     ) -> Result<(), Unread>
         requires { IsLabel name.now }
-        ensures { Becomes (exported_read place.0 name.now description.now (read_with rows.old.items self.old)) (read_with rows.new.items self.new) result }
+        ensures { Becomes (exported_read place.0 name.now description.now (read_with rows.old.items self.old))
+            (read_with rows.new.items self.new) result }
     {
         match description {
             RawDescription::TypeEqual(index) => self.export_type(alloc, rows, place, name, *index),
@@ -261,7 +275,8 @@ impl InstanceReader {
 
     /// Awaits the export of a type around the instance type.
     fn alias(&mut self, around: &[Option<TypeId>], alias: &RawAlias) -> Result<(), Unread>
-        ensures { (rows : List Definition) → Becomes (use_read around.now alias.now (read_with rows self.old)) (read_with rows self.new) result }
+        ensures { (rows : List Definition)
+            → Becomes (use_read around.now alias.now (read_with rows self.old)) (read_with rows self.new) result }
     {
         let RawAlias::Outer { count: 1, index } = alias else {
             return Err(Unread::NotThisShape);
@@ -272,7 +287,8 @@ impl InstanceReader {
 
     #[tactic(auto, unfolding(ctype_format::specs::View::type_view))]
     pub fn define(&mut self, alloc: Global, ty: &RawType) -> Result<(), Unread>
-        ensures { (rows : List Definition) → Becomes (defined_read (type_view ty.now) (read_with rows self.old)) (read_with rows self.new) result }
+        ensures { (rows : List Definition)
+            → Becomes (defined_read (type_view ty.now) (read_with rows self.old)) (read_with rows self.new) result }
     {
         self.awaited = match ty {
             RawType::Defined(defined) => Awaited::Type(kind_of(alloc, &self.indices, defined)?),
@@ -291,7 +307,8 @@ impl InstanceReader {
         around: &[Option<TypeId>],
         decl: &RawDecl,
     ) -> Result<(), Unread>
-        ensures { Becomes (decl_read around.now place.0 (decl_view decl.now) (read_with rows.old.items self.old)) (read_with rows.new.items self.new) result }
+        ensures { Becomes (decl_read around.now place.0 (decl_view decl.now) (read_with rows.old.items self.old))
+            (read_with rows.new.items self.new) result }
     {
         match decl {
             RawDecl::Export(name, description) => {
@@ -321,7 +338,8 @@ impl InstanceReader {
         around: &[Option<TypeId>],
         decls: &[RawDecl],
     ) -> Result<Self, Unread>
-        ensures { ReadsAs (read_with rows.new.items) (instance_read around.now place.0 (decls_of (map decl_view decls.now)) rows.old.items) result }
+        ensures { ReadsAs (read_with rows.new.items)
+            (instance_read around.now place.0 (decls_of (map decl_view decls.now)) rows.old.items) result }
     {
         let mut reader = InstanceReader::new(alloc, keyed);
         for decl in decls {
@@ -337,7 +355,13 @@ impl InstanceReader {
         package: PackageId,
         name: Label,
     ) -> (Interface, IndexMap<Vec<u8>, TypeId, KeyedState>)
-        ensures interface { result.0 ≡ record { «package» = «package»; name = name; uses = self.uses.items; types = self.types.items; functions = self.functions.items } }
+        ensures interface { result.0 ≡ record {
+          «package» = «package»;
+          name = name;
+          uses = self.uses.items;
+          types = self.types.items;
+          functions = self.functions.items;
+        } }
         ensures names { result.1 ≡ self.names }
     {
         let interface = Interface {

@@ -1,7 +1,8 @@
 //! Types with indices as types of the table.
 ghost use Rattle.std.specs.Prelude.{◌≡◌, Some, IfOk};
 ghost use Rattle.ctype_format.specs.View.{defined_view};
-ghost use Rattle.component_reader.specs.Types.{all_found, primitive_type, row_at, val_type, optional_type, field_read, parameter_read, case_read, kind_defined, ReadsFound};
+ghost use Rattle.component_reader.specs.Types.{all_found, primitive_type, row_at, val_type, optional_type, field_read};
+ghost use Rattle.component_reader.specs.Types.{parameter_read, case_read, kind_defined, ReadsFound};
 
 use crate::unread::Unread;
 use atoms::Label;

@@ -5,7 +5,8 @@ ghost use Rattle.ctype_format.specs.Names.{name_view};
 ghost use Rattle.ctype_format.specs.View.{decl_view, decls_of, type_view};
 ghost use Rattle.tables.specs.declared.tables.Definition.{Definition};
 ghost use Rattle.component_reader.specs.Types.{ReadsAs, Becomes};
-ghost use Rattle.component_reader.specs.World.{no_world, function_named, aliased_interface, interface_met, named_read, entry_read, outer_read, item_read, world_read};
+ghost use Rattle.component_reader.specs.World.{no_world, function_named, aliased_interface, interface_met, named_read};
+ghost use Rattle.component_reader.specs.World.{entry_read, outer_read, item_read, world_read};
 ghost use Rattle.component_reader.specs.Readers.{awaited_view, world_with};
 
 use crate::instance::{Awaited, InstanceReader};
@@ -72,7 +73,8 @@ impl WorldReader {
         name: &[u8],
     ) -> Result<(), Unread>
         requires { IsLabel name.now }
-        ensures { Becomes (function_named world.0 direction name.now (world_with rows.old.items self.old) (awaited_view self.old.inside.awaited)) (world_with rows.new.items self.new) result }
+        ensures { Becomes (function_named world.0 direction name.now (world_with rows.old.items self.old)
+            (awaited_view self.old.inside.awaited)) (world_with rows.new.items self.new) result }
     {
         let awaited = std::mem::replace(&mut self.inside.awaited, Awaited::Nothing);
         let Awaited::Function(params, result) = awaited else {
@@ -92,7 +94,8 @@ impl WorldReader {
 
     /// Imports or exports the interface that is awaited.
     fn name_interface(&mut self, direction: Direction) -> Result<(), Unread>
-        ensures { (rows : List Definition) → Becomes (interface_met direction (world_with rows self.old)) (world_with rows self.new) result }
+        ensures { (rows : List Definition)
+            → Becomes (interface_met direction (world_with rows self.old)) (world_with rows self.new) result }
     {
         let Some(id) = self.interface.take() else {
             return Err(Unread::NotThisShape);
@@ -109,7 +112,9 @@ impl WorldReader {
         world: WorldId,
         external: &External<'_>,
     ) -> Result<(), Unread>
-        ensures { Becomes (named_read world.0 external.now.direction (name_view external.now.name.now) external.now.description.now (world_with rows.old.items self.old)) (world_with rows.new.items self.new) result }
+        ensures { Becomes (named_read world.0 external.now.direction (name_view external.now.name.now)
+            external.now.description.now (world_with rows.old.items self.old)) (world_with rows.new.items self.new)
+            result }
     {
         match (name_parts(external.name), external.description) {
             (NameParts::Label(name), RawDescription::Function(_)) => {
@@ -129,7 +134,8 @@ impl WorldReader {
         instances: &[Option<InterfaceId>],
         alias: &RawAlias,
     ) -> Result<(), Unread>
-        ensures { Becomes (outer_read instances.now alias.now (world_with rows.old.items self.old)) (world_with rows.new.items self.new) result }
+        ensures { Becomes (outer_read instances.now alias.now (world_with rows.old.items self.old))
+            (world_with rows.new.items self.new) result }
     {
         self.inside.settle(rows)?;
         let Some(id) = aliased_interface(instances, alias) else {
@@ -146,7 +152,8 @@ impl WorldReader {
         rows: &mut Vec<Definition>,
         ty: &RawType,
     ) -> Result<(), Unread>
-        ensures { Becomes (entry_read (type_view ty.now) (world_with rows.old.items self.old)) (world_with rows.new.items self.new) result }
+        ensures { Becomes (entry_read (type_view ty.now) (world_with rows.old.items self.old))
+            (world_with rows.new.items self.new) result }
     {
         self.inside.settle(rows)?;
         self.inside.define(alloc, ty)
@@ -161,7 +168,8 @@ impl WorldReader {
         instances: &[Option<InterfaceId>],
         decl: &RawDecl,
     ) -> Result<(), Unread>
-        ensures { Becomes (item_read instances.now world.0 (decl_view decl.now) (world_with rows.old.items self.old)) (world_with rows.new.items self.new) result }
+        ensures { Becomes (item_read instances.now world.0 (decl_view decl.now) (world_with rows.old.items self.old))
+            (world_with rows.new.items self.new) result }
     {
         match decl {
             RawDecl::Type(ty) => self.define(alloc, rows, ty),
@@ -195,7 +203,8 @@ impl WorldReader {
         instances: &[Option<InterfaceId>],
         decls: &[RawDecl],
     ) -> Result<Self, Unread>
-        ensures { ReadsAs (world_with rows.new.items) (world_read instances.now world.0 (decls_of (map decl_view decls.now)) rows.old.items) result }
+        ensures { ReadsAs (world_with rows.new.items)
+            (world_read instances.now world.0 (decls_of (map decl_view decls.now)) rows.old.items) result }
     {
         let mut reader = WorldReader::new(alloc, keyed);
         for decl in decls {

@@ -1,4 +1,4 @@
-//! Where things stand in the two memories.
+//! Addresses in the two memories.
 
 /// An address in the source, and the one in the target that what begins there crosses to.
 #[derive(Clone, Copy)]

@@ -1,6 +1,7 @@
 //! The walk over flat values: core values of one component are carried on by core values for another.
 ghost use Rattle.std.specs.Prelude.{◌≡◌, ◌+◌, ◌^◌, ◌<◌, ◌≤◌, ◌∷◌, ℕ, List, [], length, map, None, Some, OnOk, IfErr};
-ghost use Rattle.canonical_abi.specs.Types.{prim_type, string_type, list_type, variant_type, variant_cases, field_count};
+ghost use Rattle.canonical_abi.specs.Types.{prim_type, string_type, list_type, variant_type, variant_cases};
+ghost use Rattle.canonical_abi.specs.Types.{field_count};
 ghost use Rattle.canonical_abi.specs.Layout.{flat_kinds, field_kinds, payload_kinds};
 ghost use Rattle.canonical_abi.specs.Reading.{number_of};
 ghost use Rattle.canonical_abi.specs.Trace.{node};
@@ -26,9 +27,12 @@ use tables::{Primitive, ValType};
 fn carry_primitive(primitive: Primitive, flats: &[Flat], out: &mut Flats) -> Result<(), Stopped>
     requires some { 0 < length flats.now }
     requires room { length out.old.items < 16 }
-    ensures ok { OnOk result ((m : List ℕ) → FlatWalks (prim_type (prim_of primitive)) m (map number_of flats.now) out.old.items out.new.items None (node ∷ [])) }
+    ensures ok { OnOk result ((m : List ℕ)
+        → FlatWalks (prim_type (prim_of primitive)) m (map number_of flats.now) out.old.items out.new.items None
+        (node ∷ [])) }
     ensures fault { IfErr result (λ s. (k : TrapKind) × (s ≡ Stopped.Source k)
-        × ((m : List ℕ) → FlatWalks (prim_type (prim_of primitive)) m (map number_of flats.now) out.old.items [] (Some k) (node ∷ []))) }
+        × ((m : List ℕ) → FlatWalks (prim_type (prim_of primitive)) m (map number_of flats.now) out.old.items []
+        (Some k) (node ∷ []))) }
 {
     match scalar_in(primitive, flats) {
         Ok(scalar) => {
@@ -48,7 +52,8 @@ fn carry_text<G: Guest>(
 ) -> Result<(), Stopped>
     requires some { 1 < length flats.now }
     requires room { length out.old.items + 2 ≤ 16 }
-    ensures { (n : ℕ) → FlatEnds G.allocates (FlatBehind (FlatWalks string_type source.now (map number_of flats.now) out.old.items))
+    ensures { (n : ℕ) → FlatEnds G.allocates
+        (FlatBehind (FlatWalks string_type source.now (map number_of flats.now) out.old.items))
         (G.memory guest.old) n result (G.memory guest.new) n out.new.items }
 {
     let start = low_word(flats, 0) as usize;
@@ -82,7 +87,8 @@ impl Walk<'_> {
         requires carried { length (flat_kinds (closed_type self.now.types.now ty)) ≤ length flats.now }
         requires few { length flats.now ≤ 16 }
         requires room { length out.old.items + length (flat_kinds (closed_type self.now.types.now ty)) ≤ 16 }
-        ensures { FlatEnds G.allocates (FlatWalks (closed_type self.now.types.now ty) self.now.source.now (map number_of flats.now) out.old.items)
+        ensures { FlatEnds G.allocates (FlatWalks (closed_type self.now.types.now ty) self.now.source.now
+            (map number_of flats.now) out.old.items)
             (G.memory guest.old) nodes.old result (G.memory guest.new) nodes.new out.new.items }
     {
         *nodes = nodes.saturating_add(1);
@@ -118,7 +124,9 @@ impl Walk<'_> {
         requires short { length self.now.source.now < 2 ^ 32 }
         requires some { 1 < length flats.now }
         requires room { length out.old.items + 2 ≤ 16 }
-        ensures { FlatEnds G.allocates (FlatBehind (FlatWalks (list_type (closed_type self.now.types.now element)) self.now.source.now (map number_of flats.now) out.old.items))
+        ensures { FlatEnds G.allocates (FlatBehind
+            (FlatWalks (list_type (closed_type self.now.types.now element)) self.now.source.now
+            (map number_of flats.now) out.old.items))
             (G.memory guest.old) nodes.old result (G.memory guest.new) nodes.new out.new.items }
     {
         canonical_abi::laws::reads_exactly();
@@ -144,9 +152,9 @@ impl Walk<'_> {
         Ok(())
     }
 
-    /// Carries on the members of a record, each in the flat values behind those of the member before it: `out` grows by
-    /// the flat values that carry them, and `nodes` by the nodes that were visited, as far as it has room. Where it ends
-    /// early, what was put behind `out` says nothing. CanonicalABI.md, "Flat Lifting" and "Flat Lowering".
+    /// Carries on the members of a record, each in the flat values after those of the member before it: `out` grows by
+    /// the flat values that carry them, and `nodes` by the nodes that were visited, as far as 64 bits count. If it
+    /// ends early, what was added to `out` says nothing. CanonicalABI.md, "Flat Lifting" and "Flat Lowering".
     #[cycle(flat)]
     pub fn carry_fields<G: Guest>(
         &self,
@@ -159,10 +167,13 @@ impl Walk<'_> {
         requires inside { AreInside self.now.types.now fields.now.members }
         requires short { length self.now.source.now < 2 ^ 32 }
         requires counted { field_count (members_fields self.now.types.now fields.now.members) ≡ fields.now.count }
-        requires carried { length (field_kinds (members_fields self.now.types.now fields.now.members)) ≤ length flats.now }
+        requires carried { length (field_kinds (members_fields self.now.types.now fields.now.members))
+            ≤ length flats.now }
         requires few { length flats.now ≤ 16 }
-        requires room { length out.old.items + length (field_kinds (members_fields self.now.types.now fields.now.members)) ≤ 16 }
-        ensures { FlatEnds G.allocates (FieldsFlatWalk (members_fields self.now.types.now fields.now.members) self.now.source.now (map number_of flats.now) out.old.items)
+        requires room { length out.old.items
+            + length (field_kinds (members_fields self.now.types.now fields.now.members)) ≤ 16 }
+        ensures { FlatEnds G.allocates (FieldsFlatWalk (members_fields self.now.types.now fields.now.members)
+            self.now.source.now (map number_of flats.now) out.old.items)
             (G.memory guest.old) nodes.old result (G.memory guest.new) nodes.new out.new.items }
     {
         are_bytes(self.source);
@@ -189,12 +200,16 @@ impl Walk<'_> {
         nodes: &mut u64,
     ) -> Result<(), Stopped>
         requires inside { IsInside self.now.types.now ty }
-        requires variant { variant_type (variant_cases (closed_type self.now.types.now ty)) ≡ closed_type self.now.types.now ty }
+        requires variant { variant_type (variant_cases (closed_type self.now.types.now ty))
+            ≡ closed_type self.now.types.now ty }
         requires short { length self.now.source.now < 2 ^ 32 }
-        requires carried { length (payload_kinds (variant_cases (closed_type self.now.types.now ty))) < length flats.now }
+        requires carried { length (payload_kinds (variant_cases (closed_type self.now.types.now ty)))
+            < length flats.now }
         requires few { length flats.now ≤ 16 }
         requires room { length out.old.items + length (flat_kinds (closed_type self.now.types.now ty)) ≤ 16 }
-        ensures { FlatEnds G.allocates (FlatBehind (FlatWalks (variant_type (variant_cases (closed_type self.now.types.now ty))) self.now.source.now (map number_of flats.now) out.old.items))
+        ensures { FlatEnds G.allocates (FlatBehind
+            (FlatWalks (variant_type (variant_cases (closed_type self.now.types.now ty))) self.now.source.now
+            (map number_of flats.now) out.old.items))
             (G.memory guest.old) nodes.old result (G.memory guest.new) nodes.new out.new.items }
     {
         let case = low_word(flats, 0);

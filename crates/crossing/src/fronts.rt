@@ -1,7 +1,7 @@
 //! The front of a list: elements that cross many at a time, before the others cross node by node.
 //!
-//! A front never looks for a fault. It crosses elements as long as they pass their tests, and may stop before any of them: who
-//! goes on behind it finds the first fault, and the nodes up to it.
+//! A front never looks for a fault. It crosses elements as long as they pass their tests, and may stop before any of
+//! them: who goes on after it finds the first fault, and the nodes up to it.
 ghost use Rattle.std.specs.Prelude.{◌≡◌, ◌+◌, ◌*◌, ◌^◌, ◌<◌, ◌≤◌, length};
 ghost use Rattle.canonical_abi.specs.Layout.{size, flags_size};
 ghost use Rattle.canonical_abi.specs.Types.{prim_type, boolean, scalar_value, flags_type};
@@ -22,7 +22,8 @@ use tables::{Primitive, ValType};
 pub(crate) const LONG: usize = 8;
 
 impl Walk<'_> {
-    /// Crosses the first elements of a list, where they are many and their type has a way for that, and answers how many.
+    /// Crosses the first elements of a list, if they are many and their type has a way for that, and answers how
+    /// many.
     pub(crate) fn cross_front<G: Guest>(
         &self,
         element: ValType,
@@ -31,11 +32,14 @@ impl Walk<'_> {
         nodes: &mut u64,
     ) -> usize
         requires inside { IsInside self.now.types.now element }
-        requires fits { elements.from + elements.count * size (closed_type self.now.types.now element) ≤ length self.now.source.now }
-        requires room { elements.to + elements.count * size (closed_type self.now.types.now element) ≤ length (G.memory guest.old).bytes }
+        requires fits { elements.from + elements.count * size (closed_type self.now.types.now element)
+            ≤ length self.now.source.now }
+        requires room { elements.to + elements.count * size (closed_type self.now.types.now element)
+            ≤ length (G.memory guest.old).bytes }
         requires small { elements.to + elements.count * size (closed_type self.now.types.now element) < 2 ^ 32 }
         ensures few { result ≤ elements.count }
-        ensures crossed { IsCrossed G.allocates (EachWalks (closed_type self.now.types.now element) self.now.source.now elements.from elements.to result)
+        ensures crossed { IsCrossed G.allocates
+            (EachWalks (closed_type self.now.types.now element) self.now.source.now elements.from elements.to result)
             (G.memory guest.old) nodes.old (G.memory guest.new) nodes.new }
     {
         if elements.count < LONG {
@@ -59,8 +63,8 @@ impl Walk<'_> {
         }
     }
 
-    /// Crosses elements of a type that has a plan, up to a fault at most, and answers how many. Apart, so that its frame, which holds
-    /// the plan, is not one of those of lists within each other.
+    /// Crosses elements of a type that has a plan, up to a fault at most, and answers how many. Apart, so that its
+    /// frame, which holds the plan, is not one of those of lists within each other.
     #[inline(never)]
     fn front_of_plan<G: Guest>(
         &self,
@@ -70,11 +74,14 @@ impl Walk<'_> {
         nodes: &mut u64,
     ) -> usize
         requires inside { IsInside self.now.types.now element }
-        requires fits { elements.from + elements.count * size (closed_type self.now.types.now element) ≤ length self.now.source.now }
-        requires room { elements.to + elements.count * size (closed_type self.now.types.now element) ≤ length (G.memory guest.old).bytes }
+        requires fits { elements.from + elements.count * size (closed_type self.now.types.now element)
+            ≤ length self.now.source.now }
+        requires room { elements.to + elements.count * size (closed_type self.now.types.now element)
+            ≤ length (G.memory guest.old).bytes }
         requires small { elements.to + elements.count * size (closed_type self.now.types.now element) < 2 ^ 32 }
         ensures few { result ≤ elements.count }
-        ensures crossed { IsCrossed G.allocates (EachWalks (closed_type self.now.types.now element) self.now.source.now elements.from elements.to result)
+        ensures crossed { IsCrossed G.allocates
+            (EachWalks (closed_type self.now.types.now element) self.now.source.now elements.from elements.to result)
             (G.memory guest.old) nodes.old (G.memory guest.new) nodes.new }
     {
         let Some(plan) = plan_of(self.types, element) else {
@@ -95,7 +102,8 @@ fn front_of_chars<G: Guest>(
     requires room { elements.to + elements.count * 4 ≤ length (G.memory guest.old).bytes }
     requires small { elements.to + elements.count * 4 < 2 ^ 32 }
     ensures few { result ≤ elements.count }
-    ensures crossed { IsCrossed G.allocates (EachWalks (prim_type scalar_value) source.now elements.from elements.to result)
+    ensures crossed { IsCrossed G.allocates
+        (EachWalks (prim_type scalar_value) source.now elements.from elements.to result)
         (G.memory guest.old) nodes.old (G.memory guest.new) nodes.new }
 {
     let crossed = cross_chars(source, elements, guest);
@@ -122,7 +130,7 @@ fn front_of_bools<G: Guest>(
     elements.count
 }
 
-/// Crosses flags up to one with a bit behind its labels at most, and answers how many.
+/// Crosses flags up to one with a bit above its labels at most, and answers how many.
 fn front_of_flags<G: Guest>(
     labels: usize,
     source: &[u8],
@@ -142,7 +150,7 @@ fn front_of_flags<G: Guest>(
     crossed
 }
 
-/// Crosses numbers, and answers how many: all, or none where the primitive is no number.
+/// Crosses numbers, and answers how many: all, or none if the primitive is no number.
 fn front_of_numbers<G: Guest>(
     primitive: Primitive,
     source: &[u8],
@@ -151,10 +159,12 @@ fn front_of_numbers<G: Guest>(
     nodes: &mut u64,
 ) -> usize
     requires fits { elements.from + elements.count * size (prim_type (prim_of primitive)) ≤ length source.now }
-    requires room { elements.to + elements.count * size (prim_type (prim_of primitive)) ≤ length (G.memory guest.old).bytes }
+    requires room { elements.to + elements.count * size (prim_type (prim_of primitive))
+        ≤ length (G.memory guest.old).bytes }
     requires small { elements.to + elements.count * size (prim_type (prim_of primitive)) < 2 ^ 32 }
     ensures few { result ≤ elements.count }
-    ensures crossed { IsCrossed G.allocates (EachWalks (prim_type (prim_of primitive)) source.now elements.from elements.to result)
+    ensures crossed { IsCrossed G.allocates
+        (EachWalks (prim_type (prim_of primitive)) source.now elements.from elements.to result)
         (G.memory guest.old) nodes.old (G.memory guest.new) nodes.new }
 {
     let Some(width) = number_width(primitive) else {

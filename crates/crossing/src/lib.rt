@@ -1,9 +1,9 @@
 //! Values that cross from one linear memory to another, node by node, in the order of the Canonical ABI.
 //!
-//! No tree of values is made, and no memory of the host is taken: each node is read and tested in the source, its
-//! block is asked for in the target, and it is written there before the next one is read. Of a list the elements at its front
-//! cross many at a time, where their type allows it. Stands on `lift_lower`
-//! (the parts of one node) and on any `Guest`, honest or not.
+//! No tree of values is made, and no memory of the host is taken: each node is read and tested in the source, its block
+//! is asked for in the target, and it is written there before the next one is read. Of a list the elements at its front
+//! cross many at a time, if their type allows it. Depends on `lift_lower` (the parts of one node) and on any `Guest`,
+//! honest or not.
 #![tactic(auto)]
 
 mod addresses;

@@ -32,8 +32,8 @@ pub(crate) fn listed_number(table: &Types, ty: ValType) -> Option<Primitive>
     Some(primitive)
 }
 
-/// Crosses a list of numbers of so many bytes each: its block is tested, one of the same size is asked for, and then its header and its
-/// numbers are written, these as one range.
+/// Crosses a list of numbers of so many bytes each: its block is tested, one of the same size is asked for, and then
+/// its header and its numbers are written, these as one range.
 #[inline(always)]
 fn cross_listed<G: Guest>(
     primitive: Primitive,
@@ -119,7 +119,8 @@ fn cross_each_list<G: Guest>(
     requires fits { elements.from + elements.count * 8 ≤ length source.now }
     requires room { elements.to + elements.count * 8 ≤ length (G.memory guest.old).bytes }
     requires small { elements.to + elements.count * 8 < 2 ^ 32 }
-    ensures { Ends G.allocates (EachWalks (list_type (prim_type (prim_of primitive))) source.now elements.from elements.to elements.count)
+    ensures { Ends G.allocates (EachWalks (list_type (prim_type (prim_of primitive))) source.now elements.from
+        elements.to elements.count)
         (G.memory guest.old) nodes.old result (G.memory guest.new) nodes.new }
 {
     canonical_abi::laws::reads_exactly();
@@ -135,7 +136,8 @@ fn cross_each_list<G: Guest>(
     Ok(())
 }
 
-/// Crosses so many lists of numbers, with the width as a constant. The nodes are counted in a place of their own, which can be a register.
+/// Crosses so many lists of numbers, with the width as a constant. The nodes are counted in a variable of their own,
+/// which can be a register.
 pub(crate) fn cross_lists<G: Guest>(
     primitive: Primitive,
     source: &[u8],
@@ -148,7 +150,8 @@ pub(crate) fn cross_lists<G: Guest>(
     requires fits { elements.from + elements.count * 8 ≤ length source.now }
     requires room { elements.to + elements.count * 8 ≤ length (G.memory guest.old).bytes }
     requires small { elements.to + elements.count * 8 < 2 ^ 32 }
-    ensures { Ends G.allocates (EachWalks (list_type (prim_type (prim_of primitive))) source.now elements.from elements.to elements.count)
+    ensures { Ends G.allocates (EachWalks (list_type (prim_type (prim_of primitive))) source.now elements.from
+        elements.to elements.count)
         (G.memory guest.old) nodes.old result (G.memory guest.new) nodes.new }
 {
     let Some(width) = number_width(primitive) else {

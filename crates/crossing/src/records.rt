@@ -1,4 +1,5 @@
-//! Elements that are records of numbers, texts and lists of numbers: their members are looked at once, and not for each element.
+//! Elements that are records of numbers, texts and lists of numbers: their members are looked at once, and not for each
+//! element.
 ghost use Rattle.std.specs.Prelude.{◌≡◌, ◌+◌, ◌*◌, ◌^◌, ◌<◌, ◌≤◌, length, IfSome};
 ghost use Rattle.canonical_abi.specs.Types.{record_type, record_fields, field_count};
 ghost use Rattle.canonical_abi.specs.Layout.{size, end_from, field_extents};
@@ -36,7 +37,7 @@ pub(crate) enum Leaf {
     Numbers(Primitive),
 }
 
-/// A member of such a record: what it is, and how many bytes of the record stand before it.
+/// A member of such a record: what it is, and how many bytes of the record come before it.
 #[derive(Clone, Copy, Default)]
 pub(crate) struct Step {
     pub leaf: Leaf,
@@ -101,10 +102,12 @@ fn cross_leaf<G: Guest>(
 }
 
 impl Walk<'_> {
-    /// The steps of a type, if it is a record of at most sixteen members, each of which can be a step, and one is a text or a list.
+    /// The steps of a type, if it is a record of at most sixteen members, each of which can be a step, and one is a
+    /// text or a list.
     pub(crate) fn steps_of(&self, ty: ValType) -> Option<Steps>
         requires { IsInside self.now.types.now ty }
-        ensures { IfSome result (λ steps. (steps.ty ≡ ty) × AreStepsOf (closed_type self.now.types.now ty) steps.list.items) }
+        ensures { IfSome result (λ steps. (steps.ty ≡ ty)
+            × AreStepsOf (closed_type self.now.types.now ty) steps.list.items) }
     {
         let Shape::Record(count) = self.types.shape_of(ty) else {
             return None;
@@ -123,7 +126,8 @@ impl Walk<'_> {
     /// The members of a record in turn, if each can be a step.
     fn list_of(&self, ty: ValType, count: usize) -> Option<ArrayVec<Step, 16>>
         requires inside { IsInside self.now.types.now ty }
-        requires record { record_type (record_fields (closed_type self.now.types.now ty)) ≡ closed_type self.now.types.now ty }
+        requires record { record_type (record_fields (closed_type self.now.types.now ty))
+            ≡ closed_type self.now.types.now ty }
         requires counted { field_count (record_fields (closed_type self.now.types.now ty)) ≡ count }
         requires few { count ≤ 16 }
         ensures { IfSome result (λ steps. AreSteps (record_fields (closed_type self.now.types.now ty)) 0 steps.items) }
@@ -156,10 +160,14 @@ impl Walk<'_> {
     ) -> Result<(), Stopped>
         requires stepped { AreStepsOf (closed_type self.now.types.now steps.now.ty) steps.now.list.items }
         requires short { length self.now.source.now < 2 ^ 32 }
-        requires fits { at.from + end_from 0 (field_extents (record_fields (closed_type self.now.types.now steps.now.ty))) ≤ length self.now.source.now }
-        requires room { at.to + end_from 0 (field_extents (record_fields (closed_type self.now.types.now steps.now.ty))) ≤ length (G.memory guest.old).bytes }
-        requires small { at.to + end_from 0 (field_extents (record_fields (closed_type self.now.types.now steps.now.ty))) < 2 ^ 32 }
-        ensures { Ends G.allocates (FieldsWalk (record_fields (closed_type self.now.types.now steps.now.ty)) self.now.source.now at.from at.to 0)
+        requires fits { at.from + end_from 0
+            (field_extents (record_fields (closed_type self.now.types.now steps.now.ty))) ≤ length self.now.source.now }
+        requires room { at.to + end_from 0 (field_extents (record_fields (closed_type self.now.types.now steps.now.ty)))
+            ≤ length (G.memory guest.old).bytes }
+        requires small { at.to + end_from 0
+            (field_extents (record_fields (closed_type self.now.types.now steps.now.ty))) < 2 ^ 32 }
+        ensures { Ends G.allocates (FieldsWalk (record_fields (closed_type self.now.types.now steps.now.ty))
+            self.now.source.now at.from at.to 0)
             (G.memory guest.old) nodes.old result (G.memory guest.new) nodes.new }
     {
         canonical_abi::laws::reads_exactly();
@@ -187,10 +195,13 @@ impl Walk<'_> {
         requires inside { IsInside self.now.types.now steps.now.ty }
         requires stepped { AreStepsOf (closed_type self.now.types.now steps.now.ty) steps.now.list.items }
         requires short { length self.now.source.now < 2 ^ 32 }
-        requires fits { elements.from + elements.count * size (closed_type self.now.types.now steps.now.ty) ≤ length self.now.source.now }
-        requires room { elements.to + elements.count * size (closed_type self.now.types.now steps.now.ty) ≤ length (G.memory guest.old).bytes }
+        requires fits { elements.from + elements.count * size (closed_type self.now.types.now steps.now.ty)
+            ≤ length self.now.source.now }
+        requires room { elements.to + elements.count * size (closed_type self.now.types.now steps.now.ty)
+            ≤ length (G.memory guest.old).bytes }
         requires small { elements.to + elements.count * size (closed_type self.now.types.now steps.now.ty) < 2 ^ 32 }
-        ensures { Ends G.allocates (EachWalks (closed_type self.now.types.now steps.now.ty) self.now.source.now elements.from elements.to elements.count)
+        ensures { Ends G.allocates (EachWalks (closed_type self.now.types.now steps.now.ty) self.now.source.now
+            elements.from elements.to elements.count)
             (G.memory guest.old) nodes.old result (G.memory guest.new) nodes.new }
     {
         canonical_abi::laws::reads_exactly();
@@ -208,7 +219,7 @@ impl Walk<'_> {
         Ok(())
     }
 
-    /// Crosses so many records by their steps. The nodes are counted in a place of their own, which can be a register.
+    /// Crosses so many records by their steps. The nodes are counted in a variable, which can be a register.
     pub(crate) fn cross_by_steps<G: Guest>(
         &self,
         steps: &Steps,
@@ -219,10 +230,13 @@ impl Walk<'_> {
         requires inside { IsInside self.now.types.now steps.now.ty }
         requires stepped { AreStepsOf (closed_type self.now.types.now steps.now.ty) steps.now.list.items }
         requires short { length self.now.source.now < 2 ^ 32 }
-        requires fits { elements.from + elements.count * size (closed_type self.now.types.now steps.now.ty) ≤ length self.now.source.now }
-        requires room { elements.to + elements.count * size (closed_type self.now.types.now steps.now.ty) ≤ length (G.memory guest.old).bytes }
+        requires fits { elements.from + elements.count * size (closed_type self.now.types.now steps.now.ty)
+            ≤ length self.now.source.now }
+        requires room { elements.to + elements.count * size (closed_type self.now.types.now steps.now.ty)
+            ≤ length (G.memory guest.old).bytes }
         requires small { elements.to + elements.count * size (closed_type self.now.types.now steps.now.ty) < 2 ^ 32 }
-        ensures { Ends G.allocates (EachWalks (closed_type self.now.types.now steps.now.ty) self.now.source.now elements.from elements.to elements.count)
+        ensures { Ends G.allocates (EachWalks (closed_type self.now.types.now steps.now.ty) self.now.source.now
+            elements.from elements.to elements.count)
             (G.memory guest.old) nodes.old result (G.memory guest.new) nodes.new }
     {
         let mut seen = *nodes;

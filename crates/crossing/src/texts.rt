@@ -37,7 +37,7 @@ fn cross_each_text<G: Guest>(
     Ok(())
 }
 
-/// Crosses so many texts. The nodes are counted in a place of their own, which can be a register.
+/// Crosses so many texts. The nodes are counted in a variable of their own, which can be a register.
 pub(crate) fn cross_texts<G: Guest>(
     source: &[u8],
     elements: Elements,

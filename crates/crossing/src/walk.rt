@@ -61,10 +61,10 @@ pub(crate) fn are_bytes(source: &[u8])
 {}
 
 impl Walk<'_> {
-    /// Crosses the value whose place begins at the address `at.from` of the source to the place that begins at `at.to`. Each node
-    /// is tested in the source, its block is asked for, and it is written before the next is read; bytes that belong to no
-    /// node, as padding, are not written. `nodes` grows by the nodes that were visited, as far as it has room. CanonicalABI.md,
-    /// "Loading" and "Storing".
+    /// Crosses the value at the address `at.from` of the source to the address `at.to` of the target.
+    /// Each node is tested in the source, its block is asked for, and it is written before the next is read; bytes that
+    /// belong to no node, as padding, are not written. `nodes` grows by the nodes that were visited, as far as 64 bits
+    /// count. CanonicalABI.md, "Loading" and "Storing".
     #[inline(always)]
     #[cycle(cross)]
     pub fn cross_at<G: Guest>(
@@ -99,7 +99,8 @@ impl Walk<'_> {
         }
     }
 
-    /// Crosses a list: its block is tested, one of the same size is asked for, and then its header and its elements are written.
+    /// Crosses a list: its block is tested, one of the same size is asked for, and then its header and its elements are
+    /// written.
     #[cycle(cross)]
     fn cross_list<G: Guest>(
         &self,
@@ -113,7 +114,8 @@ impl Walk<'_> {
         requires fits { at.from + 8 ≤ length self.now.source.now }
         requires room { at.to + 8 ≤ length (G.memory guest.old).bytes }
         requires small { at.to + 8 < 2 ^ 32 }
-        ensures { Ends G.allocates (Behind (Walks (list_type (closed_type self.now.types.now element)) self.now.source.now at.from at.to))
+        ensures { Ends G.allocates (Behind
+            (Walks (list_type (closed_type self.now.types.now element)) self.now.source.now at.from at.to))
             (G.memory guest.old) nodes.old result (G.memory guest.new) nodes.new }
     {
         canonical_abi::laws::reads_exactly();
@@ -139,8 +141,8 @@ impl Walk<'_> {
         self.cross_elements(element, elements, guest, nodes)
     }
 
-    /// Crosses so many elements one after another: records with texts or lists by their steps, of others those of the front many at a
-    /// time, and what is left node by node.
+    /// Crosses so many elements one after another: records with texts or lists by their steps, of others those of the
+    /// front many at a time, and what is left node by node.
     #[cycle(cross)]
     pub(crate) fn cross_elements<G: Guest>(
         &self,
@@ -151,10 +153,13 @@ impl Walk<'_> {
     ) -> Result<(), Stopped>
         requires inside { IsInside self.now.types.now element }
         requires short { length self.now.source.now < 2 ^ 32 }
-        requires fits { elements.from + elements.count * size (closed_type self.now.types.now element) ≤ length self.now.source.now }
-        requires room { elements.to + elements.count * size (closed_type self.now.types.now element) ≤ length (G.memory guest.old).bytes }
+        requires fits { elements.from + elements.count * size (closed_type self.now.types.now element)
+            ≤ length self.now.source.now }
+        requires room { elements.to + elements.count * size (closed_type self.now.types.now element)
+            ≤ length (G.memory guest.old).bytes }
         requires small { elements.to + elements.count * size (closed_type self.now.types.now element) < 2 ^ 32 }
-        ensures { Ends G.allocates (EachWalks (closed_type self.now.types.now element) self.now.source.now elements.from elements.to elements.count)
+        ensures { Ends G.allocates (EachWalks (closed_type self.now.types.now element) self.now.source.now elements.from
+            elements.to elements.count)
             (G.memory guest.old) nodes.old result (G.memory guest.new) nodes.new }
     {
         canonical_abi::laws::reads_exactly();
@@ -195,10 +200,14 @@ impl Walk<'_> {
         requires inside { AreInside self.now.types.now fields.now.members }
         requires short { length self.now.source.now < 2 ^ 32 }
         requires counted { field_count (members_fields self.now.types.now fields.now.members) ≡ fields.now.count }
-        requires fits { at.from + end_from 0 (field_extents (members_fields self.now.types.now fields.now.members)) ≤ length self.now.source.now }
-        requires room { at.to + end_from 0 (field_extents (members_fields self.now.types.now fields.now.members)) ≤ length (G.memory guest.old).bytes }
-        requires small { at.to + end_from 0 (field_extents (members_fields self.now.types.now fields.now.members)) < 2 ^ 32 }
-        ensures { Ends G.allocates (FieldsWalk (members_fields self.now.types.now fields.now.members) self.now.source.now at.from at.to 0)
+        requires fits { at.from + end_from 0 (field_extents (members_fields self.now.types.now fields.now.members))
+            ≤ length self.now.source.now }
+        requires room { at.to + end_from 0 (field_extents (members_fields self.now.types.now fields.now.members))
+            ≤ length (G.memory guest.old).bytes }
+        requires small { at.to + end_from 0 (field_extents (members_fields self.now.types.now fields.now.members))
+            < 2 ^ 32 }
+        ensures { Ends G.allocates (FieldsWalk (members_fields self.now.types.now fields.now.members)
+            self.now.source.now at.from at.to 0)
             (G.memory guest.old) nodes.old result (G.memory guest.new) nodes.new }
     {
         canonical_abi::laws::reads_exactly();
@@ -231,12 +240,15 @@ impl Walk<'_> {
     ) -> Result<(), Stopped>
         requires inside { IsInside self.now.types.now ty }
         requires short { length self.now.source.now < 2 ^ 32 }
-        requires variant { variant_type (variant_cases (closed_type self.now.types.now ty)) ≡ closed_type self.now.types.now ty }
+        requires variant { variant_type (variant_cases (closed_type self.now.types.now ty))
+            ≡ closed_type self.now.types.now ty }
         requires counted { case_count (variant_cases (closed_type self.now.types.now ty)) ≡ count }
         requires fits { at.from + size (closed_type self.now.types.now ty) ≤ length self.now.source.now }
         requires room { at.to + size (closed_type self.now.types.now ty) ≤ length (G.memory guest.old).bytes }
         requires small { at.to + size (closed_type self.now.types.now ty) < 2 ^ 32 }
-        ensures { Ends G.allocates (Behind (Walks (variant_type (variant_cases (closed_type self.now.types.now ty))) self.now.source.now at.from at.to))
+        ensures { Ends G.allocates (Behind
+            (Walks (variant_type (variant_cases (closed_type self.now.types.now ty))) self.now.source.now at.from
+            at.to))
             (G.memory guest.old) nodes.old result (G.memory guest.new) nodes.new }
     {
         let width = discriminant_bytes(count);
@@ -248,7 +260,7 @@ impl Walk<'_> {
         let Some(member) = known else {
             return Ok(());
         };
-        // A payload stands at the variant's alignment.
+        // The offset of a payload is the variant's alignment.
         let place = self.types.align_of(ty);
         let behind = Addresses {
             from: at.from + place,

@@ -18,7 +18,7 @@ use lift_lower::nodes::{Members, ask_block, test_block};
 use lift_lower::{Flats, low_word};
 use tables::ValType;
 
-/// What a core function returned, and the address that its result goes to where it doesn't go flat.
+/// What a core function returned, and the address that its result goes to if it doesn't go flat.
 #[derive(Clone, Copy)]
 pub struct Returned<'a> {
     pub flats: &'a [Flat],
@@ -26,10 +26,10 @@ pub struct Returned<'a> {
 }
 
 impl Walk<'_> {
-    /// Crosses the parameters of a call, given as the record of them: what `flats` denote over the source is put into the target, and
-    /// the flat values that carry it there into `out`, where there were none. The kinds of `flats` were tested before. Where the
-    /// parameters don't go flat, the address of their record is tested first. Where it ends early, what was put into `out` says
-    /// nothing. CanonicalABI.md, "Lifting and Lowering Values".
+    /// Crosses the parameters of a call, given as the record of them: what `flats` denote over the source is put into
+    /// the target, and the flat values that carry it there into `out`, which was empty. The kinds of `flats` were
+    /// tested before. If the parameters don't go flat, the address of their record is tested first. If it ends
+    /// early, what was put into `out` says nothing. CanonicalABI.md, "Lifting and Lowering Values".
     pub fn cross_params<G: Guest>(
         &self,
         params: ValType,
@@ -39,12 +39,16 @@ impl Walk<'_> {
         nodes: &mut u64,
     ) -> Result<(), Stopped>
         requires inside { IsInside self.now.types.now params }
-        requires is_record { closed_type self.now.types.now params ≡ record_type (record_fields (closed_type self.now.types.now params)) }
+        requires is_record { closed_type self.now.types.now params
+            ≡ record_type (record_fields (closed_type self.now.types.now params)) }
         requires short { length self.now.source.now < 2 ^ 32 }
-        requires kinds { map kind_of flats.now ≡ passed_kinds max_flat_params (record_fields (closed_type self.now.types.now params)) }
+        requires kinds { map kind_of flats.now
+            ≡ passed_kinds max_flat_params (record_fields (closed_type self.now.types.now params)) }
         requires empty { out.old.items ≡ [] }
-        ensures { WayEnds G.allocates (ParamsWalk max_flat_params (record_fields (closed_type self.now.types.now params)) self.now.source.now flats.now)
-            (AddressFaulty max_flat_params (record_fields (closed_type self.now.types.now params)) self.now.source.now flats.now) (λ k. ⊥)
+        ensures { WayEnds G.allocates (ParamsWalk max_flat_params
+            (record_fields (closed_type self.now.types.now params)) self.now.source.now flats.now)
+            (AddressFaulty max_flat_params (record_fields (closed_type self.now.types.now params)) self.now.source.now
+            flats.now) (λ k. ⊥)
             (G.memory guest.old) nodes.old result (G.memory guest.new) nodes.new out.new.items }
     {
         let Some(_) = self.types.count_within(&[params], 16) else {
@@ -57,7 +61,8 @@ impl Walk<'_> {
     /// The members of a record.
     fn fields_of(&self, ty: ValType) -> Fields<'_>
         requires inside { IsInside self.now.types.now ty }
-        requires is_record { closed_type self.now.types.now ty ≡ record_type (record_fields (closed_type self.now.types.now ty)) }
+        requires is_record { closed_type self.now.types.now ty
+            ≡ record_type (record_fields (closed_type self.now.types.now ty)) }
         ensures members { result.members ≡ Members.Of ty }
         ensures counted { field_count (record_fields (closed_type self.now.types.now ty)) ≡ result.count }
     {
@@ -80,13 +85,17 @@ impl Walk<'_> {
         nodes: &mut u64,
     ) -> Result<(), Stopped>
         requires inside { IsInside self.now.types.now params }
-        requires is_record { closed_type self.now.types.now params ≡ record_type (record_fields (closed_type self.now.types.now params)) }
+        requires is_record { closed_type self.now.types.now params
+            ≡ record_type (record_fields (closed_type self.now.types.now params)) }
         requires short { length self.now.source.now < 2 ^ 32 }
         requires spilled { fits_flat max_flat_params (record_fields (closed_type self.now.types.now params)) ≡ false }
-        requires kinds { map kind_of flats.now ≡ passed_kinds max_flat_params (record_fields (closed_type self.now.types.now params)) }
+        requires kinds { map kind_of flats.now
+            ≡ passed_kinds max_flat_params (record_fields (closed_type self.now.types.now params)) }
         requires empty { out.old.items ≡ [] }
-        ensures { WayEnds G.allocates (ParamsWalk max_flat_params (record_fields (closed_type self.now.types.now params)) self.now.source.now flats.now)
-            (AddressFaulty max_flat_params (record_fields (closed_type self.now.types.now params)) self.now.source.now flats.now) (λ k. ⊥)
+        ensures { WayEnds G.allocates (ParamsWalk max_flat_params
+            (record_fields (closed_type self.now.types.now params)) self.now.source.now flats.now)
+            (AddressFaulty max_flat_params (record_fields (closed_type self.now.types.now params)) self.now.source.now
+            flats.now) (λ k. ⊥)
             (G.memory guest.old) nodes.old result (G.memory guest.new) nodes.new out.new.items }
     {
         canonical_abi::laws::reads_exactly();
@@ -107,10 +116,11 @@ impl Walk<'_> {
         Ok(())
     }
 
-    /// Crosses the result of a call, of at most one type: what the returned `flats` denote over the source is put into the target,
-    /// and the flat values that carry it there into `out`, where there were none. The kinds of `flats` were tested before. Where
-    /// the result doesn't go flat it is put at the address `area`; the source's address is tested first, then the area. Where it
-    /// ends early, what was put into `out` says nothing. CanonicalABI.md, "Lifting and Lowering Values".
+    /// Crosses the result of a call, of at most one type: what the returned `flats` denote over the source is put into
+    /// the target, and the flat values that carry it there into `out`, which was empty. The kinds of `flats` were
+    /// tested before. If the result doesn't go flat it is put at the address `area`; the source's address is tested
+    /// first, then the area. If it ends early, what was put into `out` says nothing. CanonicalABI.md, "Lifting and
+    /// Lowering Values".
     pub fn cross_result<G: Guest>(
         &self,
         types: &[ValType],
@@ -122,11 +132,15 @@ impl Walk<'_> {
         requires inside { AreAllInside self.now.types.now types.now }
         requires small { size (record_type (fields_of_types self.now.types.now types.now)) ≤ 16777216 }
         requires short { length self.now.source.now < 2 ^ 32 }
-        requires kinds { map kind_of returned.now.flats.now ≡ passed_kinds max_flat_results (fields_of_types self.now.types.now types.now) }
+        requires kinds { map kind_of returned.now.flats.now
+            ≡ passed_kinds max_flat_results (fields_of_types self.now.types.now types.now) }
         requires empty { out.old.items ≡ [] }
         ensures { let ts = fields_of_types self.now.types.now types.now in
-            WayEnds G.allocates (ResultWalk max_flat_results ts self.now.source.now returned.now.flats.now returned.now.area (G.memory guest.old).bytes)
-            (AddressFaulty max_flat_results ts self.now.source.now returned.now.flats.now) (AreaIsBad max_flat_results ts self.now.source.now returned.now.flats.now returned.now.area (G.memory guest.old).bytes)
+            WayEnds G.allocates (ResultWalk max_flat_results ts self.now.source.now returned.now.flats.now
+            returned.now.area (G.memory guest.old).bytes)
+            (AddressFaulty max_flat_results ts self.now.source.now returned.now.flats.now)
+            (AreaIsBad max_flat_results ts self.now.source.now returned.now.flats.now returned.now.area
+            (G.memory guest.old).bytes)
             (G.memory guest.old) nodes.old result (G.memory guest.new) nodes.new out.new.items }
     {
         let Some(_) = self.types.count_within(types, 1) else {
@@ -152,11 +166,15 @@ impl Walk<'_> {
         requires small { size (record_type (fields_of_types self.now.types.now types.now)) ≤ 16777216 }
         requires short { length self.now.source.now < 2 ^ 32 }
         requires spilled { fits_flat max_flat_results (fields_of_types self.now.types.now types.now) ≡ false }
-        requires kinds { map kind_of returned.now.flats.now ≡ passed_kinds max_flat_results (fields_of_types self.now.types.now types.now) }
+        requires kinds { map kind_of returned.now.flats.now
+            ≡ passed_kinds max_flat_results (fields_of_types self.now.types.now types.now) }
         requires empty { out.old.items ≡ [] }
         ensures { let ts = fields_of_types self.now.types.now types.now in
-            WayEnds G.allocates (ResultWalk max_flat_results ts self.now.source.now returned.now.flats.now returned.now.area (G.memory guest.old).bytes)
-            (AddressFaulty max_flat_results ts self.now.source.now returned.now.flats.now) (AreaIsBad max_flat_results ts self.now.source.now returned.now.flats.now returned.now.area (G.memory guest.old).bytes)
+            WayEnds G.allocates (ResultWalk max_flat_results ts self.now.source.now returned.now.flats.now
+            returned.now.area (G.memory guest.old).bytes)
+            (AddressFaulty max_flat_results ts self.now.source.now returned.now.flats.now)
+            (AreaIsBad max_flat_results ts self.now.source.now returned.now.flats.now returned.now.area
+            (G.memory guest.old).bytes)
             (G.memory guest.old) nodes.old result (G.memory guest.new) nodes.new out.new.items }
     {
         let (size, align) = self.types.record_extent(types);

@@ -25,8 +25,8 @@ pub struct RawComponent {
 
 impl RawComponent {
     /// A component of these parts, exactly where bytes of some length spell it, as some do where validation accepts the
-    /// parts. Else the first fault in the order of the bytes, with place 0: 13 with `03` for an import in an instance type,
-    /// 15, 16 or 17; 21 where memory is wanting. The length of 1,048,576 bytes is no limit here. (Binary.md)
+    /// parts. Else the first fault in the order of the bytes, with place 0: 13 with `03` for an import in an instance
+    /// type, 15, 16 or 17; 21 where memory is wanting. The length of 1,048,576 bytes is no limit here. (Binary.md)
     pub fn new(
         alloc: Global,
         types: Vec<RawType>,
@@ -34,8 +34,10 @@ impl RawComponent {
     ) -> Result<RawComponent, BinError>
         ensures types { IfOk result (λ c. c.types ≡ types) }
         ensures exports { IfOk result (λ c. c.exports ≡ exports) }
-        ensures only { IsSpellable (parts_file types exports) → MatchResult result (λ _. Unit {0}) (λ e. e ≡ BinError.NoMemory) }
-        ensures accepted { IsAccepted (parts_file types exports) → MatchResult result (λ _. Unit {0}) (λ e. e ≡ BinError.NoMemory) }
+        ensures only { IsSpellable (parts_file types exports)
+            → MatchResult result (λ _. Unit {0}) (λ e. e ≡ BinError.NoMemory) }
+        ensures accepted { IsAccepted (parts_file types exports)
+            → MatchResult result (λ _. Unit {0}) (λ e. e ≡ BinError.NoMemory) }
         ensures err { IfErr result (λ e. ComponentRefuses (parts_file types exports) e) }
     {
         let Ok(bytes) = spelling(alloc, types.as_slice(), exports.as_slice()) else {
@@ -45,8 +47,9 @@ impl RawComponent {
         Ok(RawComponent::of(types, exports))
     }
 
-    /// A component of parts that validation accepts, and the shortest bytes that spell it, which `decode` reads as it where
-    /// there are no more than 1,048,576. No memory, too, where a section would have 2^32 bytes or more. (Binary.md)
+    /// A component of parts that validation accepts, and the shortest bytes that spell it, which `decode` reads as it
+    /// where there are no more than 1,048,576. No memory, too, where a section would have 2^32 bytes or more.
+    /// (Binary.md)
     pub fn with_bytes(
         alloc: Global,
         types: Vec<RawType>,
@@ -89,7 +92,8 @@ impl RawComponent {
 /// Reads what was written of a component's parts, and so finds the first fault in them, which has no place.
 fn reread(alloc: Global, bytes: &[u8]) -> Result<(), BinError>
     requires { (f : BinaryFile) × (bytes.now ≡ file_bytes f) × FormedFile f }
-    ensures { (f : BinaryFile) → bytes.now ≡ file_bytes f → FormedFile f → MatchResult result (λ _. ∥ IsSpellable f ∥₁) (λ e. ComponentRefuses f e) }
+    ensures { (f : BinaryFile) → bytes.now ≡ file_bytes f → FormedFile f
+        → MatchResult result (λ _. ∥ IsSpellable f ∥₁) (λ e. ComponentRefuses f e) }
 {
     match parts_of(alloc, bytes) {
         Ok(_) => Ok(()),

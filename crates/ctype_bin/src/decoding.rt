@@ -42,7 +42,8 @@ fn decode_bytes(alloc: Global, bytes: &[u8]) -> Result<RawComponent, BinError>
 /// The component that the bytes spell, all of them, or the first fault from left to right with its place: 10 to 19, 22
 /// and 23, among them 17 at 1,048,576 for more bytes than that; 21 where memory is wanting. (Binary.md)
 pub fn decode(alloc: Global, bytes: &[u8]) -> Result<RawComponent, BinError>
-    ensures spelt { IfOk result (λ c. (length bytes.now ≤ 1048576) × component_file.spells bytes.now (raw_component_view c)) }
+    ensures spelt { IfOk result (λ c. (length bytes.now ≤ 1048576)
+        × component_file.spells bytes.now (raw_component_view c)) }
     ensures only { (f : BinaryFile) → length bytes.now ≤ 1048576 → component_file.spells bytes.now f
         → MatchResult result (λ c. raw_component_view c ≡ f) (λ e. e ≡ BinError.NoMemory) }
     ensures first { IfErr result (λ e. FaultyBinary bytes.now e) }
@@ -57,12 +58,14 @@ pub fn decode(alloc: Global, bytes: &[u8]) -> Result<RawComponent, BinError>
 pub fn decode_from<R: Source>(alloc: Global, reader: &mut R) -> Result<RawComponent, BinError>
     requires { R.has_failed reader.old ≡ false }
     ensures decoded { IfSome (R.remaining reader.old) (λ bytes. DecodesOrReads raw_component_view result bytes) }
-    ensures cut { (bytes : List ℕ) × ReadsUpTo 1048576 (R.remaining reader.old) bytes × DecodesOrReads raw_component_view result bytes }
+    ensures cut { (bytes : List ℕ) × ReadsUpTo 1048576 (R.remaining reader.old) bytes
+        × DecodesOrReads raw_component_view result bytes }
     ensures failed { R.has_failed reader.new ≡ true → (n : ℕ) × (result ≡ Err (BinError.Read n)) }
     ensures read { (n : ℕ) → result ≡ Err (BinError.Read n) →
         ((R.has_failed reader.new ≡ true) × ConsumesMany (R.remaining reader.old) (R.remaining reader.new) n) }
     ensures rest { R.has_failed reader.new ≡ false → result ≢ Err BinError.NoMemory
-        → (bytes : List ℕ) × ReadsUpTo 1048576 (R.remaining reader.old) bytes × Consumes (R.remaining reader.old) (R.remaining reader.new) bytes }
+        → (bytes : List ℕ) × ReadsUpTo 1048576 (R.remaining reader.old) bytes
+        × Consumes (R.remaining reader.old) (R.remaining reader.new) bytes }
 {
     match read_up_to(alloc, reader, MAX_LENGTH) {
         Ok(bytes) => decode(alloc, &bytes),

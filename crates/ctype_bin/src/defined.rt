@@ -2,7 +2,9 @@
 ghost use Rattle.std.specs.Prelude.{◌≡◌, false};
 ghost use Rattle.atoms.specs.Production.{times};
 ghost use Rattle.ctype_format.specs.Bytes.{AnswersBytes};
-ghost use Rattle.ctype_format.specs.Grammar.{valtype, label, field, case, record_type, variant_type, list_type, tuple_type, flags_type, enum_type, option_type, result_entry, outcome, function_entry, plain_entry, is_nested};
+ghost use Rattle.ctype_format.specs.Grammar.{valtype, label, field, case, record_type, variant_type, list_type};
+ghost use Rattle.ctype_format.specs.Grammar.{tuple_type, flags_type, enum_type, option_type, result_entry, outcome};
+ghost use Rattle.ctype_format.specs.Grammar.{function_entry, plain_entry, is_nested};
 ghost use Rattle.ctype_format.specs.View.{type_view};
 
 use atoms::Label;

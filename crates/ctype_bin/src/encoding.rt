@@ -17,8 +17,10 @@ pub(crate) fn spelling(
     types: &[RawType],
     exports: &[RawExport],
 ) -> Result<Vec<u8>, AllocError>
-    ensures bytes { IfOk result (λ v. v.items ≡ file_bytes (record { types = map type_view types.now; exports = map export_view exports.now })) }
-    ensures formed { IfOk result (λ _. FormedFile (record { types = map type_view types.now; exports = map export_view exports.now })) }
+    ensures bytes { IfOk result (λ v. v.items
+        ≡ file_bytes (record { types = map type_view types.now; exports = map export_view exports.now })) }
+    ensures formed { IfOk result (λ _. FormedFile
+        (record { types = map type_view types.now; exports = map export_view exports.now })) }
 {
     let mut type_section = Vec::new(alloc);
     put_types(alloc, &mut type_section, types)?;

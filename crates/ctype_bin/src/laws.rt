@@ -33,8 +33,10 @@ pub fn faults_are_first()
 /// What is written of a type spells it where any bytes do, and is no longer; and what is written of a file spells it
 /// where any bytes do.
 pub fn spellings_are_rewritten()
-    ensures types { (depth : ℕ) (around : List ℕ) (scope : Scope) → Written (type depth around scope) (λ y. type_bytes y.0) }
-    ensures files { (bytes : List ℕ) (f : BinaryFile) → component_file.spells bytes f → component_file.spells (file_bytes f) f }
+    ensures types { (depth : ℕ) (around : List ℕ) (scope : Scope)
+        → Written (type depth around scope) (λ y. type_bytes y.0) }
+    ensures files { (bytes : List ℕ) (f : BinaryFile) → component_file.spells bytes f
+        → component_file.spells (file_bytes f) f }
 {}
 
 /// Each index of a file that is spelled is below the count of its space where it stands, and so is each index of a

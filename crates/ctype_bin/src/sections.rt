@@ -4,7 +4,9 @@ ghost use Rattle.atoms.specs.Production.{run, times, at_end};
 ghost use Rattle.ctype_format.specs.declared.error.Stuck.TheVariants.{Past, End};
 ghost use Rattle.ctype_format.specs.Bytes.{AnswersBytes, sized, in_section, StaysSmall};
 ghost use Rattle.ctype_format.specs.Grammar.{new_scope, IsScopeWithin};
-ghost use Rattle.ctype_format.specs.File.{exactly, preamble, custom_content, custom, head, section, custom_next, trailing, trailing_byte, trailing_fault, max_length, entry_of_type, type_section, exported, export_section, component_file};
+ghost use Rattle.ctype_format.specs.File.{exactly, preamble, custom_content, custom, head, section, custom_next};
+ghost use Rattle.ctype_format.specs.File.{trailing, trailing_byte, trailing_fault, max_length, entry_of_type};
+ghost use Rattle.ctype_format.specs.File.{type_section, exported, export_section, component_file};
 ghost use Rattle.ctype_format.specs.View.{type_view, export_view, parts_file};
 ghost use Rattle.ctype_bin.specs.FileView.{raw_component_view};
 
@@ -200,7 +202,8 @@ fn entries_of(
     count: u32,
     bytes: &[u8],
 ) -> Result<(Vec<RawType>, Scope, &[u8]), ItemError>
-    ensures { AnswersBytes (λ x. ((map type_view x.0.items, x.1), x.2.now)) result ((run entry_of_type count (new_scope 0)).read bytes.now) }
+    ensures { AnswersBytes (λ x. ((map type_view x.0.items, x.1), x.2.now)) result
+        ((run entry_of_type count (new_scope 0)).read bytes.now) }
 {
     let mut types = Vec::new(alloc);
     let mut scope = new_scope(0);
@@ -242,7 +245,8 @@ fn exports_of(
     count: u32,
     bytes: &[u8],
 ) -> Result<(Vec<RawExport>, &[u8]), ItemError>
-    ensures { AnswersBytes (λ x. (map export_view x.0.items, x.1.now)) result ((times count (exported types)).read bytes.now) }
+    ensures { AnswersBytes (λ x. (map export_view x.0.items, x.1.now)) result
+        ((times count (exported types)).read bytes.now) }
 {
     let mut exports = Vec::new(alloc);
     let mut rest = bytes;
@@ -272,7 +276,8 @@ fn types_within(
     size: u32,
     bytes: &[u8],
 ) -> Result<(Vec<RawType>, Scope, &[u8]), ItemError>
-    ensures { AnswersBytes (λ x. ((map type_view x.0.items, x.1), x.2.now)) result ((sized Past size type_section).read bytes.now) }
+    ensures { AnswersBytes (λ x. ((map type_view x.0.items, x.1), x.2.now)) result
+        ((sized Past size type_section).read bytes.now) }
 {
     let len = bytes.len();
     if size as usize > len {
@@ -297,7 +302,8 @@ fn exports_within(
     size: u32,
     bytes: &[u8],
 ) -> Result<(Vec<RawExport>, &[u8]), ItemError>
-    ensures { AnswersBytes (λ x. (map export_view x.0.items, x.1.now)) result ((sized Past size (export_section types)).read bytes.now) }
+    ensures { AnswersBytes (λ x. (map export_view x.0.items, x.1.now)) result
+        ((sized Past size (export_section types)).read bytes.now) }
 {
     let len = bytes.len();
     if size as usize > len {

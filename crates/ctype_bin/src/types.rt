@@ -3,7 +3,9 @@ ghost use Rattle.std.specs.Prelude.{◌≡◌, ◌<◌, ◌≤◌, ◌+◌, map,
 ghost use Rattle.atoms.specs.Production.{run};
 ghost use Rattle.ctype_format.specs.Bytes.{AnswersBytes};
 ghost use Rattle.ctype_format.specs.Raw.{Alias};
-ghost use Rattle.ctype_format.specs.Grammar.{IsScopeWithin, is_nested, left_out, opcode, new_scope, opcode_entry_fault, instance_alias, outer_type, alias_entry, description, external, is_decl, decl, nested, scope_of, type};
+ghost use Rattle.ctype_format.specs.Grammar.{IsScopeWithin, is_nested, left_out, opcode, new_scope, opcode_entry_fault};
+ghost use Rattle.ctype_format.specs.Grammar.{instance_alias, outer_type, alias_entry, description, external, is_decl};
+ghost use Rattle.ctype_format.specs.Grammar.{decl, nested, scope_of, type};
 ghost use Rattle.ctype_format.specs.View.{decl_view, type_view};
 
 use crate::defined::plain_of;
@@ -102,7 +104,8 @@ fn alias_of<'a>(
     bytes: &'a [u8],
 ) -> Result<(RawAlias, Scope, &'a [u8]), ItemError>
     requires { IsScopeWithin scope }
-    ensures reads { AnswersBytes (λ x. ((Alias x.0, x.1), x.2.now)) result ((alias_entry around.now scope).read bytes.now) }
+    ensures reads { AnswersBytes (λ x. ((Alias x.0, x.1), x.2.now)) result
+        ((alias_entry around.now scope).read bytes.now) }
     ensures within { IfOk result (λ x. IsScopeWithin x.1) }
     ensures more { IfOk result (λ x. scope.entries ≤ x.1.entries) }
     ensures instances { IfOk result (λ x. x.1.instances ≡ scope.instances) }
@@ -206,7 +209,8 @@ impl Nesting<'_> {
     ) -> Result<(RawDecl, Scope, &'a [u8]), ItemError>
         requires within { IsScopeWithin scope }
         requires instances { scope.instances < 4294967295 }
-        ensures reads { AnswersBytes (λ x. ((decl_view x.0, x.1), x.2.now)) result ((decl (type self.now.depth) component self.now.around.now scope).read bytes.now) }
+        ensures reads { AnswersBytes (λ x. ((decl_view x.0, x.1), x.2.now)) result
+            ((decl (type self.now.depth) component self.now.around.now scope).read bytes.now) }
         ensures within { IfOk result (λ x. IsScopeWithin x.1) }
         ensures more { IfOk result (λ x. scope.entries ≤ x.1.entries) }
         ensures instances { IfOk result (λ x. x.1.instances ≤ scope.instances + 1) }
@@ -238,7 +242,9 @@ impl Nesting<'_> {
         bytes: &'a [u8],
     ) -> Result<(Vec<RawDecl>, Scope, &'a [u8]), ItemError>
         requires { entries ≤ 65535 }
-        ensures reads { AnswersBytes (λ x. ((map decl_view x.0.items, x.1), x.2.now)) result ((run (decl (type self.now.depth) component self.now.around.now) count (new_scope entries)).read bytes.now) }
+        ensures reads { AnswersBytes (λ x. ((map decl_view x.0.items, x.1), x.2.now)) result
+            ((run (decl (type self.now.depth) component self.now.around.now) count (new_scope entries)).read
+            bytes.now) }
         ensures within { IfOk result (λ x. (entries ≤ x.1.entries) × (x.1.entries ≤ 65535)) }
     {
         let mut decls = Vec::new(self.alloc);
@@ -263,7 +269,8 @@ impl Nesting<'_> {
         bytes: &'a [u8],
     ) -> Result<(RawType, u32, &'a [u8]), ItemError>
         requires { entries ≤ 65535 }
-        ensures reads { AnswersBytes (λ x. ((type_view x.0, x.1), x.2.now)) result ((scope_of (type self.now.depth) opcode self.now.around.now entries).read bytes.now) }
+        ensures reads { AnswersBytes (λ x. ((type_view x.0, x.1), x.2.now)) result
+            ((scope_of (type self.now.depth) opcode self.now.around.now entries).read bytes.now) }
         ensures within { IfOk result (λ x. (entries ≤ x.1) × (x.1 ≤ 65535)) }
     {
         let component = matches!(opcode, Opcode::Component);
@@ -280,7 +287,8 @@ impl Nesting<'_> {
         bytes: &'a [u8],
     ) -> Result<(RawType, u32, &'a [u8]), ItemError>
         requires { IsScopeWithin scope }
-        ensures reads { AnswersBytes (λ x. ((type_view x.0, x.1), x.2.now)) result ((type self.now.depth self.now.around.now scope).read bytes.now) }
+        ensures reads { AnswersBytes (λ x. ((type_view x.0, x.1), x.2.now)) result
+            ((type self.now.depth self.now.around.now scope).read bytes.now) }
         ensures within { IfOk result (λ x. (scope.entries < x.1) × (x.1 ≤ 65535)) }
     {
         let (opcode, rest) = type_opcode_of(self.depth, scope.entries, bytes)?;

@@ -1,7 +1,8 @@
 //! Reading from left to right, up to the first fault: numbers, names and value types.
 ghost use Rattle.std.specs.Prelude.{◌≡◌, ◌<◌, length, IfOk};
 ghost use Rattle.ctype_format.specs.Bytes.{AnswersBytes, byte, u32, s33, is_negative};
-ghost use Rattle.ctype_format.specs.Grammar.{index, some, count_fault, some_upto, name, label, utf8, extern_name, zero_byte, flag_byte, primitive, type_index, valtype, optional_valtype};
+ghost use Rattle.ctype_format.specs.Grammar.{index, some, count_fault, some_upto, name, label, utf8, extern_name};
+ghost use Rattle.ctype_format.specs.Grammar.{zero_byte, flag_byte, primitive, type_index, valtype, optional_valtype};
 ghost use Rattle.std.specs.Str.{is_utf8};
 ghost use Rattle.ctype_format.specs.Names.{name_view};
 

@@ -1,6 +1,6 @@
-//! The component model's binary format (Binary.md): its productions, what a component type is made of, and how single items
-//! are read and whole ones written. `ctype_bin` reads and writes components by it. Stands on `atoms`, in whose productions the
-//! format is written, and on `simdutf8`.
+//! The component model's binary format (Binary.md): its productions, what a component type is made of, and how single
+//! items are read and whole ones written. `ctype_bin` reads and writes components by it. Stands on `atoms`, in whose
+//! productions the format is written, and on `simdutf8`.
 #![tactic(auto)]
 
 mod error;

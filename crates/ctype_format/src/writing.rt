@@ -2,8 +2,13 @@
 ghost use Rattle.std.specs.Prelude.{◌≡◌, ◌<◌, ◌++◌, ◌∷◌, [], length, IfOk, IfErr, OnOk};
 ghost use Rattle.ctype_format.specs.View.{defined_view, raw_function_view, type_view, decl_view, export_view};
 ghost use Rattle.ctype_format.specs.Names.{name_view};
-ghost use Rattle.ctype_format.specs.Writing.{u32_bytes, s33_bytes, counted, name_bytes, extern_bytes, primitive_byte, valtype_bytes, optional_bytes, field_bytes, case_bytes, defined_bytes, outcome_bytes, function_bytes, alias_bytes, description_bytes, type_bytes, decl_bytes, exported_bytes, section_bytes};
-ghost use Rattle.ctype_format.specs.Formed.{FitsU32, Counted, FormedLabel, FormedName, FormedValType, FormedOption, FormedField, FormedCase, FormedDefined, FormedFunction, FormedAlias, FormedDescription, FormedType, FormedDecl, FormedExport};
+ghost use Rattle.ctype_format.specs.Writing.{u32_bytes, s33_bytes, counted, name_bytes, extern_bytes, primitive_byte};
+ghost use Rattle.ctype_format.specs.Writing.{valtype_bytes, optional_bytes, field_bytes, case_bytes, defined_bytes};
+ghost use Rattle.ctype_format.specs.Writing.{outcome_bytes, function_bytes, alias_bytes, description_bytes, type_bytes};
+ghost use Rattle.ctype_format.specs.Writing.{decl_bytes, exported_bytes, section_bytes};
+ghost use Rattle.ctype_format.specs.Formed.{FitsU32, Counted, FormedLabel, FormedName, FormedValType, FormedOption};
+ghost use Rattle.ctype_format.specs.Formed.{FormedField, FormedCase, FormedDefined, FormedFunction, FormedAlias};
+ghost use Rattle.ctype_format.specs.Formed.{FormedDescription, FormedType, FormedDecl, FormedExport};
 
 use crate::name::ExternName;
 use crate::raw::{
@@ -294,7 +299,8 @@ fn put_external(
     name: &ExternName,
     description: RawDescription,
 ) -> Result<(), AllocError>
-    ensures bytes { OnOk result (out.new.items ≡ out.old.items ++ (extern_bytes (name_view name.now) ++ description_bytes description)) }
+    ensures bytes { OnOk result (out.new.items ≡ out.old.items
+        ++ (extern_bytes (name_view name.now) ++ description_bytes description)) }
     ensures formed { OnOk result (FormedName (name_view name.now) × FormedDescription description) }
 {
     put_extern_name(alloc, out, name)?;
@@ -386,7 +392,8 @@ pub fn put_exports(
     out: &mut Vec<u8>,
     exports: &[RawExport],
 ) -> Result<(), AllocError>
-    ensures bytes { OnOk result (out.new.items ≡ out.old.items ++ counted (λ e. exported_bytes (export_view e)) exports.now) }
+    ensures bytes { OnOk result (out.new.items ≡ out.old.items
+        ++ counted (λ e. exported_bytes (export_view e)) exports.now) }
     ensures formed { OnOk result (Counted (λ e. FormedExport (export_view e)) exports.now) }
 {
     put_count(out, exports.len())?;

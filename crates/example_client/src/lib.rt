@@ -19,8 +19,8 @@ pub fn takes_order(alloc: Global, package: &Package, func: FunctionId) -> bool
     package.takes(func, &[Val::String(String::new(alloc)), Val::U32(0)])
 }
 
-/// Orders an item. If it answers, the body found just this item and this count, was run once on them, and answered this. Whatever the
-/// body did and however the call ended, what was live in the caller before it has the same bytes.
+/// Orders an item. If it answers, the body found just this item and this count, was run once on them, and answered
+/// this. Whatever the body did and however the call ended, what was live in the caller before it has the same bytes.
 pub fn order<B: Body<Space>>(
     alloc: Global,
     session: &mut Session<'_, Space, Space, B>,
@@ -31,7 +31,8 @@ pub fn order<B: Body<Space>>(
     requires function { IsFunction session.old.package.now.resolve func }
     requires takes { TakesOrder (function_type session.old.package.now.resolve func) }
     ensures found { IfOk result (λ v. FindsOrder (string_bytes item) count
-        (function_type session.old.package.now.resolve func) (option_map value_of v) (B.runs session.old.body) (B.posts session.old.body)
+        (function_type session.old.package.now.resolve func) (option_map value_of v) (B.runs session.old.body)
+        (B.posts session.old.body)
         (B.state session.old.body) (B.state session.new.body) (space_memory session.new.callee)) }
     ensures kept { KeepsLiveRanges (space_memory session.old.caller) (space_memory session.new.caller) }
 {

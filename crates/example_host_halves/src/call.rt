@@ -27,12 +27,12 @@ fn stopped(step: Step) -> HalfError
 
 /// Calls a function of the package, whose core function the host runs itself.
 ///
-/// If it answers, the core function made one run, on flat values that denote exactly the caller's arguments in the callee's memory. Post-return
-/// made one run after it, and the caller holds exactly what the core function answered. Otherwise the call ended at the step of the
-/// fault, and no later step took place.
+/// If it answers, the core function made one run, on flat values that denote exactly the caller's arguments in the
+/// callee's memory. Post-return made one run after it, and the caller holds exactly what the core function answered.
+/// Otherwise the call ended at the step of the fault, and no later step took place.
 ///
-/// Each allocator changes its own four bytes. Beside these no byte of the callee is changed before the run but in blocks that were granted,
-/// and no byte of the caller at any time but in such blocks and in the return area.
+/// Each allocator changes its own four bytes. Beside these no byte of the callee is changed before the run but in
+/// blocks that were granted, and no byte of the caller at any time but in such blocks and in the return area.
 pub fn call<F: CoreFunction>(
     alloc: Global,
     types: &Types,
@@ -45,7 +45,8 @@ pub fn call<F: CoreFunction>(
     requires function { IsFunction types.now invocation.now.func }
     requires short { length caller.old < 4294967296 }
     requires limited { length callee.old < 4294967296 }
-    ensures promise { MakesCall (F.runs core.now) (F.posts core.now) (function_type types.now invocation.now.func) invocation.now.flats.now
+    ensures promise { MakesCall (F.runs core.now) (F.posts core.now) (function_type types.now invocation.now.func)
+        invocation.now.flats.now
         caller.old callee.old result caller.new callee.new }
 {
     // The laws that the promise rests on.

@@ -7,20 +7,21 @@ use adapter::Stopped;
 use canonical_abi::{Callee, Flat};
 use lift_lower::FlatResults;
 
-/// The callee's core function and its post-return, which an engine runs over the bytes of the callee's memory. They may make the runs that
-/// `Callee` tells, whatever is live in the memory, and keep nothing but what they write there.
+/// The callee's core function and its post-return, which an engine runs over the bytes of the callee's memory. They may
+/// make the runs that `Callee` tells, whatever is live in the memory, and keep nothing but what they write there.
 pub trait CoreFunction: Callee {
     /// Runs the core function on these flat values.
     fn run(&self, memory: &mut [u8], arguments: &[Flat]) -> Result<FlatResults, Stopped>
-        ensures { RunsOnBytes (Self.runs self.now) memory.old arguments.now memory.new (option_map (λ flats. flats.items) (result_ok result)) };
+        ensures { RunsOnBytes (Self.runs self.now) memory.old arguments.now memory.new
+            (option_map (λ flats. flats.items) (result_ok result)) };
 
     /// Runs the post-return on what the core function answered.
     fn post_return(&self, memory: &mut [u8], answer: &[Flat]) -> Result<(), Stopped>
         ensures { PostsOnBytes (Self.posts self.now) memory.old answer.now memory.new (result_ok result) };
 }
 
-/// `double: func(xs: list<u8>) -> list<u8>`. It doubles each byte of the list where it lies, and writes the list's address and its length
-/// to 8, which it answers. It stops if the memory is too short.
+/// `double: func(xs: list<u8>) -> list<u8>`. It doubles each byte of the list where it lies, and writes the list's
+/// address and its length to 8, which it answers. It stops if the memory is too short.
 #[derive(Drop)]
 pub struct Doubling;
 

@@ -44,8 +44,9 @@ pub fn grant(alloc: Global, memory: &mut [u8], requests: &[Request]) -> Vec<Bloc
     blocks
 }
 
-/// These blocks, if they can be handed out of a memory of `len` bytes beside a place that is lent. Otherwise the allocator is wrong, and
-/// there are none. Nor are there any if they don't rise, and the host has no memory to test them.
+/// These blocks, if they can be handed out of a memory of `len` bytes beside a place that is lent. Otherwise the
+/// allocator is wrong, and there are none. Nor are there any if they don't rise, and the host has no memory to test
+/// them.
 pub fn lendable<'a>(alloc: Global, len: usize, place: &Block, blocks: &'a [Block]) -> &'a [Block]
     ensures good { IsTrue (are_good len result.now) }
     ensures beside { IsTrue (list_all (is_apart place.now) result.now) }

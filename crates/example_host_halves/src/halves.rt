@@ -17,8 +17,8 @@ const MOST: usize = 8;
 
 const NOTHING: Request = Request { align: 1, size: 0 };
 
-/// The first half: the callee's allocator grants what the arguments need, and they are put there. Answers the flat values that the core
-/// function is to be run on.
+/// The first half: the callee's allocator grants what the arguments need, and they are put there. Answers the flat
+/// values that the core function is to be run on.
 pub fn enter(
     alloc: Global,
     types: &Types,
@@ -30,7 +30,8 @@ pub fn enter(
     requires function { IsFunction types.now invocation.now.func }
     requires short { length caller.old < 4294967296 }
     requires limited { length callee.old < 4294967296 }
-    ensures entered { EntersCall (function_type types.now invocation.now.func) invocation.now.flats.now caller.old callee.old result callee.new }
+    ensures entered { EntersCall (function_type types.now invocation.now.func) invocation.now.flats.now caller.old
+        callee.old result callee.new }
     ensures same_caller { caller.new ≡ caller.old }
 {
     let mut slots = [NOTHING; MOST];
@@ -50,8 +51,8 @@ pub fn enter(
     Ok(handed)
 }
 
-/// The second half: the caller's allocator grants what the core function's answer needs, and the answer is put there, and into the return
-/// area. Answers the flat values that the caller is given.
+/// The second half: the caller's allocator grants what the core function's answer needs, and the answer is put there,
+/// and into the return area. Answers the flat values that the caller is given.
 pub fn leave(
     alloc: Global,
     types: &Types,
@@ -64,7 +65,8 @@ pub fn leave(
     requires function { IsFunction types.now invocation.now.func }
     requires short { length callee.old < 4294967296 }
     requires limited { length caller.old < 4294967296 }
-    ensures left { LeavesCall (function_type types.now invocation.now.func) invocation.now.flats.now callee.old answer.now caller.old result caller.new }
+    ensures left { LeavesCall (function_type types.now invocation.now.func) invocation.now.flats.now callee.old
+        answer.now caller.old result caller.new }
     ensures same_callee { callee.new ≡ callee.old }
 {
     let mut slots = [NOTHING; MOST];

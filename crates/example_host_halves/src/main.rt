@@ -1,9 +1,10 @@
-//! A host that runs core functions itself, over two memories of its own: it calls in the halves of `host_calls`, and prints what the caller is
-//! given.
+//! A host that runs core functions itself, over two memories of its own: it calls in the halves of `host_calls`, and
+//! prints what the caller is given.
 //!
-//! The steps of a call are those of docs/LIBRARY.md: request the blocks, grant them, enter, run, and the same way back. `call` has them in
-//! order, and its contract has the promise of the call, by the law `halves_keep_promise` of `canonical_abi`. The allocators run in the two
-//! memories, and what they grant is tested before it is handed out. Nothing is asked of the core function.
+//! The steps of a call are those of docs/LIBRARY.md: request the blocks, grant them, enter, run, and the same way back.
+//! `call` has them in order, and its contract has the promise of the call, by the law `halves_keep_promise` of
+//! `canonical_abi`. The allocators run in the two memories, and what they grant is tested before it is handed out.
+//! Nothing is asked of the core function.
 #![tactic(auto)]
 
 mod call;

@@ -18,8 +18,9 @@ use lift_lower::Types;
 use memory::Lent;
 use tables::FunctionId;
 
-/// Tells in `slots` what the first half will ask the callee for, in its order, as many requests as there is room for, and answers how many
-/// there are in all. If the flat values denote no arguments, it answers the fault, and 76 if they ask for more than `limit` bytes.
+/// Tells in `slots` what the first half will ask the callee for, in its order, as many requests as there is room for,
+/// and answers how many there are in all. If the flat values denote no arguments, it answers the fault, and 76 if they
+/// ask for more than `limit` bytes.
 pub fn request_arguments(
     types: &Types,
     invocation: &Invocation<'_>,
@@ -31,9 +32,12 @@ pub fn request_arguments(
     requires function { IsFunction types.now invocation.now.func }
     requires short { length caller.old < 4294967296 }
     ensures told { let f = function_type types.now invocation.now.func in
-        IfOk result (IsToldAhead (AreArguments f invocation.now.flats.now (source caller.old)) (params_requests max_flat_params f.params) limit slots.old slots.new) }
+        IfOk result (IsToldAhead (AreArguments f invocation.now.flats.now (source caller.old))
+        (params_requests max_flat_params f.params) limit slots.old slots.new) }
     ensures fault { let f = function_type types.now invocation.now.func in
-        IfErr result (IsUnasked LiftArgs (AreArguments f invocation.now.flats.now (source caller.old)) (IsArgumentFault f invocation.now.flats.now (source caller.old)) (params_requests max_flat_params f.params) limit) }
+        IfErr result (IsUnasked LiftArgs (AreArguments f invocation.now.flats.now (source caller.old))
+        (IsArgumentFault f invocation.now.flats.now (source caller.old)) (params_requests max_flat_params f.params)
+        limit) }
     ensures same_caller { caller.new ≡ caller.old }
 {
     let lent = Lent::new(caller, &[]);
@@ -54,9 +58,11 @@ pub fn request_answer(
     requires function { IsFunction types.now func }
     requires short { length callee.old < 4294967296 }
     ensures told { let fs = result_fields (function_type types.now func).result in
-        IfOk result (IsToldAhead (Denotes max_flat_results fs callee.old answer.now) (fields_requests fs) limit slots.old slots.new) }
+        IfOk result (IsToldAhead (Denotes max_flat_results fs callee.old answer.now) (fields_requests fs) limit
+        slots.old slots.new) }
     ensures fault { let fs = result_fields (function_type types.now func).result in
-        IfErr result (IsUnasked LiftResult (Denotes max_flat_results fs callee.old answer.now) (DenotesFault max_flat_results fs callee.old answer.now) (fields_requests fs) limit) }
+        IfErr result (IsUnasked LiftResult (Denotes max_flat_results fs callee.old answer.now)
+        (DenotesFault max_flat_results fs callee.old answer.now) (fields_requests fs) limit) }
     ensures same_callee { callee.new ≡ callee.old }
 {
     let lent = Lent::new(callee, &[]);

@@ -19,7 +19,8 @@ const SHELF: &str =
     "package demo:shelf@1.0.0; interface books { record book { title: string, pages: u16 } }";
 
 const SHOP: &str =
-    "package demo:shop; interface sales { use demo:shelf/books@1.0.0.{book}; sold: func(b: book); } world till { export count: func(titles: list<string>, more: u32) -> u32; }";
+    "package demo:shop; interface sales { use demo:shelf/books@1.0.0.{book}; sold: func(b: book); } \
+     world till { export count: func(titles: list<string>, more: u32) -> u32; }";
 
 fn main(rt: HostRuntime) -> ExitCode {
     match print_all(&rt) {

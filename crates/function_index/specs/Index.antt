@@ -14,6 +14,7 @@ use Rattle.tables.specs.declared.tables.Resolve.{Resolve}
 abbrev pub named : {V : Type 0} → String Global × V → List ℕ × V
 named e = (string_bytes e.0, e.1)
 
+-- the function of this name among those of one interface, if there is the interface
 abbrev pub function_among : Option (List (List ℕ × FunctionId)) → List ℕ → Option FunctionId
 function_among None name = None
 function_among (Some functions) name = lookup (bytes_eq name) functions
@@ -29,6 +30,7 @@ pub record Candidate : Type 0 where
   pub interface : List ℕ
   pub row : FunctionId
 
+-- functions under the full name of the interface that has them
 abbrev pub under : List ℕ → List FunctionId → List Candidate
 under iface fs = map (λ f. record { interface = iface; row = f }) fs
 
@@ -37,6 +39,7 @@ abbrev pub candidates : Resolve → List Interface → List Candidate
 candidates r [] = []
 candidates r (i ∷ is) = under (full_name r i) i.functions ++ candidates r is
 
+-- there is a name, and it is this one
 abbrev pub is_name : List ℕ → Option (List ℕ) → Bool
 is_name name None = false
 is_name name (Some other) = bytes_eq name other
@@ -46,6 +49,7 @@ abbrev pub first_named : Resolve → List Candidate → List ℕ → List ℕ �
 first_named r [] iface name = None
 first_named r (c ∷ cs) iface name = if bytes_eq iface c.interface && is_name name (function_name r c.row) then Some c.row else first_named r cs iface name
 
+-- under a full name and a name stands the first of these rows that has them
 abbrev pub IsIndexOver : Resolve → List Candidate → List (List ℕ × List (List ℕ × FunctionId)) → Type 0
 IsIndexOver r cs x = (iface name : List ℕ) → function_in x iface name ≡ first_named r cs iface name
 

@@ -1,5 +1,6 @@
 //! Functions of a table by the full names of their interfaces and by their own.
-ghost use Rattle.std.specs.Prelude.{◌≡◌, ◌++◌, ◌∷◌, ◌&&◌, [], List, ℕ, None, Some, IfOk, OnOk, IfSome, IfNone, if◌then◌else◌};
+ghost use Rattle.std.specs.Prelude.{◌≡◌, ◌++◌, ◌∷◌, ◌&&◌, [], List, ℕ, None, Some, IfOk, OnOk, IfSome, IfNone};
+ghost use Rattle.std.specs.Prelude.{if◌then◌else◌};
 ghost use Rattle.std.specs.Option.{option_or};
 ghost use Rattle.std.specs.Str.{bytes_eq};
 ghost use Rattle.tables.specs.Closed.{IsFunction};
@@ -18,8 +19,8 @@ use tables::{FunctionId, Resolve};
 
 /// The functions of a table, found by the full name of an interface and a name without a walk over the table.
 ///
-/// It has a copy of each full name and each name, and doesn't borrow the table. The names' hashers have a key that is made
-/// of these names, so that none who writes a package can choose names that collide.
+/// It has a copy of each full name and each name, and doesn't borrow the table. The names' hashers have a key that is
+/// made of these names, so that none who writes a package can choose names that collide.
 #[derive(Drop)]
 pub struct FunctionIndex {
     interfaces: IndexMap<String, NamedFunctions, KeyedState>,
@@ -54,7 +55,8 @@ impl FunctionIndex {
         func: FunctionId,
     ) -> Result<(), AllocError>
         ensures { OnOk result ((i n : List ℕ) → function_in self.new i n
-            ≡ option_or (function_in self.old i n) (if bytes_eq i interface.now && bytes_eq n name.now then Some func else None)) }
+            ≡ option_or (function_in self.old i n)
+            (if bytes_eq i interface.now && bytes_eq n name.now then Some func else None)) }
     {
         if let Some(functions) = self.interfaces.get_mut(interface) {
             return functions.put(alloc, name, func);
@@ -127,7 +129,8 @@ impl FunctionIndex {
         ensures value { result ≡ function_in self.now iface.now name.now }
         ensures found { (r : Resolve) → IsIndexOf r self.now → IfSome result (IsNamed r iface.now name.now) }
         ensures function { (r : Resolve) → IsIndexOf r self.now → IfSome result (IsFunction r) }
-        ensures none { (r : Resolve) → IsIndexOf r self.now → IfNone result ((f : FunctionId) → ¬ IsNamed r iface.now name.now f) }
+        ensures none { (r : Resolve) → IsIndexOf r self.now
+            → IfNone result ((f : FunctionId) → ¬ IsNamed r iface.now name.now f) }
     {
         self.look_up(iface, name)
     }

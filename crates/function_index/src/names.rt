@@ -43,7 +43,8 @@ impl NamedFunctions {
         name: &Label,
         func: FunctionId,
     ) -> Result<NamedFunctions, AllocError>
-        ensures { IfOk result (λ f. (n : List ℕ) → lookup (bytes_eq n) f ≡ (if bytes_eq n name.now then Some func else None)) }
+        ensures { IfOk result (λ f. (n : List ℕ)
+            → lookup (bytes_eq n) f ≡ (if bytes_eq n name.now then Some func else None)) }
     {
         let mut functions = NamedFunctions::empty(alloc, keyed);
         functions.put(alloc, name, func)?;

@@ -39,8 +39,8 @@ fn area_len(types: &Types, func: FunctionId) -> u32
     }
 }
 
-/// The return area of a call, as a block that others may meet: the address behind the flat values of the arguments, with the bytes of the
-/// result, of which there are none where it goes flat.
+/// The return area of a call, as a block that others may meet: the address behind the flat values of the arguments,
+/// with the bytes of the result, of which there are none where it goes flat.
 pub fn return_area(types: &Types, func: FunctionId, flats: &[Flat]) -> Block
     requires within { ∥ AreWithin types.now ∥₁ }
     requires function { IsFunction types.now func }
@@ -59,7 +59,9 @@ impl Half<'_> {
     pub(crate) fn can_return(&self, flats: &[Flat], len: usize) -> Result<bool, AllocError>
         requires within { ∥ AreWithin self.now.types.now ∥₁ }
         requires function { IsFunction self.now.types.now self.now.func }
-        ensures can { IfOk result (λ can. can ≡ can_lend len (area_block (function_type self.now.types.now self.now.func) flats.now) self.now.blocks.now) }
+        ensures can { IfOk result (λ can. can
+            ≡ can_lend len (area_block (function_type self.now.types.now self.now.func) flats.now)
+            self.now.blocks.now) }
         ensures memory { IfErr result (λ _. rise 0 self.now.blocks.now ≡ false) }
     {
         if self.blocks.is_empty() {

@@ -9,7 +9,8 @@ ghost use Rattle.adapter.specs.Plain.{AreOwn, PassAsTheyAre};
 ghost use Rattle.canonical_abi.specs.Types.{result_fields};
 ghost use Rattle.canonical_abi.specs.Call.{KindsFit};
 ghost use Rattle.canonical_abi.specs.declared.trap.Step.TheVariants.{LiftArgs};
-ghost use Rattle.host_calls.specs.Calling.{AnswerFits, AreTooMany, AreOtherKinds, IsOtherAnswer, of_half, EnterDone, LeaveDone, EnterAsks, LeaveAsks};
+ghost use Rattle.host_calls.specs.Calling.{AnswerFits, AreTooMany, AreOtherKinds, IsOtherAnswer, of_half, EnterDone};
+ghost use Rattle.host_calls.specs.Calling.{LeaveDone, EnterAsks, LeaveAsks};
 
 use crate::error::CallError;
 use crate::half::{Half, NOWHERE};
@@ -29,7 +30,8 @@ type Few = ArrayVec<Flat, 4>;
 pub fn function_of(types: &Types, number: u32) -> Result<FunctionId, CallError>
     ensures number { IfOk result (λ f. f.0 ≡ number) }
     ensures function { IfOk result (IsFunction types.now) }
-    ensures none { IfErr result (λ e. (e ≡ CallError.NoFunction) × ((f : FunctionId) → f.0 ≡ number → IsFunction types.now f → ⊥)) }
+    ensures none { IfErr result (λ e. (e ≡ CallError.NoFunction)
+        × ((f : FunctionId) → f.0 ≡ number → IsFunction types.now f → ⊥)) }
 {
     let func = FunctionId(number);
     if types.resolve().is_function(func) {
@@ -48,7 +50,8 @@ fn core_signature(step: Step) -> CallError
     }))
 }
 
-/// Puts core values as flat values where there were none; a trap of their number where they are more than any core function takes.
+/// Puts core values as flat values where there were none; a trap of their number where they are more than any core
+/// function takes.
 fn put_values(values: &[Value], flats: &mut Flats, step: Step) -> Result<(), CallError>
     requires empty { flats.old.items ≡ [] }
     ensures ok { OnOk result (flats.new.items ≡ map flat_of values.now) }
@@ -96,13 +99,14 @@ fn fit_answer(types: &Types, func: FunctionId, answer: &[Flat]) -> Result<(), Ca
     Err(core_signature(Step::LiftResult))
 }
 
-/// Tests that core values are those of a whole call, the return area's address behind the arguments: K8 in `lift-args` if they are of another
-/// number or kind.
+/// Tests that core values are those of a whole call, the return area's address behind the arguments: K8 in `lift-args`
+/// if they are of another number or kind.
 pub fn begin(types: &Types, func: FunctionId, flats: &[Value]) -> Result<(), CallError>
     requires function { IsFunction types.now func }
     ensures ok { OnOk result (KindsFit (function_type types.now func) (map flat_of flats.now)) }
     ensures few { OnOk result (length flats.now ≤ 17) }
-    ensures err { IfErr result (λ e. AreTooMany flats.now LiftArgs e ⊎ AreOtherKinds (function_type types.now func) (map flat_of flats.now) LiftArgs e) }
+    ensures err { IfErr result (λ e. AreTooMany flats.now LiftArgs e
+        ⊎ AreOtherKinds (function_type types.now func) (map flat_of flats.now) LiftArgs e) }
 {
     let mut values = Flats::new();
     put_values(flats, &mut values, Step::LiftArgs)?;
@@ -133,7 +137,8 @@ impl Half<'_> {
         requires kinds { KindsFit (function_type self.now.types.now self.now.func) flats.now }
         requires room { 17 ≤ length handed.old }
         ensures done { (values : List Value) → flats.now ≡ map flat_of values
-            → EnterDone (function_type self.now.types.now self.now.func) values caller.old callee.old self.now.blocks.now handed.old result callee.new handed.new }
+            → EnterDone (function_type self.now.types.now self.now.func) values caller.old callee.old
+            self.now.blocks.now handed.old result callee.new handed.new }
         ensures same_caller { caller.new ≡ caller.old }
     {
         if u32::try_from(caller.len()).is_err() {
@@ -158,7 +163,8 @@ impl Half<'_> {
         requires function { IsFunction self.now.types.now self.now.func }
         requires room { 17 ≤ length handed.old }
         ensures done { (values : List Value) → flats.now ≡ map flat_of values
-            → EnterDone (function_type self.now.types.now self.now.func) values caller.old callee.old self.now.blocks.now handed.old result callee.new handed.new }
+            → EnterDone (function_type self.now.types.now self.now.func) values caller.old callee.old
+            self.now.blocks.now handed.old result callee.new handed.new }
         ensures same_caller { caller.new ≡ caller.old }
     {
         if are_plain(self.types, self.func, flats) {
@@ -182,11 +188,12 @@ impl Half<'_> {
         }
     }
 
-    /// The first half of a call: puts the arguments into the callee's blocks, and tells the core values for its core function at the front of
-    /// `handed`, which has room for 17 whatever the function. Answers how many they are. `flats` are those of a whole call, the return area's address
-    /// behind the arguments. The caller is only read. 71 if there is no room; K8 if the values are of another number or kind; 72 if the blocks
-    /// can't be handed out or the caller has 2^32 bytes or more; 66 if the blocks don't rise and no memory is left to test them; 73 if a block
-    /// has another size or alignment than was asked for, and the blocks before it were written to; otherwise a trap.
+    /// The first half of a call: puts the arguments into the callee's blocks, and tells the core values for its core
+    /// function at the front of `handed`, which has room for 17 whatever the function. Answers how many they are.
+    /// `flats` are those of a whole call, the return area's address behind the arguments. The caller is only read. 71
+    /// if there is no room; K8 if the values are of another number or kind; 72 if the blocks can't be handed out or the
+    /// caller has 2^32 bytes or more; 66 if the blocks don't rise and no memory is left to test them; 73 if a block has
+    /// another size or alignment than was asked for, and the blocks before it were written to; otherwise a trap.
     pub fn enter(
         &self,
         flats: &[Value],
@@ -196,7 +203,8 @@ impl Half<'_> {
     ) -> Result<usize, CallError>
         requires within { ∥ AreWithin self.now.types.now ∥₁ }
         requires function { IsFunction self.now.types.now self.now.func }
-        ensures done { EnterDone (function_type self.now.types.now self.now.func) flats.now caller.old callee.old self.now.blocks.now handed.old result callee.new handed.new }
+        ensures done { EnterDone (function_type self.now.types.now self.now.func) flats.now caller.old callee.old
+            self.now.blocks.now handed.old result callee.new handed.new }
         ensures same_caller { caller.new ≡ caller.old }
     {
         room_in(handed)?;
@@ -225,7 +233,8 @@ impl Half<'_> {
         requires own { AreOwn (result_fields (function_type self.now.types.now self.now.func).result) answer.now }
         requires few { length answer.now ≤ 1 }
         ensures done { (values answers : List Value) → flats.now ≡ map flat_of values → answer.now ≡ map flat_of answers
-            → LeaveDone (function_type self.now.types.now self.now.func) values callee.old answers caller.old self.now.blocks.now back.old result caller.new back.new }
+            → LeaveDone (function_type self.now.types.now self.now.func) values callee.old answers caller.old
+            self.now.blocks.now back.old result caller.new back.new }
         ensures same_callee { callee.new ≡ callee.old }
     {
         if u32::try_from(callee.len()).is_err() {
@@ -252,7 +261,8 @@ impl Half<'_> {
         requires room { 17 ≤ length back.old }
         requires kinds { KindsFit (function_type self.now.types.now self.now.func) flats.now }
         ensures done { (values answers : List Value) → flats.now ≡ map flat_of values → answer.now ≡ map flat_of answers
-            → LeaveDone (function_type self.now.types.now self.now.func) values callee.old answers caller.old self.now.blocks.now back.old result caller.new back.new }
+            → LeaveDone (function_type self.now.types.now self.now.func) values callee.old answers caller.old
+            self.now.blocks.now back.old result caller.new back.new }
         ensures same_callee { callee.new ≡ callee.old }
     {
         fit_answer(self.types, self.func, answer)?;
@@ -286,7 +296,8 @@ impl Half<'_> {
         requires function { IsFunction self.now.types.now self.now.func }
         requires room { 17 ≤ length back.old }
         ensures done { (values : List Value) → flats.now ≡ map flat_of values
-            → LeaveDone (function_type self.now.types.now self.now.func) values callee.old answer.now caller.old self.now.blocks.now back.old result caller.new back.new }
+            → LeaveDone (function_type self.now.types.now self.now.func) values callee.old answer.now caller.old
+            self.now.blocks.now back.old result caller.new back.new }
         ensures same_callee { callee.new ≡ callee.old }
     {
         fit(self.types, self.func, flats, Step::LowerResult)?;
@@ -318,7 +329,8 @@ impl Half<'_> {
     ) -> Result<usize, CallError>
         requires within { ∥ AreWithin self.now.types.now ∥₁ }
         requires function { IsFunction self.now.types.now self.now.func }
-        ensures done { LeaveDone (function_type self.now.types.now self.now.func) flats.now callee.old answer.now caller.old self.now.blocks.now back.old result caller.new back.new }
+        ensures done { LeaveDone (function_type self.now.types.now self.now.func) flats.now callee.old answer.now
+            caller.old self.now.blocks.now back.old result caller.new back.new }
         ensures same_callee { callee.new ≡ callee.old }
     {
         room_in(back)?;
@@ -346,7 +358,8 @@ pub fn enter_requests(
 ) -> Result<usize, CallError>
     requires within { ∥ AreWithin types.now ∥₁ }
     requires function { IsFunction types.now func }
-    ensures done { EnterAsks (function_type types.now func) flats.now caller.old limit requests.old result requests.new }
+    ensures done { EnterAsks (function_type types.now func) flats.now caller.old limit requests.old result
+        requests.new }
     ensures same_caller { caller.new ≡ caller.old }
 {
     let mut values = Flats::new();
@@ -376,7 +389,8 @@ pub fn leave_requests(
 ) -> Result<usize, CallError>
     requires within { ∥ AreWithin types.now ∥₁ }
     requires function { IsFunction types.now func }
-    ensures done { LeaveAsks (function_type types.now func) answer.now callee.old limit requests.old result requests.new }
+    ensures done { LeaveAsks (function_type types.now func) answer.now callee.old limit requests.old result
+        requests.new }
     ensures same_callee { callee.new ≡ callee.old }
 {
     let mut answers = Flats::new();

@@ -33,9 +33,10 @@ pub struct Half<'a> {
 }
 
 impl Half<'_> {
-    /// The first half of a call (`Link::enter`): puts the arguments into the callee's blocks, and the flat values for its core function
-    /// into `handed`, whatever that held; it says nothing after an error. The caller is only read. A block of another size or alignment than the
-    /// one that is asked for is told by its index, and the blocks before it were written to; where there are too few blocks, this is K6.
+    /// The first half of a call (`Link::enter`): puts the arguments into the callee's blocks, and the flat values for
+    /// its core function into `handed`, whatever that held; it says nothing after an error. The caller is only read. A
+    /// block of another size or alignment than the one that is asked for is told by its index, and the blocks before it
+    /// were written to; where there are too few blocks, this is K6.
     pub fn enter_flats(
         &self,
         flats: &[Flat],
@@ -48,9 +49,11 @@ impl Half<'_> {
         requires short { length caller.old < 4294967296 }
         requires limited { length callee.old < 4294967296 }
         requires good { IsTrue (are_good (length callee.old) self.now.blocks.now) }
-        ensures entered { OnOk result ((name : ℕ) × EntersLent name (function_type self.now.types.now self.now.func) flats.now caller.old
+        ensures entered { OnOk result ((name : ℕ)
+            × EntersLent name (function_type self.now.types.now self.now.func) flats.now caller.old
             callee.old self.now.blocks.now handed.new.items callee.new) }
-        ensures error { IfErr result (λ error. (name : ℕ) × EntryOfLentFails name (function_type self.now.types.now self.now.func) flats.now caller.old
+        ensures error { IfErr result (λ error. (name : ℕ)
+            × EntryOfLentFails name (function_type self.now.types.now self.now.func) flats.now caller.old
             callee.old self.now.blocks.now error callee.new) }
         ensures no_memory { result ≢ Err (HalfError.Fault Fault.NoMemory) }
         ensures same_caller { caller.new ≡ caller.old }
@@ -71,10 +74,11 @@ impl Half<'_> {
         }
     }
 
-    /// The second half (`Link::leave`): puts what the core function answered into the caller's blocks and its return area, and the flat
-    /// values for the caller into `back`, whatever that held; it says nothing after an error. The callee is only read. The kinds of `flats`
-    /// are tested first, as by `Link::leave`. `can_lend` tests with the return area as its place that no block meets it. A block of another size
-    /// or alignment is told as by `enter_flats`.
+    /// The second half (`Link::leave`): puts what the core function answered into the caller's blocks and its return
+    /// area, and the flat values for the caller into `back`, whatever that held; it says nothing after an error. The
+    /// callee is only read. The kinds of `flats` are tested first, as by `Link::leave`. `can_lend` tests with the
+    /// return area as its place that no block meets it. A block of another size or alignment is told as by
+    /// `enter_flats`.
     pub fn leave_flats(
         &self,
         flats: &[Flat],
@@ -88,10 +92,12 @@ impl Half<'_> {
         requires short { length callee.old < 4294967296 }
         requires limited { length caller.old < 4294967296 }
         requires good { IsTrue (are_good (length caller.old) self.now.blocks.now) }
-        ensures returned { OnOk result ((name : ℕ) × ReturnsLent name (function_type self.now.types.now self.now.func) flats.now callee.old answer.now
+        ensures returned { OnOk result ((name : ℕ)
+            × ReturnsLent name (function_type self.now.types.now self.now.func) flats.now callee.old answer.now
             caller.old self.now.blocks.now back.new.items caller.new) }
         ensures kinds { OnOk result (KindsFit (function_type self.now.types.now self.now.func) flats.now) }
-        ensures error { IfErr result (λ error. (name : ℕ) × ReturnOfLentFails name (function_type self.now.types.now self.now.func) flats.now callee.old answer.now
+        ensures error { IfErr result (λ error. (name : ℕ)
+            × ReturnOfLentFails name (function_type self.now.types.now self.now.func) flats.now callee.old answer.now
             caller.old self.now.blocks.now error caller.new) }
         ensures no_memory { result ≢ Err (HalfError.Fault Fault.NoMemory) }
         ensures same_callee { callee.new ≡ callee.old }

@@ -1,7 +1,9 @@
-//! What a package has, for hosts that count in numbers, as those in C do: interfaces, types and functions, with the sizes and offsets of their parts.
+//! What a package has, for hosts that count in numbers, as those in C do: interfaces, types and functions, with the
+//! sizes and offsets of their parts.
 //!
-//! The table of a package has a row for each type and each function (`tables`). `row` tells what a row is, and `member` what stands in it, with
-//! sizes and offsets (`layout`). `row_name`, `member_name` and `owner_name` tell the names. Where there are no types, no package is open.
+//! The table of a package has a row for each type and each function (`tables`). `row` tells what a row is, and `member`
+//! what stands in it, with sizes and offsets (`layout`). `row_name`, `member_name` and `owner_name` tell the names.
+//! Where there are no types, no package is open.
 
 mod bytes;
 mod kinds;

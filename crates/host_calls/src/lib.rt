@@ -1,10 +1,12 @@
-//! Calls of a package's functions in halves, between linear memories that a host keeps where they are. It runs the core functions itself.
+//! Calls of a package's functions in halves, between linear memories that a host keeps where they are. It runs the core
+//! functions itself.
 //!
-//! No callback is needed: a `Half` carries the arguments into the callee (`enter`), the host runs the core function on the core values that it
-//! got, and another `Half` carries its answer back (`leave`). The blocks for each half were granted by the host's own allocators before, as
-//! `enter_requests` and `leave_requests` tell them. Hosts that count in numbers, as those in C do, have core values, kinds and layouts in
-//! arrays, and a `Status`. Whatever such a host can get wrong is tested here, before a byte is written. `enter_flats` and `leave_flats` are
-//! the same halves for a host in Rattle. Stands on `adapter` (the halves of a call) and `memory` (`Lent`).
+//! No callback is needed: a `Half` carries the arguments into the callee (`enter`), the host runs the core function on
+//! the core values that it got, and another `Half` carries its answer back (`leave`). The blocks for each half were
+//! granted by the host's own allocators before, as `enter_requests` and `leave_requests` tell them. Hosts that count in
+//! numbers, as those in C do, have core values, kinds and layouts in arrays, and a `Status`. Whatever such a host can
+//! get wrong is tested here, before a byte is written. `enter_flats` and `leave_flats` are the same halves for a host
+//! in Rattle. Stands on `adapter` (the halves of a call) and `memory` (`Lent`).
 #![tactic(auto)]
 
 mod area;

@@ -23,7 +23,8 @@ pub struct Part {
 fn part_at(types: &Types, row: ValType, place: usize) -> Part
     requires inside { IsInside types.now row }
     requires place { place < length (field_extents (record_fields (closed_type types.now row))) }
-    ensures extent { slice_get (field_extents (record_fields (closed_type types.now row))) place ≡ Some (extent_of_part result) }
+    ensures extent { slice_get (field_extents (record_fields (closed_type types.now row))) place
+        ≡ Some (extent_of_part result) }
     ensures offset { slice_get (field_places (record_fields (closed_type types.now row))) place ≡ Some result.offset }
 {
     let layouts = types.layouts();
@@ -37,7 +38,8 @@ fn part_at(types: &Types, row: ValType, place: usize) -> Part
     }
 }
 
-/// Tells how the parameters lie side by side, as the fields of a record, and answers their number: 71 where there is no room for them.
+/// Tells how the parameters lie side by side, as the fields of a record, and answers their number: 71 where there is no
+/// room for them.
 pub fn parameter_parts(
     types: &Types,
     func: FunctionId,

@@ -8,9 +8,10 @@ use canonical_abi::{Fault, Step, Trap, TrapKind};
 use error_numbers::Numbered;
 use std::fmt;
 
-/// Whether it was done, and how many things were told; or why not. `code` is 0 where it was done, 1 where it was refused, with the number of
-/// the refusal, 2 for a trap, with the number of its kind and its step, and 3 where the library had no memory, with the number of where. It is displayed as the program's
-/// line, a refusal that has more to tell by its number alone; as nothing where it was done.
+/// Whether it was done, and how many things were told; or why not. `code` is 0 where it was done, 1 where it was
+/// refused, with the number of the refusal, 2 for a trap, with the number of its kind and its step, and 3 where the
+/// library had no memory, with the number of where. It is displayed as the program's line, a refusal that has more to
+/// tell by its number alone; as nothing where it was done.
 #[repr(C)]
 #[derive(Clone, Copy, Debug)]
 pub struct Status {

@@ -8,8 +8,8 @@ use canonical_abi::Flat;
 /// The most core values that a core function takes.
 pub const MAX_VALUES: usize = 17;
 
-/// A core value: an i32, the low 32 bits of `bits`, if `kind` is 0, and otherwise an i64. Values that the library tells have the kind
-/// 0 or 1, and the upper half of an i32 is 0.
+/// A core value: an i32, the low 32 bits of `bits`, if `kind` is 0, and otherwise an i64. Values that the library tells
+/// have the kind 0 or 1, and the upper half of an i32 is 0.
 #[repr(C)]
 #[derive(Clone, Copy, Debug)]
 pub struct Value {

@@ -27,6 +27,7 @@ abbrev pub AreNotTold : List Trace.Request → Fault → Type 0
 AreNotTold rs (Trap t) = (t ≡ record { kind = Bounds; step = Place }) × HasTooLarge rs
 AreNotTold rs NoMemory = Unit {0}
 
+-- the requests are told, or why they aren't
 abbrev pub Tells : List Trace.Request → List Request → Result (Unit {0}) Fault → List Request → Type 0
 Tells rs old (Ok done) new = AreToldBehind old rs new
 Tells rs old (Err e) new = AreNotTold rs e

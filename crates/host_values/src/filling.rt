@@ -16,8 +16,9 @@ use lift_lower::{Flats, Val, lower};
 use memory::{Lent, can_lend};
 use tables::ValType;
 
-/// Puts values of these types into the blocks of a memory, and answers the core values that carry them. A block of another size or alignment
-/// than the one that is asked for is told by its index, and the blocks before it were written to; where there are too few, this is K6.
+/// Puts values of these types into the blocks of a memory, and answers the core values that carry them. A block of
+/// another size or alignment than the one that is asked for is told by its index, and the blocks before it were written
+/// to; where there are too few, this is K6.
 fn fill_flats(
     half: &Half,
     types: &[ValType],
@@ -29,9 +30,11 @@ fn fill_flats(
     requires typed { HaveTypes (map value_of values.now) (fields_of_types half.now.types.now types.now) }
     requires limited { length memory.old < 4294967296 }
     requires good { IsTrue (are_good (length memory.old) half.now.blocks.now) }
-    ensures filled { IfOk result (λ flats. (name : ℕ) × FillsLent name (fields_of_types half.now.types.now types.now) (map value_of values.now)
+    ensures filled { IfOk result (λ flats. (name : ℕ)
+        × FillsLent name (fields_of_types half.now.types.now types.now) (map value_of values.now)
         memory.old half.now.blocks.now flats.items memory.new) }
-    ensures error { IfErr result (λ error. (name : ℕ) × FillOfLentFails name (fields_of_types half.now.types.now types.now) (map value_of values.now)
+    ensures error { IfErr result (λ error. (name : ℕ)
+        × FillOfLentFails name (fields_of_types half.now.types.now types.now) (map value_of values.now)
         memory.old half.now.blocks.now error memory.new) }
 {
     let mut target = Lent::new(memory, half.blocks);
@@ -44,10 +47,11 @@ fn fill_flats(
     }
 }
 
-/// Puts the arguments of a function into the blocks of a memory that the host keeps, and tells the core values that carry them at the front of
-/// `handed`, which has room for 17 whatever the function. Answers how many they are. The blocks are those that `argument_requests` tells. 71 if
-/// there is no room; 72 if the blocks can't be handed out; 66 if no memory is left to test them; 73 if a block has another size or alignment than
-/// was asked for, and the blocks before it were written to; K6 in `place` if there are too few.
+/// Puts the arguments of a function into the blocks of a memory that the host keeps, and tells the core values that
+/// carry them at the front of `handed`, which has room for 17 whatever the function. Answers how many they are. The
+/// blocks are those that `argument_requests` tells. 71 if there is no room; 72 if the blocks can't be handed out; 66 if
+/// no memory is left to test them; 73 if a block has another size or alignment than was asked for, and the blocks
+/// before it were written to; K6 in `place` if there are too few.
 pub fn fill_arguments(
     half: &Half,
     values: &[Val],
@@ -57,7 +61,8 @@ pub fn fill_arguments(
     requires within { ∥ AreWithin half.now.types.now ∥₁ }
     requires function { IsFunction half.now.types.now half.now.func }
     requires typed { HaveTypes (map value_of values.now) (function_type half.now.types.now half.now.func).params }
-    ensures done { FillDone (function_type half.now.types.now half.now.func).params (map value_of values.now) memory.old half.now.blocks.now
+    ensures done { FillDone (function_type half.now.types.now half.now.func).params (map value_of values.now) memory.old
+        half.now.blocks.now
         handed.old result memory.new handed.new }
 {
     room_in(handed)?;

@@ -1,7 +1,8 @@
-//! Typed values in memories that a host keeps: which blocks they ask for, how they are put there, and how they are read.
+//! Typed values in memories that a host keeps: which blocks they ask for, how they are put there, and how they are
+//! read.
 //!
-//! `argument_requests` and `result_requests` tell the blocks that values ask for, in the order in which lowering asks for them. Stands on
-//! `host_calls` (core values in arrays, errors) and `lift_lower` (lifting and lowering).
+//! `argument_requests` and `result_requests` tell the blocks that values ask for, in the order in which lowering asks
+//! for them. Stands on `host_calls` (core values in arrays, errors) and `lift_lower` (lifting and lowering).
 #![tactic(auto)]
 
 mod filling;

@@ -29,18 +29,22 @@ pub struct Reading<'a> {
 }
 
 impl Reading<'_> {
-    /// The value of the function's result that the core values of an answer say, in the memory of the component that answered; none where it has
-    /// no result. K8 in `lift-result` if the core values are of another number or kind; 72 if the memory has 2^32 bytes or more; 76 if the value
-    /// asks for more than the limit; otherwise the trap of the answer, or 66. The memory is only read.
+    /// The value of the function's result that the core values of an answer say, in the memory of the component that
+    /// answered; none where it has no result. K8 in `lift-result` if the core values are of another number or kind; 72
+    /// if the memory has 2^32 bytes or more; 76 if the value asks for more than the limit; otherwise the trap of the
+    /// answer, or 66. The memory is only read.
     pub fn result(&self, answer: &[Value], memory: &mut [u8]) -> Result<Option<Val>, CallError>
         requires within { ∥ AreWithin self.now.types.now ∥₁ }
         requires function { IsFunction self.now.types.now self.now.func }
-        ensures value { IfOk result (λ v. IsReadResult (function_type self.now.types.now self.now.func) answer.now memory.old
+        ensures value { IfOk result (λ v. IsReadResult (function_type self.now.types.now self.now.func) answer.now
+            memory.old
             (option_to_list (option_map value_of v))) }
         ensures typed { IfOk result (λ v. HaveTypes (option_to_list (option_map value_of v))
             (result_fields (function_type self.now.types.now self.now.func).result)) }
-        ensures few { IfOk result (λ _. AsksWithin (function_type self.now.types.now self.now.func) answer.now memory.old self.now.limit) }
-        ensures err { IfErr result (ResultIsNotRead (function_type self.now.types.now self.now.func) answer.now memory.old self.now.limit) }
+        ensures few { IfOk result (λ _. AsksWithin (function_type self.now.types.now self.now.func) answer.now
+            memory.old self.now.limit) }
+        ensures err { IfErr result (ResultIsNotRead (function_type self.now.types.now self.now.func) answer.now
+            memory.old self.now.limit) }
         ensures same { memory.new ≡ memory.old }
     {
         leave_requests(self.types, self.func, answer, memory, &mut [], self.limit)?;
@@ -65,9 +69,11 @@ fn lift_lent(
 ) -> Result<Option<Val>, Fault>
     requires function { IsFunction types.now func }
     requires limited { length memory.old < 4294967296 }
-    ensures value { IfOk result (λ v. Denotes max_flat_results (result_fields (function_type types.now func).result) memory.old flats.now
+    ensures value { IfOk result (λ v. Denotes max_flat_results (result_fields (function_type types.now func).result)
+        memory.old flats.now
         (option_to_list (option_map value_of v))) }
-    ensures typed { IfOk result (λ v. HaveTypes (option_to_list (option_map value_of v)) (result_fields (function_type types.now func).result)) }
+    ensures typed { IfOk result (λ v. HaveTypes (option_to_list (option_map value_of v))
+        (result_fields (function_type types.now func).result)) }
     ensures fault { IfErr result (IsResultFault (function_type types.now func) flats.now memory.old) }
     ensures same { memory.new ≡ memory.old }
 {

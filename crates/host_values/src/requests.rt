@@ -25,9 +25,11 @@ impl Teller<'_> {
         told: &mut Vec<Request>,
     ) -> Result<(), Fault>
         requires inside { IsInside self.now.types.now params }
-        requires is_record { closed_type self.now.types.now params ≡ record_type (record_fields (closed_type self.now.types.now params)) }
+        requires is_record { closed_type self.now.types.now params
+            ≡ record_type (record_fields (closed_type self.now.types.now params)) }
         requires typed { HaveTypes (map value_of values.now) (record_fields (closed_type self.now.types.now params)) }
-        ensures { Tells (params_requests max_flat_params (record_fields (closed_type self.now.types.now params)) (map value_of values.now))
+        ensures { Tells (params_requests max_flat_params (record_fields (closed_type self.now.types.now params))
+            (map value_of values.now))
             told.old.items result told.new.items }
     {
         let members = Members::Of(params);
@@ -41,8 +43,8 @@ impl Teller<'_> {
     }
 }
 
-/// The blocks that a function's arguments ask for, in their order: where they spill, that of their record first. K4 in `place` where a
-/// text or a list needs more than 16,777,216 bytes.
+/// The blocks that a function's arguments ask for, in their order: where they spill, that of their record first. K4 in
+/// `place` where a text or a list needs more than 16,777,216 bytes.
 pub fn argument_requests(
     alloc: Global,
     types: &Types,
@@ -51,7 +53,8 @@ pub fn argument_requests(
 ) -> Result<Vec<Request>, Fault>
     requires function { IsFunction types.now func }
     requires typed { HaveTypes (map value_of values.now) (function_type types.now func).params }
-    ensures { AreTold (params_requests max_flat_params (function_type types.now func).params (map value_of values.now)) result }
+    ensures { AreTold (params_requests max_flat_params (function_type types.now func).params (map value_of values.now))
+        result }
 {
     // A function's row is the record of its parameters.
     let params = ValType::Id(TypeId(func.0));
@@ -61,8 +64,8 @@ pub fn argument_requests(
     Ok(told)
 }
 
-/// The blocks that a function's result asks for, which goes flat or into the return area, in their order. There is one value, or none where
-/// the function has no result.
+/// The blocks that a function's result asks for, which goes flat or into the return area, in their order. There is one
+/// value, or none where the function has no result.
 pub fn result_requests(
     alloc: Global,
     types: &Types,
@@ -71,7 +74,8 @@ pub fn result_requests(
 ) -> Result<Vec<Request>, Fault>
     requires function { IsFunction types.now func }
     requires typed { HaveTypes (map value_of values.now) (result_fields (function_type types.now func).result) }
-    ensures { AreTold (fields_requests (result_fields (function_type types.now func).result) (map value_of values.now)) result }
+    ensures { AreTold (fields_requests (result_fields (function_type types.now func).result) (map value_of values.now))
+        result }
 {
     let result = types.resolve().signature(func).result.as_slice();
     let teller = Teller { types };

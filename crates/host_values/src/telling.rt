@@ -52,7 +52,8 @@ impl Teller<'_> {
     fn tell_value(&self, ty: ValType, value: &Val, told: &mut Vec<Request>) -> Result<(), Fault>
         requires inside { IsInside self.now.types.now ty }
         requires typed { HasType (value_of value.now) (closed_type self.now.types.now ty) }
-        ensures { Tells (requests (closed_type self.now.types.now ty) (value_of value.now)) told.old.items result told.new.items }
+        ensures { Tells (requests (closed_type self.now.types.now ty) (value_of value.now)) told.old.items result
+            told.new.items }
     {
         match value {
             Val::String(text) => tell(1, text.len(), told),
@@ -86,8 +87,10 @@ impl Teller<'_> {
         told: &mut Vec<Request>,
     ) -> Result<(), Fault>
         requires inside { IsInside self.now.types.now element }
-        requires typed { AllByRecursion (λ w. HasType w (closed_type self.now.types.now element)) (map value_of items.now) }
-        ensures { Tells (requests (list_type (closed_type self.now.types.now element)) (list_value (values_of (map value_of items.now))))
+        requires typed { AllByRecursion (λ w. HasType w (closed_type self.now.types.now element))
+            (map value_of items.now) }
+        ensures { Tells (requests (list_type (closed_type self.now.types.now element))
+            (list_value (values_of (map value_of items.now))))
             told.old.items result told.new.items }
     {
         let align = self.types.align_of(element);
@@ -132,7 +135,8 @@ impl Teller<'_> {
     ) -> Result<(), Fault>
         requires inside { IsInside self.now.types.now ty }
         requires typed { HasType (variant_value case payload.now) (closed_type self.now.types.now ty) }
-        ensures { Tells (requests (closed_type self.now.types.now ty) (variant_value case payload.now)) told.old.items result told.new.items }
+        ensures { Tells (requests (closed_type self.now.types.now ty) (variant_value case payload.now)) told.old.items
+            result told.new.items }
     {
         let Shape::Variant(_) = self.types.shape_of(ty) else {
             unreachable!()

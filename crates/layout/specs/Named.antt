@@ -17,10 +17,12 @@ kind_named (kind.Use t) = Some (val.Id t)
 kind_named (kind.Alias v) = Some v
 kind_named _ = None
 
+-- the type that a row names, if it is a used or a new name (WIT.md, "Interface Use", "Item: `type` (alias)")
 abbrev pub definition_named : Definition → Option ValType
 definition_named (row.Type d) = kind_named d.kind
 definition_named (row.Function f) = None
 
+-- the type that a type of the table names, if its row is a used or a new name
 abbrev pub named_in : List Definition → ValType → Option ValType
 named_in ds (val.Id t) = option_and_then definition_named (slice_get ds t.0)
 named_in ds _ = None
@@ -42,6 +44,7 @@ kind_members (kind.Tuple vs) = vs
 kind_members (kind.Record fs) = map (λ f. f.ty) fs
 kind_members _ = []
 
+-- the members of a row: a record's fields, a tuple's types, a function's parameters
 abbrev pub definition_members : Definition → List ValType
 definition_members (row.Type d) = kind_members d.kind
 definition_members (row.Function f) = map (λ p. p.ty) f.params
@@ -54,6 +57,7 @@ kind_cases (kind.Variant cs) = map (λ c. c.ty) cs
 kind_cases (kind.Enum names) = map (λ n. None) names
 kind_cases _ = []
 
+-- the cases of a row, each with its payload if it has one
 abbrev pub definition_cases : Definition → List (Option ValType)
 definition_cases (row.Type d) = kind_cases d.kind
 definition_cases (row.Function f) = []
@@ -71,21 +75,25 @@ kind_shape (kind.Variant cs) = Some (shape.Variant (length cs))
 kind_shape (kind.Enum names) = Some (shape.Variant (length names))
 kind_shape (kind.Flags names) = Some (shape.Flags (length names))
 
+-- the shape of a row; that of a function is its parameters'
 abbrev pub definition_shape : Definition → Option Shape
 definition_shape (row.Type d) = kind_shape d.kind
 definition_shape (row.Function f) = Some (shape.Record (length f.params))
 
 -- ---- of a type of the table
 
+-- the shape of a type of the table, names not followed
 abbrev pub own_shape : List Definition → ValType → Option Shape
 own_shape ds (val.Primitive p) = Some (shape.Primitive p)
 own_shape ds val.String = Some shape.String
 own_shape ds (val.Id t) = option_and_then definition_shape (slice_get ds t.0)
 
+-- the i-th member of a type of the table, names not followed
 abbrev pub own_member : List Definition → ValType → ℕ → Option ValType
 own_member ds (val.Id t) i = option_and_then (λ d. slice_get (definition_members d) i) (slice_get ds t.0)
 own_member ds _ i = None
 
+-- the i-th case of a type of the table, with its payload if it has one, names not followed
 abbrev pub own_case : List Definition → ValType → ℕ → Option (Option ValType)
 own_case ds (val.Id t) i = option_and_then (λ d. slice_get (definition_cases d) i) (slice_get ds t.0)
 own_case ds _ i = None

@@ -1,13 +1,16 @@
 //! The layout table of a package.
-ghost use Rattle.std.specs.Prelude.{◌≡◌, ◌+◌, ◌↔◌, ◌<◌, [], length, map, option_map, slice_get, All, IsTrue, IfOk, IfErr, Some};
+ghost use Rattle.std.specs.Prelude.{◌≡◌, ◌+◌, ◌↔◌, ◌<◌, [], length, map, option_map, slice_get, All, IsTrue, IfOk};
+ghost use Rattle.std.specs.Prelude.{IfErr, Some};
 ghost use Rattle.tables.specs.declared.tables.Resolve.{Resolve};
 ghost use Rattle.tables.specs.Closed.{closed_types, closed_type, function_type, IsFunction};
 ghost use Rattle.tables.specs.Tables.{is_below};
 ghost use Rattle.canonical_abi.specs.Types.{fields_of, record_fields};
-ghost use Rattle.canonical_abi.specs.Layout.{extent_of, size, align, field_kinds, field_places, lifted_signature, lowered_signature};
+ghost use Rattle.canonical_abi.specs.Layout.{extent_of, size, align, field_kinds, field_places, lifted_signature};
+ghost use Rattle.canonical_abi.specs.Layout.{lowered_signature};
 ghost use Rattle.canonical_abi.specs.Reading.{kind_of};
 ghost use Rattle.layout.specs.Kinds.{kinds_of, count_of};
-ghost use Rattle.layout.specs.Layout.{row_of, result_of, layouts_of, results_of, core_signature_of, RefusesFirst, AreWithin, IsSound};
+ghost use Rattle.layout.specs.Layout.{row_of, result_of, layouts_of, results_of, core_signature_of, RefusesFirst};
+ghost use Rattle.layout.specs.Layout.{AreWithin, IsSound};
 ghost use Rattle.layout.specs.Parts.{parts_from, AreEnded, final_type, is_end};
 ghost use Rattle.layout.specs.Named.{OfNamed, own_shape, own_member, own_case};
 ghost use Rattle.layout.specs.Queries.{shape_of, field_info_of, case_info_of, IsShaped, TellsField, TellsCase};
@@ -37,11 +40,13 @@ struct Tables {
 
 fn lay_all(alloc: Global, resolve: &Resolve, steps: &mut Steps) -> Result<Tables, LayoutError>
     ensures rows { IfOk result (λ t. t.rows.items ≡ map row_of (closed_types resolve.now)) }
-    ensures parts { IfOk result (λ t. t.parts.items ≡ parts_from (λ v. extent_of (closed_type resolve.now v)) [] resolve.now.definitions) }
+    ensures parts { IfOk result (λ t. t.parts.items
+        ≡ parts_from (λ v. extent_of (closed_type resolve.now v)) [] resolve.now.definitions) }
     ensures sound { IfOk result (λ t. All IsSound t.rows.items) }
     ensures ended { IfOk result (λ t. AreEnded t.parts.items) }
     ensures within { IfOk result (λ _. AreWithin resolve.now) }
-    ensures steps { IfOk result (λ t. steps.new.count ≡ saturated (steps.old.count + laid_work resolve.now.definitions)) }
+    ensures steps { IfOk result (λ t. steps.new.count
+        ≡ saturated (steps.old.count + laid_work resolve.now.definitions)) }
     ensures err { IfErr result (λ e. RefusesFirst e resolve.now) }
 {
     let count = resolve.definitions.len();
@@ -80,8 +85,10 @@ fn all_results(
 ) -> Result<Vec<Kinds>, LayoutError>
     requires rows { rows.now ≡ map row_of (closed_types resolve.now) }
     requires sound { All IsSound rows.now }
-    ensures ok { IfOk result (λ results. results.items ≡ map (result_of (closed_types resolve.now)) resolve.now.definitions) }
-    ensures steps { IfOk result (λ t. steps.new.count ≡ saturated (steps.old.count + results_work resolve.now.definitions)) }
+    ensures ok { IfOk result (λ results. results.items
+        ≡ map (result_of (closed_types resolve.now)) resolve.now.definitions) }
+    ensures steps { IfOk result (λ t. steps.new.count
+        ≡ saturated (steps.old.count + results_work resolve.now.definitions)) }
     ensures err { IfErr result (λ e. e ≡ LayoutError.NoMemory) }
 {
     let mut results = Vec::with_capacity(alloc, rows.len())?;
@@ -108,9 +115,15 @@ impl Model for Layouts {
 
     ghost Value = { LayoutTable };
 
-    ghost view = { λ l. record { rows = l.rows.items; results = l.results.items; parts = l.parts.items; work = l.work } };
+    ghost view = { λ l. record {
+      rows = l.rows.items;
+      results = l.results.items;
+      parts = l.parts.items;
+      work = l.work;
+    } };
 
-    ghost invariant = { λ l. All IsSound l.rows.items × (length l.results.items ≡ length l.rows.items) × (length l.parts.items ≡ length l.rows.items) × AreEnded l.parts.items };
+    ghost invariant = { λ l. All IsSound l.rows.items × (length l.results.items ≡ length l.rows.items)
+        × (length l.parts.items ≡ length l.rows.items) × AreEnded l.parts.items };
 }
 
 impl Layouts {
@@ -179,7 +192,8 @@ impl Layouts {
         kinds
     }
 
-    /// How many flat values carry these types side by side, where they are at most sixteen: those of `flat`, which this doesn't make.
+    /// How many flat values carry these types side by side, where they are at most sixteen: those of `flat`, which this
+    /// doesn't make.
     pub fn flat_count(&self, types: &[ValType]) -> Option<usize>
         requires { All (λ v. IsTrue (is_below (length self.now.rows) v)) types.now }
         ensures { (r : Resolve) → self.now ≡ layouts_of r
@@ -195,7 +209,8 @@ impl Layouts {
     /// The core signature of the callee's function.
     pub fn lifted(&self, func: FunctionId) -> CoreSignature
         requires { func.0 < length self.now.rows }
-        ensures { (r : Resolve) → self.now ≡ layouts_of r → IsFunction r func → core_signature_of result ≡ lifted_signature (function_type r func) }
+        ensures { (r : Resolve) → self.now ≡ layouts_of r → IsFunction r func
+            → core_signature_of result ≡ lifted_signature (function_type r func) }
     {
         let place = func.0 as usize;
         lifted_of(&self.rows[place].kinds, &self.results[place])
@@ -204,7 +219,8 @@ impl Layouts {
     /// The core signature of the caller's import.
     pub fn lowered(&self, func: FunctionId) -> CoreSignature
         requires { func.0 < length self.now.rows }
-        ensures { (r : Resolve) → self.now ≡ layouts_of r → IsFunction r func → core_signature_of result ≡ lowered_signature (function_type r func) }
+        ensures { (r : Resolve) → self.now ≡ layouts_of r → IsFunction r func
+            → core_signature_of result ≡ lowered_signature (function_type r func) }
     {
         let place = func.0 as usize;
         lowered_of(&self.rows[place].kinds, &self.results[place])
@@ -223,7 +239,8 @@ impl Layouts {
     /// How many core values the callee's function takes: as many as `lifted` has.
     pub fn lifted_count(&self, func: FunctionId) -> usize
         requires { func.0 < length self.now.rows }
-        ensures { (r : Resolve) → self.now ≡ layouts_of r → IsFunction r func → result ≡ length (lifted_signature (function_type r func)).params }
+        ensures { (r : Resolve) → self.now ≡ layouts_of r → IsFunction r func
+            → result ≡ length (lifted_signature (function_type r func)).params }
     {
         passed_count(&self.rows[func.0 as usize].kinds)
     }
@@ -231,7 +248,8 @@ impl Layouts {
     /// The core value that the callee's function answers, if any.
     pub fn lifted_result(&self, func: FunctionId) -> Option<CoreKind>
         requires { func.0 < length self.now.rows }
-        ensures { (r : Resolve) → self.now ≡ layouts_of r → IsFunction r func → results_of result ≡ (lifted_signature (function_type r func)).results }
+        ensures { (r : Resolve) → self.now ≡ layouts_of r → IsFunction r func
+            → results_of result ≡ (lifted_signature (function_type r func)).results }
     {
         result_of(&self.results[func.0 as usize])
     }
@@ -311,7 +329,8 @@ impl Layouts {
     /// The place of a field in bytes; None where the type has no such field.
     pub fn field_offset(&self, ty: ValType, index: usize) -> Option<u32>
         requires { IsTrue (is_below (length self.now.rows) ty) }
-        ensures { (r : Resolve) → self.now ≡ layouts_of r → result ≡ slice_get (field_places (record_fields (closed_type r ty))) index }
+        ensures { (r : Resolve) → self.now ≡ layouts_of r
+            → result ≡ slice_get (field_places (record_fields (closed_type r ty))) index }
     {
         match self.field(ty, index) {
             Some(field) => Some(field.offset),

@@ -8,7 +8,9 @@ ghost use Rattle.tables.specs.Tables.{is_below, option_below, kind_below, defini
 ghost use Rattle.layout.specs.Kinds.{count_of};
 ghost use Rattle.layout.specs.Layout.{row_of, capped, IsSound, max_size};
 ghost use Rattle.layout.specs.Parts.{payloads, final_type, record_parts, variant_parts, kind_parts, definition_parts};
-ghost use Rattle.layout.specs.Rows.{row_in, rows_at, extent_at, extents, record_row, choices_at, variant_row, list_row, kind_row, definition_row, number_row, IsKeptRow, IsLimitedRow, IsLimitedDefinition, RefusesDeeper, RefusesRow, RefusesDefinition};
+ghost use Rattle.layout.specs.Rows.{row_in, rows_at, extent_at, extents, record_row, choices_at, variant_row, list_row};
+ghost use Rattle.layout.specs.Rows.{kind_row, definition_row, number_row, IsKeptRow, IsLimitedRow, IsLimitedDefinition};
+ghost use Rattle.layout.specs.Rows.{RefusesDeeper, RefusesRow, RefusesDefinition};
 ghost use Rattle.layout.specs.Work.{direct_types, laid_in, saturated};
 
 use crate::error::LayoutError;
@@ -324,9 +326,11 @@ fn variant_row<C: Choice>(rows: &[Row], cases: &[C], steps: &mut Steps) -> Varia
     requires below { All (λ c. IsTrue (option_below (length rows.now) (C.payload_of c))) cases.now }
     requires sound { All IsSound rows.now }
     ensures value { result.row ≡ variant_row (choices_at rows.now C.payload_of cases.now) }
-    ensures payload { result.payload ≡ payload_at (length cases.now) (extents (payloads (choices_at rows.now C.payload_of cases.now))) }
+    ensures payload { result.payload ≡ payload_at (length cases.now)
+        (extents (payloads (choices_at rows.now C.payload_of cases.now))) }
     ensures kept { IsKeptRow result.row }
-    ensures steps { steps.new.count ≡ saturated (steps.old.count + length (payloads (choices_at rows.now C.payload_of cases.now))) }
+    ensures steps { steps.new.count ≡ saturated
+        (steps.old.count + length (payloads (choices_at rows.now C.payload_of cases.now))) }
 {
     let discriminant = discriminant_size(cases.len());
     let mut depth = 0;
@@ -385,7 +389,8 @@ fn lay_variant<C: Choice>(
     ensures parts { IfOk result (λ x. x.parts ≡ variant_parts (extent_at rows.now) (map C.payload_of cases.now)) }
     ensures sound { IfOk result (λ x. IsSound x.row) }
     ensures within { IfOk result (λ x. IsLimitedRow x.row) }
-    ensures steps { IfOk result (λ x. steps.new.count ≡ saturated (steps.old.count + length (payloads (choices_at rows.now C.payload_of cases.now)))) }
+    ensures steps { IfOk result (λ x. steps.new.count
+        ≡ saturated (steps.old.count + length (payloads (choices_at rows.now C.payload_of cases.now)))) }
     ensures err { IfErr result (λ e. RefusesRow e (variant_row (choices_at rows.now C.payload_of cases.now))) }
 {
     let variant = variant_row(rows, cases, steps);

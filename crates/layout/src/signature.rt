@@ -113,7 +113,8 @@ fn are_passed(kinds: &Kinds, flats: &[Flat]) -> bool
     }
 }
 
-/// Whether the flat values are what the caller's import takes: the parameters, and behind them an address if the result doesn't go flat.
+/// Whether the flat values are what the caller's import takes: the parameters, and behind them an address if the result
+/// doesn't go flat.
 pub(crate) fn are_lowered(params: &Kinds, results: &Kinds, flats: &[Flat]) -> bool
     ensures { IsTrue result ↔ (map kind_of flats.now ≡ (lowered_by params.now results.now).params) }
 {

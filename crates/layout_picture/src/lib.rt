@@ -1,9 +1,9 @@
 //! Pictures of the bytes of types, for a terminal or as SVG.
 //!
-//! `Sheet::draw` draws each type of a package: its fields with their offsets, sizes and alignments, padding, and cases side by
-//! side. It adds the flat core values of each type and the two core signatures of each function. The numbers are those of
-//! `TypeLayout`, whose contracts speak of `canonical_abi`. `Sheet::draw_function`
-//! adds those of one function. It stands on `layout` and `tables`.
+//! `Sheet::draw` draws each type of a package: its fields with their offsets, sizes and alignments, padding, and cases
+//! side by side. It adds the flat core values of each type and the two core signatures of each function. The numbers
+//! are those of `TypeLayout`, whose contracts speak of `canonical_abi`. `Sheet::draw_function` adds those of one
+//! function. It stands on `layout` and `tables`.
 #![tactic(auto)]
 
 mod bands;

@@ -66,8 +66,8 @@ impl<'a> Drawing<'a> {
         Ok(())
     }
 
-    /// Adds the core signatures of a function under a heading with its owner: the full name of an interface, or that of a world
-    /// and the function's direction.
+    /// Adds the core signatures of a function under a heading with its owner: the full name of an interface, or that of
+    /// a world and the function's direction.
     fn push_function(
         &self,
         sheet: &mut Sheet,
@@ -158,8 +158,8 @@ impl<'a> Drawing<'a> {
 }
 
 impl Sheet {
-    /// Draws the types of each interface of the last package, used names first, and adds the core signatures of its functions,
-    /// then those of the functions of its worlds. If a type is wanted, those of this label alone.
+    /// Draws the types of each interface of the last package, used names first, and adds the core signatures of its
+    /// functions, then those of the functions of its worlds. If a type is wanted, those of this label alone.
     pub fn draw(
         &mut self,
         resolve: &Resolve,

@@ -161,7 +161,8 @@ pub fn push_document(out: &mut String, content: &str, corner: Corner) -> Result<
     let (width, height) = (corner.right, corner.bottom.saturating_add(ROW / 2));
     writeln!(
         out,
-        "<svg xmlns=\"http://www.w3.org/2000/svg\" width=\"{width}\" height=\"{height}\" viewBox=\"0 0 {width} {height}\">"
+        "<svg xmlns=\"http://www.w3.org/2000/svg\" width=\"{width}\" height=\"{height}\" \
+         viewBox=\"0 0 {width} {height}\">"
     )?;
     out.push_str(STYLE)?;
     out.push_str(content)?;

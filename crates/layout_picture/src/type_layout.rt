@@ -1,5 +1,6 @@
 //! A type with its layout: the numbers of a picture.
-ghost use Rattle.std.specs.Prelude.{◌≡◌, ◌≢◌, ◌∷◌, [], None, Some, length, slice_get, IsTrue, IsSome, IfNone, IfSome, ◌↔◌};
+ghost use Rattle.std.specs.Prelude.{◌≡◌, ◌≢◌, ◌∷◌, [], None, Some, length, slice_get, IsTrue, IsSome, IfNone, IfSome};
+ghost use Rattle.std.specs.Prelude.{◌↔◌};
 ghost use Rattle.canonical_abi.specs.Types.{ClosedType, nth_case, nth_field, record_fields, variant_cases};
 ghost use Rattle.canonical_abi.specs.Layout.{align, discriminant_size, field_places, flat_kinds, payload_place, size};
 ghost use Rattle.layout.specs.Kinds.{kinds_of};
@@ -86,8 +87,10 @@ impl<'a> TypeLayout<'a> {
     /// A field of a record or a tuple. None if the type has no such field.
     pub fn field(&self, index: usize) -> Option<Part<'a>>
         ensures none { IfNone result (nth_field (record_fields (closed_of self.now)) index ≡ None) }
-        ensures field { IfSome result (λ p. nth_field (record_fields (closed_of self.now)) index ≡ Some (closed_of p.layout)) }
-        ensures offset { IfSome result (λ p. slice_get (field_places (record_fields (closed_of self.now))) index ≡ Some p.offset) }
+        ensures field { IfSome result (λ p. nth_field (record_fields (closed_of self.now)) index
+            ≡ Some (closed_of p.layout)) }
+        ensures offset { IfSome result (λ p. slice_get (field_places (record_fields (closed_of self.now))) index
+            ≡ Some p.offset) }
     {
         let field = self.layouts.field(self.ty, index)?;
         Some(Part {
@@ -100,10 +103,13 @@ impl<'a> TypeLayout<'a> {
         })
     }
 
-    /// The payload of a case of a variant, an option or a result. None if the type has no such case, or the case no payload.
+    /// The payload of a case of a variant, an option or a result. None if the type has no such case, or the case no
+    /// payload.
     pub fn payload(&self, index: usize) -> Option<Part<'a>>
-        ensures none { IfNone result ((t : ClosedType) → nth_case (variant_cases (closed_of self.now)) index ≢ Some (Some t)) }
-        ensures payload { IfSome result (λ p. nth_case (variant_cases (closed_of self.now)) index ≡ Some (Some (closed_of p.layout))) }
+        ensures none { IfNone result ((t : ClosedType)
+            → nth_case (variant_cases (closed_of self.now)) index ≢ Some (Some t)) }
+        ensures payload { IfSome result (λ p. nth_case (variant_cases (closed_of self.now)) index
+            ≡ Some (Some (closed_of p.layout))) }
         ensures offset { IfSome result (λ p. p.offset ≡ payload_place (variant_cases (closed_of self.now))) }
     {
         let case = self.layouts.case_info(self.ty, index)?;

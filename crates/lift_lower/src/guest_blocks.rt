@@ -29,7 +29,8 @@ pub fn write_header<G: Guest>(guest: &mut G, at: usize, start: usize, count: usi
     requires small { at < 2 ^ 32 }
     requires start { start < 2 ^ 32 }
     requires count { count < 2 ^ 32 }
-    ensures led { EventLeads G.allocates (G.memory guest.old) (write at (pointer_pair start count)) (G.memory guest.new) }
+    ensures led { EventLeads G.allocates (G.memory guest.old) (write at (pointer_pair start count))
+        (G.memory guest.new) }
     ensures same_length { length (G.memory guest.new).bytes ≡ length (G.memory guest.old).bytes }
 {
     let mut bytes = [0; 8];
@@ -43,7 +44,8 @@ pub fn write_number<G: Guest>(guest: &mut G, at: usize, size: usize, number: u32
     requires known { (size ≡ 1) ⊎ ((size ≡ 2) ⊎ (size ≡ 4)) }
     requires inside { at + size ≤ length (G.memory guest.old).bytes }
     requires small { at < 2 ^ 32 }
-    ensures led { EventLeads G.allocates (G.memory guest.old) (write at (to_le_bytes (byte_width size) number)) (G.memory guest.new) }
+    ensures led { EventLeads G.allocates (G.memory guest.old) (write at (to_le_bytes (byte_width size) number))
+        (G.memory guest.new) }
     ensures same_length { length (G.memory guest.new).bytes ≡ length (G.memory guest.old).bytes }
 {
     let bytes = number.to_le_bytes();
@@ -55,7 +57,8 @@ pub fn write_scalar<G: Guest>(guest: &mut G, at: usize, scalar: Scalar)
     requires inside { at + byte_len (prim_width (prim_in scalar)) ≤ length (G.memory guest.old).bytes }
     requires small { at < 2 ^ 32 }
     ensures led { let w = prim_width (prim_in scalar) in
-        EventLeads G.allocates (G.memory guest.old) (write at (to_le_bytes w (number_in w (value_in scalar)))) (G.memory guest.new) }
+        EventLeads G.allocates (G.memory guest.old) (write at (to_le_bytes w (number_in w (value_in scalar))))
+        (G.memory guest.new) }
     ensures same_length { length (G.memory guest.new).bytes ≡ length (G.memory guest.old).bytes }
 {
     match scalar {
@@ -81,8 +84,10 @@ pub fn ask_block<G: Guest>(
     size: usize,
 ) -> Result<usize, TrapKind>
     requires aligned { IsAlignment align }
-    ensures ok { IfOk result (λ at. IsDone limit G.allocates (GrantsBlock align size at) (G.memory guest.old) (G.memory guest.new)) }
-    ensures fault { IfErr result (λ k. RequestEnds limit G.allocates (G.memory guest.old) align size k (G.memory guest.new)) }
+    ensures ok { IfOk result (λ at. IsDone limit G.allocates (GrantsBlock align size at) (G.memory guest.old)
+        (G.memory guest.new)) }
+    ensures fault { IfErr result (λ k. RequestEnds limit G.allocates (G.memory guest.old) align size k
+        (G.memory guest.new)) }
     ensures inside { IfOk result (λ at. at + size ≤ length (G.memory guest.new).bytes) }
     ensures small { IfOk result (λ at. at + size < 2 ^ 32) }
     ensures within { IfOk result (λ at. size ≤ limit) }
@@ -100,8 +105,10 @@ pub fn ask_block<G: Guest>(
 
 /// Puts a text into a block of its own, and answers the block's address.
 pub(crate) fn put_text<G: Guest>(guest: &mut G, limit: u32, text: &str) -> Result<usize, TrapKind>
-    ensures ok { IfOk result (λ at. IsDone limit G.allocates (PutsTextAt text.now at) (G.memory guest.old) (G.memory guest.new)) }
-    ensures fault { IfErr result (λ k. HasEnded limit G.allocates (PutsText text.now) (G.memory guest.old) k (G.memory guest.new)) }
+    ensures ok { IfOk result (λ at. IsDone limit G.allocates (PutsTextAt text.now at) (G.memory guest.old)
+        (G.memory guest.new)) }
+    ensures fault { IfErr result (λ k. HasEnded limit G.allocates (PutsText text.now) (G.memory guest.old) k
+        (G.memory guest.new)) }
     ensures small { IfOk result (λ at. at < 2 ^ 32) }
     ensures within { IfOk result (λ at. length text.now ≤ limit) }
 {

@@ -7,7 +7,8 @@ ghost use Rattle.canonical_abi.specs.Memory.{PrimIs, PrimFaulty, BlockHolds, Blo
 ghost use Rattle.canonical_abi.specs.Reading.{number_at, number_of, low_bits, flat_bits};
 ghost use Rattle.canonical_abi.specs.Trace.{TraceLeads};
 ghost use Rattle.tables.specs.Closed.{prim_of, closed_type};
-ghost use Rattle.lift_lower.specs.Heads.{HeadHolds, HeadFaulty, HeadLifts, HeadLiftFaulty, IsHeadOf, head_flats, head_writes};
+ghost use Rattle.lift_lower.specs.Heads.{HeadHolds, HeadFaulty, HeadLifts, HeadLiftFaulty, IsHeadOf, head_flats};
+ghost use Rattle.lift_lower.specs.Heads.{head_writes};
 ghost use Rattle.values.specs.Scalar.{prim_in, value_in};
 ghost use Rattle.values.specs.Types.{IsInside};
 
@@ -41,8 +42,10 @@ pub enum Head {
 pub fn scalar_at(primitive: Primitive, memory: &[u8], at: usize) -> Result<Scalar, TrapKind>
     requires inside { at + byte_len (prim_width (prim_of primitive)) ≤ length memory.now }
     ensures typed { IfOk result (λ s. prim_in s ≡ prim_of primitive) }
-    ensures value { IfOk result (λ s. PrimIs (prim_of primitive) (number_at memory.now at (prim_width (prim_of primitive))) (value_in s)) }
-    ensures fault { IfErr result (PrimFaulty (prim_of primitive) (number_at memory.now at (prim_width (prim_of primitive)))) }
+    ensures value { IfOk result (λ s. PrimIs (prim_of primitive)
+        (number_at memory.now at (prim_width (prim_of primitive))) (value_in s)) }
+    ensures fault { IfErr result (PrimFaulty (prim_of primitive)
+        (number_at memory.now at (prim_width (prim_of primitive)))) }
 {
     match primitive {
         Primitive::Bool => Ok(Scalar::Bool(u8_at(memory, at) != 0)),
@@ -66,8 +69,10 @@ pub fn scalar_at(primitive: Primitive, memory: &[u8], at: usize) -> Result<Scala
 pub fn scalar_in(primitive: Primitive, flats: &[Flat]) -> Result<Scalar, TrapKind>
     requires { 0 < length flats.now }
     ensures typed { IfOk result (λ s. prim_in s ≡ prim_of primitive) }
-    ensures value { IfOk result (λ s. PrimIs (prim_of primitive) (low_bits (map number_of flats.now) 0 (flat_bits (prim_of primitive))) (value_in s)) }
-    ensures fault { IfErr result (PrimFaulty (prim_of primitive) (low_bits (map number_of flats.now) 0 (flat_bits (prim_of primitive)))) }
+    ensures value { IfOk result (λ s. PrimIs (prim_of primitive)
+        (low_bits (map number_of flats.now) 0 (flat_bits (prim_of primitive))) (value_in s)) }
+    ensures fault { IfErr result (PrimFaulty (prim_of primitive)
+        (low_bits (map number_of flats.now) 0 (flat_bits (prim_of primitive)))) }
 {
     lift_scalar(primitive, flats[0])
 }
@@ -99,9 +104,9 @@ fn case_head(number: u32, cases: usize) -> Result<Head, TrapKind>
     }
 }
 
-/// The head of the node at an address of a memory, with the tests of that node: a character's code, a case's number, the
-/// alignment and the end of a list's block, the end of a text's. A text's bytes are not read, so that a
-/// head takes the same time for every text: `str_at` tests them (K5 utf8).
+/// The head of the node at an address of a memory, with the tests of that node: a character's code, a case's number,
+/// the alignment and the end of a list's block, the end of a text's. A text's bytes are not read, so that a head takes
+/// the same time for every text: `str_at` tests them (K5 utf8).
 pub fn head_at(table: &Types, ty: ValType, memory: &[u8], at: usize) -> Result<Head, TrapKind>
     requires inside { IsInside table.now ty }
     requires fits { at + size (closed_type table.now ty) ≤ length memory.now }
@@ -131,8 +136,8 @@ pub fn head_at(table: &Types, ty: ValType, memory: &[u8], at: usize) -> Result<H
     }
 }
 
-/// The head of the node in the first of these flat values, with the same tests. The blocks that it names are those of the
-/// memory. Two flat values are enough for every type.
+/// The head of the node in the first of these flat values, with the same tests. The blocks that it names are those of
+/// the memory. Two flat values are enough for every type.
 pub fn head_of(table: &Types, ty: ValType, memory: &[u8], flats: &[Flat]) -> Result<Head, TrapKind>
     requires inside { IsInside table.now ty }
     requires carried { head_flats (closed_type table.now ty) ≤ length flats.now }
@@ -163,7 +168,8 @@ pub fn put_head<G: Guest>(table: &Types, ty: ValType, head: Head, guest: &mut G,
     requires known { IsHeadOf (closed_type table.now ty) head }
     requires room { at + size (closed_type table.now ty) ≤ length (G.memory guest.old).bytes }
     requires small { at < 2 ^ 32 }
-    ensures led { TraceLeads G.allocates (G.memory guest.old) (head_writes head (closed_type table.now ty) at) (G.memory guest.new) }
+    ensures led { TraceLeads G.allocates (G.memory guest.old) (head_writes head (closed_type table.now ty) at)
+        (G.memory guest.new) }
     ensures same_length { length (G.memory guest.new).bytes ≡ length (G.memory guest.old).bytes }
 {
     match head {

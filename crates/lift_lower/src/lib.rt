@@ -1,8 +1,8 @@
 //! Values between memories, flat values and trees: lifting and lowering.
 //!
-//! `lift` and `lower` carry the promise: a value exactly where the flat values denote one, else the fault; `load` and `store`
-//! do so in a memory. The parts of one node are in `nodes`, for walks of other crates. Stands on `values` (values, scalars,
-//! types), `canonical_abi` (definitions, guests), `tables` and `layout`.
+//! `lift` and `lower` carry the promise: a value exactly where the flat values denote one, else the fault; `load` and
+//! `store` do so in a memory. The parts of one node are in `nodes`, for walks of other crates. Stands on `values`
+//! (values, scalars, types), `canonical_abi` (definitions, guests), `tables` and `layout`.
 #![tactic(auto)]
 
 mod guest_blocks;

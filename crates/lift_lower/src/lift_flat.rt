@@ -31,7 +31,8 @@ pub fn low_word(flats: &[Flat], index: usize) -> u32
 #[tactic(auto, unfolding(canonical_abi::specs::Reading::low_bits))]
 fn lift_primitive(primitive: Primitive, flats: &[Flat]) -> Result<Val, NoValue>
     requires { 0 < length flats.now }
-    ensures value { (m : List ℕ) → AnswersAs value_of result (lifting (prim_type (prim_of primitive)) m (map number_of flats.now)) }
+    ensures value { (m : List ℕ) → AnswersAs value_of result
+        (lifting (prim_type (prim_of primitive)) m (map number_of flats.now)) }
     ensures plain { result ≢ Err NoValue.NoMemory }
 {
     match lift_scalar(primitive, flats[0]) {
@@ -52,7 +53,8 @@ pub(crate) fn lift_at(
     requires inside { IsInside table.now ty }
     requires carried { length (flat_kinds (closed_type table.now ty)) ≤ length flats.now }
     requires few { length flats.now ≤ 16 }
-    ensures value { AnswersAs value_of result (lifting (closed_type table.now ty) memory.now (map number_of flats.now)) }
+    ensures value { AnswersAs value_of result
+        (lifting (closed_type table.now ty) memory.now (map number_of flats.now)) }
     ensures plain { IsPlain (closed_type table.now ty) → result ≢ Err NoValue.NoMemory }
 {
     match table.shape_of(ty) {
@@ -123,7 +125,8 @@ fn lift_variant(
     requires carried { length (payload_kinds (variant_cases (closed_type table.now ty))) < length flats.now }
     requires few { length flats.now ≤ 16 }
     ensures value { let ns = map number_of flats.now in
-        AnswersAs value_of result (lifting_case (variant_cases (closed_type table.now ty)) memory.now (drop 1 ns) (low_bits ns 0 32) (low_bits ns 0 32)) }
+        AnswersAs value_of result (lifting_case (variant_cases (closed_type table.now ty)) memory.now (drop 1 ns)
+        (low_bits ns 0 32) (low_bits ns 0 32)) }
     ensures plain { AllPlain (variant_cases (closed_type table.now ty)) → result ≢ Err NoValue.NoMemory }
 {
     let case = low_word(flats, 0);

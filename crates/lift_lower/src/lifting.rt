@@ -1,5 +1,6 @@
 //! Lifting: the values that flat values denote.
-ghost use Rattle.std.specs.Prelude.{◌≡◌, ◌≢◌, ◌≤◌, ◌↔◌, ◌<◌, ◌^◌, Err, [], ◌∷◌, length, map, IfOk, IfErr, IfSome, option_map, option_to_list};
+ghost use Rattle.std.specs.Prelude.{◌≡◌, ◌≢◌, ◌≤◌, ◌↔◌, ◌<◌, ◌^◌, Err, [], ◌∷◌, length, map, IfOk, IfErr, IfSome};
+ghost use Rattle.std.specs.Prelude.{option_map, option_to_list};
 ghost use Rattle.canonical_abi.specs.Types.{record_type, result_fields, field, no_field, IsPlain};
 ghost use Rattle.canonical_abi.specs.Flat.{Denotes, DenotesFault};
 ghost use Rattle.canonical_abi.specs.Layout.{size, max_flat_params, max_flat_results};
@@ -40,7 +41,8 @@ pub fn lift<G: Guest>(
     requires small { size (record_type (fields_of_types resolve.now types.now)) ≤ 16777216 }
     ensures values { IfOk result (λ values. Denotes max_flat_params (fields_of_types resolve.now types.now)
         (G.memory guest.now).bytes flats.now (map value_of values.items)) }
-    ensures typed { IfOk result (λ values. HaveTypes (map value_of values.items) (fields_of_types resolve.now types.now)) }
+    ensures typed { IfOk result (λ values. HaveTypes (map value_of values.items)
+        (fields_of_types resolve.now types.now)) }
     ensures fault { IfErr result
         (LiftFails (fields_of_types resolve.now types.now) (G.memory guest.now).bytes flats.now) }
 {
@@ -59,7 +61,8 @@ pub fn lift_params<G: Guest>(
     requires small { size (record_type (fields_of_types table.now types.now)) ≤ 16777216 }
     ensures values { IfOk result (λ values. Denotes max_flat_params (fields_of_types table.now types.now)
         (G.memory guest.now).bytes flats.now (map value_of values.items)) }
-    ensures typed { IfOk result (λ values. HaveTypes (map value_of values.items) (fields_of_types table.now types.now)) }
+    ensures typed { IfOk result (λ values. HaveTypes (map value_of values.items)
+        (fields_of_types table.now types.now)) }
     ensures fault { IfErr result
         (LiftFails (fields_of_types table.now types.now) (G.memory guest.now).bytes flats.now) }
 {
@@ -83,7 +86,8 @@ pub fn lift_result<G: Guest>(
 ) -> Result<Option<Val>, Fault>
     requires inside { IfSome ty (IsInside table.now) }
     ensures value { let ts = result_fields (option_map (closed_type table.now) ty) in
-        AnswerStands Take (λ v. Denotes max_flat_results ts (G.memory guest.now).bytes flats.now (option_to_list (option_map value_of v)))
+        AnswerStands Take (λ v. Denotes max_flat_results ts (G.memory guest.now).bytes flats.now
+        (option_to_list (option_map value_of v)))
         (DenotesFault max_flat_results ts (G.memory guest.now).bytes flats.now) result }
     ensures plain { IfSome ty (λ t. IsPlain (closed_type table.now t)) → result ≢ Err Fault.NoMemory }
     ensures typed { IfOk result (λ v. HaveTypes (option_to_list (option_map value_of v))

@@ -2,11 +2,13 @@
 //!
 //! The walk goes down the type, whose depth is bounded; long lists are loops.
 ghost use Rattle.std.specs.Prelude.{◌≡◌, ◌≢◌, Err, IfOk, ◌+◌, ◌*◌, ◌<◌, ◌≤◌, ◌^◌, length, map};
-ghost use Rattle.canonical_abi.specs.Types.{IsPlain, AllPlain, variant_cases, field_count, case_count, prim_type, variant_type};
+ghost use Rattle.canonical_abi.specs.Types.{IsPlain, AllPlain, variant_cases, field_count, case_count, prim_type};
+ghost use Rattle.canonical_abi.specs.Types.{variant_type};
 ghost use Rattle.canonical_abi.specs.Values.{HasType, values_of, list_value};
 ghost use Rattle.canonical_abi.specs.Layout.{size, align, payload_place, end_from, field_extents};
 ghost use Rattle.canonical_abi.specs.Memory.{HoldsInBlock, FaultyInBlock};
-ghost use Rattle.canonical_abi.specs.Reading.{reading, text_at, block_at, list_at, reading_fields, reading_case, case_number};
+ghost use Rattle.canonical_abi.specs.Reading.{reading, text_at, block_at, list_at, reading_fields, reading_case};
+ghost use Rattle.canonical_abi.specs.Reading.{case_number};
 ghost use Rattle.canonical_abi.specs.declared.trap.Step.TheVariants.{Take};
 ghost use Rattle.layout.specs.Layout.{layouts_of};
 ghost use Rattle.tables.specs.Closed.{prim_of, closed_type};

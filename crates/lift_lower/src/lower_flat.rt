@@ -3,7 +3,8 @@
 //! The walk goes down the value as its type does, and puts core values behind those that are there.
 ghost use Rattle.std.specs.Prelude.{◌≡◌, ◌+◌, ◌<◌, ◌≤◌, ◌^◌, ◌∷◌, [], ◌++◌, length, map, drop, IfErr, OnOk};
 ghost use Rattle.std.specs.List.{AllByRecursion};
-ghost use Rattle.canonical_abi.specs.Types.{IsStandard, AreStandardFields, string_type, list_type, variant_type, variant_cases};
+ghost use Rattle.canonical_abi.specs.Types.{IsStandard, AreStandardFields, string_type, list_type, variant_type};
+ghost use Rattle.canonical_abi.specs.Types.{variant_cases};
 ghost use Rattle.canonical_abi.specs.Values.{HasType, HaveTypes, string_value, list_value, values_of};
 ghost use Rattle.canonical_abi.specs.Layout.{flat_kinds, field_kinds};
 ghost use Rattle.canonical_abi.specs.Lowering.{zero_of, widened, joined_flats};
@@ -35,9 +36,11 @@ fn lower_at<G: Guest>(
     requires standard { IsStandard (closed_type table.now ty) }
     requires typed { HasType (value_of value.now) (closed_type table.now ty) }
     requires room { length flats.old.items + length (flat_kinds (closed_type table.now ty)) ≤ 16 }
-    ensures ok { OnOk result (IsDone limit G.allocates (LowersInto (closed_type table.now ty) (value_of value.now) flats.old.items flats.new.items)
+    ensures ok { OnOk result (IsDone limit G.allocates
+        (LowersInto (closed_type table.now ty) (value_of value.now) flats.old.items flats.new.items)
         (G.memory guest.old) (G.memory guest.new)) }
-    ensures fault { IfErr result (λ k. HasEnded limit G.allocates (LowersBy (closed_type table.now ty) (value_of value.now))
+    ensures fault { IfErr result (λ k. HasEnded limit G.allocates
+        (LowersBy (closed_type table.now ty) (value_of value.now))
         (G.memory guest.old) k (G.memory guest.new)) }
 {
     match value {
@@ -93,7 +96,8 @@ fn lower_text<G: Guest>(
     flats: &mut Flats,
 ) -> Result<(), TrapKind>
     requires room { length flats.old.items + 2 ≤ 16 }
-    ensures ok { OnOk result (IsDone limit G.allocates (LowersInto string_type (string_value text.now) flats.old.items flats.new.items)
+    ensures ok { OnOk result (IsDone limit G.allocates
+        (LowersInto string_type (string_value text.now) flats.old.items flats.new.items)
         (G.memory guest.old) (G.memory guest.new)) }
     ensures fault { IfErr result (λ k. HasEnded limit G.allocates (LowersBy string_type (string_value text.now))
         (G.memory guest.old) k (G.memory guest.new)) }
@@ -117,7 +121,8 @@ fn lower_list<G: Guest>(
     requires typed { AllByRecursion (λ w. HasType w (closed_type table.now element)) (map value_of items.now) }
     requires room { length flats.old.items + 2 ≤ 16 }
     ensures ok { OnOk result (IsDone limit G.allocates
-        (LowersInto (list_type (closed_type table.now element)) (list_value (values_of (map value_of items.now))) flats.old.items flats.new.items)
+        (LowersInto (list_type (closed_type table.now element)) (list_value (values_of (map value_of items.now)))
+        flats.old.items flats.new.items)
         (G.memory guest.old) (G.memory guest.new)) }
     ensures fault { IfErr result (λ k. HasEnded limit G.allocates
         (LowersBy (list_type (closed_type table.now element)) (list_value (values_of (map value_of items.now))))
@@ -144,7 +149,8 @@ pub(crate) fn lower_fields<G: Guest>(
     requires typed { HaveTypes (map value_of values.now) (members_fields table.now members.now) }
     requires room { length flats.old.items + length (field_kinds (members_fields table.now members.now)) ≤ 16 }
     ensures ok { OnOk result (IsDone limit G.allocates
-        (FieldsLowerInto (members_fields table.now members.now) (map value_of values.now) flats.old.items flats.new.items)
+        (FieldsLowerInto (members_fields table.now members.now) (map value_of values.now) flats.old.items
+        flats.new.items)
         (G.memory guest.old) (G.memory guest.new)) }
     ensures fault { IfErr result (λ k. HasEnded limit G.allocates
         (FieldsLowerBy (members_fields table.now members.now) (map value_of values.now))
@@ -175,9 +181,12 @@ fn lower_variant<G: Guest>(
     requires standard { IsStandard (closed_type table.now ty) }
     requires typed { HasType (variant_value chosen.now.case chosen.now.payload.now) (closed_type table.now ty) }
     requires room { length flats.old.items + length (flat_kinds (closed_type table.now ty)) ≤ 16 }
-    ensures ok { OnOk result (IsDone limit G.allocates (LowersInto (closed_type table.now ty) (variant_value chosen.now.case chosen.now.payload.now) flats.old.items flats.new.items)
+    ensures ok { OnOk result (IsDone limit G.allocates
+        (LowersInto (closed_type table.now ty) (variant_value chosen.now.case chosen.now.payload.now) flats.old.items
+        flats.new.items)
         (G.memory guest.old) (G.memory guest.new)) }
-    ensures fault { IfErr result (λ k. HasEnded limit G.allocates (LowersBy (closed_type table.now ty) (variant_value chosen.now.case chosen.now.payload.now))
+    ensures fault { IfErr result (λ k. HasEnded limit G.allocates
+        (LowersBy (closed_type table.now ty) (variant_value chosen.now.case chosen.now.payload.now))
         (G.memory guest.old) k (G.memory guest.new)) }
 {
     let kinds = table.kinds_of(ty);

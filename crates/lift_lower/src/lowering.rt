@@ -44,8 +44,8 @@ pub fn lower<G: Guest>(
     }
 }
 
-/// The core values with which a component answers values of these types: flat where one carries them, else the address of
-/// a block of its own, which is asked for before those of texts and lists. Takes no memory of the host.
+/// The core values with which a component answers values of these types: flat where one carries them, else the address
+/// of a block of its own, which is asked for before those of texts and lists. Takes no memory of the host.
 pub fn lower_answer<G: Guest>(
     table: &Types,
     types: &[ValType],

@@ -1,6 +1,7 @@
 //! The caller's side of a typed call: arguments and return area are put into its memory, and the result is
 //! taken from there.
-ghost use Rattle.std.specs.Prelude.{◌≡◌, ◌≢◌, ◌≤◌, ◌↔◌, ℕ, List, IsTrue, Err, length, map, IfOk, IfErr, IfSome, option_map, option_to_list};
+ghost use Rattle.std.specs.Prelude.{◌≡◌, ◌≢◌, ◌≤◌, ◌↔◌, ℕ, List, IsTrue, Err, length, map, IfOk, IfErr, IfSome};
+ghost use Rattle.std.specs.Prelude.{option_map, option_to_list};
 ghost use Rattle.canonical_abi.specs.Types.{record_type, record_fields, result_fields, AreStandardFields, IsPlain};
 ghost use Rattle.canonical_abi.specs.Values.{HaveTypes};
 ghost use Rattle.canonical_abi.specs.Layout.{fits_flat, align, size};
@@ -160,11 +161,12 @@ fn is_block(table: &Types, ty: ValType, at: u32, len: u32) -> bool
     .is_ok()
 }
 
-/// Whether the result of a call goes where `area` says: into flat values, or to the address of a block of its type's size and alignment
-/// inside the memory. What `take_result` asks for.
+/// Whether the result of a call goes where `area` says: into flat values, or to the address of a block of its type's
+/// size and alignment inside the memory. What `take_result` asks for.
 pub fn is_area<G: Guest>(table: &Types, ty: Option<ValType>, area: Option<u32>, guest: &G) -> bool
     requires { IfSome ty (IsInside table.now) }
-    ensures { IsTrue result ↔ IsAreaIn (result_fields (option_map (closed_type table.now) ty)) (G.memory guest.now).bytes area }
+    ensures { IsTrue result ↔ IsAreaIn (result_fields (option_map (closed_type table.now) ty))
+        (G.memory guest.now).bytes area }
 {
     let Some(ty) = ty else {
         return area.is_none();
@@ -190,7 +192,8 @@ pub fn take_result<G: Guest>(
     requires inside { IfSome ty (IsInside table.now) }
     requires area { IsAreaIn (result_fields (option_map (closed_type table.now) ty)) (G.memory guest.now).bytes area }
     ensures value { let ts = result_fields (option_map (closed_type table.now) ty) in
-        AnswerStands Take (λ v. HasResult ts (G.memory guest.now).bytes flats.now (area_at area) (option_to_list (option_map value_of v)))
+        AnswerStands Take (λ v. HasResult ts (G.memory guest.now).bytes flats.now (area_at area)
+        (option_to_list (option_map value_of v)))
         (HasResultFault ts (G.memory guest.now).bytes flats.now (area_at area)) result }
     ensures plain { IfSome ty (λ t. IsPlain (closed_type table.now t)) → result ≢ Err Fault.NoMemory }
     ensures typed { IfOk result (λ v. HaveTypes (option_to_list (option_map value_of v))

@@ -93,7 +93,8 @@ pub(crate) fn store_at<G: Guest>(
     requires small { at + size (closed_type table.now ty) < 2 ^ 32 }
     ensures ok { OnOk result (IsDone limit G.allocates (Stores (closed_type table.now ty) at (value_of value.now))
         (G.memory guest.old) (G.memory guest.new)) }
-    ensures fault { IfErr result (λ k. HasEnded limit G.allocates (Stores (closed_type table.now ty) at (value_of value.now))
+    ensures fault { IfErr result (λ k. HasEnded limit G.allocates
+        (Stores (closed_type table.now ty) at (value_of value.now))
         (G.memory guest.old) k (G.memory guest.new)) }
 {
     match value {
@@ -185,10 +186,13 @@ pub(crate) fn ask_elements<G: Guest>(
     requires inside { IsInside table.now element }
     requires standard { IsStandard (closed_type table.now element) }
     ensures ok { let t = closed_type table.now element in
-        IfOk result (λ at. IsDone limit G.allocates (GrantsBlock (align t) (count * size t) at) (G.memory guest.old) (G.memory guest.new)) }
+        IfOk result (λ at. IsDone limit G.allocates (GrantsBlock (align t) (count * size t) at) (G.memory guest.old)
+        (G.memory guest.new)) }
     ensures fault { let t = closed_type table.now element in
-        IfErr result (λ k. HasEnded limit G.allocates (AsksBlock (align t) (count * size t)) (G.memory guest.old) k (G.memory guest.new)) }
-    ensures inside { IfOk result (λ at. at + count * size (closed_type table.now element) ≤ length (G.memory guest.new).bytes) }
+        IfErr result (λ k. HasEnded limit G.allocates (AsksBlock (align t) (count * size t)) (G.memory guest.old) k
+        (G.memory guest.new)) }
+    ensures inside { IfOk result (λ at. at + count * size (closed_type table.now element)
+        ≤ length (G.memory guest.new).bytes) }
     ensures small { IfOk result (λ at. at + count * size (closed_type table.now element) < 2 ^ 32) }
     ensures few { IfOk result (λ at. count < 2 ^ 32) }
 {
@@ -210,7 +214,8 @@ pub(crate) fn store_items<G: Guest>(
     requires inside { IsInside table.now element }
     requires standard { IsStandard (closed_type table.now element) }
     requires typed { AllByRecursion (λ w. HasType w (closed_type table.now element)) (map value_of items.now) }
-    requires room { start + length items.now * size (closed_type table.now element) ≤ length (G.memory guest.old).bytes }
+    requires room { start + length items.now * size (closed_type table.now element)
+        ≤ length (G.memory guest.old).bytes }
     requires small { start + length items.now * size (closed_type table.now element) < 2 ^ 32 }
     ensures ok { let t = closed_type table.now element in
         OnOk result (IsDone limit G.allocates (EachStores (Stores t) (size t) start (map value_of items.now))
@@ -240,7 +245,8 @@ pub(crate) fn store_fields<G: Guest>(
     requires inside { AreInside table.now members.now }
     requires standard { AreStandardFields (members_fields table.now members.now) }
     requires typed { HaveTypes (map value_of values.now) (members_fields table.now members.now) }
-    requires room { at + end_from 0 (field_extents (members_fields table.now members.now)) ≤ length (G.memory guest.old).bytes }
+    requires room { at + end_from 0 (field_extents (members_fields table.now members.now))
+        ≤ length (G.memory guest.old).bytes }
     requires small { at + end_from 0 (field_extents (members_fields table.now members.now)) < 2 ^ 32 }
     ensures ok { OnOk result (IsDone limit G.allocates
         (FieldsStore (members_fields table.now members.now) at 0 (map value_of values.now))
@@ -277,9 +283,11 @@ fn store_variant<G: Guest>(
     requires typed { HasType (variant_value chosen.now.case chosen.now.payload.now) (closed_type table.now ty) }
     requires room { at + size (closed_type table.now ty) ≤ length (G.memory guest.old).bytes }
     requires small { at + size (closed_type table.now ty) < 2 ^ 32 }
-    ensures ok { OnOk result (IsDone limit G.allocates (Stores (closed_type table.now ty) at (variant_value chosen.now.case chosen.now.payload.now))
+    ensures ok { OnOk result (IsDone limit G.allocates
+        (Stores (closed_type table.now ty) at (variant_value chosen.now.case chosen.now.payload.now))
         (G.memory guest.old) (G.memory guest.new)) }
-    ensures fault { IfErr result (λ k. HasEnded limit G.allocates (Stores (closed_type table.now ty) at (variant_value chosen.now.case chosen.now.payload.now))
+    ensures fault { IfErr result (λ k. HasEnded limit G.allocates
+        (Stores (closed_type table.now ty) at (variant_value chosen.now.case chosen.now.payload.now))
         (G.memory guest.old) k (G.memory guest.new)) }
 {
     let Shape::Variant(count) = table.shape_of(ty) else {

@@ -11,7 +11,8 @@
 //! those of node i are 2 i and 2 i + 1. Stands on nothing.
 #![tactic(auto)]
 
-ghost use Rattle.std.specs.Prelude.{◌≡◌, ◌⊎◌, ℕ, ◌+◌, ◌*◌, ◌^◌, ◌<◌, ◌≤◌, List, drop, replicate, length, slice_index, slice_set, IfOk};
+ghost use Rattle.std.specs.Prelude.{◌≡◌, ◌⊎◌, ℕ, ◌+◌, ◌*◌, ◌^◌, ◌<◌, ◌≤◌, List, drop, replicate, length, slice_index};
+ghost use Rattle.std.specs.Prelude.{slice_set, IfOk};
 ghost use Rattle.max_tree.specs.MaxTree.{AreMaxima, IsMaxTree, FirstFrom, LastBefore, IsLastUnder};
 
 use std::alloc::{AllocError, Global};

@@ -5,8 +5,8 @@ ghost use Rattle.memory.specs.Blocks.{is_apart, is_block_placed, are_blocks_apar
 
 use std::alloc::{AllocError, Global};
 
-/// A block of `size` bytes at the address `at`, which was asked for at a multiple of `align`. One of no bytes has no address,
-/// and is in nobody's way.
+/// A block of `size` bytes at the address `at`, which was asked for at a multiple of `align`. One of no bytes has no
+/// address, and is in nobody's way.
 #[repr(C)]
 #[derive(Clone, Copy, Debug)]
 pub struct Block {
@@ -93,9 +93,9 @@ fn are_beside(place: &Block, blocks: &[Block]) -> bool
     blocks.iter().all(|block| place.is_apart(block))
 }
 
-/// Whether these blocks can be handed out of a memory of `len` bytes, with a place beside them that is lent: the memory has
-/// less than 2^32 bytes, and each block has an alignment, stands at a multiple of it, lies inside, and meets neither another
-/// one nor the place. It takes time n log n, and memory of the host only where the blocks don't rise.
+/// Whether these blocks can be handed out of a memory of `len` bytes, with a place beside them that is lent: the memory
+/// has less than 2^32 bytes, and each block has an alignment, stands at a multiple of it, lies inside, and meets
+/// neither another one nor the place. It takes time n log n, and memory of the host only where the blocks don't rise.
 pub fn can_lend(
     alloc: Global,
     len: usize,

@@ -6,8 +6,8 @@ ghost use Rattle.memory.specs.Lent.{lent, LentAllocates, LentReleases};
 use crate::block::Block;
 use canonical_abi::{Full, Guest, Honest, NotTaken};
 
-/// The host's bytes where they are. Its blocks are handed out in turn, each where it is the one that is asked for. Live is
-/// what lies in none of those that are still to be handed out.
+/// The host's bytes where they are. Its blocks are handed out in turn, each where it is the one that is asked for. Live
+/// is what lies in none of those that are still to be handed out.
 #[derive(Drop)]
 pub struct Lent<'a> {
     bytes: &'a mut [u8],

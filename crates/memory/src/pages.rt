@@ -1,6 +1,7 @@
 //! The bytes of a memory that may grow: its room is taken when it is made, so no later call takes memory of
 //! the host.
-ghost use Rattle.std.specs.Prelude.{◌≡◌, ◌+◌, ◌-◌, ◌%◌, ◌≤◌, length, replicate, vec_len, vec_capacity, IfOk, IfErr, OnOk, OnErr};
+ghost use Rattle.std.specs.Prelude.{◌≡◌, ◌+◌, ◌-◌, ◌%◌, ◌≤◌, length, replicate, vec_len, vec_capacity, IfOk, IfErr};
+ghost use Rattle.std.specs.Prelude.{OnOk, OnErr};
 ghost use Rattle.canonical_abi.specs.Guest.{overwrite};
 ghost use Rattle.memory.specs.Growth.{ArePages, GrowsTo, HasNoGrowth, ReachesEnd};
 ghost use Rattle.memory.specs.Refusals.{RefusesLength};

@@ -1,7 +1,8 @@
 //! The name of a package, and how much each interface and each world of it has.
 ghost use Rattle.std.specs.Prelude.{◌≡◌, ◌++◌, IfOk, OnOk, string_bytes, flat_map};
 ghost use Rattle.std.specs.List.{count_by};
-ghost use Rattle.overview.specs.Contents.{package_line, interface_line, interface_shown, crosses, world_line, world_shown, shown};
+ghost use Rattle.overview.specs.Contents.{package_line, interface_line, interface_shown, crosses, world_line};
+ghost use Rattle.overview.specs.Contents.{world_shown, shown};
 
 use package_form::own_package;
 use std::alloc::{AllocError, Global};
@@ -99,7 +100,8 @@ fn push_interfaces(
     own: usize,
     interfaces: &[Interface],
 ) -> Result<(), AllocError>
-    ensures { OnOk result (string_bytes text.new ≡ string_bytes text.old ++ flat_map (interface_shown own) interfaces.now) }
+    ensures { OnOk result (string_bytes text.new ≡ string_bytes text.old
+        ++ flat_map (interface_shown own) interfaces.now) }
 {
     for interface in interfaces {
         if interface.package.0 as usize == own {
@@ -125,8 +127,9 @@ fn push_worlds(
     Ok(())
 }
 
-/// A line `package` with the name of the last package, and a line for each interface and each world of it, with its label: how
-/// many names an interface uses and how many types and functions it has, and how many items a world imports and exports.
+/// A line `package` with the name of the last package, and a line for each interface and each world of it, with its
+/// label: how many names an interface uses and how many types and functions it has, and how many items a world imports
+/// and exports.
 pub fn shown(alloc: Global, resolve: &Resolve) -> Result<String, AllocError>
     ensures { IfOk result (λ s. string_bytes s ≡ shown resolve.now) }
 {

@@ -1,12 +1,14 @@
 //! The sizes and alignments of a package's types, and the core signatures of its functions.
-ghost use Rattle.std.specs.Prelude.{◌≡◌, ◌<◌, ◌++◌, length, IfOk, OnOk, IsTrue, string_bytes, flat_map, codes, slice_get};
+ghost use Rattle.std.specs.Prelude.{◌≡◌, ◌<◌, ◌++◌, length, IfOk, OnOk, IsTrue, string_bytes, flat_map, codes};
+ghost use Rattle.std.specs.Prelude.{slice_get};
 ghost use Rattle.std.specs.List.{list_all};
 ghost use Rattle.layout.specs.Layout.{layouts_of, core_signature_of, results_of};
 ghost use Rattle.canonical_abi.specs.Layout.{size, align, lifted_signature, lowered_signature};
 ghost use Rattle.tables.specs.Closed.{IsFunction, closed_type, function_type};
 ghost use Rattle.tables.specs.Names.{full_name};
 ghost use Rattle.tables.specs.Tables.{type_of, is_type_id, is_function_id, is_placed};
-ghost use Rattle.overview.specs.LayoutLines.{kind_word, kinds_text, signature_text, type_label, type_line, function_line, lines_of, laid_out};
+ghost use Rattle.overview.specs.LayoutLines.{kind_word, kinds_text, signature_text, type_label, type_line};
+ghost use Rattle.overview.specs.LayoutLines.{function_line, lines_of, laid_out};
 
 use canonical_abi::CoreKind;
 use layout::{CoreSignature, Layouts};
@@ -25,7 +27,8 @@ fn kind_word(kind: CoreKind) -> &'static str
 
 /// Appends kinds, with a space before each.
 fn push_kinds(text: &mut String, kinds: &[CoreKind]) -> Result<(), AllocError>
-    ensures { OnOk result (string_bytes text.new ≡ string_bytes text.old ++ flat_map (λ k. codes " " ++ kind_word k) kinds.now) }
+    ensures { OnOk result (string_bytes text.new ≡ string_bytes text.old
+        ++ flat_map (λ k. codes " " ++ kind_word k) kinds.now) }
 {
     for kind in kinds {
         text.push(' ')?;
@@ -177,7 +180,8 @@ fn push_types(
 ) -> Result<(), AllocError>
     requires laid_out { layouts.now ≡ layouts_of resolve.now }
     requires placed { IsTrue (list_all (is_type_id resolve.now.definitions) ids.now) }
-    ensures { OnOk result (string_bytes text.new ≡ string_bytes text.old ++ flat_map (type_line resolve.now interface.now) ids.now) }
+    ensures { OnOk result (string_bytes text.new ≡ string_bytes text.old
+        ++ flat_map (type_line resolve.now interface.now) ids.now) }
 {
     for id in ids {
         let line = type_line(alloc, resolve, layouts, interface, *id)?;
@@ -196,7 +200,8 @@ fn push_functions(
 ) -> Result<(), AllocError>
     requires laid_out { layouts.now ≡ layouts_of resolve.now }
     requires functions { IsTrue (list_all (is_function_id resolve.now.definitions) ids.now) }
-    ensures { OnOk result (string_bytes text.new ≡ string_bytes text.old ++ flat_map (function_line resolve.now interface.now) ids.now) }
+    ensures { OnOk result (string_bytes text.new ≡ string_bytes text.old
+        ++ flat_map (function_line resolve.now interface.now) ids.now) }
 {
     for id in ids {
         let line = function_line(alloc, resolve, layouts, interface, *id)?;
@@ -216,7 +221,8 @@ fn push_interface(
 ) -> Result<(), AllocError>
     requires laid_out { layouts.now ≡ layouts_of resolve.now }
     requires placed { IsTrue (is_placed resolve.now.definitions interface.now) }
-    ensures { OnOk result (string_bytes text.new ≡ string_bytes text.old ++ lines_of resolve.now name.now interface.now) }
+    ensures { OnOk result (string_bytes text.new ≡ string_bytes text.old
+        ++ lines_of resolve.now name.now interface.now) }
 {
     push_types(
         alloc,
@@ -253,8 +259,9 @@ fn full_name(alloc: Global, resolve: &Resolve, interface: &Interface) -> Result<
     package.full_name(alloc, &interface.name)
 }
 
-/// A line for each used name, type and function of each interface of the last package, in its order: size and alignment in
-/// bytes, and the core signatures of the callee's function and of the caller's import. Functions of worlds are left out.
+/// A line for each used name, type and function of each interface of the last package, in its order: size and alignment
+/// in bytes, and the core signatures of the callee's function and of the caller's import. Functions of worlds are left
+/// out.
 pub fn laid_out(alloc: Global, resolve: &Resolve, layouts: &Layouts) -> Result<String, AllocError>
     requires laid_out { layouts.now ≡ layouts_of resolve.now }
     ensures { IfOk result (λ s. string_bytes s ≡ laid_out resolve.now) }

@@ -31,7 +31,8 @@ fn own_rows(closed: &Resolve) -> &[Definition]
 
 /// Marks the interfaces that the used names among these rows of a table reach.
 fn mark_uses(marks: &mut Vec<bool>, table: &[Definition], rows: &[Definition])
-    ensures { (n : ℕ) (places : List ℕ) → AreMarked n places marks.old.items → AreMarked n (places ++ flat_map (reached_by_row table.now) rows.now) marks.new.items }
+    ensures { (n : ℕ) (places : List ℕ) → AreMarked n places marks.old.items
+        → AreMarked n (places ++ flat_map (reached_by_row table.now) rows.now) marks.new.items }
 {
     for row in rows {
         if let Some(name) = used_name(table, row) {
@@ -41,7 +42,8 @@ fn mark_uses(marks: &mut Vec<bool>, table: &[Definition], rows: &[Definition])
 }
 
 fn mark_items(marks: &mut Vec<bool>, items: &[WorldItem])
-    ensures { (n : ℕ) (places : List ℕ) → AreMarked n places marks.old.items → AreMarked n (places ++ flat_map reached_by_item items.now) marks.new.items }
+    ensures { (n : ℕ) (places : List ℕ) → AreMarked n places marks.old.items
+        → AreMarked n (places ++ flat_map reached_by_item items.now) marks.new.items }
 {
     for item in items {
         if let WorldItemKind::Interface(id) = item.kind {
@@ -52,7 +54,8 @@ fn mark_items(marks: &mut Vec<bool>, items: &[WorldItem])
 
 /// Marks the interfaces that items of worlds are.
 fn mark_worlds(marks: &mut Vec<bool>, worlds: &[World])
-    ensures { (n : ℕ) (places : List ℕ) → AreMarked n places marks.old.items → AreMarked n (places ++ flat_map reached_by_world worlds.now) marks.new.items }
+    ensures { (n : ℕ) (places : List ℕ) → AreMarked n places marks.old.items
+        → AreMarked n (places ++ flat_map reached_by_world worlds.now) marks.new.items }
 {
     for world in worlds {
         mark_items(marks, world.items.as_slice());
@@ -76,7 +79,8 @@ fn ask_import<'a>(
     closed: &Resolve,
     import: &'a Interface,
 ) -> Result<(), AllocError>
-    ensures { OnOk result ((names : PackageParts → List ℕ → Bool) → AreAsked set.now names asked.old → AreAsked set.now (also names (import_names closed.now import.now)) asked.new) }
+    ensures { OnOk result ((names : PackageParts → List ℕ → Bool) → AreAsked set.now names asked.old
+        → AreAsked set.now (also names (import_names closed.now import.now)) asked.new) }
 {
     let packages = closed.packages.as_slice();
     match packages.get(import.package.0 as usize) {
@@ -108,8 +112,9 @@ fn ask_imports<'a>(
     Ok(())
 }
 
-/// Marks of the packages and of the interfaces of a set that the own part of a closed table names: an interface of which
-/// a type is used, or which is an item of a world, and the package of such a one, whether it has that interface or not.
+/// Marks of the packages and of the interfaces of a set that the own part of a closed table names: an interface of
+/// which a type is used, or which is an item of a world, and the package of such a one, whether it has that interface
+/// or not.
 pub fn named_in(alloc: Global, set: &Resolve, closed: &Resolve) -> Result<Named, AllocError>
     ensures { IfOk result (λ n. AreNamedIn closed.now set.now n.packages.items n.interfaces.items) }
 {
@@ -149,8 +154,8 @@ fn has_import_table(closed: &Resolve, table: &Resolve) -> bool
         )
 }
 
-/// Whether a closed table begins with just the table of the interfaces of a set that its own part names, with what these
-/// reach: each as the set has it, in the set's order. (Binary.md)
+/// Whether a closed table begins with just the table of the interfaces of a set that its own part names, with what
+/// these reach: each as the set has it, in the set's order. (Binary.md)
 pub fn is_behind_imports(alloc: Global, set: &Resolve, closed: &Resolve) -> Result<bool, AllocError>
     ensures { IfOk result (λ b. Decides b (IsBehindImports set.now closed.now)) }
 {

@@ -3,7 +3,8 @@ ghost use Rattle.std.specs.Prelude.{ℕ, Bool, List, map, IfOk, OnOk};
 ghost use Rattle.tables.specs.PackageNames.{PackageParts};
 ghost use Rattle.wit_tokens.specs.Syntax.{Uses};
 ghost use Rattle.wit_tokens.specs.View.{path_view, used_view, entry_view, world_entry_view, item_view, file_view};
-ghost use Rattle.package_adding.specs.Named.{AreNamed, path_names, entry_names_interface, world_entry_names, file_entry_names, any_names};
+ghost use Rattle.package_adding.specs.Named.{AreNamed, path_names, entry_names_interface, world_entry_names};
+ghost use Rattle.package_adding.specs.Named.{file_entry_names, any_names};
 ghost use Rattle.package_adding.specs.Asked.{also, AreAsked};
 
 use crate::marking::Named;
@@ -15,7 +16,8 @@ use wit_tokens::wit_syntax::{Ast, InterfaceItem, Item, Path, Use, WorldItem, Wor
 
 /// Asks for the interface of another package that a path names.
 fn ask_path<'a>(set: &Resolve, asked: &mut Asked<'a>, path: &'a Path) -> Result<(), AllocError>
-    ensures { OnOk result ((names : PackageParts → List ℕ → Bool) → AreAsked set.now names asked.old → AreAsked set.now (also names (path_names (path_view path.now))) asked.new) }
+    ensures { OnOk result ((names : PackageParts → List ℕ → Bool) → AreAsked set.now names asked.old
+        → AreAsked set.now (also names (path_names (path_view path.now))) asked.new) }
 {
     match path {
         Path::Local(_) => Ok(()),
@@ -28,7 +30,8 @@ fn ask_path<'a>(set: &Resolve, asked: &mut Asked<'a>, path: &'a Path) -> Result<
 /// .. of which a type is used.
 fn ask_use<'a>(set: &Resolve, asked: &mut Asked<'a>, used: &'a Use) -> Result<(), AllocError>
     ensures { OnOk result ((names : PackageParts → List ℕ → Bool) → AreAsked set.now names asked.old
-        → AreAsked set.now (also names (entry_names_interface (Uses used.now.span (path_view used.now.interface) (map used_view used.now.names.items)))) asked.new) }
+        → AreAsked set.now (also names (entry_names_interface
+        (Uses used.now.span (path_view used.now.interface) (map used_view used.now.names.items)))) asked.new) }
 {
     if used.names.is_empty() {
         Ok(())
@@ -42,7 +45,8 @@ fn ask_item<'a>(
     asked: &mut Asked<'a>,
     item: &'a InterfaceItem,
 ) -> Result<(), AllocError>
-    ensures { OnOk result ((names : PackageParts → List ℕ → Bool) → AreAsked set.now names asked.old → AreAsked set.now (also names (entry_names_interface (entry_view item.now))) asked.new) }
+    ensures { OnOk result ((names : PackageParts → List ℕ → Bool) → AreAsked set.now names asked.old
+        → AreAsked set.now (also names (entry_names_interface (entry_view item.now))) asked.new) }
 {
     match item {
         InterfaceItem::Use(used) => ask_use(set, asked, used),
@@ -55,7 +59,8 @@ fn ask_world_item<'a>(
     asked: &mut Asked<'a>,
     item: &'a WorldItem,
 ) -> Result<(), AllocError>
-    ensures { OnOk result ((names : PackageParts → List ℕ → Bool) → AreAsked set.now names asked.old → AreAsked set.now (also names (world_entry_names (world_entry_view item.now))) asked.new) }
+    ensures { OnOk result ((names : PackageParts → List ℕ → Bool) → AreAsked set.now names asked.old
+        → AreAsked set.now (also names (world_entry_names (world_entry_view item.now))) asked.new) }
 {
     match &item.kind {
         WorldItemKind::Interface(path) => ask_path(set, asked, path),
@@ -68,7 +73,8 @@ fn ask_items<'a>(
     asked: &mut Asked<'a>,
     items: &'a [InterfaceItem],
 ) -> Result<(), AllocError>
-    ensures { OnOk result ((names : PackageParts → List ℕ → Bool) → AreAsked set.now names asked.old → AreAsked set.now (also names (any_names entry_names_interface (map entry_view items.now))) asked.new) }
+    ensures { OnOk result ((names : PackageParts → List ℕ → Bool) → AreAsked set.now names asked.old
+        → AreAsked set.now (also names (any_names entry_names_interface (map entry_view items.now))) asked.new) }
 {
     for item in items {
         ask_item(set, asked, item)?;
@@ -81,7 +87,8 @@ fn ask_world_items<'a>(
     asked: &mut Asked<'a>,
     items: &'a [WorldItem],
 ) -> Result<(), AllocError>
-    ensures { OnOk result ((names : PackageParts → List ℕ → Bool) → AreAsked set.now names asked.old → AreAsked set.now (also names (any_names world_entry_names (map world_entry_view items.now))) asked.new) }
+    ensures { OnOk result ((names : PackageParts → List ℕ → Bool) → AreAsked set.now names asked.old
+        → AreAsked set.now (also names (any_names world_entry_names (map world_entry_view items.now))) asked.new) }
 {
     for item in items {
         ask_world_item(set, asked, item)?;
@@ -91,7 +98,8 @@ fn ask_world_items<'a>(
 
 /// Asks for what an interface or a world names.
 fn ask_entry<'a>(set: &Resolve, asked: &mut Asked<'a>, item: &'a Item) -> Result<(), AllocError>
-    ensures { OnOk result ((names : PackageParts → List ℕ → Bool) → AreAsked set.now names asked.old → AreAsked set.now (also names (file_entry_names (item_view item.now))) asked.new) }
+    ensures { OnOk result ((names : PackageParts → List ℕ → Bool) → AreAsked set.now names asked.old
+        → AreAsked set.now (also names (file_entry_names (item_view item.now))) asked.new) }
 {
     match item {
         Item::Interface(own) => ask_items(set, asked, &own.items),
@@ -104,7 +112,8 @@ fn ask_entries<'a>(
     asked: &mut Asked<'a>,
     items: &'a [Item],
 ) -> Result<(), AllocError>
-    ensures { OnOk result ((names : PackageParts → List ℕ → Bool) → AreAsked set.now names asked.old → AreAsked set.now (also names (any_names file_entry_names (map item_view items.now))) asked.new) }
+    ensures { OnOk result ((names : PackageParts → List ℕ → Bool) → AreAsked set.now names asked.old
+        → AreAsked set.now (also names (any_names file_entry_names (map item_view items.now))) asked.new) }
 {
     for item in items {
         ask_entry(set, asked, item)?;

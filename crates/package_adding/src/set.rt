@@ -1,5 +1,6 @@
 //! Sets of packages.
-ghost use Rattle.std.specs.Prelude.{◌≡◌, ◌<◌, ◌≤◌, ◌⊎◌, ℕ, true, All, IsTrue, IfOk, IfErr, OnOk, OnErr, MatchResult, length};
+ghost use Rattle.std.specs.Prelude.{◌≡◌, ◌<◌, ◌≤◌, ◌⊎◌, ℕ, true, All, IsTrue, IfOk, IfErr, OnOk, OnErr, MatchResult};
+ghost use Rattle.std.specs.Prelude.{length};
 ghost use Rattle.ctype_bin.specs.FileView.{raw_component_view};
 ghost use Rattle.ctype_format.specs.File.{component_file};
 ghost use Rattle.package_form.specs.Closed.{IsAlone};
@@ -11,7 +12,9 @@ ghost use Rattle.package_sets.specs.Joined.{FitsBehind, joined_places};
 ghost use Rattle.package_sets.specs.SetForm.{IsEmpty};
 ghost use Rattle.package_sets.specs.Tower.{IsInTower};
 ghost use Rattle.tables.specs.declared.error.ResolveError.TheVariants.{SetLimit, NoMemory, SamePackage};
-ghost use Rattle.package_adding.specs.Added.{AddsComponent, ComponentIsAdded, ComponentNotAdded, IsRefusedBehind, AddsTree, IsNewName, HasName, TreeIsAdded, TreeNotAdded, HasTable, KeepsTables, IsWantOfMemoryToAdd};
+ghost use Rattle.package_adding.specs.Added.{AddsComponent, ComponentIsAdded, ComponentNotAdded, IsRefusedBehind};
+ghost use Rattle.package_adding.specs.Added.{AddsTree, IsNewName, HasName, TreeIsAdded, TreeNotAdded, HasTable};
+ghost use Rattle.package_adding.specs.Added.{KeepsTables, IsWantOfMemoryToAdd};
 ghost use Rattle.package_sets.specs.BehindImports.{IsBehindImports};
 ghost use Rattle.package_text.specs.Writable.{IsWritable};
 ghost use Rattle.tree_meaning.specs.Resolves.{file_fits};
@@ -32,8 +35,8 @@ use tree_scopes::{has_package, package_name};
 use wit_component::{closed_from_component, spelling};
 use wit_tokens::wit_syntax::Ast;
 
-/// Packages that use each other, as one table: each behind those that it uses, at most 64. None is empty, and none has more
-/// than 65,535 type entries with what it reaches.
+/// Packages that use each other, as one table: each behind those that it uses, at most 64. None is empty, and none has
+/// more than 65,535 type entries with what it reaches.
 #[derive(Debug, Drop)]
 pub struct PackageSet {
     resolve: Resolve,
@@ -116,13 +119,15 @@ impl PackageSet {
         PackageId(0)
     }
 
-    /// Puts the own part of a closed table behind the set, where it fits. The set is as it was where there is no memory.
+    /// Puts the own part of a closed table behind the set, where it fits. The set is as it was where there is no
+    /// memory.
     fn put(&mut self, alloc: Global, closed: &Resolve, to: &Joined) -> Result<PackageId, AllocError>
         requires fits { FitsBehind self.old.resolve closed.now (joined_places to.now) }
         requires form { ∥ IsInPackageForm closed.now ∥₁ }
         requires distinct { ∥ All AreDistinct (package_scopes closed.now) ∥₁ }
         ensures ok { IfOk result (λ id. IsAttached self.old.resolve closed.now self.new.resolve id.0) }
-        ensures again { IfOk result (λ id. IsBehindImports self.old.resolve closed.now → HasTable self.new.resolve id.0 closed.now) }
+        ensures again { IfOk result (λ id. IsBehindImports self.old.resolve closed.now
+            → HasTable self.new.resolve id.0 closed.now) }
         ensures earlier { OnOk result (KeepsTables self.old.resolve self.new.resolve) }
         ensures same { OnErr result (self.new ≡ self.old) }
     {
@@ -139,12 +144,14 @@ impl PackageSet {
         }
     }
 
-    /// Puts the own part of a closed table behind the set. The table of a first package that reaches no other is the set's as it stands.
+    /// Puts the own part of a closed table behind the set. The table of a first package that reaches no other is the
+    /// set's as it stands.
     fn attach(&mut self, alloc: Global, closed: Resolve) -> Result<PackageId, ResolveError>
         requires form { ∥ IsInPackageForm closed ∥₁ }
         requires distinct { ∥ All AreDistinct (package_scopes closed) ∥₁ }
         ensures ok { IfOk result (λ id. IsAttached self.old.resolve closed self.new.resolve id.0) }
-        ensures again { IfOk result (λ id. IsBehindImports self.old.resolve closed → HasTable self.new.resolve id.0 closed) }
+        ensures again { IfOk result (λ id. IsBehindImports self.old.resolve closed
+            → HasTable self.new.resolve id.0 closed) }
         ensures earlier { OnOk result (KeepsTables self.old.resolve self.new.resolve) }
         ensures err { IfErr result (IsRefused self.old.resolve closed) }
         ensures same { OnErr result (self.new ≡ self.old) }
@@ -156,7 +163,8 @@ impl PackageSet {
         Ok(self.put(alloc, &closed, &to)?)
     }
 
-    /// Puts the own part of a component's closed table behind the set. 44 also where its imports aren't just those of the set, in its order.
+    /// Puts the own part of a component's closed table behind the set. 44 also where its imports aren't just those of
+    /// the set, in its order.
     fn attach_component(
         &mut self,
         alloc: Global,
@@ -181,11 +189,12 @@ impl PackageSet {
         Ok(self.put(alloc, &closed, &to)?)
     }
 
-    /// Adds the package of a component behind the others, and answers its id. The interfaces that the component imports are those of
-    /// earlier packages. 49 where there are 64 packages; then 43, 44 and 40 as `closed_from_component` tests them; then
-    /// 48 where there is a package of this name, 47 for the first package that it imports from and that isn't there, and 44 where an
-    /// interface that it imports isn't there or differs from the earlier package's, or where its imports stand in another order than the
-    /// set's; 46 where memory is wanting. The set is as it was then. (Binary.md)
+    /// Adds the package of a component behind the others, and answers its id. The interfaces that the component imports
+    /// are those of earlier packages. 49 where there are 64 packages; then 43, 44 and 40 as `closed_from_component`
+    /// tests them; then 48 where there is a package of this name, 47 for the first package that it imports from and
+    /// that isn't there, and 44 where an interface that it imports isn't there or differs from the earlier package's,
+    /// or where its imports stand in another order than the set's; 46 where memory is wanting. The set is as it was
+    /// then. (Binary.md)
     pub fn add_raw(&mut self, alloc: Global, raw: &RawComponent) -> Result<PackageId, ResolveError>
         ensures ok { IfOk result (λ id. ComponentIsAdded raw.now self.old.resolve self.new.resolve id.0) }
         ensures known { IfOk result (λ id. id.0 < length self.new.resolve.packages) }
@@ -202,7 +211,8 @@ impl PackageSet {
         self.add_raw_with_bytes(alloc, raw, &bytes)
     }
 
-    /// The same of a component that these bytes spell: who has read it has them, so that they need not be written anew. (Binary.md)
+    /// The same of a component that these bytes spell: who has read it has them, so that they need not be written anew.
+    /// (Binary.md)
     pub fn add_raw_with_bytes(
         &mut self,
         alloc: Global,
@@ -229,7 +239,8 @@ impl PackageSet {
     /// That the set has no package of the tree's name. 48 where it has one.
     fn lacks_package(&self, alloc: Global, ast: &Ast) -> Result<(), ResolveError>
         ensures ok { OnOk result (IsNewName (file_view ast.now) self.now.resolve) }
-        ensures err { IfErr result (λ e. (e ≡ NoMemory) ⊎ ((e ≡ SamePackage (package_named (file_view ast.now))) × HasName (file_view ast.now) self.now.resolve)) }
+        ensures err { IfErr result (λ e. (e ≡ NoMemory)
+            ⊎ ((e ≡ SamePackage (package_named (file_view ast.now))) × HasName (file_view ast.now) self.now.resolve)) }
     {
         if has_package(self.resolve.packages.as_slice(), &ast.package) {
             let name = package_name(alloc, &ast.package)?;
@@ -238,16 +249,18 @@ impl PackageSet {
         Ok(())
     }
 
-    /// Adds the package of a syntax tree behind the others, and answers its id. What its paths name of other packages are interfaces of
-    /// earlier packages of just that namespace, name and version. 49 where there are 64 packages, 43 where the tree has neither interface
-    /// nor world, 48 where there is a package of its name; then 40, 47, 41, 42 and 45 as `closed_table` tests them over the interfaces
-    /// that the paths name, with what these reach; 46 where memory is wanting. 47 also where a use of a package names no type, as in no text,
-    /// and nothing else is used of it. The set is as it was then. (WIT.md)
+    /// Adds the package of a syntax tree behind the others, and answers its id. What its paths name of other packages
+    /// are interfaces of earlier packages of just that namespace, name and version. 49 where there are 64 packages, 43
+    /// where the tree has neither interface nor world, 48 where there is a package of its name; then 40, 47, 41, 42 and
+    /// 45 as `closed_table` tests them over the interfaces that the paths name, with what these reach; 46 where memory
+    /// is wanting. 47 also where a use of a package names no type, as in no text, and nothing else is used of it. The
+    /// set is as it was then. (WIT.md)
     pub fn add_ast(&mut self, alloc: Global, ast: &Ast) -> Result<PackageId, ResolveError>
         ensures ok { IfOk result (λ id. TreeIsAdded (file_view ast.now) self.old.resolve self.new.resolve id.0) }
         ensures known { IfOk result (λ id. id.0 < length self.new.resolve.packages) }
         ensures earlier { OnOk result (KeepsTables self.old.resolve self.new.resolve) }
-        ensures only { (closed r : Resolve) (id : ℕ) → AddsTree (file_view ast.now) self.old.resolve closed r id → ∥ IsWritable closed ∥₁ → file_fits (file_view ast.now) ≡ true
+        ensures only { (closed r : Resolve) (id : ℕ) → AddsTree (file_view ast.now) self.old.resolve closed r id
+            → ∥ IsWritable closed ∥₁ → file_fits (file_view ast.now) ≡ true
             → MatchResult result (λ _. IsSamePackage self.new.resolve r) IsWantOfMemoryToAdd }
         ensures err { IfErr result (TreeNotAdded (file_view ast.now) self.old.resolve) }
         ensures same { OnErr result (self.new ≡ self.old) }

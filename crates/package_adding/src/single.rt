@@ -15,11 +15,13 @@ use std::alloc::Global;
 use tables::{Resolve, ResolveError};
 use wit_tokens::wit_syntax::Ast;
 
-/// The package of a syntax tree that names no other package: it is added to a set that has none. A path that names one is 47. (WIT.md)
+/// The package of a syntax tree that names no other package: it is added to a set that has none. A path that names one
+/// is 47. (WIT.md)
 pub fn from_ast(alloc: Global, ast: &Ast) -> Result<Resolve, ResolveError>
     ensures ok { IfOk result (IsFileAlone (file_view ast.now)) }
     ensures writable { IfOk result (λ r. ∥ IsWritable r ∥₁) }
-    ensures only { (r : Resolve) → IsFileAlone (file_view ast.now) r → MatchResult result (λ p. IsSamePackage p r) IsWantOfMemoryToAdd }
+    ensures only { (r : Resolve) → IsFileAlone (file_view ast.now) r
+        → MatchResult result (λ p. IsSamePackage p r) IsWantOfMemoryToAdd }
     ensures err { IfErr result (FileAloneRefuses (file_view ast.now)) }
 {
     names_are_full(ast);
@@ -30,12 +32,13 @@ pub fn from_ast(alloc: Global, ast: &Ast) -> Result<Resolve, ResolveError>
     Ok(package)
 }
 
-/// The package of a component that imports nothing: it is added to a set that has none. 47 names the first package that it imports from.
-/// (Binary.md)
+/// The package of a component that imports nothing: it is added to a set that has none. 47 names the first package that
+/// it imports from. (Binary.md)
 pub fn from_raw(alloc: Global, raw: &RawComponent) -> Result<Resolve, ResolveError>
     ensures ok { IfOk result (IsComponentAlone raw.now) }
     ensures writable { IfOk result (λ r. ∥ IsWritable r ∥₁) }
-    ensures only { (r : Resolve) → IsComponentAlone raw.now r → MatchResult result (λ p. IsSamePackage p r) IsWantOfMemoryToAdd }
+    ensures only { (r : Resolve) → IsComponentAlone raw.now r
+        → MatchResult result (λ p. IsSamePackage p r) IsWantOfMemoryToAdd }
     ensures err { IfErr result (ComponentAloneRefuses raw.now) }
 {
     let mut set = PackageSet::new(alloc);

@@ -70,7 +70,8 @@ pub fn closed_over(alloc: Global, set: &Resolve, ast: &Ast) -> Result<Resolve, R
     ensures labels { IfOk result (λ r. All IsLabel (package_labels r)) }
     ensures fits { OnOk result (file_fits (file_view ast.now) ≡ true) }
     ensures behind { IfOk result (IsBehindImports set.now) }
-    ensures only { (p : Resolve) → IsOfTree (file_view ast.now) set.now p → ∥ IsWritable p ∥₁ → file_fits (file_view ast.now) ≡ true
+    ensures only { (p : Resolve) → IsOfTree (file_view ast.now) set.now p → ∥ IsWritable p ∥₁
+        → file_fits (file_view ast.now) ≡ true
         → MatchResult result (λ r. IsSamePackage r p) (λ e. e ≡ NoMemory) }
     ensures err { IfErr result (CauseStands (file_view ast.now) set.now) }
 {

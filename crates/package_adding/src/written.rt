@@ -18,7 +18,8 @@ use std::alloc::{AllocError, Global};
 use tables::{PackageId, Resolve};
 use wit_component::component_with_bytes;
 
-/// The table of a package of a set: the interfaces of earlier packages that it reaches, in the set's order, and behind them its own.
+/// The table of a package of a set: the interfaces of earlier packages that it reaches, in the set's order, and behind
+/// them its own.
 pub fn table(alloc: Global, set: &Resolve, id: PackageId) -> Result<Resolve, AllocError>
     requires tower { ∥ IsInTower set.now ∥₁ }
     requires known { id.0 < length set.now.packages }
@@ -31,7 +32,8 @@ pub fn table(alloc: Global, set: &Resolve, id: PackageId) -> Result<Resolve, All
     Ok(table)
 }
 
-/// The component type of a package of a set, which begins with the interfaces of earlier packages that it reaches. (Binary.md)
+/// The component type of a package of a set, which begins with the interfaces of earlier packages that it reaches.
+/// (Binary.md)
 pub fn to_raw(alloc: Global, set: &Resolve, id: PackageId) -> Result<RawComponent, AllocError>
     requires tower { ∥ IsInTower set.now ∥₁ }
     requires known { id.0 < length set.now.packages }
@@ -42,8 +44,8 @@ pub fn to_raw(alloc: Global, set: &Resolve, id: PackageId) -> Result<RawComponen
     Ok(raw)
 }
 
-/// Appends the canonical text of a package of a set, in which interfaces of other packages go by their paths. Where memory is wanting,
-/// the text is as it was. (WIT.md)
+/// Appends the canonical text of a package of a set, in which interfaces of other packages go by their paths. Where
+/// memory is wanting, the text is as it was. (WIT.md)
 pub fn print(
     alloc: Global,
     set: &Resolve,
@@ -52,7 +54,8 @@ pub fn print(
 ) -> Result<(), AllocError>
     requires tower { ∥ IsInTower set.now ∥₁ }
     requires known { id.0 < length set.now.packages }
-    ensures ok { OnOk result ((r : Resolve) × IsRestricted set.now id.0 r × (string_bytes out.new ≡ string_bytes out.old ++ text_of r)) }
+    ensures ok { OnOk result ((r : Resolve) × IsRestricted set.now id.0 r
+        × (string_bytes out.new ≡ string_bytes out.old ++ text_of r)) }
     ensures same { OnErr result (string_bytes out.new ≡ string_bytes out.old) }
 {
     let table = table(alloc, set, id)?;
@@ -60,7 +63,8 @@ pub fn print(
 }
 
 impl PackageSet {
-    /// The table of a package of the set: the interfaces of earlier packages that it reaches, in the set's order, and behind them its own.
+    /// The table of a package of the set: the interfaces of earlier packages that it reaches, in the set's order, and
+    /// behind them its own.
     pub fn table(&self, alloc: Global, id: PackageId) -> Result<Resolve, AllocError>
         requires known { id.0 < length self.now.resolve.packages }
         ensures ok { IfOk result (IsRestricted self.now.resolve id.0) }
@@ -70,7 +74,8 @@ impl PackageSet {
         table(alloc, self.resolve(), id)
     }
 
-    /// The component type of a package of the set, which begins with the interfaces of earlier packages that it reaches. (Binary.md)
+    /// The component type of a package of the set, which begins with the interfaces of earlier packages that it
+    /// reaches. (Binary.md)
     pub fn to_raw(&self, alloc: Global, id: PackageId) -> Result<RawComponent, AllocError>
         requires known { id.0 < length self.now.resolve.packages }
         ensures ok { IfOk result (λ raw. (r : Resolve) × IsRestricted self.now.resolve id.0 r × ComponentStands raw r) }
@@ -78,11 +83,12 @@ impl PackageSet {
         to_raw(alloc, self.resolve(), id)
     }
 
-    /// Appends the canonical text of a package of the set, in which interfaces of other packages go by their paths. Where memory is wanting,
-    /// the text is as it was. (WIT.md)
+    /// Appends the canonical text of a package of the set, in which interfaces of other packages go by their paths.
+    /// Where memory is wanting, the text is as it was. (WIT.md)
     pub fn print(&self, alloc: Global, id: PackageId, out: &mut String) -> Result<(), AllocError>
         requires known { id.0 < length self.now.resolve.packages }
-        ensures ok { OnOk result ((r : Resolve) × IsRestricted self.now.resolve id.0 r × (string_bytes out.new ≡ string_bytes out.old ++ text_of r)) }
+        ensures ok { OnOk result ((r : Resolve) × IsRestricted self.now.resolve id.0 r
+            × (string_bytes out.new ≡ string_bytes out.old ++ text_of r)) }
         ensures same { OnErr result (string_bytes out.new ≡ string_bytes out.old) }
     {
         print(alloc, self.resolve(), id, out)

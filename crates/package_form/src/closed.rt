@@ -1,9 +1,12 @@
 //! Whether a table is closed: one package behind the interfaces of others that it reaches.
-ghost use Rattle.std.specs.Prelude.{◌≡◌, ◌≤◌, ◌<◌, ◌++◌, ◌∷◌, [], ℕ, List, length, true, flat_map, None, Some, IfOk, MatchOption, option_map, string_bytes, slice_set};
+ghost use Rattle.std.specs.Prelude.{◌≡◌, ◌≤◌, ◌<◌, ◌++◌, ◌∷◌, [], ℕ, List, length, true, flat_map, None, Some, IfOk};
+ghost use Rattle.std.specs.Prelude.{MatchOption, option_map, string_bytes, slice_set};
 ghost use Rattle.std.specs.List.{list_all, list_any};
-ghost use Rattle.package_form.specs.Reached.{used_in, name_at, reached_by_row, reached_by_item, reached_by_world, reached, is_interface_of, are_reached};
+ghost use Rattle.package_form.specs.Reached.{used_in, name_at, reached_by_row, reached_by_item, reached_by_world};
+ghost use Rattle.package_form.specs.Reached.{reached, is_interface_of, are_reached};
 ghost use Rattle.package_form.specs.Marks.{AreMarked};
-ghost use Rattle.package_form.specs.Closed.{own_package, has_own, is_world_of, is_same_version, is_same_package, are_apart, are_of_a_set, has_each_package, is_closed};
+ghost use Rattle.package_form.specs.Closed.{own_package, has_own, is_world_of, is_same_version, is_same_package};
+ghost use Rattle.package_form.specs.Closed.{are_apart, are_of_a_set, has_each_package, is_closed};
 
 use std::alloc::{AllocError, Global};
 use tables::{
@@ -134,7 +137,8 @@ pub fn used_name<'a>(rows: &'a [Definition], row: &Definition) -> Option<&'a Typ
 
 /// The interface that a row reaches, if it is a used name.
 fn reached_by_row(rows: &[Definition], row: &Definition) -> Option<InterfaceId>
-    ensures { MatchOption result (reached_by_row rows.now row.now ≡ []) (λ i. reached_by_row rows.now row.now ≡ i.0 ∷ []) }
+    ensures { MatchOption result (reached_by_row rows.now row.now ≡ [])
+        (λ i. reached_by_row rows.now row.now ≡ i.0 ∷ []) }
 {
     match used_name(rows, row) {
         Some(name) => Some(name.interface),
@@ -162,7 +166,8 @@ fn mark(marks: &mut Vec<bool>, id: InterfaceId)
 
 /// Marks the interfaces that used names reach.
 fn mark_uses(marks: &mut Vec<bool>, rows: &[Definition])
-    ensures { (n : ℕ) (places : List ℕ) → AreMarked n places marks.old.items → AreMarked n (places ++ flat_map (reached_by_row rows.now) rows.now) marks.new.items }
+    ensures { (n : ℕ) (places : List ℕ) → AreMarked n places marks.old.items
+        → AreMarked n (places ++ flat_map (reached_by_row rows.now) rows.now) marks.new.items }
 {
     for row in rows {
         if let Some(id) = reached_by_row(rows, row) {
@@ -172,7 +177,8 @@ fn mark_uses(marks: &mut Vec<bool>, rows: &[Definition])
 }
 
 fn mark_items(marks: &mut Vec<bool>, items: &[WorldItem])
-    ensures { (n : ℕ) (places : List ℕ) → AreMarked n places marks.old.items → AreMarked n (places ++ flat_map reached_by_item items.now) marks.new.items }
+    ensures { (n : ℕ) (places : List ℕ) → AreMarked n places marks.old.items
+        → AreMarked n (places ++ flat_map reached_by_item items.now) marks.new.items }
 {
     for item in items {
         if let Some(id) = reached_by_item(*item) {
@@ -183,7 +189,8 @@ fn mark_items(marks: &mut Vec<bool>, items: &[WorldItem])
 
 /// Marks the interfaces that items of worlds are.
 fn mark_worlds(marks: &mut Vec<bool>, worlds: &[World])
-    ensures { (n : ℕ) (places : List ℕ) → AreMarked n places marks.old.items → AreMarked n (places ++ flat_map reached_by_world worlds.now) marks.new.items }
+    ensures { (n : ℕ) (places : List ℕ) → AreMarked n places marks.old.items
+        → AreMarked n (places ++ flat_map reached_by_world worlds.now) marks.new.items }
 {
     for world in worlds {
         mark_items(marks, world.items.as_slice());
@@ -208,7 +215,8 @@ fn reached_marks(
 /// Whether each interface is of the own package or marked.
 fn are_reached(own: usize, marks: &[bool], interfaces: &[Interface]) -> bool
     requires { length interfaces.now ≤ length marks.now }
-    ensures { (places : List ℕ) → AreMarked (length interfaces.now) places marks.now → result ≡ are_reached own places 0 interfaces.now }
+    ensures { (places : List ℕ) → AreMarked (length interfaces.now) places marks.now
+        → result ≡ are_reached own places 0 interfaces.now }
 {
     for (place, interface) in interfaces.iter().enumerate() {
         if interface.package.0 as usize != own && !marks[place] {

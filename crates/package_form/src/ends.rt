@@ -1,6 +1,7 @@
 //! Where the rows of an interface or of a world end.
 ghost use Rattle.std.specs.Prelude.{◌≡◌};
-ghost use Rattle.package_form.specs.Ends.{behind_types, behind_functions, end_of, interfaces_end, behind_items, world_end};
+ghost use Rattle.package_form.specs.Ends.{behind_types, behind_functions, end_of, interfaces_end, behind_items};
+ghost use Rattle.package_form.specs.Ends.{world_end};
 
 use tables::{FunctionId, Interface, TypeId, World, WorldItem, WorldItemKind};
 

@@ -54,7 +54,8 @@ fn passes_rows(before: usize, rows: &[Definition]) -> bool
 /// Whether a package of so many interfaces, of these worlds and of these rows has too many type entries.
 pub fn passes_entries(interfaces: usize, worlds: &[World], rows: &[Definition]) -> bool
     requires { interfaces ≤ 9223372036854775807 }
-    ensures { result ≡ nat_lt 65535 (1 + interfaces + (sum (map world_entries worlds.now) + sum (map entries_of rows.now))) }
+    ensures { result ≡ nat_lt 65535 (1 + interfaces
+        + (sum (map world_entries worlds.now) + sum (map entries_of rows.now))) }
 {
     let mut total = 1 + interfaces;
     for world in worlds {

@@ -5,7 +5,10 @@ ghost use Rattle.atoms.specs.FullName.{is_package_label};
 ghost use Rattle.atoms.specs.Label.{is_upper};
 ghost use Rattle.package_form.specs.Ids.{places_where};
 ghost use Rattle.package_form.specs.Ends.{end_of, interfaces_end, world_end, are_worlds_parted, is_parted};
-ghost use Rattle.package_form.specs.Form.{is_package_name, has_full_names, is_own_name, is_own, is_earlier_name, is_earlier, uses_earlier, is_owned, is_local, is_named, ids_of, is_use_at, has_ids, are_interfaces, is_nameless, is_of_world, is_world_row, functions_of, has_items, have_items, is_in_form, IsInPackageForm};
+ghost use Rattle.package_form.specs.Form.{is_package_name, has_full_names, is_own_name, is_own, is_earlier_name};
+ghost use Rattle.package_form.specs.Form.{is_earlier, uses_earlier, is_owned, is_local, is_named, ids_of, is_use_at};
+ghost use Rattle.package_form.specs.Form.{has_ids, are_interfaces, is_nameless, is_of_world, is_world_row};
+ghost use Rattle.package_form.specs.Form.{functions_of, has_items, have_items, is_in_form, IsInPackageForm};
 
 use crate::closed::is_closed;
 use crate::ends::{end_of, interfaces_end, world_end};

@@ -1,6 +1,7 @@
 //! The types that a row is made of.
 ghost use Rattle.std.specs.Prelude.{◌≡◌, ◌++◌, flat_map, OnOk};
-ghost use Rattle.package_form.specs.References.{type_references, references_if, case_references, kind_references, row_references};
+ghost use Rattle.package_form.specs.References.{type_references, references_if, case_references, kind_references};
+ghost use Rattle.package_form.specs.References.{row_references};
 
 use std::alloc::AllocError;
 use tables::{Case, Definition, Member, TypeDefKind, TypeId, ValType};

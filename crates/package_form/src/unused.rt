@@ -54,8 +54,8 @@ fn push_unnamed(inner: &mut Vec<u32>, rows: &[Definition], id: TypeId) -> Result
     Ok(())
 }
 
-/// Puts the rows that a row is made of in place of what is in `ids`, and those of them that have no names in place of what
-/// is in `inner`.
+/// Puts the rows that a row is made of in place of what is in `ids`, and those of them that have no names in place of
+/// what is in `inner`.
 fn find_inner(
     ids: &mut Vec<TypeId>,
     inner: &mut Vec<u32>,

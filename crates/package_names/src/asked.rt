@@ -1,5 +1,6 @@
 //! Interfaces of a table that are asked for by their packages and names: they are found in one walk over the table.
-ghost use Rattle.std.specs.Prelude.{◌≡◌, ◌<◌, ◌++◌, ◌∷◌, ◌&&◌, ◌||◌, [], List, ℕ, Some, length, map, replicate, slice_get, slice_index_or, slice_set, IfOk, OnOk};
+ghost use Rattle.std.specs.Prelude.{◌≡◌, ◌<◌, ◌++◌, ◌∷◌, ◌&&◌, ◌||◌, [], List, ℕ, Some, length, map, replicate};
+ghost use Rattle.std.specs.Prelude.{slice_get, slice_index_or, slice_set, IfOk, OnOk};
 ghost use Rattle.std.specs.List.{list_any, position};
 ghost use Rattle.std.specs.Str.{bytes_eq};
 ghost use Rattle.tables.specs.PackageNames.{PackageParts};
@@ -81,7 +82,8 @@ impl<'a> Asked<'a> {
 
     /// Asks the package at this place for an interface of this name.
     fn push(&mut self, place: usize, name: &'a Label) -> Result<(), AllocError>
-        ensures { OnOk result (self.new ≡ slice_set self.old place (slice_index_or self.old place [] ++ name.now ∷ [])) }
+        ensures { OnOk result (self.new ≡ slice_set self.old place
+            (slice_index_or self.old place [] ++ name.now ∷ [])) }
     {
         if place < self.lists.len() {
             let list = &mut self.lists[place];
@@ -98,8 +100,10 @@ impl<'a> Asked<'a> {
         name: &'a Label,
     ) -> Result<(), AllocError>
         ensures count { OnOk result (length self.new ≡ length self.old) }
-        ensures each { OnOk result ((k : ℕ) (q : PackageParts) (n : List ℕ) → k < length self.old → slice_get packages.now k ≡ Some q
-            → is_asked self.new k n ≡ (is_asked self.old k n || (is_same_package (key_parts key.entry) q && bytes_eq n name.now))) }
+        ensures each { OnOk result ((k : ℕ) (q : PackageParts) (n : List ℕ) → k < length self.old
+            → slice_get packages.now k ≡ Some q
+            → is_asked self.new k n ≡ (is_asked self.old k n ||
+            (is_same_package (key_parts key.entry) q && bytes_eq n name.now))) }
     {
         for (place, package) in packages.iter().enumerate() {
             if key.is_of(package) {
@@ -139,7 +143,8 @@ fn table_of<'a>(
     keyed: KeyedState,
     names: &[&'a Label],
 ) -> Result<IndexSet<&'a str, KeyedState>, AllocError>
-    ensures { IfOk result (λ t. (n : List ℕ) → list_any (λ s. bytes_eq n s.now) t.keys ≡ list_any (bytes_eq n) (lent_labels names.now)) }
+    ensures { IfOk result (λ t. (n : List ℕ)
+        → list_any (λ s. bytes_eq n s.now) t.keys ≡ list_any (bytes_eq n) (lent_labels names.now)) }
 {
     let mut table = IndexSet::with_hasher(alloc, keyed);
     for name in names {
@@ -165,7 +170,8 @@ impl<'a> Model for NameSet<'a> {
 
     ghost view = { λ s. lent_labels s.names.items };
 
-    ghost invariant = { λ s. 16 < length s.names.items → (n : List ℕ) → list_any (λ t. bytes_eq n t.now) s.table.keys ≡ list_any (bytes_eq n) (lent_labels s.names.items) };
+    ghost invariant = { λ s. 16 < length s.names.items → (n : List ℕ)
+        → list_any (λ t. bytes_eq n t.now) s.table.keys ≡ list_any (bytes_eq n) (lent_labels s.names.items) };
 }
 
 impl<'a> NameSet<'a> {

@@ -1,5 +1,6 @@
 //! 40: names of one scope differ in more than the case of their letters.
-ghost use Rattle.std.specs.Prelude.{◌≡◌, ◌<◌, ◌⊎◌, ◌++◌, ◌∷◌, [], List, ℕ, All, Contains, IsTrue, map, flat_map, length, slice_index_or, slice_set, IfOk, IfErr, OnOk};
+ghost use Rattle.std.specs.Prelude.{◌≡◌, ◌<◌, ◌⊎◌, ◌++◌, ◌∷◌, [], List, ℕ, All, Contains, IsTrue, map, flat_map};
+ghost use Rattle.std.specs.Prelude.{length, slice_index_or, slice_set, IfOk, IfErr, OnOk};
 ghost use Rattle.package_form.specs.Scope.{lowered, AreDistinct};
 ghost use Rattle.package_form.specs.Distinct.{AreMet, AreMetInEach, RefusesNames, RefusesScopes};
 ghost use Rattle.package_names.specs.Sides.{AreMetOnSides, RefusesSides};
@@ -7,7 +8,10 @@ ghost use Rattle.package_form.specs.Ends.{is_parted};
 ghost use Rattle.tables.specs.Tables.{are_grouped, is_placed_item, is_placed_world};
 ghost use Rattle.tables.specs.Names.{full_name};
 ghost use Rattle.tables.specs.Package.{ItemMeaning, item_meaning, world_meaning, interface_names, trees, worlds};
-ghost use Rattle.package_form.specs.Naming.{field_name, case_name, parameter_name, kind_members, row_members, row_names, rows_scopes, interfaces_scopes, item_name, item_direction, item_parameters, world_scopes, interface_labels_of, world_labels_of, of_each, package_scopes};
+ghost use Rattle.package_form.specs.Naming.{field_name, case_name, parameter_name, kind_members, row_members};
+ghost use Rattle.package_form.specs.Naming.{row_names, rows_scopes, interfaces_scopes, item_name, item_direction};
+ghost use Rattle.package_form.specs.Naming.{item_parameters, world_scopes, interface_labels_of, world_labels_of};
+ghost use Rattle.package_form.specs.Naming.{of_each, package_scopes};
 
 use crate::keys::keyed_by_table;
 use crate::scope::{NameTable, Scope};
@@ -108,7 +112,8 @@ fn meet_row<'a>(
     row: &'a Definition,
 ) -> Result<(), ResolveError>
     ensures ok { OnOk result ((ns : List (List ℕ)) → AreMet ns scope.old → AreMet (ns ++ row_names row.now) scope.new) }
-    ensures err { IfErr result (λ e. (ns : List (List ℕ)) → AreMet ns scope.old → RefusesNames (ns ++ row_names row.now) e) }
+    ensures err { IfErr result (λ e. (ns : List (List ℕ)) → AreMet ns scope.old
+        → RefusesNames (ns ++ row_names row.now) e) }
 {
     match row {
         Definition::Type(definition) => match &definition.name {
@@ -156,9 +161,12 @@ fn meet_in<'a>(
 ) -> Result<(), ResolveError>
     requires { «package».0 < length scopes.old.items }
     ensures new { OnOk result (¬ Contains (slice_index_or scopes.old.items «package».0 []) (lowered name.now)) }
-    ensures ok { OnOk result (scopes.new.items ≡ slice_set scopes.old.items «package».0 (slice_index_or scopes.old.items «package».0 [] ++ lowered name.now ∷ [])) }
+    ensures ok { OnOk result (scopes.new.items
+        ≡ slice_set scopes.old.items «package».0
+        (slice_index_or scopes.old.items «package».0 [] ++ lowered name.now ∷ [])) }
     ensures err { IfErr result (λ e. (e ≡ ResolveError.NoMemory)
-        ⊎ ((e ≡ ResolveError.Duplicate name.now) × Contains (slice_index_or scopes.old.items «package».0 []) (lowered name.now))) }
+        ⊎ ((e ≡ ResolveError.Duplicate name.now)
+        × Contains (slice_index_or scopes.old.items «package».0 []) (lowered name.now))) }
 {
     let scope = &mut scopes[package.0 as usize];
     scope.meet(alloc, name)
@@ -178,7 +186,8 @@ fn meet_interfaces<'a>(
     requires grouped { IsTrue (are_grouped (length packages.now) 0 interfaces.now) }
     ensures names { IfOk result (λ v. AreMetInEach (length packages.now) (interface_labels_of interfaces.now) v.items) }
     ensures parts { OnOk result (All AreDistinct (interfaces_scopes rows.now 0 interfaces.now)) }
-    ensures err { IfErr result (RefusesScopes (of_each (interface_labels_of interfaces.now) 0 packages.now ++ interfaces_scopes rows.now 0 interfaces.now)) }
+    ensures err { IfErr result (RefusesScopes
+        (of_each (interface_labels_of interfaces.now) 0 packages.now ++ interfaces_scopes rows.now 0 interfaces.now)) }
 {
     let mut scopes = scopes_of_packages(alloc, keyed, packages.len())?;
     let mut start = 0;
@@ -216,9 +225,11 @@ impl Sides {
         direction: Direction,
         name: Name,
     ) -> Result<(), ResolveError>
-        ensures ok { OnOk result ((items : List ItemMeaning) (i : ItemMeaning) → item_direction i ≡ direction → item_name i ≡ name
+        ensures ok { OnOk result ((items : List ItemMeaning) (i : ItemMeaning) → item_direction i ≡ direction
+            → item_name i ≡ name
             → AreMetOnSides items self.old → AreMetOnSides (items ++ i ∷ []) self.new) }
-        ensures err { IfErr result (λ e. (items : List ItemMeaning) (i : ItemMeaning) → item_direction i ≡ direction → item_name i ≡ name
+        ensures err { IfErr result (λ e. (items : List ItemMeaning) (i : ItemMeaning) → item_direction i ≡ direction
+            → item_name i ≡ name
             → AreMetOnSides items self.old → RefusesSides (items ++ i ∷ []) e) }
     {
         match direction {
@@ -236,7 +247,9 @@ fn item_name(
     item: WorldItem,
 ) -> Result<Name, AllocError>
     requires { IsTrue (is_placed_item resolve.now.definitions (length resolve.now.interfaces) place item.kind) }
-    ensures { IfOk result (λ n. n ≡ item_name (item_meaning (interface_names resolve.now) (trees resolve.now) resolve.now.definitions item.direction item.kind)) }
+    ensures { IfOk result (λ n. n ≡ item_name
+        (item_meaning (interface_names resolve.now) (trees resolve.now) resolve.now.definitions item.direction
+        item.kind)) }
 {
     match item.kind {
         WorldItemKind::Interface(id) => resolve.full_name(alloc, id),
@@ -256,8 +269,12 @@ fn distinct_item(
     item: WorldItem,
 ) -> Result<(), ResolveError>
     requires { IsTrue (is_placed_item resolve.now.definitions (length resolve.now.interfaces) place item.kind) }
-    ensures ok { OnOk result (AreDistinct (item_parameters (item_meaning (interface_names resolve.now) (trees resolve.now) resolve.now.definitions item.direction item.kind))) }
-    ensures err { IfErr result (RefusesNames (item_parameters (item_meaning (interface_names resolve.now) (trees resolve.now) resolve.now.definitions item.direction item.kind))) }
+    ensures ok { OnOk result (AreDistinct
+        (item_parameters (item_meaning (interface_names resolve.now) (trees resolve.now) resolve.now.definitions
+        item.direction item.kind))) }
+    ensures err { IfErr result (RefusesNames
+        (item_parameters (item_meaning (interface_names resolve.now) (trees resolve.now) resolve.now.definitions
+        item.direction item.kind))) }
 {
     match item.kind {
         WorldItemKind::Interface(_) => Ok(()),
@@ -277,9 +294,11 @@ fn meet_item(
 ) -> Result<(), ResolveError>
     requires { IsTrue (is_placed_item resolve.now.definitions (length resolve.now.interfaces) place item.kind) }
     ensures ok { OnOk result ((items : List ItemMeaning) → AreMetOnSides items sides.old
-        → AreMetOnSides (items ++ item_meaning (interface_names resolve.now) (trees resolve.now) resolve.now.definitions item.direction item.kind ∷ []) sides.new) }
+        → AreMetOnSides (items ++ item_meaning (interface_names resolve.now) (trees resolve.now) resolve.now.definitions
+        item.direction item.kind ∷ []) sides.new) }
     ensures err { IfErr result (λ e. (items : List ItemMeaning) → AreMetOnSides items sides.old
-        → RefusesSides (items ++ item_meaning (interface_names resolve.now) (trees resolve.now) resolve.now.definitions item.direction item.kind ∷ []) e) }
+        → RefusesSides (items ++ item_meaning (interface_names resolve.now) (trees resolve.now) resolve.now.definitions
+        item.direction item.kind ∷ []) e) }
 {
     let name = item_name(alloc, resolve, place, item)?;
     sides.meet(alloc, item.direction, name)
@@ -294,8 +313,12 @@ fn distinct_items(
     world: &World,
 ) -> Result<(), ResolveError>
     requires { IsTrue (is_placed_world resolve.now.definitions (length resolve.now.interfaces) place world.now) }
-    ensures ok { OnOk result (All AreDistinct (world_scopes (world_meaning (interface_names resolve.now) (trees resolve.now) resolve.now.definitions [] world.now))) }
-    ensures err { IfErr result (RefusesScopes (world_scopes (world_meaning (interface_names resolve.now) (trees resolve.now) resolve.now.definitions [] world.now))) }
+    ensures ok { OnOk result (All AreDistinct
+        (world_scopes (world_meaning (interface_names resolve.now) (trees resolve.now) resolve.now.definitions []
+        world.now))) }
+    ensures err { IfErr result (RefusesScopes
+        (world_scopes (world_meaning (interface_names resolve.now) (trees resolve.now) resolve.now.definitions []
+        world.now))) }
 {
     let mut sides = Sides::new(alloc, keyed);
     for item in world.items.as_slice() {
@@ -314,11 +337,14 @@ fn distinct_worlds<'a>(
     met: Vec<Scope<'a>>,
 ) -> Result<(), ResolveError>
     requires { length met.items ≡ length resolve.now.packages }
-    ensures ok { OnOk result ((names : ℕ → List (List ℕ)) → AreMetInEach (length resolve.now.packages) names met.entry.items
+    ensures ok { OnOk result ((names : ℕ → List (List ℕ))
+        → AreMetInEach (length resolve.now.packages) names met.entry.items
         → All AreDistinct (of_each (λ k. names k ++ world_labels_of resolve.now.worlds k) 0 resolve.now.packages)) }
     ensures parts { OnOk result (All AreDistinct (flat_map world_scopes (worlds resolve.now))) }
-    ensures err { IfErr result (λ e. (names : ℕ → List (List ℕ)) → AreMetInEach (length resolve.now.packages) names met.entry.items
-        → RefusesScopes (of_each (λ k. names k ++ world_labels_of resolve.now.worlds k) 0 resolve.now.packages ++ flat_map world_scopes (worlds resolve.now)) e) }
+    ensures err { IfErr result (λ e. (names : ℕ → List (List ℕ))
+        → AreMetInEach (length resolve.now.packages) names met.entry.items
+        → RefusesScopes (of_each (λ k. names k ++ world_labels_of resolve.now.worlds k) 0 resolve.now.packages
+        ++ flat_map world_scopes (worlds resolve.now)) e) }
 {
     let mut scopes = met;
     for (place, world) in resolve.worlds.as_slice().iter().enumerate() {

@@ -72,7 +72,9 @@ impl NamePlaces {
 
     /// Puts a place under a name, unless there is one.
     fn put(&mut self, alloc: Global, name: &Label, place: usize) -> Result<(), AllocError>
-        ensures { OnOk result ((n : List ℕ) → lookup (bytes_eq n) self.new ≡ option_or (lookup (bytes_eq n) self.old) (if bytes_eq n name.now then Some place else None)) }
+        ensures { OnOk result ((n : List ℕ)
+            → lookup (bytes_eq n) self.new
+            ≡ option_or (lookup (bytes_eq n) self.old) (if bytes_eq n name.now then Some place else None)) }
     {
         if !self.places.contains_key(name.as_str()) {
             self.places
@@ -122,8 +124,10 @@ pub(crate) fn put_interface(
     requires count { length names.old.items ≡ length packages.now }
     requires within { interface.now.«package».0 < length packages.now }
     ensures count { OnOk result (length names.new.items ≡ length packages.now) }
-    ensures put { OnOk result ((q : PackageParts) (n : List ℕ) → placed_at names.new.items (position (is_same_package q) packages.now) n
-        ≡ option_or (placed_at names.old.items (position (is_same_package q) packages.now) n) (if is_interface_named packages.now q n interface.now then Some place else None)) }
+    ensures put { OnOk result ((q : PackageParts) (n : List ℕ)
+        → placed_at names.new.items (position (is_same_package q) packages.now) n
+        ≡ option_or (placed_at names.old.items (position (is_same_package q) packages.now) n)
+        (if is_interface_named packages.now q n interface.now then Some place else None)) }
 {
     let key = PackageKey::of(&packages[interface.package.0 as usize]);
     if let Some(first) = package_place(packages, key) {

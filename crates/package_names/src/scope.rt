@@ -51,7 +51,8 @@ impl NameTable {
     pub fn meet(&mut self, alloc: Global, name: Name) -> Result<(), ResolveError>
         ensures new { OnOk result (¬ Contains self.old (lowered name)) }
         ensures ok { OnOk result (self.new ≡ self.old ++ lowered name ∷ []) }
-        ensures err { IfErr result (λ e. (e ≡ ResolveError.NoMemory) ⊎ ((e ≡ ResolveError.Duplicate name) × Contains self.old (lowered name))) }
+        ensures err { IfErr result (λ e. (e ≡ ResolveError.NoMemory)
+            ⊎ ((e ≡ ResolveError.Duplicate name) × Contains self.old (lowered name))) }
     {
         if self.insert(lowered(alloc, name.as_str())?)? {
             Ok(())
@@ -121,7 +122,8 @@ impl<'a> Scope<'a> {
     pub fn meet(&mut self, alloc: Global, name: &'a Label) -> Result<(), ResolveError>
         ensures new { OnOk result (¬ Contains self.old (lowered name.now)) }
         ensures ok { OnOk result (self.new ≡ self.old ++ lowered name.now ∷ []) }
-        ensures err { IfErr result (λ e. (e ≡ ResolveError.NoMemory) ⊎ ((e ≡ ResolveError.Duplicate name.now) × Contains self.old (lowered name.now))) }
+        ensures err { IfErr result (λ e. (e ≡ ResolveError.NoMemory)
+            ⊎ ((e ≡ ResolveError.Duplicate name.now) × Contains self.old (lowered name.now))) }
     {
         if self.insert(alloc, name.as_str())? {
             Ok(())

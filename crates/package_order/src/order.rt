@@ -42,7 +42,8 @@ fn is_ready(uses: &[Sequence<usize>], placed: &[bool], place: usize) -> bool
 /// The first package that is ready.
 fn next_ready(uses: &[Sequence<usize>], placed: &[bool]) -> Option<usize>
     ensures some { IfSome result (IsNext uses.now (is_marked_package placed.now)) }
-    ensures none { IfNone result ((i : ℕ) → i < length uses.now → is_ready uses.now (is_marked_package placed.now) i ≡ false) }
+    ensures none { IfNone result ((i : ℕ) → i < length uses.now
+        → is_ready uses.now (is_marked_package placed.now) i ≡ false) }
 {
     for place in 0..uses.len() {
         if is_ready(uses, placed, place) {
@@ -52,7 +53,8 @@ fn next_ready(uses: &[Sequence<usize>], placed: &[bool]) -> Option<usize>
     None
 }
 
-/// Puts packages in order, given those that each depends on: again and again the first that is ready. A ring if none is.
+/// Puts packages in order, given those that each depends on: again and again the first that is ready. A ring if none
+/// is.
 pub fn arranged(alloc: Global, uses: &[Sequence<usize>]) -> Result<Arrangement, AllocError>
     requires { All (λ used. All (λ u. u < length uses.now) used) uses.now }
     ensures { IfOk result (IsArranged uses.now) }

@@ -1,5 +1,6 @@
 //! A ring of packages that depend on each other.
-ghost use Rattle.std.specs.Prelude.{◌≡◌, ◌==◌, ◌<◌, ◌≤◌, true, false, IfOk, IfSome, IfNone, All, length, drop, slice_index};
+ghost use Rattle.std.specs.Prelude.{◌≡◌, ◌==◌, ◌<◌, ◌≤◌, true, false, IfOk, IfSome, IfNone, All, length, drop};
+ghost use Rattle.std.specs.Prelude.{slice_index};
 ghost use Rattle.std.specs.List.{list_any};
 ghost use Rattle.placement.specs.Order.{IsCycle};
 ghost use Rattle.package_order.specs.Arranged.{Uses, IsRing, is_left};

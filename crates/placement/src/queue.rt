@@ -1,5 +1,6 @@
 //! What waits for what while things that use each other are placed.
-ghost use Rattle.std.specs.Prelude.{◌≡◌, ◌≤◌, ◌<◌, ◌∷◌, [], ℕ, List, true, false, length, slice_index_or, All, IfOk, OnOk, IfErr, IfSome, IfNone};
+ghost use Rattle.std.specs.Prelude.{◌≡◌, ◌≤◌, ◌<◌, ◌∷◌, [], ℕ, List, true, false, length, slice_index_or, All, IfOk};
+ghost use Rattle.std.specs.Prelude.{OnOk, IfErr, IfSome, IfNone};
 ghost use Rattle.placement.specs.Waiting.{IsSettled, IsStarted, KeepsPlaced, PlacesNext, IsStuck};
 
 use crate::order::OrderError;
@@ -27,14 +28,22 @@ impl<'a> Model for Queue<'a> {
 
     ghost Value = { Waits };
 
-    ghost view = { λ p. record { uses = p.uses.now; placed = p.placed.items; met = p.met.items; waiting = p.waiting.items; ready = p.ready.keys } };
+    ghost view = { λ p. record {
+      uses = p.uses.now;
+      placed = p.placed.items;
+      met = p.met.items;
+      waiting = p.waiting.items;
+      ready = p.ready.keys;
+    } };
 }
 
 /// The first of these, from a place on, that isn't placed.
 fn first_missing(used: &[usize], from: usize, placed: &[bool]) -> Option<usize>
-    ensures some { IfSome result (λ k. (k < length used.now) × (slice_index_or placed.now (slice_index_or used.now k 0) false ≡ false)
+    ensures some { IfSome result (λ k. (k < length used.now)
+        × (slice_index_or placed.now (slice_index_or used.now k 0) false ≡ false)
         × ((j : ℕ) → from ≤ j → j < k → slice_index_or placed.now (slice_index_or used.now j 0) false ≡ true)) }
-    ensures none { IfNone result ((j : ℕ) → from ≤ j → j < length used.now → slice_index_or placed.now (slice_index_or used.now j 0) false ≡ true) }
+    ensures none { IfNone result ((j : ℕ) → from ≤ j → j < length used.now
+        → slice_index_or placed.now (slice_index_or used.now j 0) false ≡ true) }
 {
     for place in from..used.len() {
         if !placed.get(used[place]).copied().unwrap_or(false) {

@@ -38,7 +38,8 @@ pub(crate) fn repeat(caps: &mut [u8; 2048], pattern: &[u8; 256], size: usize, le
 fn blend(buffer: &mut [u8; 2048], caps: &[u8; 2048], old: &[u8], new: &[u8])
     requires same { length old.now ≡ length new.now }
     requires room { length new.now ≤ 2048 }
-    ensures { (i : ℕ) → i < length new.now → get_or buffer.new i 0 ≡ capped_byte (get_or caps.now i 0) (get_or old.now i 0) (get_or new.now i 0) }
+    ensures { (i : ℕ) → i < length new.now
+        → get_or buffer.new i 0 ≡ capped_byte (get_or caps.now i 0) (get_or old.now i 0) (get_or new.now i 0) }
 {
     for i in 0..new.len() {
         let cap = caps[i];
@@ -87,7 +88,8 @@ pub(crate) fn cross_bytewise<G: Guest>(
     requires small { elements.to + elements.count * element.now.size < 2 ^ 32 }
     ensures crosses { (t : ClosedType) → IsBytewise t → HasCaps t element.now.size element.now.bytes
         → ((i : ℕ) → i < elements.count → IsTested t source.now (elements.from + i * size t))
-        → Crosses t source.now elements.from elements.count G.allocates (G.memory guest.old) elements.to (G.memory guest.new) }
+        → Crosses t source.now elements.from elements.count G.allocates (G.memory guest.old) elements.to
+        (G.memory guest.new) }
     ensures same_length { length (G.memory guest.new).bytes ≡ length (G.memory guest.old).bytes }
 {
     let step = element.size;
@@ -127,7 +129,8 @@ pub(crate) fn cross_range<G: Guest>(
     requires small { elements.to + elements.count * element.now.size < 2 ^ 32 }
     ensures crosses { (t : ClosedType) → IsBytewise t → HasCaps t element.now.size element.now.bytes
         → ((i : ℕ) → i < elements.count → IsTested t source.now (elements.from + i * size t))
-        → Crosses t source.now elements.from elements.count G.allocates (G.memory guest.old) elements.to (G.memory guest.new) }
+        → Crosses t source.now elements.from elements.count G.allocates (G.memory guest.old) elements.to
+        (G.memory guest.new) }
     ensures same_length { length (G.memory guest.new).bytes ≡ length (G.memory guest.old).bytes }
 {
     let total = elements.count * element.size;
@@ -164,7 +167,8 @@ pub(crate) fn cross_capped<G: Guest>(
     requires small { elements.to + elements.count * element.now.size < 2 ^ 32 }
     ensures crosses { (t : ClosedType) → IsBytewise t → HasCaps t element.now.size element.now.bytes
         → ((i : ℕ) → i < elements.count → IsTested t source.now (elements.from + i * size t))
-        → Crosses t source.now elements.from elements.count G.allocates (G.memory guest.old) elements.to (G.memory guest.new) }
+        → Crosses t source.now elements.from elements.count G.allocates (G.memory guest.old) elements.to
+        (G.memory guest.new) }
     ensures same_length { length (G.memory guest.new).bytes ≡ length (G.memory guest.old).bytes }
 {
     if is_whole(element) {

@@ -11,8 +11,8 @@ use values::bytes::largest_byte;
 /// Bools in lists of more than this many are read from memory, and not from a cache.
 const CACHED: usize = 524_288;
 
-/// The most bools that are tested before they are written: as many as stay in a first-level cache, or, where the list is
-/// read from memory, so few that the processor begins to read the next ones while it writes these.
+/// The most bools that are tested before they are written: as many as stay in a first-level cache, or, where the list
+/// is read from memory, so few that the processor begins to read the next ones while it writes these.
 fn part_of(count: usize) -> usize
     ensures { 0 < result }
 {
@@ -25,7 +25,8 @@ fn cross_plain<G: Guest>(source: &[u8], elements: Elements, guest: &mut G)
     requires room { elements.to + elements.count ≤ length (G.memory guest.old).bytes }
     requires small { elements.to + elements.count < 2 ^ 32 }
     requires plain { (i : ℕ) → i < elements.count → get_or source.now (elements.from + i) 0 ≤ 1 }
-    ensures crosses { Crosses (prim_type boolean) source.now elements.from elements.count G.allocates (G.memory guest.old) elements.to (G.memory guest.new) }
+    ensures crosses { Crosses (prim_type boolean) source.now elements.from elements.count G.allocates
+        (G.memory guest.old) elements.to (G.memory guest.new) }
     ensures same_length { length (G.memory guest.new).bytes ≡ length (G.memory guest.old).bytes }
 {
     guest.write(
@@ -39,7 +40,8 @@ fn cross_part<G: Guest>(source: &[u8], elements: Elements, guest: &mut G)
     requires inside { elements.from + elements.count ≤ length source.now }
     requires room { elements.to + elements.count ≤ length (G.memory guest.old).bytes }
     requires small { elements.to + elements.count < 2 ^ 32 }
-    ensures crosses { Crosses (prim_type boolean) source.now elements.from elements.count G.allocates (G.memory guest.old) elements.to (G.memory guest.new) }
+    ensures crosses { Crosses (prim_type boolean) source.now elements.from elements.count G.allocates
+        (G.memory guest.old) elements.to (G.memory guest.new) }
     ensures same_length { length (G.memory guest.new).bytes ≡ length (G.memory guest.old).bytes }
 {
     if largest_byte(&source[elements.from..elements.from + elements.count]) <= 1 {
@@ -59,7 +61,8 @@ pub fn cross_bools<G: Guest>(source: &[u8], elements: Elements, guest: &mut G)
     requires inside { elements.from + elements.count ≤ length source.now }
     requires room { elements.to + elements.count ≤ length (G.memory guest.old).bytes }
     requires small { elements.to + elements.count < 2 ^ 32 }
-    ensures crosses { Crosses (prim_type boolean) source.now elements.from elements.count G.allocates (G.memory guest.old) elements.to (G.memory guest.new) }
+    ensures crosses { Crosses (prim_type boolean) source.now elements.from elements.count G.allocates
+        (G.memory guest.old) elements.to (G.memory guest.new) }
     ensures same_length { length (G.memory guest.new).bytes ≡ length (G.memory guest.old).bytes }
 {
     let most = part_of(elements.count);

@@ -17,7 +17,8 @@ fn word_of(rows: &[u8; 256], at: usize) -> u64
     u64::from_le_bytes(bytes)
 }
 
-/// The first byte of a variant of so many bytes. Eight are taken at one go, so that a loop over many is made into vector code.
+/// The first byte of a variant of so many bytes. Eight are taken at one go, so that a loop over many is made into
+/// vector code.
 #[inline(always)]
 fn case_at(memory: &[u8], at: usize, width: usize) -> u64
     requires some { 0 < width }
@@ -45,7 +46,8 @@ fn put_word(caps: &mut [u8; 2048], at: usize, word: u64, width: usize)
     caps[at..at + width].copy_from_slice(&bytes[..width]);
 }
 
-/// Puts the first caps of a case, as one word or two: as bytes, they would be put one by one, since the two arrays could overlap.
+/// Puts the first caps of a case, as one word or two: as bytes, they would be put one by one, since the two arrays
+/// could overlap.
 #[inline(always)]
 fn put_row(caps: &mut [u8; 2048], at: usize, rows: &[u8; 256], row: usize, width: usize)
     requires room { at + width ≤ 2048 }
@@ -65,7 +67,8 @@ fn put_row(caps: &mut [u8; 2048], at: usize, rows: &[u8; 256], row: usize, width
     }
 }
 
-/// The caps of a column's variant in so many elements, each by its case: the nodes of these, or None where one has no case.
+/// The caps of a column's variant in so many elements, each by its case: the nodes of these, or None where one has no
+/// case.
 #[inline(always)]
 fn fill_rows(
     caps: &mut [u8; 2048],
@@ -82,10 +85,14 @@ fn fill_rows(
     requires few { elements.count ≤ 2048 }
     requires room { elements.count * elements.step ≤ 2048 }
     requires inside { elements.from + elements.count * elements.step ≤ length source.now }
-    ensures good { IfSome result (λ _. (e : ℕ) → e < elements.count → case_in column.now source.now (elements.from + e * elements.step) < column.now.rows.cases) }
-    ensures caps { IfSome result (λ _. (e j : ℕ) → e < elements.count → j < elements.step → get_or caps.new (e * elements.step + j) 0
-        ≡ laid column.now (case_in column.now source.now (elements.from + e * elements.step)) j (get_or caps.old (e * elements.step + j) 0)) }
-    ensures nodes { IfSome result (λ k. k ≡ columns_seen (column.now ∷ []) elements.step source.now elements.from elements.count) }
+    ensures good { IfSome result (λ _. (e : ℕ) → e < elements.count
+        → case_in column.now source.now (elements.from + e * elements.step) < column.now.rows.cases) }
+    ensures caps { IfSome result (λ _. (e j : ℕ) → e < elements.count → j < elements.step
+        → get_or caps.new (e * elements.step + j) 0
+        ≡ laid column.now (case_in column.now source.now (elements.from + e * elements.step)) j
+        (get_or caps.old (e * elements.step + j) 0)) }
+    ensures nodes { IfSome result (λ k. k
+        ≡ columns_seen (column.now ∷ []) elements.step source.now elements.from elements.count) }
     ensures small { IfSome result (λ k. k ≤ 522240) }
 {
     let start = column.at;
@@ -102,7 +109,8 @@ fn fill_rows(
     if bad == 0 { Some(seen) } else { None }
 }
 
-/// The same where the variant has two cases, as an option, and at most eight bytes: a choice of two words is faster than a row.
+/// The same where the variant has two cases, as an option, and at most eight bytes: a choice of two words is faster
+/// than a row.
 #[inline(always)]
 fn fill_two(
     caps: &mut [u8; 2048],
@@ -119,10 +127,14 @@ fn fill_two(
     requires few { elements.count ≤ 2048 }
     requires room { elements.count * elements.step ≤ 2048 }
     requires inside { elements.from + elements.count * elements.step ≤ length source.now }
-    ensures good { IfSome result (λ _. (e : ℕ) → e < elements.count → case_in column.now source.now (elements.from + e * elements.step) < column.now.rows.cases) }
-    ensures caps { IfSome result (λ _. (e j : ℕ) → e < elements.count → j < elements.step → get_or caps.new (e * elements.step + j) 0
-        ≡ laid column.now (case_in column.now source.now (elements.from + e * elements.step)) j (get_or caps.old (e * elements.step + j) 0)) }
-    ensures nodes { IfSome result (λ k. k ≡ columns_seen (column.now ∷ []) elements.step source.now elements.from elements.count) }
+    ensures good { IfSome result (λ _. (e : ℕ) → e < elements.count
+        → case_in column.now source.now (elements.from + e * elements.step) < column.now.rows.cases) }
+    ensures caps { IfSome result (λ _. (e j : ℕ) → e < elements.count → j < elements.step
+        → get_or caps.new (e * elements.step + j) 0
+        ≡ laid column.now (case_in column.now source.now (elements.from + e * elements.step)) j
+        (get_or caps.old (e * elements.step + j) 0)) }
+    ensures nodes { IfSome result (λ k. k
+        ≡ columns_seen (column.now ∷ []) elements.step source.now elements.from elements.count) }
     ensures small { IfSome result (λ k. k ≤ 522240) }
 {
     let first = word_of(&column.rows.caps, 0);
@@ -145,7 +157,8 @@ fn fill_two(
     Some(firsts * u64::from(column.rows.nodes[0]) + seconds * u64::from(column.rows.nodes[1]))
 }
 
-/// The same where the element is such a variant of eight bytes, over a slice of its own: so the loop is made into vector code.
+/// The same where the element is such a variant of eight bytes, over a slice of its own: so the loop is made into
+/// vector code.
 #[inline(never)]
 fn fill_part(caps: &mut [u8; 2048], column: &Column, part: &[u8], count: usize) -> Option<u64>
     requires wide { column.now.rows.size ≡ 8 }
@@ -154,7 +167,8 @@ fn fill_part(caps: &mut [u8; 2048], column: &Column, part: &[u8], count: usize) 
     requires few { count ≤ 2048 }
     requires room { count * 8 ≤ 2048 }
     requires inside { count * 8 ≤ length part.now }
-    ensures good { IfSome result (λ _. (e : ℕ) → e < count → case_in column.now part.now (0 + e * 8) < column.now.rows.cases) }
+    ensures good { IfSome result (λ _. (e : ℕ) → e < count
+        → case_in column.now part.now (0 + e * 8) < column.now.rows.cases) }
     ensures caps { IfSome result (λ _. (e j : ℕ) → e < count → j < 8 → get_or caps.new (e * 8 + j) 0
         ≡ laid column.now (case_in column.now part.now (0 + e * 8)) j (get_or caps.old (e * 8 + j) 0)) }
     ensures nodes { IfSome result (λ k. k ≡ columns_seen (column.now ∷ []) 8 part.now 0 count) }
@@ -183,7 +197,8 @@ fn fill_pairs(
     requires few { count ≤ 2048 }
     requires room { count * 8 ≤ 2048 }
     requires inside { from + count * 8 ≤ length source.now }
-    ensures good { IfSome result (λ _. (e : ℕ) → e < count → case_in column.now source.now (from + e * 8) < column.now.rows.cases) }
+    ensures good { IfSome result (λ _. (e : ℕ) → e < count
+        → case_in column.now source.now (from + e * 8) < column.now.rows.cases) }
     ensures caps { IfSome result (λ _. (e j : ℕ) → e < count → j < 8 → get_or caps.new (e * 8 + j) 0
         ≡ laid column.now (case_in column.now source.now (from + e * 8)) j (get_or caps.old (e * 8 + j) 0)) }
     ensures nodes { IfSome result (λ k. k ≡ columns_seen (column.now ∷ []) 8 source.now from count) }
@@ -207,10 +222,14 @@ pub(crate) fn fill_column(
     requires few { elements.count ≤ 2048 }
     requires room { elements.count * elements.step ≤ 2048 }
     requires inside { elements.from + elements.count * elements.step ≤ length source.now }
-    ensures good { IfSome result (λ _. (e : ℕ) → e < elements.count → case_in column.now source.now (elements.from + e * elements.step) < column.now.rows.cases) }
-    ensures caps { IfSome result (λ _. (e j : ℕ) → e < elements.count → j < elements.step → get_or caps.new (e * elements.step + j) 0
-        ≡ laid column.now (case_in column.now source.now (elements.from + e * elements.step)) j (get_or caps.old (e * elements.step + j) 0)) }
-    ensures nodes { IfSome result (λ k. k ≡ columns_seen (column.now ∷ []) elements.step source.now elements.from elements.count) }
+    ensures good { IfSome result (λ _. (e : ℕ) → e < elements.count
+        → case_in column.now source.now (elements.from + e * elements.step) < column.now.rows.cases) }
+    ensures caps { IfSome result (λ _. (e j : ℕ) → e < elements.count → j < elements.step
+        → get_or caps.new (e * elements.step + j) 0
+        ≡ laid column.now (case_in column.now source.now (elements.from + e * elements.step)) j
+        (get_or caps.old (e * elements.step + j) 0)) }
+    ensures nodes { IfSome result (λ k. k
+        ≡ columns_seen (column.now ∷ []) elements.step source.now elements.from elements.count) }
     ensures small { IfSome result (λ k. k ≤ 522240) }
 {
     match (column.rows.cases, column.rows.size) {

@@ -64,7 +64,8 @@ pub fn cross_chars<G: Guest>(source: &[u8], elements: Elements, guest: &mut G) -
     requires room { elements.to + elements.count * 4 ≤ length (G.memory guest.old).bytes }
     requires small { elements.to + elements.count * 4 < 2 ^ 32 }
     ensures within { result ≤ elements.count }
-    ensures crosses { Crosses (prim_type scalar_value) source.now elements.from result G.allocates (G.memory guest.old) elements.to (G.memory guest.new) }
+    ensures crosses { Crosses (prim_type scalar_value) source.now elements.from result G.allocates (G.memory guest.old)
+        elements.to (G.memory guest.new) }
     ensures same_length { length (G.memory guest.new).bytes ≡ length (G.memory guest.old).bytes }
 {
     let char = Caps {

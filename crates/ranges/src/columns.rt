@@ -33,7 +33,8 @@ impl Default for Column {
     }
 }
 
-/// The caps of all columns' variants in so many elements, each by its case: the nodes of these, or None where one has no case.
+/// The caps of all columns' variants in so many elements, each by its case: the nodes of these, or None where one has
+/// no case.
 fn fill_columns(
     caps: &mut [u8; 2048],
     columns: &[Column],
@@ -45,10 +46,14 @@ fn fill_columns(
     requires few { elements.count ≤ 2048 }
     requires room { elements.count * elements.step ≤ 2048 }
     requires inside { elements.from + elements.count * elements.step ≤ length source.now }
-    ensures good { IfSome result (λ _. (e : ℕ) → e < elements.count → HaveCases columns.now source.now (elements.from + e * elements.step)) }
-    ensures caps { IfSome result (λ _. (e j : ℕ) → e < elements.count → j < elements.step → get_or caps.new (e * elements.step + j) 0
-        ≡ overlaid columns.now source.now (elements.from + e * elements.step) j (get_or caps.old (e * elements.step + j) 0)) }
-    ensures nodes { IfSome result (λ k. k ≡ columns_seen columns.now elements.step source.now elements.from elements.count) }
+    ensures good { IfSome result (λ _. (e : ℕ) → e < elements.count
+        → HaveCases columns.now source.now (elements.from + e * elements.step)) }
+    ensures caps { IfSome result (λ _. (e j : ℕ) → e < elements.count → j < elements.step
+        → get_or caps.new (e * elements.step + j) 0
+        ≡ overlaid columns.now source.now (elements.from + e * elements.step) j
+        (get_or caps.old (e * elements.step + j) 0)) }
+    ensures nodes { IfSome result (λ k. k
+        ≡ columns_seen columns.now elements.step source.now elements.from elements.count) }
     ensures small { IfSome result (λ k. k ≤ length columns.now * 522240) }
 {
     match columns {
@@ -61,8 +66,8 @@ fn fill_columns(
     }
 }
 
-/// Crosses elements up to the chunk with the first that has a variant without a case. Answers how many crossed, and `nodes`
-/// grows by their nodes, as far as it has room.
+/// Crosses elements up to the chunk with the first that has a variant without a case. Answers how many crossed, and
+/// `nodes` grows by their nodes, as far as it has room.
 pub(crate) fn cross_columns<G: Guest>(
     plan: &Plan,
     source: &[u8],

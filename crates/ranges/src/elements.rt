@@ -1,6 +1,7 @@
 //! Where elements of a list stand.
 
-/// Elements side by side: where the first begins in the source, where it crosses to in the target, and how many they are.
+/// Elements side by side: where the first begins in the source, where it crosses to in the target, and how many they
+/// are.
 #[derive(Clone, Copy)]
 pub struct Elements {
     pub from: usize,

@@ -48,7 +48,8 @@ fn are_all_at_most(part: &[u8], width: usize, count: usize, most: u32) -> bool
 fn are_flags(labels: usize, memory: &[u8], from: usize, count: usize) -> bool
     requires few { count < 2 ^ 32 }
     requires inside { from + count * flags_size labels ≤ length memory.now }
-    ensures { IsTrue result → (i : ℕ) → i < count → number_at memory.now (from + i * flags_size labels) (byte_width (flags_size labels)) < 2 ^ labels }
+    ensures { IsTrue result → (i : ℕ) → i < count
+        → number_at memory.now (from + i * flags_size labels) (byte_width (flags_size labels)) < 2 ^ labels }
 {
     let width = flags_bytes(labels);
     let most = low_flags(u32::MAX, labels);
@@ -67,7 +68,8 @@ pub fn cross_flags<G: Guest>(
     requires room { elements.to + elements.count * flags_size labels ≤ length (G.memory guest.old).bytes }
     requires small { elements.to + elements.count * flags_size labels < 2 ^ 32 }
     ensures within { result ≤ elements.count }
-    ensures crosses { Crosses (flags_type labels) source.now elements.from result G.allocates (G.memory guest.old) elements.to (G.memory guest.new) }
+    ensures crosses { Crosses (flags_type labels) source.now elements.from result G.allocates (G.memory guest.old)
+        elements.to (G.memory guest.new) }
     ensures same_length { length (G.memory guest.new).bytes ≡ length (G.memory guest.old).bytes }
 {
     let step = flags_bytes(labels);

@@ -1,8 +1,8 @@
 //! Elements of a list that cross from one linear memory to another many at a time.
 //!
-//! Where a type has no texts and no lists, each byte of a value's place either is the value's own and crosses under a cap,
-//! or is padding and keeps what the target had there. So many elements cross in one loop over bytes, once they have
-//! passed their tests; nothing is written of a part of which an element doesn't.
+//! Where a type has no texts and no lists, each byte of a value's place either is the value's own and crosses under a
+//! cap, or is padding and keeps what the target had there. So many elements cross in one loop over bytes, once they
+//! have passed their tests; nothing is written of a part of which an element doesn't.
 #![tactic(auto)]
 
 mod blend;

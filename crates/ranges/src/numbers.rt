@@ -11,7 +11,8 @@ use tables::Primitive;
 
 /// The bytes of a number: none of a bool or a char, whose bits are tested or made anew.
 pub fn number_width(primitive: Primitive) -> Option<usize>
-    ensures { MatchOption result (¬ IsNumber (prim_of primitive)) (λ width. IsNumber (prim_of primitive) × (width ≡ size (prim_type (prim_of primitive)))) }
+    ensures { MatchOption result (¬ IsNumber (prim_of primitive))
+        (λ width. IsNumber (prim_of primitive) × (width ≡ size (prim_type (prim_of primitive)))) }
 {
     match primitive {
         Primitive::S8 | Primitive::U8 => Some(1),
@@ -27,7 +28,9 @@ pub fn cross_numbers<G: Guest>(width: usize, source: &[u8], elements: Elements, 
     requires inside { elements.from + elements.count * width ≤ length source.now }
     requires room { elements.to + elements.count * width ≤ length (G.memory guest.old).bytes }
     requires small { elements.to + elements.count * width < 2 ^ 32 }
-    ensures crosses { (p : Prim) → IsNumber p → width ≡ size (prim_type p) → Crosses (prim_type p) source.now elements.from elements.count G.allocates (G.memory guest.old) elements.to (G.memory guest.new) }
+    ensures crosses { (p : Prim) → IsNumber p → width ≡ size (prim_type p)
+        → Crosses (prim_type p) source.now elements.from elements.count G.allocates (G.memory guest.old) elements.to
+        (G.memory guest.new) }
     ensures same_length { length (G.memory guest.new).bytes ≡ length (G.memory guest.old).bytes }
 {
     let total = elements.count * width;

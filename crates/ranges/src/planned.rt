@@ -2,7 +2,8 @@
 ghost use Rattle.std.specs.Prelude.{◌≡◌, ◌+◌, ◌-◌, ◌*◌, ◌^◌, ◌<◌, ◌≤◌, min, length, IfSome};
 ghost use Rattle.std.specs.Int.{next_multiple_of};
 ghost use Rattle.canonical_abi.specs.Guest.{IsAlignment};
-ghost use Rattle.canonical_abi.specs.Types.{ClosedType, record_type, record_fields, field_count, variant_type, variant_cases, case_count};
+ghost use Rattle.canonical_abi.specs.Types.{ClosedType, record_type, record_fields, field_count, variant_type};
+ghost use Rattle.canonical_abi.specs.Types.{variant_cases, case_count};
 ghost use Rattle.canonical_abi.specs.Layout.{size};
 ghost use Rattle.values.specs.Types.{IsInside};
 ghost use Rattle.ranges.specs.Columns.{AreBefore, HasPlain, HasPlan, IsBounded, Plans};
@@ -31,9 +32,9 @@ pub struct Plan {
     pub columns: ArrayVec<Column, 8>,
 }
 
-/// How the values of a type cross, where they do so byte by byte with no tests but those of cases: numbers, bools, flags of 8,
-/// 16 or 32 labels, variants of these within 16 bytes and 16 cases, and records of all these, within 64 bytes, 255 nodes
-/// and 8 variants.
+/// How the values of a type cross, where they do so byte by byte with no tests but those of cases: numbers, bools,
+/// flags of 8, 16 or 32 labels, variants of these within 16 bytes and 16 cases, and records of all these, within 64
+/// bytes, 255 nodes and 8 variants.
 pub fn plan_of(table: &Types, ty: ValType) -> Option<Plan>
     requires inside { IsInside table.now ty }
     ensures planned { IfSome result (λ p. HasPlan (closed_type table.now ty) p) }
@@ -81,8 +82,8 @@ fn cross_plain<G: Guest>(
     elements.count
 }
 
-/// Crosses elements up to the chunk with the first fault. Answers how many crossed, and `nodes` grows by their nodes, as far as
-/// it has room.
+/// Crosses elements up to the chunk with the first fault. Answers how many crossed, and `nodes` grows by their nodes,
+/// as far as it has room.
 pub fn cross_planned<G: Guest>(
     plan: &Plan,
     source: &[u8],

@@ -23,8 +23,8 @@ pub struct Rows {
     pub nodes: [u8; 16],
 }
 
-/// How the elements of a variant of so many cases cross, where each payload crosses byte by byte with no tests: at most 16 bytes
-/// and 16 cases.
+/// How the elements of a variant of so many cases cross, where each payload crosses byte by byte with no tests: at most
+/// 16 bytes and 16 cases.
 pub(crate) fn rows_of(table: &Types, ty: ValType, count: usize) -> Option<Rows>
     requires inside { IsInside table.now ty }
     requires variant { variant_type (variant_cases (closed_type table.now ty)) ≡ closed_type table.now ty }

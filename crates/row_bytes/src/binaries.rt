@@ -76,8 +76,8 @@ fn test_kept(alloc: Global, component: &RawComponent) -> anyhow::Result<()> {
     Ok(())
 }
 
-/// The number of the error that bytes are refused with, or 0 for a component. Fails where the error is not within them, unless it is at
-/// the end of a section that is too long for them.
+/// The number of the error that bytes are refused with, or 0 for a component. Fails where the error is not within them,
+/// unless it is at the end of a section that is too long for them.
 fn kept_number(alloc: Global, bytes: &[u8]) -> anyhow::Result<u32> {
     let answer = read_twice(alloc, bytes)?;
     match &answer {

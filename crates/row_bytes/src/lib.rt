@@ -1,5 +1,5 @@
-//! Rows of what knows no package: numbers and names of both formats, tokens and trees of texts, components, command lines, and memories.
-//! `done` answers one. docs/FORMATS.md has the language of rows.
+//! Rows of what knows no package: numbers and names of both formats, tokens and trees of texts, components, command
+//! lines, and memories. `done` answers one. docs/FORMATS.md has the language of rows.
 #![tactic(auto)]
 
 mod binaries;

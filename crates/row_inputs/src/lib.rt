@@ -1,5 +1,6 @@
-//! The inputs of rows: how a line says them, sets of them under names, and streams that give or take a byte at a time, fail, or never
-//! end; and counts of their answers. The crates of rows stand on it. docs/FORMATS.md has the language of rows.
+//! The inputs of rows: how a line says them, sets of them under names, and streams that give or take a byte at a time,
+//! fail, or never end; and counts of their answers. The crates of rows stand on it. docs/FORMATS.md has the language of
+//! rows.
 #![tactic(auto)]
 
 mod inputs;

@@ -1,4 +1,5 @@
-//! An input that is given byte by byte and may fail, one that never ends, and an output that takes so many bytes and then fails.
+//! An input that is given byte by byte and may fail, one that never ends, and an output that takes so many bytes and
+//! then fails.
 
 ghost use Rattle.std.specs.Prelude.{◌≡◌, false};
 

@@ -1,4 +1,5 @@
-//! Inputs that are cut after each byte, and binaries with each byte changed to every other, alone or behind the packages that they use.
+//! Inputs that are cut after each byte, and binaries with each byte changed to every other, alone or behind the
+//! packages that they use.
 
 use crate::opened::opened_behind;
 use ctype_bin::{BinError, Fault, decode};
@@ -105,7 +106,8 @@ fn test_kept(alloc: Global, earlier: &[Vec<u8>], package: &Package) -> anyhow::R
     Ok(())
 }
 
-/// The number of the error that a set is refused with, or 0 for a package, which has to be written and opened as itself.
+/// The number of the error that a set is refused with, or 0 for a package, which has to be written and opened as
+/// itself.
 fn kept_number(alloc: Global, set: &Set) -> anyhow::Result<u32> {
     let answer = opened_behind(alloc, set.earlier.as_slice(), set.last.as_slice());
     if let Ok(package) = &answer {

@@ -77,7 +77,8 @@ impl<'a> Rows<'a> {
         }
     }
 
-    /// Takes a line: it goes on with the answer of the row before it, or that row is answered and the line begins something.
+    /// Takes a line: it goes on with the answer of the row before it, or that row is answered and the line begins
+    /// something.
     pub fn take_line(
         &mut self,
         rt: &HostRuntime,

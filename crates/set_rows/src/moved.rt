@@ -1,6 +1,8 @@
 //! What a table has, as it stands in another table.
 ghost use Rattle.std.specs.Prelude.{◌≡◌, ◌++◌, IfOk, OnOk, map, option_map, filter};
-ghost use Rattle.set_rows.specs.Moved.{put_id, put_function_id, put_interface_id, put_package_id, put_val, put_owner, put_kind, put_name, put_type, put_field, put_case, put_parameter, put_function, put_row, put_interface, put_item, put_world, has_type, has_function};
+ghost use Rattle.set_rows.specs.Moved.{put_id, put_function_id, put_interface_id, put_package_id, put_val, put_owner};
+ghost use Rattle.set_rows.specs.Moved.{put_kind, put_name, put_type, put_field, put_case, put_parameter, put_function};
+ghost use Rattle.set_rows.specs.Moved.{put_row, put_interface, put_item, put_world, has_type, has_function};
 ghost use Rattle.std.specs.List.{items_where_true};
 
 use crate::places::Places;
@@ -128,7 +130,8 @@ pub fn moved_types<P: Placed>(
     ids: &Sequence<TypeId>,
     to: &P,
 ) -> Result<Sequence<TypeId>, AllocError>
-    ensures { IfOk result (λ ts. ts ≡ map (put_id (P.renaming to.now)) (filter (has_type (P.renaming to.now)) ids.now)) }
+    ensures { IfOk result (λ ts. ts ≡ map (put_id (P.renaming to.now))
+        (filter (has_type (P.renaming to.now)) ids.now)) }
 {
     let mut moved = Vec::new(alloc);
     for id in ids.as_slice() {
@@ -145,7 +148,8 @@ pub fn moved_functions<P: Placed>(
     ids: &Sequence<FunctionId>,
     to: &P,
 ) -> Result<Sequence<FunctionId>, AllocError>
-    ensures { IfOk result (λ fs. fs ≡ map (put_function_id (P.renaming to.now)) (filter (has_function (P.renaming to.now)) ids.now)) }
+    ensures { IfOk result (λ fs. fs ≡ map (put_function_id (P.renaming to.now))
+        (filter (has_function (P.renaming to.now)) ids.now)) }
 {
     let mut moved = Vec::new(alloc);
     for id in ids.as_slice() {

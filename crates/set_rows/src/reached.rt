@@ -1,7 +1,9 @@
 //! What a package of a set reaches, and what some of its interfaces do.
-ghost use Rattle.std.specs.Prelude.{◌≡◌, ◌∷◌, [], not, IfOk, OnOk, map, flat_map, slice_set, slice_index_or, true, false, None, Some};
+ghost use Rattle.std.specs.Prelude.{◌≡◌, ◌∷◌, [], not, IfOk, OnOk, map, flat_map, slice_set, slice_index_or, true};
+ghost use Rattle.std.specs.Prelude.{false, None, Some};
 ghost use Rattle.set_rows.specs.Owners.{owners as owners_of};
-ghost use Rattle.set_rows.specs.Reaches.{is_marked, own_marks, item_owners, owners_in, world_owners, named_owners, padded, given_marks, OfPackage, OfInterfaces, AreReached};
+ghost use Rattle.set_rows.specs.Reaches.{is_marked, own_marks, item_owners, owners_in, world_owners, named_owners};
+ghost use Rattle.set_rows.specs.Reaches.{padded, given_marks, OfPackage, OfInterfaces, AreReached};
 ghost use Rattle.set_rows.specs.Marking.{AddsMarks, TellsGrowth, AddsRow, Passes, AreGrown};
 ghost use Rattle.package_form.specs.Closed.{is_world_of};
 ghost use Rattle.package_form.specs.Reached.{is_interface_of};

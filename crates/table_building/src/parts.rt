@@ -1,7 +1,11 @@
 //! A package of parts that were made elsewhere.
 ghost use Rattle.std.specs.Prelude.{◌≡◌, ◌&&◌, false, IfOk, IfErr, length, slice_get};
 ghost use Rattle.std.specs.List.{list_all};
-ghost use Rattle.tables.specs.Tables.{option_all, kind_all, function_all, definition_all, is_type_before, are_earlier, name_types, is_within, is_standard_kind, is_standard, are_standard, function_of, is_type_id, is_function_id, is_placed, are_placed, are_grouped, are_worlds_grouped, is_function_of, is_placed_item, is_placed_world, are_placed_worlds};
+ghost use Rattle.tables.specs.Tables.{option_all, kind_all, function_all, definition_all, is_type_before, are_earlier};
+ghost use Rattle.tables.specs.Tables.{name_types, is_within, is_standard_kind, is_standard, are_standard, function_of};
+ghost use Rattle.tables.specs.Tables.{is_type_id, is_function_id, is_placed, are_placed, are_grouped};
+ghost use Rattle.tables.specs.Tables.{are_worlds_grouped, is_function_of, is_placed_item, is_placed_world};
+ghost use Rattle.tables.specs.Tables.{are_placed_worlds};
 ghost use Rattle.tables.specs.Parts.{HasParts, are_worlds, is_package};
 
 use tables::{
@@ -310,7 +314,8 @@ pub fn from_parts(
     definitions: Sequence<Definition>,
 ) -> Result<Resolve, ResolveError>
     ensures ok { IfOk result (λ r. HasParts packages interfaces worlds definitions r) }
-    ensures err { IfErr result (λ e. (e ≡ ResolveError.NotThisShape) × (is_package (length packages) definitions interfaces worlds ≡ false)) }
+    ensures err { IfErr result (λ e. (e ≡ ResolveError.NotThisShape)
+        × (is_package (length packages) definitions interfaces worlds ≡ false)) }
 {
     if !is_package(
         packages.len(),

@@ -1,4 +1,4 @@
-mod TextsComparedByParts
+pub mod TextsComparedByParts
 pub mod ClosedTypesRowByRow
 mod ClosesAlike
 pub mod NamesEarlierTypes

@@ -1,5 +1,6 @@
 //! Functions of a package by their names, and what is known of one.
-ghost use Rattle.std.specs.Prelude.{◌≡◌, ◌↔◌, ◌≢◌, ◌<◌, ◌++◌, ◌∷◌, ℕ, List, length, IsTrue, [], slice_get, slice_index_or, IfOk, IfSome, IfNone, None, Some, MatchOption};
+ghost use Rattle.std.specs.Prelude.{◌≡◌, ◌↔◌, ◌≢◌, ◌<◌, ◌++◌, ◌∷◌, ℕ, List, length, IsTrue, [], slice_get};
+ghost use Rattle.std.specs.Prelude.{slice_index_or, IfOk, IfSome, IfNone, None, Some, MatchOption};
 ghost use Rattle.atoms.specs.FullName.{full_name_text, package_text, name_text, version_suffix};
 ghost use Rattle.tables.specs.Closed.{function_at, IsFunction, is_scalar_type, is_scalar_function};
 ghost use Rattle.tables.specs.Standard.{IsTypeOf};
@@ -27,7 +28,8 @@ fn behind<'a>(text: &'a [u8], front: &[u8]) -> Option<&'a [u8]>
 
 /// What a text has behind this front and this mark.
 fn behind_part<'a>(text: &'a [u8], front: &[u8], mark: u8) -> Option<&'a [u8]>
-    ensures { MatchOption result ((rest : List ℕ) → text.now ≢ front.now ++ mark ∷ rest) (λ x. text.now ≡ front.now ++ mark ∷ x.now) }
+    ensures { MatchOption result ((rest : List ℕ) → text.now ≢ front.now ++ mark ∷ rest)
+        (λ x. text.now ≡ front.now ++ mark ∷ x.now) }
 {
     let rest = behind(text, front)?;
     behind(rest, &[mark])
@@ -111,7 +113,8 @@ impl Resolve {
     }
 
     fn function_of(&self, func: FunctionId) -> Option<&Function>
-        ensures at { MatchOption result (function_at self.now func ≡ None) (λ f. function_at self.now func ≡ Some f.now) }
+        ensures at { MatchOption result (function_at self.now func ≡ None)
+            (λ f. function_at self.now func ≡ Some f.now) }
         ensures function { IfSome result (λ _. IsFunction self.now func) }
     {
         match self.definitions.as_slice().get(func.0 as usize) {

@@ -1,6 +1,7 @@
 //! The tables of a package: its name, interfaces, worlds, and one table of definitions.
 ghost use Rattle.std.specs.Prelude.{IsTrue, length};
-ghost use Rattle.tables.specs.Tables.{are_earlier, name_types, are_standard, are_placed, are_grouped, are_worlds_grouped, are_placed_worlds};
+ghost use Rattle.tables.specs.Tables.{are_earlier, name_types, are_standard, are_placed, are_grouped};
+ghost use Rattle.tables.specs.Tables.{are_worlds_grouped, are_placed_worlds};
 
 use crate::sequence::Sequence;
 use atoms::Label;
@@ -140,7 +141,11 @@ impl Model for PackageName {
 
     ghost Value = { PackageParts };
 
-    ghost view = { λ p. record { namespace = p.namespace; name = p.name; version = option_map string_bytes p.version } };
+    ghost view = { λ p. record {
+      namespace = p.namespace;
+      name = p.name;
+      version = option_map string_bytes p.version;
+    } };
 }
 
 /// An interface: the package that it is of, its name, and its used names, its types and its functions, each in

@@ -1,5 +1,5 @@
-//! Tests of what no row can say: a host that brings its own memory and body, calls in halves, tables that are made of parts, and refusals
-//! that come of the host's side. It has no code of its own.
+//! Tests of what no row can say: a host that brings its own memory and body, calls in halves, tables that are made of
+//! parts, and refusals that come of the host's side. It has no code of its own.
 #![tactic(auto)]
 
 #[cfg(test)]

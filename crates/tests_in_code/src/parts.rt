@@ -1,4 +1,5 @@
-//! Tables that are made of parts, a component that is read as one package alone, and a text that is longer than memories may be.
+//! Tables that are made of parts, a component that is read as one package alone, and a text that is longer than
+//! memories may be.
 
 ghost use Rattle.std.specs.Prelude.{◌≡◌, IfOk};
 

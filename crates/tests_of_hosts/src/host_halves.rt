@@ -171,7 +171,8 @@ pub fn assert_line(
     Ok(())
 }
 
-/// How many flat values there are, for how many there is room, how many blocks there are, where the list's block stands, and the line.
+/// How many flat values there are, for how many there is room, how many blocks there are, where the list's block
+/// stands, and the line.
 const REFUSALS: [(usize, usize, usize, u32, &str); 7] = [
     (4, 16, 3, 40, "error 71 no room for 17"),
     (4, 17, 3, 42, "error 72 bad block"),

@@ -3,7 +3,8 @@ ghost use Rattle.std.specs.Prelude.{◌≡◌, ◌++◌, ◌∷◌, [], ◌⊎�
 ghost use Rattle.wit_tokens.specs.View.{used_view, field_view, case_view, definition_view, entry_view, item_view};
 ghost use Rattle.tables.specs.PackageNames.{PackageParts};
 ghost use Rattle.tables.specs.Package.{ItemMeaning};
-ghost use Rattle.tree_meaning.specs.Declarations.{local_name, member_name, tree_case_name, definition_scopes, entry_names, entry_scopes, item_scopes};
+ghost use Rattle.tree_meaning.specs.Declarations.{local_name, member_name, tree_case_name, definition_scopes};
+ghost use Rattle.tree_meaning.specs.Declarations.{entry_names, entry_scopes, item_scopes};
 ghost use Rattle.tree_meaning.specs.Scopes.{file_name, interface_scopes, scopes_in};
 ghost use Rattle.tree_scopes.specs.Sources.{item_in, world_in};
 ghost use Rattle.package_form.specs.Naming.{item_name, item_parameters, world_scopes};
@@ -73,8 +74,10 @@ fn meet_used<'a>(
     scope: &mut Scope<'a>,
     names: &'a [UsedName],
 ) -> Result<(), ResolveError>
-    ensures ok { OnOk result ((ns : List (List ℕ)) → AreMet ns scope.old → AreMet (ns ++ map local_name (map used_view names.now)) scope.new) }
-    ensures err { IfErr result (λ e. (ns : List (List ℕ)) → AreMet ns scope.old → RefusesNames (ns ++ map local_name (map used_view names.now)) e) }
+    ensures ok { OnOk result ((ns : List (List ℕ)) → AreMet ns scope.old
+        → AreMet (ns ++ map local_name (map used_view names.now)) scope.new) }
+    ensures err { IfErr result (λ e. (ns : List (List ℕ)) → AreMet ns scope.old
+        → RefusesNames (ns ++ map local_name (map used_view names.now)) e) }
 {
     for name in names {
         scope.meet(alloc, local_name(name))?;
@@ -89,10 +92,12 @@ fn distinct_item<'a>(
     scope: &mut Scope<'a>,
     item: &'a InterfaceItem,
 ) -> Result<(), ResolveError>
-    ensures names { OnOk result ((ns : List (List ℕ)) → AreMet ns scope.old → AreMet (ns ++ entry_names (entry_view item.now)) scope.new) }
+    ensures names { OnOk result ((ns : List (List ℕ)) → AreMet ns scope.old
+        → AreMet (ns ++ entry_names (entry_view item.now)) scope.new) }
     ensures parts { OnOk result (All AreDistinct (entry_scopes (entry_view item.now))) }
     ensures err { IfErr result (λ e. (ns : List (List ℕ)) → AreMet ns scope.old
-        → RefusesNames (ns ++ entry_names (entry_view item.now)) e ⊎ RefusesScopes (entry_scopes (entry_view item.now)) e) }
+        → RefusesNames (ns ++ entry_names (entry_view item.now)) e
+        ⊎ RefusesScopes (entry_scopes (entry_view item.now)) e) }
 {
     match item {
         InterfaceItem::Use(used) => meet_used(alloc, scope, &used.names),
@@ -161,8 +166,10 @@ fn meet_world_item(
     sides: &mut Sides,
     item: &WorldItem,
 ) -> Result<(), ResolveError>
-    ensures ok { OnOk result ((items : List ItemMeaning) → AreMetOnSides items sides.old → AreMetOnSides (items ++ item_in «package».now item.now ∷ []) sides.new) }
-    ensures err { IfErr result (λ e. (items : List ItemMeaning) → AreMetOnSides items sides.old → RefusesSides (items ++ item_in «package».now item.now ∷ []) e) }
+    ensures ok { OnOk result ((items : List ItemMeaning) → AreMetOnSides items sides.old
+        → AreMetOnSides (items ++ item_in «package».now item.now ∷ []) sides.new) }
+    ensures err { IfErr result (λ e. (items : List ItemMeaning) → AreMetOnSides items sides.old
+        → RefusesSides (items ++ item_in «package».now item.now ∷ []) e) }
 {
     let name = world_item_name(alloc, package, item)?;
     sides.meet(alloc, side_of(item.direction), name)

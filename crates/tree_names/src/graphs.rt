@@ -1,5 +1,6 @@
 //! Which interfaces use each other, which types of an interface name each other, and their orders.
-ghost use Rattle.std.specs.Prelude.{◌≡◌, ◌++◌, ◌<◌, ◌⊎◌, ℕ, Bool, [], length, map, filter_map, All, Contains, IfOk, IfErr, OnOk, slice_index_or};
+ghost use Rattle.std.specs.Prelude.{◌≡◌, ◌++◌, ◌<◌, ◌⊎◌, ℕ, Bool, [], length, map, filter_map, All, Contains, IfOk};
+ghost use Rattle.std.specs.Prelude.{IfErr, OnOk, slice_index_or};
 ghost use Rattle.tree_meaning.specs.Declarations.{InterfaceTree, interface_at, own_use};
 ghost use Rattle.placement.specs.Order.{IsPlacement, IsCycle};
 ghost use Rattle.tree_meaning.specs.Resolves.{places, interface_uses, type_uses};
@@ -29,7 +30,8 @@ fn places(alloc: Global, names: &Names, wanted: &[&Label]) -> Result<Sequence<us
 
 /// Appends the names of the interfaces of the own package that are used.
 fn push_interfaces<'a>(names: &mut Vec<&'a Label>, uses: &[UsedType<'a>]) -> Result<(), AllocError>
-    ensures { OnOk result (lent_names names.new.items ≡ lent_names names.old.items ++ filter_map own_use (map used_item_of uses.now)) }
+    ensures { OnOk result (lent_names names.new.items ≡ lent_names names.old.items
+        ++ filter_map own_use (map used_item_of uses.now)) }
 {
     for used in uses {
         if let Path::Local(interface) = used.path {
@@ -79,7 +81,8 @@ fn type_graph(
 fn ordered(alloc: Global, graph: &[Sequence<usize>]) -> Result<Sequence<usize>, ResolveError>
     requires { All (λ used. All (λ u. u < length graph.now) used) graph.now }
     ensures ok { IfOk result (IsPlacement graph.now) }
-    ensures err { IfErr result (λ e. (e ≡ ResolveError.NoMemory) ⊎ ((e ≡ ResolveError.Cycle) × ((group : ℕ → Bool) × IsCycle graph.now group))) }
+    ensures err { IfErr result (λ e. (e ≡ ResolveError.NoMemory)
+        ⊎ ((e ≡ ResolveError.Cycle) × ((group : ℕ → Bool) × IsCycle graph.now group))) }
 {
     match placement(alloc, graph) {
         Ok(order) => Ok(order),
@@ -95,7 +98,9 @@ pub fn interface_order(
     all: &[Declarations],
 ) -> Result<Sequence<usize>, ResolveError>
     ensures ok { IfOk result (IsPlacement (interface_uses (map declared_tree all.now))) }
-    ensures err { IfErr result (λ e. (e ≡ ResolveError.NoMemory) ⊎ ((e ≡ ResolveError.Cycle) × ((group : ℕ → Bool) × IsCycle (interface_uses (map declared_tree all.now)) group))) }
+    ensures err { IfErr result (λ e. (e ≡ ResolveError.NoMemory)
+        ⊎ ((e ≡ ResolveError.Cycle) × ((group : ℕ → Bool)
+        × IsCycle (interface_uses (map declared_tree all.now)) group))) }
 {
     let graph = interface_graph(alloc, keyed, all)?;
     ordered(alloc, &graph)
@@ -108,7 +113,8 @@ fn type_order(
     declared: &Declarations,
 ) -> Result<Sequence<usize>, ResolveError>
     ensures ok { IfOk result (IsPlacement (type_uses (declared_tree declared.now))) }
-    ensures err { IfErr result (λ e. (e ≡ ResolveError.NoMemory) ⊎ ((e ≡ ResolveError.Cycle) × ((group : ℕ → Bool) × IsCycle (type_uses (declared_tree declared.now)) group))) }
+    ensures err { IfErr result (λ e. (e ≡ ResolveError.NoMemory)
+        ⊎ ((e ≡ ResolveError.Cycle) × ((group : ℕ → Bool) × IsCycle (type_uses (declared_tree declared.now)) group))) }
 {
     let graph = type_graph(alloc, keyed, declared)?;
     ordered(alloc, &graph)
@@ -124,7 +130,8 @@ pub fn type_orders(
     ensures ok { IfOk result (λ os. (k : ℕ) → k < length all.now
         → IsPlacement (type_uses (interface_at (map declared_tree all.now) k)) (slice_index_or os.items k [])) }
     ensures err { IfErr result (λ e. (e ≡ ResolveError.NoMemory) ⊎ ((e ≡ ResolveError.Cycle)
-        × ((i : InterfaceTree) × Contains (map declared_tree all.now) i × ((group : ℕ → Bool) × IsCycle (type_uses i) group)))) }
+        × ((i : InterfaceTree) × Contains (map declared_tree all.now) i
+        × ((group : ℕ → Bool) × IsCycle (type_uses i) group)))) }
 {
     let mut orders = Vec::new(alloc);
     for declared in all {

@@ -1,8 +1,10 @@
 //! The names of types in a syntax tree.
 ghost use Rattle.std.specs.Prelude.{◌≡◌, ◌++◌, map, flat_map, OnOk, IfOk};
 ghost use Rattle.wit_tokens.specs.Syntax.{tys_of};
-ghost use Rattle.wit_tokens.specs.View.{ty_view, boxed_view, optional_view, field_view, case_view, definition_view, function_view};
-ghost use Rattle.tree_meaning.specs.Declarations.{named, named_all, named_maybe, named_if, named_member, named_case, named_definition, names_in_function};
+ghost use Rattle.wit_tokens.specs.View.{ty_view, boxed_view, optional_view, field_view, case_view, definition_view};
+ghost use Rattle.wit_tokens.specs.View.{function_view};
+ghost use Rattle.tree_meaning.specs.Declarations.{named, named_all, named_maybe, named_if, named_member, named_case};
+ghost use Rattle.tree_meaning.specs.Declarations.{named_definition, names_in_function};
 ghost use Rattle.tree_scopes.specs.Lent.{lent_names};
 
 use atoms::Label;
@@ -44,7 +46,8 @@ fn push_named_all<'a>(
     names: &mut Vec<&'a Label>,
     types: &'a Vec<TypeExpression>,
 ) -> Result<(), AllocError>
-    ensures { OnOk result (lent_names names.new.items ≡ lent_names names.old.items ++ named_all (tys_of (map ty_view types.now.items))) }
+    ensures { OnOk result (lent_names names.new.items ≡ lent_names names.old.items
+        ++ named_all (tys_of (map ty_view types.now.items))) }
 {
     for ty in types {
         push_named(names, ty)?;
@@ -65,7 +68,8 @@ fn push_named_optional<'a>(
 }
 
 fn push_named_fields<'a>(names: &mut Vec<&'a Label>, fields: &'a [Field]) -> Result<(), AllocError>
-    ensures { OnOk result (lent_names names.new.items ≡ lent_names names.old.items ++ flat_map named_member (map field_view fields.now)) }
+    ensures { OnOk result (lent_names names.new.items ≡ lent_names names.old.items
+        ++ flat_map named_member (map field_view fields.now)) }
 {
     for field in fields {
         push_named(names, &field.ty)?;
@@ -74,7 +78,8 @@ fn push_named_fields<'a>(names: &mut Vec<&'a Label>, fields: &'a [Field]) -> Res
 }
 
 fn push_named_cases<'a>(names: &mut Vec<&'a Label>, cases: &'a [Case]) -> Result<(), AllocError>
-    ensures { OnOk result (lent_names names.new.items ≡ lent_names names.old.items ++ flat_map named_case (map case_view cases.now)) }
+    ensures { OnOk result (lent_names names.new.items ≡ lent_names names.old.items
+        ++ flat_map named_case (map case_view cases.now)) }
 {
     for case in cases {
         push_named_optional(names, &case.payload)?;

@@ -2,8 +2,10 @@
 ghost use Rattle.std.specs.Prelude.{◌≡◌, nat_le, map};
 ghost use Rattle.std.specs.List.{list_all};
 ghost use Rattle.wit_tokens.specs.Syntax.{depth_all, depth_maybe, tys_of, ty_depth};
-ghost use Rattle.wit_tokens.specs.View.{ty_view, boxed_view, optional_view, field_view, case_view, definition_view, function_view, entry_view, world_entry_view, item_view};
-ghost use Rattle.tree_meaning.specs.Resolves.{fits_if, member_fits, case_fits, body_fits, signature_fits, entry_fits, world_entry_fits, interface_fits};
+ghost use Rattle.wit_tokens.specs.View.{ty_view, boxed_view, optional_view, field_view, case_view, definition_view};
+ghost use Rattle.wit_tokens.specs.View.{function_view, entry_view, world_entry_view, item_view};
+ghost use Rattle.tree_meaning.specs.Resolves.{fits_if, member_fits, case_fits, body_fits, signature_fits, entry_fits};
+ghost use Rattle.tree_meaning.specs.Resolves.{world_entry_fits, interface_fits};
 
 use wit_tokens::wit_syntax::{
     Case, Field, FuncType, InterfaceItem, Item, TypeDefKind, TypeExpression, WorldItem,

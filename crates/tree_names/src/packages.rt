@@ -1,7 +1,8 @@
 //! 47: the packages that paths name.
 ghost use Rattle.std.specs.Prelude.{map, flat_map, All, Contains, OnOk, IfErr, IfSome, IfNone};
 ghost use Rattle.wit_tokens.specs.View.{path_view, entry_view, world_entry_view, item_view};
-ghost use Rattle.tree_meaning.specs.Declarations.{path_packages, entry_packages, world_entry_packages, file_entry_packages};
+ghost use Rattle.tree_meaning.specs.Declarations.{path_packages, entry_packages, world_entry_packages};
+ghost use Rattle.tree_meaning.specs.Declarations.{file_entry_packages};
 ghost use Rattle.tree_meaning.specs.Finished.{header_name};
 ghost use Rattle.tree_meaning.specs.Knowing.{RefusesPackage};
 ghost use Rattle.tree_meaning.specs.Resolves.{IsLacking};
@@ -14,7 +15,8 @@ use wit_tokens::wit_syntax::{InterfaceItem, Item, PackageId, Path, WorldItem, Wo
 /// The package that a path names, where none of these has that name.
 fn lacking<'a>(packages: &[PackageName], path: &'a Path) -> Option<&'a PackageId>
     ensures none { IfNone result (All (Contains packages.now) (path_packages (path_view path.now))) }
-    ensures some { IfSome result (λ p. IsLacking packages.now (path_packages (path_view path.now)) (header_name p.now)) }
+    ensures some { IfSome result (λ p. IsLacking packages.now (path_packages (path_view path.now))
+        (header_name p.now)) }
 {
     match path {
         Path::Local(_) => None,
@@ -30,7 +32,8 @@ fn lacking<'a>(packages: &[PackageName], path: &'a Path) -> Option<&'a PackageId
 
 fn lacking_in_item<'a>(packages: &[PackageName], item: &'a InterfaceItem) -> Option<&'a PackageId>
     ensures none { IfNone result (All (Contains packages.now) (entry_packages (entry_view item.now))) }
-    ensures some { IfSome result (λ p. IsLacking packages.now (entry_packages (entry_view item.now)) (header_name p.now)) }
+    ensures some { IfSome result (λ p. IsLacking packages.now (entry_packages (entry_view item.now))
+        (header_name p.now)) }
 {
     match item {
         InterfaceItem::Use(used) => lacking(packages, &used.interface),
@@ -40,7 +43,8 @@ fn lacking_in_item<'a>(packages: &[PackageName], item: &'a InterfaceItem) -> Opt
 
 fn lacking_in_world_item<'a>(packages: &[PackageName], item: &'a WorldItem) -> Option<&'a PackageId>
     ensures none { IfNone result (All (Contains packages.now) (world_entry_packages (world_entry_view item.now))) }
-    ensures some { IfSome result (λ p. IsLacking packages.now (world_entry_packages (world_entry_view item.now)) (header_name p.now)) }
+    ensures some { IfSome result (λ p. IsLacking packages.now (world_entry_packages (world_entry_view item.now))
+        (header_name p.now)) }
 {
     match &item.kind {
         WorldItemKind::Interface(path) => lacking(packages, path),
@@ -54,7 +58,8 @@ fn lacking_in_items<'a>(
     items: &'a [InterfaceItem],
 ) -> Option<&'a PackageId>
     ensures none { IfNone result (All (Contains packages.now) (flat_map entry_packages (map entry_view items.now))) }
-    ensures some { IfSome result (λ p. IsLacking packages.now (flat_map entry_packages (map entry_view items.now)) (header_name p.now)) }
+    ensures some { IfSome result (λ p. IsLacking packages.now (flat_map entry_packages (map entry_view items.now))
+        (header_name p.now)) }
 {
     for item in items {
         if let Some(package) = lacking_in_item(packages, item) {
@@ -66,8 +71,10 @@ fn lacking_in_items<'a>(
 
 /// The first package that items of a world name and that isn't there.
 fn lacking_in_world<'a>(packages: &[PackageName], items: &'a [WorldItem]) -> Option<&'a PackageId>
-    ensures none { IfNone result (All (Contains packages.now) (flat_map world_entry_packages (map world_entry_view items.now))) }
-    ensures some { IfSome result (λ p. IsLacking packages.now (flat_map world_entry_packages (map world_entry_view items.now)) (header_name p.now)) }
+    ensures none { IfNone result (All (Contains packages.now)
+        (flat_map world_entry_packages (map world_entry_view items.now))) }
+    ensures some { IfSome result (λ p. IsLacking packages.now
+        (flat_map world_entry_packages (map world_entry_view items.now)) (header_name p.now)) }
 {
     for item in items {
         if let Some(package) = lacking_in_world_item(packages, item) {
@@ -80,7 +87,8 @@ fn lacking_in_world<'a>(packages: &[PackageName], items: &'a [WorldItem]) -> Opt
 /// The first package that an interface or a world names and that isn't there.
 fn lacking_in_entry<'a>(packages: &[PackageName], item: &'a Item) -> Option<&'a PackageId>
     ensures none { IfNone result (All (Contains packages.now) (file_entry_packages (item_view item.now))) }
-    ensures some { IfSome result (λ p. IsLacking packages.now (file_entry_packages (item_view item.now)) (header_name p.now)) }
+    ensures some { IfSome result (λ p. IsLacking packages.now (file_entry_packages (item_view item.now))
+        (header_name p.now)) }
 {
     match item {
         Item::Interface(interface) => lacking_in_items(packages, &interface.items),

@@ -33,9 +33,9 @@ fn all_declarations<'a>(
     Ok(all)
 }
 
-/// What the interfaces of a tree declare, where each name of the tree stands for something. 43 where the tree has neither
-/// interface nor world, 45 where a type is nested more than 64 deep, 40 where a name stands twice in a scope, 47 where a
-/// path names a package that isn't among the imports', 41 where a name stands for nothing, in this order.
+/// What the interfaces of a tree declare, where each name of the tree stands for something. 43 where the tree has
+/// neither interface nor world, 45 where a type is nested more than 64 deep, 40 where a name stands twice in a scope,
+/// 47 where a path names a package that isn't among the imports', 41 where a name stands for nothing, in this order.
 pub fn declarations<'a>(
     alloc: Global,
     imports: &Imports<'_>,

@@ -1,14 +1,18 @@
 //! 41: each name stands for something. Names are exact in case.
-ghost use Rattle.std.specs.Prelude.{◌≡◌, ◌↔◌, ◌<◌, All, Contains, IsTrue, IfOk, IfErr, OnOk, IfSome, IfNone, None, Some, map, filter_map, length};
+ghost use Rattle.std.specs.Prelude.{◌≡◌, ◌↔◌, ◌<◌, All, Contains, IsTrue, IfOk, IfErr, OnOk, IfSome, IfNone, None};
+ghost use Rattle.std.specs.Prelude.{Some, map, filter_map, length};
 ghost use Rattle.atoms.specs.Label.{IsLabel};
 ghost use Rattle.wit_tokens.specs.View.{entry_view, path_view, used_view, world_entry_view, item_view};
-ghost use Rattle.tree_meaning.specs.Declarations.{InterfaceTree, path_uses, item_tree, interface_of, world_of, interface_at, names_of_trees};
+ghost use Rattle.tree_meaning.specs.Declarations.{InterfaceTree, path_uses, item_tree, interface_of, world_of};
+ghost use Rattle.tree_meaning.specs.Declarations.{interface_at, names_of_trees};
 ghost use Rattle.tree_meaning.specs.Imports.{imports_of};
-ghost use Rattle.tree_meaning.specs.Resolves.{IsKnownIn, IsKnownUseOf, IsLackingIn, IsUnknownUse, HasKnownNamesOf, IsKnownItemOf, IsUnknownItem, IsKnownWorldOf};
+ghost use Rattle.tree_meaning.specs.Resolves.{IsKnownIn, IsKnownUseOf, IsLackingIn, IsUnknownUse, HasKnownNamesOf};
+ghost use Rattle.tree_meaning.specs.Resolves.{IsKnownItemOf, IsUnknownItem, IsKnownWorldOf};
 ghost use Rattle.tree_meaning.specs.Finished.{header_name};
 ghost use Rattle.tree_scopes.specs.Lent.{lent_names};
 ghost use Rattle.tree_scopes.specs.Sources.{declared_tree, use_of};
-ghost use Rattle.tree_meaning.specs.Knowing.{IsThere, KnowsEntry, LacksEntry, LacksUse, LacksAny, LacksItem, KnowsFileEntry, LacksFileEntry, RefusesUnknown};
+ghost use Rattle.tree_meaning.specs.Knowing.{IsThere, KnowsEntry, LacksEntry, LacksUse, LacksAny, LacksItem};
+ghost use Rattle.tree_meaning.specs.Knowing.{KnowsFileEntry, LacksFileEntry, RefusesUnknown};
 
 use crate::named::{definition_names, function_names};
 use atoms::Label;
@@ -45,7 +49,8 @@ fn first_unknown<'a>(known: &Names, names: &[&'a Label]) -> Option<&'a Label>
 /// The interface of this name.
 fn find_interface<'a>(tree: &Tree<'a>, name: &Label) -> Option<&'a Declarations<'a>>
     ensures none { IfNone result (¬ Contains (names_of_trees (map declared_tree tree.now.all.now)) name.now) }
-    ensures some { IfSome result (λ d. Contains (map declared_tree tree.now.all.now) (declared_tree d.now) × ((declared_tree d.now).name ≡ name.now)) }
+    ensures some { IfSome result (λ d. Contains (map declared_tree tree.now.all.now) (declared_tree d.now)
+        × ((declared_tree d.now).name ≡ name.now)) }
 {
     match tree.names.place_of(name) {
         Some(place) => Some(&tree.all[place]),
@@ -55,8 +60,10 @@ fn find_interface<'a>(tree: &Tree<'a>, name: &Label) -> Option<&'a Declarations<
 
 /// The interface of the own package where it isn't there, or the name where the interface lacks it.
 fn unknown_in_own<'a>(tree: &Tree<'_>, interface: &'a Label, name: &'a Label) -> Option<&'a Label>
-    ensures none { IfNone result (IsKnownIn (imports_of tree.now.imports.now.table) (map declared_tree tree.now.all.now) None interface.now name.now) }
-    ensures some { IfSome result (λ n. IsLackingIn (imports_of tree.now.imports.now.table) (map declared_tree tree.now.all.now) None interface.now name.now n.now) }
+    ensures none { IfNone result (IsKnownIn (imports_of tree.now.imports.now.table) (map declared_tree tree.now.all.now)
+        None interface.now name.now) }
+    ensures some { IfSome result (λ n. IsLackingIn (imports_of tree.now.imports.now.table)
+        (map declared_tree tree.now.all.now) None interface.now name.now n.now) }
 {
     match find_interface(tree, interface) {
         None => Some(interface),
@@ -74,8 +81,10 @@ fn unknown_in_import<'a>(
     interface: &'a Label,
     name: &'a Label,
 ) -> Option<&'a Label>
-    ensures none { IfNone result (IsKnownIn (imports_of tree.now.imports.now.table) (map declared_tree tree.now.all.now) (Some (header_name «package».now)) interface.now name.now) }
-    ensures some { IfSome result (λ n. IsLackingIn (imports_of tree.now.imports.now.table) (map declared_tree tree.now.all.now) (Some (header_name «package».now)) interface.now name.now n.now) }
+    ensures none { IfNone result (IsKnownIn (imports_of tree.now.imports.now.table) (map declared_tree tree.now.all.now)
+        (Some (header_name «package».now)) interface.now name.now) }
+    ensures some { IfSome result (λ n. IsLackingIn (imports_of tree.now.imports.now.table)
+        (map declared_tree tree.now.all.now) (Some (header_name «package».now)) interface.now name.now n.now) }
 {
     match import_place(&tree.imports.table, package, interface) {
         None => Some(interface),
@@ -91,8 +100,10 @@ fn unknown_in_import<'a>(
 
 /// The interface where it isn't there, or the name where the interface lacks it.
 fn unknown_used<'a>(tree: &Tree<'_>, path: &'a Path, name: &'a Label) -> Option<&'a Label>
-    ensures none { IfNone result (IsKnownUseOf (imports_of tree.now.imports.now.table) (map declared_tree tree.now.all.now) (use_of (path_view path.now) name.now)) }
-    ensures some { IfSome result (λ n. IsUnknownUse (imports_of tree.now.imports.now.table) (map declared_tree tree.now.all.now) (use_of (path_view path.now) name.now) n.now) }
+    ensures none { IfNone result (IsKnownUseOf (imports_of tree.now.imports.now.table)
+        (map declared_tree tree.now.all.now) (use_of (path_view path.now) name.now)) }
+    ensures some { IfSome result (λ n. IsUnknownUse (imports_of tree.now.imports.now.table)
+        (map declared_tree tree.now.all.now) (use_of (path_view path.now) name.now) n.now) }
 {
     match path {
         Path::Local(interface) => unknown_in_own(tree, interface, name),
@@ -104,8 +115,10 @@ fn unknown_used<'a>(tree: &Tree<'_>, path: &'a Path, name: &'a Label) -> Option<
 
 /// The interface where it isn't there, or the first of these names that it lacks.
 fn unknown_in_use<'a>(tree: &Tree<'_>, path: &'a Path, used: &'a [UsedName]) -> Option<&'a Label>
-    ensures none { IfNone result (All (IsKnownUseOf (imports_of tree.now.imports.now.table) (map declared_tree tree.now.all.now)) (path_uses (path_view path.now) (map used_view used.now))) }
-    ensures some { IfSome result (λ n. LacksUse (imports_of tree.now.imports.now.table) (map declared_tree tree.now.all.now) (path_uses (path_view path.now) (map used_view used.now)) n.now) }
+    ensures none { IfNone result (All (IsKnownUseOf (imports_of tree.now.imports.now.table)
+        (map declared_tree tree.now.all.now)) (path_uses (path_view path.now) (map used_view used.now))) }
+    ensures some { IfSome result (λ n. LacksUse (imports_of tree.now.imports.now.table)
+        (map declared_tree tree.now.all.now) (path_uses (path_view path.now) (map used_view used.now)) n.now) }
 {
     for item in used {
         if let Some(name) = unknown_used(tree, path, &item.name) {
@@ -121,8 +134,12 @@ fn unknown_in_item<'a>(
     declared: &Declarations,
     item: &'a InterfaceItem,
 ) -> Result<Option<&'a Label>, AllocError>
-    ensures none { IfOk result (λ o. IfNone o (KnowsEntry (imports_of tree.now.imports.now.table) (map declared_tree tree.now.all.now) (declared_tree declared.now) (entry_view item.now))) }
-    ensures some { IfOk result (λ o. IfSome o (λ n. LacksEntry (imports_of tree.now.imports.now.table) (map declared_tree tree.now.all.now) (declared_tree declared.now) (entry_view item.now) n.now)) }
+    ensures none { IfOk result (λ o. IfNone o
+        (KnowsEntry (imports_of tree.now.imports.now.table) (map declared_tree tree.now.all.now)
+        (declared_tree declared.now) (entry_view item.now))) }
+    ensures some { IfOk result (λ o. IfSome o
+        (λ n. LacksEntry (imports_of tree.now.imports.now.table) (map declared_tree tree.now.all.now)
+        (declared_tree declared.now) (entry_view item.now) n.now)) }
 {
     match item {
         InterfaceItem::Use(used) => Ok(unknown_in_use(tree, &used.interface, &used.names)),
@@ -143,8 +160,12 @@ fn unknown_in_items<'a>(
     declared: &Declarations,
     items: &'a [InterfaceItem],
 ) -> Result<Option<&'a Label>, AllocError>
-    ensures none { IfOk result (λ o. IfNone o (All (KnowsEntry (imports_of tree.now.imports.now.table) (map declared_tree tree.now.all.now) (declared_tree declared.now)) (map entry_view items.now))) }
-    ensures some { IfOk result (λ o. IfSome o (λ n. LacksAny (imports_of tree.now.imports.now.table) (map declared_tree tree.now.all.now) (declared_tree declared.now) (map entry_view items.now) n.now)) }
+    ensures none { IfOk result (λ o. IfNone o
+        (All (KnowsEntry (imports_of tree.now.imports.now.table) (map declared_tree tree.now.all.now)
+        (declared_tree declared.now)) (map entry_view items.now))) }
+    ensures some { IfOk result (λ o. IfSome o
+        (λ n. LacksAny (imports_of tree.now.imports.now.table) (map declared_tree tree.now.all.now)
+        (declared_tree declared.now) (map entry_view items.now) n.now)) }
 {
     for item in items {
         let unknown = unknown_in_item(alloc, tree, declared, item)?;
@@ -174,8 +195,12 @@ fn unknown_in_world_item<'a>(
     tree: &Tree<'_>,
     item: &'a WorldItem,
 ) -> Result<Option<&'a Label>, AllocError>
-    ensures none { IfOk result (λ o. IfNone o (IsKnownItemOf (imports_of tree.now.imports.now.table) tree.now.names (item_tree (world_entry_view item.now)))) }
-    ensures some { IfOk result (λ o. IfSome o (λ n. IsUnknownItem (imports_of tree.now.imports.now.table) tree.now.names (item_tree (world_entry_view item.now)) n.now)) }
+    ensures none { IfOk result (λ o. IfNone o
+        (IsKnownItemOf (imports_of tree.now.imports.now.table) tree.now.names
+        (item_tree (world_entry_view item.now)))) }
+    ensures some { IfOk result (λ o. IfSome o
+        (λ n. IsUnknownItem (imports_of tree.now.imports.now.table) tree.now.names
+        (item_tree (world_entry_view item.now)) n.now)) }
 {
     match &item.kind {
         WorldItemKind::Interface(path) => {
@@ -201,8 +226,12 @@ fn unknown_in_world<'a>(
     tree: &Tree<'_>,
     items: &'a [WorldItem],
 ) -> Result<Option<&'a Label>, AllocError>
-    ensures none { IfOk result (λ o. IfNone o (All (IsKnownItemOf (imports_of tree.now.imports.now.table) tree.now.names) (map item_tree (map world_entry_view items.now)))) }
-    ensures some { IfOk result (λ o. IfSome o (λ n. LacksItem (imports_of tree.now.imports.now.table) tree.now.names (map item_tree (map world_entry_view items.now)) n.now)) }
+    ensures none { IfOk result (λ o. IfNone o
+        (All (IsKnownItemOf (imports_of tree.now.imports.now.table) tree.now.names)
+        (map item_tree (map world_entry_view items.now)))) }
+    ensures some { IfOk result (λ o. IfSome o
+        (λ n. LacksItem (imports_of tree.now.imports.now.table) tree.now.names
+        (map item_tree (map world_entry_view items.now)) n.now)) }
 {
     for item in items {
         if let Some(name) = unknown_in_world_item(alloc, tree, item)? {
@@ -219,9 +248,14 @@ fn unknown_in_entry<'a>(
     place: usize,
     item: &'a Item,
 ) -> Result<Option<&'a Label>, AllocError>
-    requires { (i : InterfaceTree) → interface_of (item_view item.now) ≡ Some i → (place < length tree.now.all.now) × (interface_at (map declared_tree tree.now.all.now) place ≡ i) }
-    ensures none { IfOk result (λ o. IfNone o (KnowsFileEntry (imports_of tree.now.imports.now.table) (map declared_tree tree.now.all.now) (item_view item.now))) }
-    ensures some { IfOk result (λ o. IfSome o (λ n. LacksFileEntry (imports_of tree.now.imports.now.table) (map declared_tree tree.now.all.now) (item_view item.now) n.now)) }
+    requires { (i : InterfaceTree) → interface_of (item_view item.now) ≡ Some i → (place < length tree.now.all.now)
+        × (interface_at (map declared_tree tree.now.all.now) place ≡ i) }
+    ensures none { IfOk result (λ o. IfNone o
+        (KnowsFileEntry (imports_of tree.now.imports.now.table) (map declared_tree tree.now.all.now)
+        (item_view item.now))) }
+    ensures some { IfOk result (λ o. IfSome o
+        (λ n. LacksFileEntry (imports_of tree.now.imports.now.table) (map declared_tree tree.now.all.now)
+        (item_view item.now) n.now)) }
 {
     match item {
         Item::Interface(interface) => {
@@ -239,10 +273,13 @@ pub fn known_names(
     items: &[Item],
 ) -> Result<(), ResolveError>
     requires { map declared_tree all.now ≡ filter_map interface_of (map item_view items.now) }
-    ensures ok { OnOk result (All (HasKnownNamesOf (imports_of imports.now.table) (map declared_tree all.now)) (map declared_tree all.now)) }
-    ensures worlds { OnOk result (All (IsKnownWorldOf (imports_of imports.now.table) (names_of_trees (map declared_tree all.now))) (filter_map world_of (map item_view items.now))) }
+    ensures ok { OnOk result (All (HasKnownNamesOf (imports_of imports.now.table) (map declared_tree all.now))
+        (map declared_tree all.now)) }
+    ensures worlds { OnOk result (All (IsKnownWorldOf (imports_of imports.now.table)
+        (names_of_trees (map declared_tree all.now))) (filter_map world_of (map item_view items.now))) }
     ensures labels { OnOk result (All IsLabel (names_of_trees (map declared_tree all.now))) }
-    ensures err { IfErr result (RefusesUnknown (imports_of imports.now.table) (map declared_tree all.now) (filter_map world_of (map item_view items.now))) }
+    ensures err { IfErr result (RefusesUnknown (imports_of imports.now.table) (map declared_tree all.now)
+        (filter_map world_of (map item_view items.now))) }
 {
     let names = interface_names(alloc, imports.keyed, all)?;
     let tree = Tree {

@@ -46,7 +46,8 @@ pub fn ordered_index<'a>(
     Names::of(alloc, keyed, names)
 }
 
-/// Defines all interfaces in package order, the types of each in their order, behind the imports, whose scopes these are.
+/// Defines all interfaces in package order, the types of each in their order, behind the imports, whose scopes these
+/// are.
 pub fn define_package(
     alloc: Global,
     plan: &Plan<'_>,
@@ -56,7 +57,8 @@ pub fn define_package(
     requires plan { IsPlan plan.now }
     requires starts { builder.old ≡ start_table plan.now.imports.now plan.now.names.now }
     requires scopes { AreImportScopes plan.now.imports.now scopes.items }
-    ensures { OnOk result (DefinesPackage (start_table plan.now.imports.now plan.now.names.now) (planned_trees plan.now) plan.now.order.now plan.now.types.now builder.new) }
+    ensures { OnOk result (DefinesPackage (start_table plan.now.imports.now plan.now.names.now) (planned_trees plan.now)
+        plan.now.order.now plan.now.types.now builder.new) }
 {
     for (place, index) in plan.order.iter().enumerate() {
         let id = interface_id(place_behind(plan.imports, place)?)?;

@@ -22,7 +22,8 @@ pub fn lower_fields(
 ) -> Result<Sequence<Field>, AllocError>
     requires known { KnowsNames scope.now (flat_map named_member (map field_view members.now)) }
     requires scoped { IsScope builder.old scope.now }
-    ensures { IfOk result (λ fs. LowersFields builder.old builder.new fs (map (member_meaning (scope_name builder.old scope.now)) (map field_view members.now))) }
+    ensures { IfOk result (λ fs. LowersFields builder.old builder.new fs
+        (map (member_meaning (scope_name builder.old scope.now)) (map field_view members.now))) }
 {
     let mut fields = Vec::with_capacity(alloc, members.len())?;
     for member in members {
@@ -43,7 +44,8 @@ pub fn lower_parameters(
 ) -> Result<Sequence<Parameter>, AllocError>
     requires known { KnowsNames scope.now (flat_map named_member (map field_view members.now)) }
     requires scoped { IsScope builder.old scope.now }
-    ensures { IfOk result (λ ps. LowersParameters builder.old builder.new ps (map (member_meaning (scope_name builder.old scope.now)) (map field_view members.now))) }
+    ensures { IfOk result (λ ps. LowersParameters builder.old builder.new ps
+        (map (member_meaning (scope_name builder.old scope.now)) (map field_view members.now))) }
 {
     let mut parameters = Vec::with_capacity(alloc, members.len())?;
     for member in members {
@@ -64,7 +66,8 @@ fn lower_cases(
 ) -> Result<Sequence<Case>, AllocError>
     requires known { KnowsNames scope.now (flat_map named_case (map case_view items.now)) }
     requires scoped { IsScope builder.old scope.now }
-    ensures { IfOk result (λ cs. LowersCases builder.old builder.new cs (map (case_meaning (scope_name builder.old scope.now)) (map case_view items.now))) }
+    ensures { IfOk result (λ cs. LowersCases builder.old builder.new cs
+        (map (case_meaning (scope_name builder.old scope.now)) (map case_view items.now))) }
 {
     let mut cases = Vec::with_capacity(alloc, items.len())?;
     for item in items {
@@ -95,7 +98,8 @@ pub fn lower_definition(
 ) -> Result<TypeDefKind, AllocError>
     requires known { KnowsNames scope.now (named_definition (definition_view definition.now)) }
     requires scoped { IsScope builder.old scope.now }
-    ensures { IfOk result (λ k. LowersKind builder.old builder.new k (IsType (definition_meaning (scope_name builder.old scope.now) (definition_view definition.now)))) }
+    ensures { IfOk result (λ k. LowersKind builder.old builder.new k
+        (IsType (definition_meaning (scope_name builder.old scope.now) (definition_view definition.now)))) }
 {
     match definition {
         wit_tokens::wit_syntax::TypeDefKind::Alias(target) => lower_kind(

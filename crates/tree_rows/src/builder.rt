@@ -25,7 +25,11 @@ impl<'a> Model for Builder<'a> {
 
     ghost Value = { Table };
 
-    ghost view = { λ b. record { interfaces = interface_names b.imports.now ++ b.own.now; worlds = []; rows = b.rows.items } };
+    ghost view = { λ b. record {
+      interfaces = interface_names b.imports.now ++ b.own.now;
+      worlds = [];
+      rows = b.rows.items;
+    } };
 }
 
 /// The id of the row at this place. No memory where an id can't tell it.
@@ -42,7 +46,11 @@ fn row_id(place: usize) -> Result<TypeId, AllocError>
 impl<'a> Builder<'a> {
     /// A table of these definitions, those of the imports, which go by their full names.
     pub fn new(imports: &IndexedTable<'a>, own: &'a [Label], rows: Vec<Definition>) -> Self
-        ensures { result ≡ record { interfaces = interface_names imports.now ++ own.now; worlds = []; rows = rows.items } }
+        ensures { result ≡ record {
+          interfaces = interface_names imports.now ++ own.now;
+          worlds = [];
+          rows = rows.items;
+        } }
     {
         Builder {
             imports: imports.table(),
@@ -61,7 +69,11 @@ impl<'a> Builder<'a> {
     /// Puts a definition at the end of the table. No memory, too, where an id can't tell its place.
     pub fn define(&mut self, definition: Definition) -> Result<TypeId, AllocError>
         ensures { IfOk result (λ id. (id.0 ≡ length self.old.rows)
-            × (self.new ≡ record { interfaces = self.old.interfaces; worlds = self.old.worlds; rows = self.old.rows ++ definition ∷ [] })) }
+            × (self.new ≡ record {
+              interfaces = self.old.interfaces;
+              worlds = self.old.worlds;
+              rows = self.old.rows ++ definition ∷ [];
+            })) }
     {
         let id = row_id(self.rows.len())?;
         self.rows.push(definition)?;
@@ -70,7 +82,8 @@ impl<'a> Builder<'a> {
 
     /// A type of this kind inside another: a row of its own, but for a name or a primitive.
     pub fn inner(&mut self, kind: TypeDefKind) -> Result<ValType, AllocError>
-        ensures { IfOk result (λ v. (first : Table) (tree : Tree) → LowersInner first self.old kind tree → LowersType first self.new v tree) }
+        ensures { IfOk result (λ v. (first : Table) (tree : Tree) → LowersInner first self.old kind tree
+            → LowersType first self.new v tree) }
     {
         match kind {
             TypeDefKind::Alias(target) => Ok(target),

@@ -1,5 +1,6 @@
 //! A package of a table of definitions: the ids of its interfaces, and its limits.
-ghost use Rattle.std.specs.Prelude.{◌≡◌, ◌<◌, ◌≤◌, ◌⊎◌, ◌+◌, ◌++◌, nat_lt, true, List, [], map, sum, length, IsTrue, IfOk, IfErr, OnOk, IfSome, IfNone, Some, ℕ};
+ghost use Rattle.std.specs.Prelude.{◌≡◌, ◌<◌, ◌≤◌, ◌⊎◌, ◌+◌, ◌++◌, nat_lt, true, List, [], map, sum, length, IsTrue};
+ghost use Rattle.std.specs.Prelude.{IfOk, IfErr, OnOk, IfSome, IfNone, Some, ℕ};
 ghost use Rattle.tables.specs.Tables.{are_earlier, name_types};
 ghost use Rattle.tables.specs.Package.{interface_names};
 ghost use Rattle.wit_tokens.specs.View.{file_view};
@@ -110,7 +111,8 @@ fn interfaces_in(
 
 /// Whether a package of so many interfaces, of these worlds and of these rows has too many type entries.
 fn passes_limit(interfaces: usize, worlds: &[World], rows: &[Definition]) -> bool
-    ensures { result ≡ nat_lt 65535 (1 + interfaces + (sum (map world_entries worlds.now) + sum (map entries_of rows.now))) }
+    ensures { result ≡ nat_lt 65535 (1 + interfaces
+        + (sum (map world_entries worlds.now) + sum (map entries_of rows.now))) }
 {
     if interfaces > MAX_ENTRIES {
         return true;
@@ -167,8 +169,10 @@ pub fn finish(
     requires earlier { IsTrue (are_earlier 0 builder.rows) }
     requires typed { IsTrue (name_types builder.rows) }
     requires worlds { worlds_stand (length plan.now.imports.now.packages) builder 0 worlds.items ≡ true }
-    ensures ok { IfOk result (IsFinished plan.now.imports.now (package_named (file_view plan.now.ast.now)) plan.now.labels.now (with_worlds builder.entry worlds.items)) }
-    ensures err { IfErr result (λ e. (e ≡ ResolveError.NoMemory) ⊎ ((e ≡ ResolveError.Limit) × PassesLimit (with_worlds builder.entry worlds.items))) }
+    ensures ok { IfOk result (IsFinished plan.now.imports.now (package_named (file_view plan.now.ast.now))
+        plan.now.labels.now (with_worlds builder.entry worlds.items)) }
+    ensures err { IfErr result (λ e. (e ≡ ResolveError.NoMemory)
+        ⊎ ((e ≡ ResolveError.Limit) × PassesLimit (with_worlds builder.entry worlds.items))) }
 {
     let rows = builder.into_rows();
     let count = place_behind(plan.imports, plan.labels.len())?;

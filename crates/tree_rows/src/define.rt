@@ -8,7 +8,8 @@ ghost use Rattle.tree_meaning.specs.Imports.{interfaces_of};
 ghost use Rattle.tree_meaning.specs.Resolves.{type_uses};
 ghost use Rattle.tree_scopes.specs.Lent.{used_item_of, type_item, declared_type};
 ghost use Rattle.tree_scopes.specs.Sources.{declared_tree, used_key, function_in_tree, declared_function};
-ghost use Rattle.tree_meaning.specs.Building.{AddsDefinitions, TreeStands, NamesEarlier, TypesKnown, FunctionsKnown, label_at};
+ghost use Rattle.tree_meaning.specs.Building.{AddsDefinitions, TreeStands, NamesEarlier, TypesKnown, FunctionsKnown};
+ghost use Rattle.tree_meaning.specs.Building.{label_at};
 ghost use Rattle.tree_rows.specs.Defining.{Grows, CanUse, DefinesInterface, DefinesNamed};
 ghost use Rattle.tree_scopes.specs.KnownScopes.{IsScope, ArePlaced, KnowsNames, scope_name, scope_names};
 ghost use Rattle.tables.specs.declared.tables.ValType.TheVariants.{Id};
@@ -122,7 +123,8 @@ fn define_functions(
     scope: &KnownTypes,
     functions: &[&Func],
 ) -> Result<(), AllocError>
-    requires known { All (λ f. KnowsNames scope.now (names_in_function f.function)) (map declared_function functions.now) }
+    requires known { All (λ f. KnowsNames scope.now (names_in_function f.function))
+        (map declared_function functions.now) }
     requires scoped { IsScope builder.old scope.now }
     ensures { OnOk result (AddsDefinitions builder.old builder.new
         (map (meaning_of_function (scope_name builder.old scope.now)) (map declared_function functions.now))) }
@@ -140,7 +142,8 @@ fn target(
     scopes: &[KnownTypes],
     used: &UsedType,
 ) -> Result<TypeId, AllocError>
-    requires known { CanUse (interfaces_of plan.now.imports.now) plan.now.names.now builder.now scopes.now (used_item_of used.now) }
+    requires known { CanUse (interfaces_of plan.now.imports.now) plan.now.names.now builder.now scopes.now
+        (used_item_of used.now) }
     requires scoped { All (IsScope builder.now) scopes.now }
     requires placed { ArePlaced scopes.now }
     ensures { IfOk result (λ id. TreeStands builder.now (Id id) (Reference (used_key (used_item_of used.now)))) }
@@ -160,7 +163,8 @@ fn define_uses(
     scope: &mut KnownTypes,
     uses: &[UsedType],
 ) -> Result<(), AllocError>
-    requires known { All (CanUse (interfaces_of plan.now.imports.now) plan.now.names.now builder.old scopes.now) (map used_item_of uses.now) }
+    requires known { All (CanUse (interfaces_of plan.now.imports.now) plan.now.names.now builder.old scopes.now)
+        (map used_item_of uses.now) }
     requires others { All (IsScope builder.old) scopes.now }
     requires placed { ArePlaced scopes.now }
     requires scoped { IsScope builder.old scope.old }
@@ -185,11 +189,13 @@ pub fn define_interface(
     requires named { label_at builder.old own.now.id.0 ≡ own.now.declared.now.name.now }
     requires others { All (IsScope builder.old) scopes.now }
     requires ids { ArePlaced scopes.now }
-    requires uses { All (CanUse (interfaces_of plan.now.imports.now) plan.now.names.now builder.old scopes.now) (declared_tree own.now.declared.now).uses }
+    requires uses { All (CanUse (interfaces_of plan.now.imports.now) plan.now.names.now builder.old scopes.now)
+        (declared_tree own.now.declared.now).uses }
     requires placed { IsPlacement (type_uses (declared_tree own.now.declared.now)) own.now.types.now }
     requires types { TypesKnown (declared_tree own.now.declared.now) }
     requires functions { FunctionsKnown (declared_tree own.now.declared.now) }
-    ensures { IfOk result (λ scope. DefinesInterface builder.old builder.new scope own.now.id (declared_tree own.now.declared.now) own.now.types.now) }
+    ensures { IfOk result (λ scope. DefinesInterface builder.old builder.new scope own.now.id
+        (declared_tree own.now.declared.now) own.now.types.now) }
 {
     let mut scope = KnownTypes {
         interface: own.id,

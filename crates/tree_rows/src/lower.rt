@@ -42,7 +42,8 @@ pub fn lower_kind(
 ) -> Result<TypeDefKind, AllocError>
     requires known { KnowsNames scope.now (named (ty_view expression.now)) }
     requires scoped { IsScope builder.old scope.now }
-    ensures { IfOk result (λ k. LowersInner builder.old builder.new k (resolved (scope_name builder.old scope.now) (ty_view expression.now))) }
+    ensures { IfOk result (λ k. LowersInner builder.old builder.new k
+        (resolved (scope_name builder.old scope.now) (ty_view expression.now))) }
 {
     match expression {
         TypeExpression::Primitive(primitive) => Ok(TypeDefKind::Alias(lower_primitive(*primitive))),
@@ -76,7 +77,8 @@ fn lower_boxed(
 ) -> Result<Option<ValType>, AllocError>
     requires known { KnowsNames scope.now (named_maybe (boxed_view expression.now)) }
     requires scoped { IsScope builder.old scope.now }
-    ensures { IfOk result (λ v. LowersIf builder.old builder.new v (resolved_maybe (scope_name builder.old scope.now) (boxed_view expression.now))) }
+    ensures { IfOk result (λ v. LowersIf builder.old builder.new v
+        (resolved_maybe (scope_name builder.old scope.now) (boxed_view expression.now))) }
 {
     match expression {
         None => Ok(None),
@@ -97,7 +99,8 @@ fn lower_all(
 ) -> Result<Sequence<ValType>, AllocError>
     requires known { KnowsNames scope.now (named_all (tys_of (map ty_view expressions.now.items))) }
     requires scoped { IsScope builder.old scope.now }
-    ensures { IfOk result (λ vs. LowersAll builder.old builder.new vs (resolved_all (scope_name builder.old scope.now) (tys_of (map ty_view expressions.now.items)))) }
+    ensures { IfOk result (λ vs. LowersAll builder.old builder.new vs
+        (resolved_all (scope_name builder.old scope.now) (tys_of (map ty_view expressions.now.items)))) }
 {
     let mut types = Vec::with_capacity(alloc, expressions.len())?;
     for expression in expressions {
@@ -116,7 +119,8 @@ pub fn lower_type(
 ) -> Result<ValType, AllocError>
     requires known { KnowsNames scope.now (named (ty_view expression.now)) }
     requires scoped { IsScope builder.old scope.now }
-    ensures { IfOk result (λ v. LowersType builder.old builder.new v (resolved (scope_name builder.old scope.now) (ty_view expression.now))) }
+    ensures { IfOk result (λ v. LowersType builder.old builder.new v
+        (resolved (scope_name builder.old scope.now) (ty_view expression.now))) }
 {
     let kind = lower_kind(alloc, builder, scope, expression)?;
     builder.inner(kind)
@@ -130,7 +134,8 @@ pub fn lower_optional(
 ) -> Result<Option<ValType>, AllocError>
     requires known { KnowsNames scope.now (named_if (optional_view expression.now)) }
     requires scoped { IsScope builder.old scope.now }
-    ensures { IfOk result (λ v. LowersIf builder.old builder.new v (resolved_if (scope_name builder.old scope.now) (optional_view expression.now))) }
+    ensures { IfOk result (λ v. LowersIf builder.old builder.new v
+        (resolved_if (scope_name builder.old scope.now) (optional_view expression.now))) }
 {
     match expression {
         None => Ok(None),

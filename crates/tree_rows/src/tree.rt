@@ -9,7 +9,8 @@ ghost use Rattle.package_form.specs.Scope.{AreDistinct};
 ghost use Rattle.tree_meaning.specs.Declarations.{interfaces, names_of_trees};
 ghost use Rattle.tree_meaning.specs.ImportForms.{IsNamedBehind, AreReachedFrom};
 ghost use Rattle.tree_meaning.specs.Imports.{imports_of};
-ghost use Rattle.tree_meaning.specs.Resolves.{AreImports, IsClosedPackageOf, ResolveRefusesOf, HasNoFaultsOf, AnswersOnlyBehind, file_fits};
+ghost use Rattle.tree_meaning.specs.Resolves.{AreImports, IsClosedPackageOf, ResolveRefusesOf, HasNoFaultsOf};
+ghost use Rattle.tree_meaning.specs.Resolves.{AnswersOnlyBehind, file_fits};
 ghost use Rattle.tree_scopes.specs.KnownScopes.{AreImportScopes};
 ghost use Rattle.tree_scopes.specs.Sources.{declared_tree};
 ghost use Rattle.tree_rows.specs.Planning.{IsPlan, imported, planned_file};
@@ -76,26 +77,30 @@ fn defined(
     planned(alloc, &plan, scopes)
 }
 
-/// The package of a syntax tree whose paths name interfaces of other packages: its closed table, in which these imports,
-/// their packages, interfaces and definitions, stand first, as they stand in their table, which has no worlds; the
-/// package itself is the last. A path means the import of that name of the package of just that namespace, name and
+/// The package of a syntax tree whose paths name interfaces of other packages: its closed table, in which these
+/// imports, their packages, interfaces and definitions, stand first, as they stand in their table, which has no worlds;
+/// the package itself is the last. A path means the import of that name of the package of just that namespace, name and
 /// version, never one of the tree's own package. The own definitions stand in package order, in which each interface
 /// comes after those that it uses, and within an interface uses, types and functions; behind all interfaces stand the
 /// functions of worlds, world by world. Types that stand inside a definition stand before it, inner ones first. 43
 /// where the tree has neither interface nor world, 40 where a name stands twice in a scope, 47 where a path names a
 /// package that isn't among the imports', 41 where a name stands for nothing, 42 where interfaces use each other or
 /// types name each other, 45 where the package passes a limit, its imports counted, in this order; 45 also where a type
-/// is nested more than 64 deep or has no members, as in no text; 46 where memory is wanting. Behind imports that stand as
-/// in the table of a package, of other packages than the tree's, the table is closed where each import is reached, and is
-/// in the form that packages have where it is closed; its names differ in each scope where those of the imports do.
+/// is nested more than 64 deep or has no members, as in no text; 46 where memory is wanting. Behind imports that stand
+/// as in the table of a package, of other packages than the tree's, the table is closed where each import is reached,
+/// and is in the form that packages have where it is closed; its names differ in each scope where those of the imports
+/// do.
 pub fn closed_table(alloc: Global, ast: &Ast, imports: &Resolve) -> Result<Resolve, ResolveError>
     requires { AreImports imports.now }
     ensures ok { IfOk result (IsClosedPackageOf imports.now (file_view ast.now)) }
     ensures faults { IfOk result (λ _. HasNoFaultsOf (imports_of imports.now) (file_view ast.now)) }
     ensures fits { OnOk result (file_fits (file_view ast.now) ≡ true) }
-    ensures closed { IfOk result (λ r. IsNamedBehind imports.now (file_view ast.now) → AreReachedFrom imports.now (file_view ast.now) → IsTrue (is_closed r)) }
-    ensures form { IfOk result (λ r. IsNamedBehind imports.now (file_view ast.now) → IsTrue (is_closed r) → IsInPackageForm r) }
-    ensures distinct { IfOk result (λ r. IsNamedBehind imports.now (file_view ast.now) → All AreDistinct (package_scopes imports.now) → All AreDistinct (package_scopes r)) }
+    ensures closed { IfOk result (λ r. IsNamedBehind imports.now (file_view ast.now)
+        → AreReachedFrom imports.now (file_view ast.now) → IsTrue (is_closed r)) }
+    ensures form { IfOk result (λ r. IsNamedBehind imports.now (file_view ast.now) → IsTrue (is_closed r)
+        → IsInPackageForm r) }
+    ensures distinct { IfOk result (λ r. IsNamedBehind imports.now (file_view ast.now)
+        → All AreDistinct (package_scopes imports.now) → All AreDistinct (package_scopes r)) }
     ensures err { IfErr result (ResolveRefusesOf (imports_of imports.now) (file_view ast.now)) }
     ensures only { AnswersOnlyBehind imports.now (file_view ast.now) result }
 {

@@ -35,7 +35,8 @@ fn define_function(
 ) -> Result<FunctionId, AllocError>
     requires known { names_in_function (function_in_tree function.now).function ≡ [] }
     ensures { IfOk result (λ id. (way : Way) → DefinesItem builder.old builder.new world.0
-        (record { direction = direction_meaning way; kind = FunctionAt id }) (tree_item_meaning (FunctionOf way (function_in_tree function.now)))) }
+        (record { direction = direction_meaning way; kind = FunctionAt id })
+        (tree_item_meaning (FunctionOf way (function_in_tree function.now)))) }
 {
     let scope = KnownTypes {
         interface: InterfaceId(0),
@@ -62,7 +63,8 @@ fn define_item(
 ) -> Result<WorldItem, AllocError>
     requires known { IsKnownItemOf (imports_of plan.now.imports.now) plan.now.names.now (declared_item item.now) }
     requires names { builder.old.interfaces ≡ named_imports plan.now.imports.now ++ plan.now.names.now }
-    ensures { IfOk result (λ i. DefinesItem builder.old builder.new world.0 i (tree_item_meaning (declared_item item.now))) }
+    ensures { IfOk result (λ i. DefinesItem builder.old builder.new world.0 i
+        (tree_item_meaning (declared_item item.now))) }
 {
     let direction = side_of(item.direction);
     match &item.kind {
@@ -90,9 +92,11 @@ fn define_items(
     world: WorldId,
     items: &[wit_tokens::wit_syntax::WorldItem],
 ) -> Result<Vec<WorldItem>, AllocError>
-    requires known { All (IsKnownItemOf (imports_of plan.now.imports.now) plan.now.names.now) (map declared_item items.now) }
+    requires known { All (IsKnownItemOf (imports_of plan.now.imports.now) plan.now.names.now)
+        (map declared_item items.now) }
     requires names { builder.old.interfaces ≡ named_imports plan.now.imports.now ++ plan.now.names.now }
-    ensures { IfOk result (λ is. DefinesItems builder.old builder.new world.0 is.items (map tree_item_meaning (map declared_item items.now))) }
+    ensures { IfOk result (λ is. DefinesItems builder.old builder.new world.0 is.items
+        (map tree_item_meaning (map declared_item items.now))) }
 {
     let mut defined = Vec::new(alloc);
     for item in items {
@@ -111,7 +115,8 @@ fn define_world(
 ) -> Result<World, AllocError>
     requires known { IsKnownWorldOf (imports_of plan.now.imports.now) plan.now.names.now (declared_world world.now) }
     requires names { builder.old.interfaces ≡ named_imports plan.now.imports.now ++ plan.now.names.now }
-    ensures { IfOk result (λ w. DefinesWorld builder.old builder.new (length plan.now.imports.now.packages) id.0 w (meaning_of_world (declared_world world.now))) }
+    ensures { IfOk result (λ w. DefinesWorld builder.old builder.new (length plan.now.imports.now.packages) id.0 w
+        (meaning_of_world (declared_world world.now))) }
 {
     let package = package_id(plan.imports)?;
     let items = define_items(alloc, plan, builder, id, &world.items)?;
@@ -140,9 +145,11 @@ pub fn define_worlds(
     builder: &mut Builder,
     items: &[Item],
 ) -> Result<Vec<World>, AllocError>
-    requires known { All (IsKnownWorldOf (imports_of plan.now.imports.now) plan.now.names.now) (filter_map world_of (map item_view items.now)) }
+    requires known { All (IsKnownWorldOf (imports_of plan.now.imports.now) plan.now.names.now)
+        (filter_map world_of (map item_view items.now)) }
     requires names { builder.old.interfaces ≡ named_imports plan.now.imports.now ++ plan.now.names.now }
-    ensures { IfOk result (λ ws. DefinesWorlds builder.old builder.new (length plan.now.imports.now.packages) ws.items (map meaning_of_world (filter_map world_of (map item_view items.now)))) }
+    ensures { IfOk result (λ ws. DefinesWorlds builder.old builder.new (length plan.now.imports.now.packages) ws.items
+        (map meaning_of_world (filter_map world_of (map item_view items.now)))) }
 {
     let mut worlds = Vec::new(alloc);
     for item in items {

@@ -2,7 +2,8 @@
 ghost use Rattle.std.specs.Prelude.{◌≡◌, ◌++◌, map, All, OnOk, IfOk};
 ghost use Rattle.atoms.specs.Label.{IsLabel};
 ghost use Rattle.wit_tokens.specs.View.{entry_view, path_view, used_view};
-ghost use Rattle.tree_meaning.specs.Declarations.{interface_tree, interface_tree_name, names_of_trees, path_uses, local_name, use_local, type_name};
+ghost use Rattle.tree_meaning.specs.Declarations.{interface_tree, interface_tree_name, names_of_trees, path_uses};
+ghost use Rattle.tree_meaning.specs.Declarations.{local_name, use_local, type_name};
 ghost use Rattle.tree_scopes.specs.Lent.{declared_type, used_item_of, lent_names};
 ghost use Rattle.tree_scopes.specs.Sources.{declared_tree};
 
@@ -28,7 +29,8 @@ fn push_used<'a>(
     path: &'a Path,
     names: &'a [UsedName],
 ) -> Result<(), AllocError>
-    ensures { OnOk result (map used_item_of uses.new.items ≡ map used_item_of uses.old.items ++ path_uses (path_view path.now) (map used_view names.now)) }
+    ensures { OnOk result (map used_item_of uses.new.items ≡ map used_item_of uses.old.items
+        ++ path_uses (path_view path.now) (map used_view names.now)) }
 {
     for used in names {
         uses.push(UsedType {
@@ -42,13 +44,15 @@ fn push_used<'a>(
 
 /// Appends the names of a use.
 fn push_use<'a>(uses: &mut Vec<UsedType<'a>>, used: &'a Use) -> Result<(), AllocError>
-    ensures { OnOk result (map used_item_of uses.new.items ≡ map used_item_of uses.old.items ++ path_uses (path_view used.now.interface) (map used_view used.now.names.items)) }
+    ensures { OnOk result (map used_item_of uses.new.items ≡ map used_item_of uses.old.items
+        ++ path_uses (path_view used.now.interface) (map used_view used.now.names.items)) }
 {
     push_used(uses, &used.interface, &used.names)
 }
 
 fn push_locals<'a>(names: &mut Vec<&'a Label>, uses: &[UsedType<'a>]) -> Result<(), AllocError>
-    ensures { OnOk result (lent_names names.new.items ≡ lent_names names.old.items ++ map use_local (map used_item_of uses.now)) }
+    ensures { OnOk result (lent_names names.new.items ≡ lent_names names.old.items
+        ++ map use_local (map used_item_of uses.now)) }
 {
     for used in uses {
         names.push(used.local)?;
@@ -58,7 +62,8 @@ fn push_locals<'a>(names: &mut Vec<&'a Label>, uses: &[UsedType<'a>]) -> Result<
 
 /// Appends the names of types.
 pub fn push_types<'a>(names: &mut Vec<&'a Label>, types: &[&'a TypeDef]) -> Result<(), AllocError>
-    ensures { OnOk result (lent_names names.new.items ≡ lent_names names.old.items ++ map type_name (map declared_type types.now)) }
+    ensures { OnOk result (lent_names names.new.items ≡ lent_names names.old.items
+        ++ map type_name (map declared_type types.now)) }
 {
     for definition in types {
         names.push(&definition.name)?;
@@ -68,7 +73,8 @@ pub fn push_types<'a>(names: &mut Vec<&'a Label>, types: &[&'a TypeDef]) -> Resu
 
 /// Appends the names of interfaces.
 fn push_names<'a>(names: &mut Vec<&'a Label>, all: &[Declarations<'a>]) -> Result<(), AllocError>
-    ensures { OnOk result (lent_names names.new.items ≡ lent_names names.old.items ++ map interface_tree_name (map declared_tree all.now)) }
+    ensures { OnOk result (lent_names names.new.items ≡ lent_names names.old.items
+        ++ map interface_tree_name (map declared_tree all.now)) }
 {
     for declared in all {
         names.push(declared.name)?;
@@ -97,7 +103,8 @@ impl<'a> Declarations<'a> {
         keyed: KeyedState,
         interface: &'a Interface,
     ) -> Result<Declarations<'a>, AllocError>
-        ensures { IfOk result (λ d. declared_tree d ≡ interface_tree interface.now.name (map entry_view interface.now.items.items)) }
+        ensures { IfOk result (λ d. declared_tree d
+            ≡ interface_tree interface.now.name (map entry_view interface.now.items.items)) }
     {
         let mut uses = Vec::new(alloc);
         let mut types = Vec::new(alloc);

@@ -24,5 +24,6 @@ pub struct Declarations<'a> {
     pub functions: Vec<&'a Func>,
     /// The names of the used names, then of the types.
     pub names: Names<'a>,
-    ghost named: { names ≡ map use_local (map used_item_of uses.items) ++ map type_name (map declared_type types.items) },
+    ghost named: { names ≡ map use_local (map used_item_of uses.items)
+        ++ map type_name (map declared_type types.items) },
 }

@@ -1,5 +1,6 @@
 //! The interfaces of other packages that a tree may name, its imports.
-ghost use Rattle.std.specs.Prelude.{◌≡◌, ◌<◌, ◌++◌, ◌+◌, filter_map, length, IfOk, IfErr, OnOk, MatchOption, None, Some};
+ghost use Rattle.std.specs.Prelude.{◌≡◌, ◌<◌, ◌++◌, ◌+◌, filter_map, length, IfOk, IfErr, OnOk, MatchOption, None};
+ghost use Rattle.std.specs.Prelude.{Some};
 ghost use Rattle.std.specs.List.{list_any};
 ghost use Rattle.package_form.specs.Closed.{is_same_package};
 ghost use Rattle.package_form.specs.Entries.{Table};
@@ -80,7 +81,8 @@ fn name_at(rows: &[Definition], id: TypeId) -> Option<&TypeName>
 
 /// The name of a type, if it has one in this interface.
 fn type_within(rows: &[Definition], interface: InterfaceId, id: TypeId) -> Option<&Label>
-    ensures { MatchOption result (type_within rows.now interface.0 id ≡ None) (λ n. type_within rows.now interface.0 id ≡ Some n.now) }
+    ensures { MatchOption result (type_within rows.now interface.0 id ≡ None)
+        (λ n. type_within rows.now interface.0 id ≡ Some n.now) }
 {
     let name = name_at(rows, id)?;
     if name.interface.0 == interface.0 {
@@ -97,7 +99,8 @@ fn push_types(
     ids: &[TypeId],
     scope: &mut KnownTypes,
 ) -> Result<(), AllocError>
-    ensures names { OnOk result (scope_names scope.new ≡ scope_names scope.old ++ filter_map (type_within rows.now scope.old.interface.0) ids.now) }
+    ensures names { OnOk result (scope_names scope.new ≡ scope_names scope.old
+        ++ filter_map (type_within rows.now scope.old.interface.0) ids.now) }
     ensures interface { OnOk result (scope.new.interface ≡ scope.old.interface) }
     ensures scoped { OnOk result ((t : Table) → t.rows ≡ rows.now → IsScope t scope.old → IsScope t scope.new) }
 {

@@ -27,7 +27,8 @@ impl<'a> Model for Names<'a> {
 
     ghost view = { λ n. lent_names n.names.items };
 
-    ghost invariant = { λ n. 16 < length n.names.items → TellsPlaces (λ s. s.now) n.places.entries (lent_names n.names.items) };
+    ghost invariant = { λ n. 16 < length n.names.items
+        → TellsPlaces (λ s. s.now) n.places.entries (lent_names n.names.items) };
 }
 
 /// The first place of a name among these.

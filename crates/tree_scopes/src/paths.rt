@@ -20,7 +20,8 @@ pub fn interface_place(
     path: &Path,
 ) -> Result<Option<usize>, AllocError>
     ensures ok { IfOk result (λ o. o ≡ path_place (interfaces_of imports.now) names.now (path_view path.now)) }
-    ensures err { IfErr result (λ _. (n : ℕ) × (path_place (interfaces_of imports.now) names.now (path_view path.now) ≡ Some n) × (usize.MAX < n)) }
+    ensures err { IfErr result (λ _. (n : ℕ)
+        × (path_place (interfaces_of imports.now) names.now (path_view path.now) ≡ Some n) × (usize.MAX < n)) }
 {
     match path {
         Path::Local(name) => match names.place_of(name) {

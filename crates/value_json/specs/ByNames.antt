@@ -12,6 +12,7 @@ use Rattle.tables.specs.declared.tables.Resolve.{Resolve}
 abbrev pub LabelledNames : Type 0
 LabelledNames = List (Key × LabelledType)
 
+-- the labelled type under a name; an unknown name stands for a string
 abbrev pub labelled_name : LabelledNames → Key → LabelledType
 labelled_name [] n = labelled_string
 labelled_name (e ∷ es) n = if is_same_key e.0 n then e.1 else labelled_name es n

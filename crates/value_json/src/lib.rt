@@ -1,6 +1,7 @@
 //! Values as JSON, both ways: `value_of_json` answers the value that a JSON value stands for as one of the type,
-//! `values_of_json` those of an array, and `json_of_value` the one JSON value of a value. `specs/Json.antt` says how values stand in JSON, and the laws that
-//! neither way loses anything. Stands on `tables` for the labels, and on `values` for `Val` alone.
+//! `values_of_json` those of an array, and `json_of_value` the one JSON value of a value. `specs/Json.antt` says how
+//! values stand in JSON, and the laws that neither way loses anything. Stands on `tables` for the labels, and on
+//! `values` for `Val` alone.
 #![tactic(auto)]
 
 mod error;

@@ -9,9 +9,11 @@ ghost use Rattle.tables.specs.Standard.{IsTypeOf};
 ghost use Rattle.tables.specs.Tables.{is_type_id, is_type, is_below, kind_all, option_all, is_standard_kind};
 ghost use Rattle.values.specs.Members.{fields_of_types, AreTypesOf};
 ghost use Rattle.values.specs.Val.{value_of};
-ghost use Rattle.tables.specs.Labelled.{labelled_type, labelled_types, labelled_val, labelled_kind, labelled_payload, labelled_members, labelled_fields, labelled_cases};
+ghost use Rattle.tables.specs.Labelled.{labelled_type, labelled_types, labelled_val, labelled_kind, labelled_payload};
+ghost use Rattle.tables.specs.Labelled.{labelled_members, labelled_fields, labelled_cases};
 ghost use Rattle.value_json.specs.Apart.{HaveLabelsApart, KindApart, HasApartLabels};
-ghost use Rattle.value_json.specs.Json.{Json as StandsAs, HasNone, EachJson, MembersJson, PayloadJson, CasesJson, HasFields, HasMembers, FlagsJson};
+ghost use Rattle.value_json.specs.Json.{Json as StandsAs, HasNone, EachJson, MembersJson, PayloadJson, CasesJson};
+ghost use Rattle.value_json.specs.Json.{HasFields, HasMembers, FlagsJson};
 
 use crate::error::JsonError;
 use crate::parts::{is_text, only_member};
@@ -55,10 +57,12 @@ pub fn values_of_json(
 ) -> Result<Vec<Val>, JsonError>
     requires known { AreTypesOf resolve.now types.now }
     requires labels { HasApartLabels resolve.now }
-    ensures ok { IfOk result (λ vs. HasMembers (labelled_members (labelled_types resolve.now) types.now) (map value_of vs.items) (view json.now)) }
+    ensures ok { IfOk result (λ vs. HasMembers (labelled_members (labelled_types resolve.now) types.now)
+        (map value_of vs.items) (view json.now)) }
     ensures typed { IfOk result (λ vs. HaveTypes (map value_of vs.items) (fields_of_types resolve.now types.now)) }
     ensures other { IsErrOf result JsonError.NotThisType
-        → (vs : List Value) → HasMembers (labelled_members (labelled_types resolve.now) types.now) vs (view json.now) → ⊥ }
+        → (vs : List Value) → HasMembers (labelled_members (labelled_types resolve.now) types.now) vs (view json.now)
+        → ⊥ }
 {
     let Some(items) = json.as_array() else {
         return Err(JsonError::NotThisType);
@@ -75,7 +79,8 @@ pub fn values_of_json(
 pub(crate) fn kind_of(resolve: &Resolve, id: TypeId) -> &TypeDefKind
     requires inside { IsTrue (is_type_id resolve.now.definitions id) }
     requires labels { HasApartLabels resolve.now }
-    ensures is { labelled_val (labelled_types resolve.now) (ValType.Id id) ≡ labelled_kind (labelled_types resolve.now) result.now }
+    ensures is { labelled_val (labelled_types resolve.now) (ValType.Id id)
+        ≡ labelled_kind (labelled_types resolve.now) result.now }
     ensures below { IsTrue (kind_all (is_below id.0) result.now) }
     ensures typed { IsTrue (kind_all (is_type resolve.now.definitions) result.now) }
     ensures standard { IsTrue (is_standard_kind result.now) }
@@ -103,7 +108,8 @@ impl Reader<'_> {
         requires inside { IsTypeOf self.now.resolve.now ty }
         requires labels { HasApartLabels self.now.resolve.now }
         ensures ok { IfOk result (λ v. StandsAs (labelled_type self.now.resolve.now ty) (value_of v) (view json.now)) }
-        ensures other { IsErrOf result JsonError.NotThisType → HasNone (labelled_type self.now.resolve.now ty) (view json.now) }
+        ensures other { IsErrOf result JsonError.NotThisType
+            → HasNone (labelled_type self.now.resolve.now ty) (view json.now) }
     {
         match ty {
             ValType::Primitive(primitive) => match scalar_of_json(primitive, json) {
@@ -126,8 +132,10 @@ impl Reader<'_> {
         requires labels { HasApartLabels self.now.resolve.now }
         requires standard { IsTrue (is_standard_kind kind.now) }
         requires apart { KindApart kind.now }
-        ensures ok { IfOk result (λ v. StandsAs (labelled_kind (labelled_types self.now.resolve.now) kind.now) (value_of v) (view json.now)) }
-        ensures other { IsErrOf result JsonError.NotThisType → HasNone (labelled_kind (labelled_types self.now.resolve.now) kind.now) (view json.now) }
+        ensures ok { IfOk result (λ v. StandsAs (labelled_kind (labelled_types self.now.resolve.now) kind.now)
+            (value_of v) (view json.now)) }
+        ensures other { IsErrOf result JsonError.NotThisType
+            → HasNone (labelled_kind (labelled_types self.now.resolve.now) kind.now) (view json.now) }
     {
         match kind {
             TypeDefKind::Use(target) => self.read_value(ValType::Id(*target), json),
@@ -184,9 +192,11 @@ impl Reader<'_> {
     fn read_items(&self, element: ValType, items: &[Json]) -> Result<Vec<Val>, JsonError>
         requires inside { IsTypeOf self.now.resolve.now element }
         requires labels { HasApartLabels self.now.resolve.now }
-        ensures ok { IfOk result (λ vs. EachJson (StandsAs (labelled_type self.now.resolve.now element)) (map value_of vs.items) (map view items.now)) }
+        ensures ok { IfOk result (λ vs. EachJson (StandsAs (labelled_type self.now.resolve.now element))
+            (map value_of vs.items) (map view items.now)) }
         ensures other { IsErrOf result JsonError.NotThisType
-            → (vs : List Value) → EachJson (StandsAs (labelled_type self.now.resolve.now element)) vs (map view items.now) → ⊥ }
+            → (vs : List Value) → EachJson (StandsAs (labelled_type self.now.resolve.now element)) vs
+            (map view items.now) → ⊥ }
     {
         let mut values = Vec::new(self.alloc);
         for (i, item) in items.iter().enumerate() {
@@ -209,9 +219,11 @@ impl Reader<'_> {
         requires below { IsTrue (list_all (is_below _place) types.now) }
         requires typed { IsTrue (list_all (is_type self.now.resolve.now.definitions) types.now) }
         requires labels { HasApartLabels self.now.resolve.now }
-        ensures ok { IfOk result (λ vs. MembersJson (labelled_members (labelled_types self.now.resolve.now) types.now) (map value_of vs.items) (map view items.now)) }
+        ensures ok { IfOk result (λ vs. MembersJson (labelled_members (labelled_types self.now.resolve.now) types.now)
+            (map value_of vs.items) (map view items.now)) }
         ensures other { IsErrOf result JsonError.NotThisType
-            → (vs : List Value) → MembersJson (labelled_members (labelled_types self.now.resolve.now) types.now) vs (map view items.now) → ⊥ }
+            → (vs : List Value) → MembersJson (labelled_members (labelled_types self.now.resolve.now) types.now) vs
+            (map view items.now) → ⊥ }
     {
         if items.len() != types.len() {
             return Err(JsonError::NotThisType);
@@ -233,9 +245,11 @@ impl Reader<'_> {
         requires typed { IsTrue (list_all (λ f. is_type self.now.resolve.now.definitions f.ty) fields.now) }
         requires labels { HasApartLabels self.now.resolve.now }
         requires apart { HaveLabelsApart fields.now }
-        ensures ok { IfOk result (λ vs. HasFields (labelled_fields (labelled_types self.now.resolve.now) fields.now) (map value_of vs.items) (view json.now)) }
+        ensures ok { IfOk result (λ vs. HasFields (labelled_fields (labelled_types self.now.resolve.now) fields.now)
+            (map value_of vs.items) (view json.now)) }
         ensures other { IsErrOf result JsonError.NotThisType
-            → (vs : List Value) → HasFields (labelled_fields (labelled_types self.now.resolve.now) fields.now) vs (view json.now) → ⊥ }
+            → (vs : List Value) → HasFields (labelled_fields (labelled_types self.now.resolve.now) fields.now) vs
+            (view json.now) → ⊥ }
     {
         let Some(object) = json.as_object() else {
             return Err(JsonError::NotThisType);
@@ -269,9 +283,11 @@ impl Reader<'_> {
         requires below { IsTrue (option_all (is_below _place) payload) }
         requires typed { IsTrue (option_all (is_type self.now.resolve.now.definitions) payload) }
         requires labels { HasApartLabels self.now.resolve.now }
-        ensures ok { IfOk result (λ v. PayloadJson (labelled_payload (labelled_types self.now.resolve.now) payload) label.now case (value_of v) (view json.now)) }
+        ensures ok { IfOk result (λ v. PayloadJson (labelled_payload (labelled_types self.now.resolve.now) payload)
+            label.now case (value_of v) (view json.now)) }
         ensures other { IsErrOf result JsonError.NotThisType
-            → (v : Value) → PayloadJson (labelled_payload (labelled_types self.now.resolve.now) payload) label.now case v (view json.now) → ⊥ }
+            → (v : Value) → PayloadJson (labelled_payload (labelled_types self.now.resolve.now) payload) label.now case
+            v (view json.now) → ⊥ }
     {
         match payload {
             None => {
@@ -298,9 +314,11 @@ impl Reader<'_> {
         requires typed { IsTrue (list_all (λ c. option_all (is_type self.now.resolve.now.definitions) c.ty) cases.now) }
         requires labels { HasApartLabels self.now.resolve.now }
         requires few { length cases.now ≤ 100000 }
-        ensures ok { IfOk result (λ v. CasesJson (labelled_cases (labelled_types self.now.resolve.now) cases.now) 0 (value_of v) (view json.now)) }
+        ensures ok { IfOk result (λ v. CasesJson (labelled_cases (labelled_types self.now.resolve.now) cases.now) 0
+            (value_of v) (view json.now)) }
         ensures other { IsErrOf result JsonError.NotThisType
-            → (v : Value) → CasesJson (labelled_cases (labelled_types self.now.resolve.now) cases.now) 0 v (view json.now) → ⊥ }
+            → (v : Value) → CasesJson (labelled_cases (labelled_types self.now.resolve.now) cases.now) 0 v
+            (view json.now) → ⊥ }
     {
         for (i, case) in cases.iter().enumerate() {
             match self.read_case(place, i as u32, case.name.as_str(), case.ty, json) {

@@ -1,7 +1,8 @@
 //! JSON values of values: over the types that stand above in the table.
 ghost use Rattle.std.specs.Prelude.{◌≡◌, false, ◌<◌, ◌≤◌, ◌^◌, ◌++◌, ℕ, List, map, IfOk, IsTrue};
 ghost use Rattle.std.specs.List.{list_all, AllByRecursion};
-ghost use Rattle.canonical_abi.specs.Labelled.{labelled_enum, labelled_flags, labelled_string, closed, closed_members, closed_fields, closed_cases, plain_cases};
+ghost use Rattle.canonical_abi.specs.Labelled.{labelled_enum, labelled_flags, labelled_string, closed, closed_members};
+ghost use Rattle.canonical_abi.specs.Labelled.{closed_fields, closed_cases, plain_cases};
 ghost use Rattle.canonical_abi.specs.Types.{variant_type, depth};
 ghost use Rattle.canonical_abi.specs.Values.{HasType, HaveTypes};
 ghost use Rattle.serde_json.specs.Data.{string, put, depth as json_depth};
@@ -12,7 +13,8 @@ ghost use Rattle.tables.specs.Standard.{IsTypeOf};
 ghost use Rattle.tables.specs.Tables.{is_below, is_type, option_all, kind_all, is_standard_kind};
 ghost use Rattle.values.specs.Val.{value_of};
 ghost use Rattle.value_json.specs.Json.{Json as StandsAs, EachJson, MembersJson, PayloadJson, CasesJson, FieldsJson};
-ghost use Rattle.tables.specs.Labelled.{labelled_type, labelled_types, labelled_kind, labelled_payload, labelled_members, labelled_fields, labelled_cases};
+ghost use Rattle.tables.specs.Labelled.{labelled_type, labelled_types, labelled_kind, labelled_payload};
+ghost use Rattle.tables.specs.Labelled.{labelled_members, labelled_fields, labelled_cases};
 ghost use Rattle.value_json.specs.Apart.{HasApartLabels, KindApart, HaveLabelsApart};
 ghost use Rattle.value_json.specs.Writing.{HasCase, HasPayload};
 
@@ -63,7 +65,8 @@ fn put_member(
     label: &str,
     member: Json,
 ) -> Result<(), AllocError>
-    ensures { IfOk result (λ done. members_view members.new.entries ≡ put label.now (view member) (members_view members.old.entries)) }
+    ensures { IfOk result (λ done. members_view members.new.entries
+        ≡ put label.now (view member) (members_view members.old.entries)) }
 {
     members.insert(String::from_str(alloc, label)?, member)?;
     Ok(())
@@ -96,7 +99,8 @@ impl Writer<'_> {
         requires inside { IsTypeOf self.now.resolve.now ty }
         requires labels { HasApartLabels self.now.resolve.now }
         requires typed { HasType (value_of value.now) (closed (labelled_type self.now.resolve.now ty)) }
-        ensures { IfOk result (λ json. StandsAs (labelled_type self.now.resolve.now ty) (value_of value.now) (view json)) }
+        ensures { IfOk result (λ json. StandsAs (labelled_type self.now.resolve.now ty) (value_of value.now)
+            (view json)) }
     {
         match ty {
             ValType::Primitive(_primitive) => json_of_scalar(self.alloc, value),
@@ -116,8 +120,10 @@ impl Writer<'_> {
         requires labels { HasApartLabels self.now.resolve.now }
         requires standard { IsTrue (is_standard_kind kind.now) }
         requires apart { KindApart kind.now }
-        requires typed { HasType (value_of value.now) (closed (labelled_kind (labelled_types self.now.resolve.now) kind.now)) }
-        ensures { IfOk result (λ json. StandsAs (labelled_kind (labelled_types self.now.resolve.now) kind.now) (value_of value.now) (view json)) }
+        requires typed { HasType (value_of value.now)
+            (closed (labelled_kind (labelled_types self.now.resolve.now) kind.now)) }
+        ensures { IfOk result (λ json. StandsAs (labelled_kind (labelled_types self.now.resolve.now) kind.now)
+            (value_of value.now) (view json)) }
     {
         match kind {
             TypeDefKind::Use(target) => self.write_value(ValType::Id(*target), value),
@@ -165,8 +171,10 @@ impl Writer<'_> {
     fn write_items(&self, element: ValType, values: &[Val]) -> Result<Vec<Json>, AllocError>
         requires inside { IsTypeOf self.now.resolve.now element }
         requires labels { HasApartLabels self.now.resolve.now }
-        requires typed { AllByRecursion (λ v. HasType v (closed (labelled_type self.now.resolve.now element))) (map value_of values.now) }
-        ensures { IfOk result (λ items. EachJson (StandsAs (labelled_type self.now.resolve.now element)) (map value_of values.now) (map view items.items)) }
+        requires typed { AllByRecursion (λ v. HasType v (closed (labelled_type self.now.resolve.now element)))
+            (map value_of values.now) }
+        ensures { IfOk result (λ items. EachJson (StandsAs (labelled_type self.now.resolve.now element))
+            (map value_of values.now) (map view items.items)) }
     {
         let mut items = Vec::new(self.alloc);
         for value in values {
@@ -186,8 +194,10 @@ impl Writer<'_> {
         requires below { IsTrue (list_all (is_below _place) types.now) }
         requires types { IsTrue (list_all (is_type self.now.resolve.now.definitions) types.now) }
         requires labels { HasApartLabels self.now.resolve.now }
-        requires typed { HaveTypes (map value_of values.now) (closed_members (labelled_members (labelled_types self.now.resolve.now) types.now)) }
-        ensures { IfOk result (λ items. MembersJson (labelled_members (labelled_types self.now.resolve.now) types.now) (map value_of values.now) (map view items.items)) }
+        requires typed { HaveTypes (map value_of values.now)
+            (closed_members (labelled_members (labelled_types self.now.resolve.now) types.now)) }
+        ensures { IfOk result (λ items. MembersJson (labelled_members (labelled_types self.now.resolve.now) types.now)
+            (map value_of values.now) (map view items.items)) }
     {
         let mut items = Vec::new(self.alloc);
         for (i, value) in values.iter().enumerate() {
@@ -208,8 +218,10 @@ impl Writer<'_> {
         requires types { IsTrue (list_all (λ f. is_type self.now.resolve.now.definitions f.ty) fields.now) }
         requires labels { HasApartLabels self.now.resolve.now }
         requires apart { HaveLabelsApart fields.now }
-        requires typed { HaveTypes (map value_of values.now) (closed_fields (labelled_fields (labelled_types self.now.resolve.now) fields.now)) }
-        ensures { IfOk result (λ members. FieldsJson (labelled_fields (labelled_types self.now.resolve.now) fields.now) (map value_of values.now) (members_view members.entries)) }
+        requires typed { HaveTypes (map value_of values.now)
+            (closed_fields (labelled_fields (labelled_types self.now.resolve.now) fields.now)) }
+        ensures { IfOk result (λ members. FieldsJson (labelled_fields (labelled_types self.now.resolve.now) fields.now)
+            (map value_of values.now) (members_view members.entries)) }
     {
         let mut members = Map::new(self.alloc);
         for i in (0..fields.len()).rev() {
@@ -233,8 +245,10 @@ impl Writer<'_> {
         requires below { IsTrue (option_all (is_below _place) payload) }
         requires types { IsTrue (option_all (is_type self.now.resolve.now.definitions) payload) }
         requires labels { HasApartLabels self.now.resolve.now }
-        requires typed { HasPayload (labelled_payload (labelled_types self.now.resolve.now) payload) _case (value_of value.now) }
-        ensures { IfOk result (λ json. PayloadJson (labelled_payload (labelled_types self.now.resolve.now) payload) label.now _case (value_of value.now) (view json)) }
+        requires typed { HasPayload (labelled_payload (labelled_types self.now.resolve.now) payload) _case
+            (value_of value.now) }
+        ensures { IfOk result (λ json. PayloadJson (labelled_payload (labelled_types self.now.resolve.now) payload)
+            label.now _case (value_of value.now) (view json)) }
     {
         let Some(ty) = payload else {
             return text_of(self.alloc, label);
@@ -254,8 +268,10 @@ impl Writer<'_> {
         requires below { IsTrue (list_all (λ c. option_all (is_below place) c.ty) cases.now) }
         requires types { IsTrue (list_all (λ c. option_all (is_type self.now.resolve.now.definitions) c.ty) cases.now) }
         requires labels { HasApartLabels self.now.resolve.now }
-        requires typed { HasType (value_of value.now) (variant_type (closed_cases (labelled_cases (labelled_types self.now.resolve.now) cases.now))) }
-        ensures { IfOk result (λ json. CasesJson (labelled_cases (labelled_types self.now.resolve.now) cases.now) 0 (value_of value.now) (view json)) }
+        requires typed { HasType (value_of value.now)
+            (variant_type (closed_cases (labelled_cases (labelled_types self.now.resolve.now) cases.now))) }
+        ensures { IfOk result (λ json. CasesJson (labelled_cases (labelled_types self.now.resolve.now) cases.now) 0
+            (value_of value.now) (view json)) }
     {
         let number = case_of(value);
         let case = &cases[number as usize];

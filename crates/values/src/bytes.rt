@@ -1,5 +1,6 @@
 //! Blocks of a memory, and numbers in it, little-endian.
-ghost use Rattle.std.specs.Prelude.{◌≡◌, ◌+◌, ◌%◌, ◌^◌, ◌<◌, ◌≤◌, ◌⊎◌, ℕ, List, ◌↔◌, length, get_or, IsTrue, IfErr, OnOk};
+ghost use Rattle.std.specs.Prelude.{◌≡◌, ◌+◌, ◌%◌, ◌^◌, ◌<◌, ◌≤◌, ◌⊎◌, ℕ, List, ◌↔◌, length, get_or, IsTrue, IfErr};
+ghost use Rattle.std.specs.Prelude.{OnOk};
 ghost use Rattle.std.specs.Int.{w8, w16, w32, w64};
 ghost use Rattle.canonical_abi.specs.Layout.{discriminant_size, flags_size};
 ghost use Rattle.canonical_abi.specs.Memory.{BlockFaulty};
@@ -7,8 +8,8 @@ ghost use Rattle.canonical_abi.specs.Reading.{number_at, byte_width};
 
 use canonical_abi::TrapKind;
 
-/// Whether an address is a multiple of an alignment. Of those that there are each has a constant divisor here, so that nothing is
-/// divided.
+/// Whether an address is a multiple of an alignment. Of those that there are each has a constant divisor here, so that
+/// nothing is divided.
 #[inline(always)]
 fn is_aligned(at: usize, align: usize) -> bool
     requires { 0 < align }

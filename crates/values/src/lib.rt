@@ -1,9 +1,9 @@
 //! Values and scalars, the types that they are of, and how their bytes are tested.
 //!
-//! `Val` is a value as a tree. `Scalar` is that of one primitive node, which is lifted and lowered with no memory of the host.
-//! `Types` is a package with its layouts, as all walks take it, and `has_type` says whether a value is of one of its types.
-//! `bytes` tests blocks and reads numbers, and `str_at` lends a text as it lies in a memory. Stands on `canonical_abi`
-//! (definitions, guests), `tables` and `layout` (types).
+//! `Val` is a value as a tree. `Scalar` is that of one primitive node, which is lifted and lowered with no memory of
+//! the host. `Types` is a package with its layouts, as all walks take it, and `has_type` says whether a value is of one
+//! of its types. `bytes` tests blocks and reads numbers, and `str_at` lends a text as it lies in a memory. Stands on
+//! `canonical_abi` (definitions, guests), `tables` and `layout` (types).
 #![tactic(auto)]
 
 pub mod bytes;

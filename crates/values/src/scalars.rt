@@ -3,7 +3,8 @@ ghost use Rattle.std.specs.Prelude.{◌≡◌, ◌≤◌, ◌↔◌, IsTrue, IfO
 ghost use Rattle.tables.specs.Closed.{prim_of, is_scalar_type};
 ghost use Rattle.tables.specs.declared.tables.ValType.{ValType};
 ghost use Rattle.values.specs.Scalar.{value_in};
-ghost use Rattle.values.specs.Scalars.{AreScalar, prim_of_type, ScalarKindsFit, ScalarsStand, FirstFault, StandFor, FailAs, AreOfTypes};
+ghost use Rattle.values.specs.Scalars.{AreScalar, prim_of_type, ScalarKindsFit, ScalarsStand, FirstFault, StandFor};
+ghost use Rattle.values.specs.Scalars.{FailAs, AreOfTypes};
 
 use crate::scalar::{Scalar, core_kind, lift_scalar};
 use arrayvec::ArrayVec;
@@ -13,8 +14,8 @@ use tables::{Primitive, ValType};
 /// The core values of one call: sixteen parameters and a return area at most.
 pub type Flats = ArrayVec<Flat, 17>;
 
-/// What a core function returns: one core value at most where it follows the ABI. There is room for four, so that a core function
-/// of another signature can be told by what it returns (K8).
+/// What a core function returns: one core value at most where it follows the ABI. There is room for four, so that a
+/// core function of another signature can be told by what it returns (K8).
 pub type FlatResults = ArrayVec<Flat, 4>;
 
 /// The values of one way of a call.

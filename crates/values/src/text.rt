@@ -26,8 +26,8 @@ pub fn str_at<G: Guest>(guest: &G, at: u32, len: u32) -> Result<&str, Trap>
 /// Of longer texts the beginning is tested first.
 const SHORT: usize = 64;
 
-/// Whether the bytes of a long text are all ASCII. A text that is not mostly isn't in its beginning, and then is read no
-/// further.
+/// Whether the bytes of a long text are all ASCII. A text that is not mostly isn't in its beginning, and then is read
+/// no further.
 #[inline(never)]
 fn is_long_ascii(bytes: &[u8]) -> bool
     requires { 64 < length bytes.now }

@@ -1,6 +1,7 @@
 //! The types of a package as the ABI sees them, with their layouts: names are followed, a tuple is a record,
 //! and an enum, an option or a result is a variant.
-ghost use Rattle.std.specs.Prelude.{◌≡◌, ◌<◌, ◌≤◌, ◌^◌, ◌↔◌, IsTrue, length, true, false, IfSome, IfNone, OnSome, option_map, Some};
+ghost use Rattle.std.specs.Prelude.{◌≡◌, ◌<◌, ◌≤◌, ◌^◌, ◌↔◌, IsTrue, length, true, false, IfSome, IfNone, OnSome};
+ghost use Rattle.std.specs.Prelude.{option_map, Some};
 ghost use Rattle.canonical_abi.specs.Layout.{size, align, flat_kinds, field_kinds, fits_flat};
 ghost use Rattle.canonical_abi.specs.Types.{record_type, record_fields, variant_cases, nth_field, nth_case};
 ghost use Rattle.layout.specs.Layout.{layouts_of};

@@ -49,7 +49,8 @@ pub fn have_types(table: &Types, types: &[ValType], values: &[Val]) -> bool
 /// Whether a scalar is of a type of this shape.
 fn scalar_is_of(shape: Shape, scalar: Scalar) -> bool
     requires { HasPrimType (value_in scalar) (prim_in scalar) }
-    ensures { (rows : List ClosedType) (t : ClosedType) → HasShapeIn rows t shape → (IsTrue result ↔ HasType (value_in scalar) t) }
+    ensures { (rows : List ClosedType) (t : ClosedType) → HasShapeIn rows t shape
+        → (IsTrue result ↔ HasType (value_in scalar) t) }
 {
     match shape {
         Shape::Primitive(primitive) => scalar.primitive() == primitive,

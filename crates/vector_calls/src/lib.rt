@@ -1,4 +1,5 @@
-//! What a row's calls over a link did, and what its values became that are lifted from core values or lowered to them, as JSON.
+//! What a row's calls over a link did, and what its values became that are lifted from core values or lowered to them,
+//! as JSON.
 //!
 //! `Calls` makes the calls of a row, `conversion_told` converts a value of one, and `head_row_told` reads and writes a
 //! head. Packages are opened by `vectors`, which answers rows. docs/FORMATS.md has the form of rows. It stands on

@@ -1,5 +1,5 @@
-//! The two sides of a vector's calls: memories that log what they are asked, bodies that do what a row says, how a row says both, and how
-//! they are told. `vectors` answers rows over them. docs/FORMATS.md has the form of rows.
+//! The two sides of a vector's calls: memories that log what they are asked, bodies that do what a row says, how a row
+//! says both, and how they are told. `vectors` answers rows over them. docs/FORMATS.md has the form of rows.
 
 mod acting;
 mod logged;

@@ -60,7 +60,8 @@ impl Host<'_> {
     /// The arguments that JSON says.
     fn arguments(&self, json: &Json) -> Result<Vec<Val>, CallError>
         requires { HasApartLabels self.now.types.now }
-        ensures { IfOk result (λ vs. HaveTypes (map value_of vs.items) (function_type self.now.types.now self.now.func).params) }
+        ensures { IfOk result (λ vs. HaveTypes (map value_of vs.items)
+            (function_type self.now.types.now self.now.func).params) }
     {
         let types = parameter_types(self.alloc, self.types, self.func)?;
         match values_of_json(self.alloc, self.types.resolve(), types.as_slice(), json) {
@@ -72,7 +73,8 @@ impl Host<'_> {
     /// The values of the result that JSON says.
     fn results(&self, json: &Json) -> Result<Vec<Val>, CallError>
         requires { HasApartLabels self.now.types.now }
-        ensures { IfOk result (λ vs. HaveTypes (map value_of vs.items) (result_fields (function_type self.now.types.now self.now.func).result)) }
+        ensures { IfOk result (λ vs. HaveTypes (map value_of vs.items)
+            (result_fields (function_type self.now.types.now self.now.func).result)) }
     {
         let ty = result_type(self.types.resolve(), self.func);
         match values_of_json(self.alloc, self.types.resolve(), ty.as_slice(), json) {

@@ -1,5 +1,6 @@
-//! Answers rows of JSON, one a line, with what they did, one a line: calls over a link, steps of a session, values that are lifted or
-//! lowered, heads, and values in a memory that a host keeps. docs/FORMATS.md has the form. It shows implementers of other runtimes the answers of calls that carry the promise.
+//! Answers rows of JSON, one a line, with what they did, one a line: calls over a link, steps of a session, values that
+//! are lifted or lowered, heads, and values in a memory that a host keeps. docs/FORMATS.md has the form. It shows
+//! implementers of other runtimes the answers of calls that carry the promise.
 #![tactic(auto)]
 
 mod alone;

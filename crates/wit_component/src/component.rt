@@ -6,7 +6,9 @@ ghost use Rattle.ctype_format.specs.View.{decl_view, decls_of};
 ghost use Rattle.ctype_format.specs.Raw.{Component, Entry, Export};
 ghost use Rattle.ctype_format.specs.declared.raw.RawDescription.TheVariants as described;
 ghost use Rattle.tables.specs.Names.{full_name, world_name};
-ghost use Rattle.wit_component.specs.Component.{ComponentFront, interface_direction, interface_declarations, front_after, interfaces_declared, no_front, interfaces_front, world_declarations, world_front, package_declarations};
+ghost use Rattle.wit_component.specs.Component.{ComponentFront, interface_direction, interface_declarations};
+ghost use Rattle.wit_component.specs.Component.{front_after, interfaces_declared, no_front, interfaces_front};
+ghost use Rattle.wit_component.specs.Component.{world_declarations, world_front, package_declarations};
 ghost use Rattle.wit_component.specs.Worlds.{directed, StandFrom};
 ghost use Rattle.package_form.specs.Closed.{own_package};
 ghost use Rattle.package_form.specs.Ends.{interfaces_end, world_rows, is_parted};
@@ -61,7 +63,9 @@ fn interface_declared(
 ) -> Result<RawDecl, AllocError>
     requires named { IsTrue (has_full_names resolve.now) }
     requires placed { interface.now.«package».0 < length resolve.now.packages }
-    ensures declaration { IfOk result (λ d. decl_view d ≡ directed (interface_direction (own_package resolve.now.packages) interface.now) (full_name resolve.now interface.now) (described.Instance index)) }
+    ensures declaration { IfOk result (λ d. decl_view d
+        ≡ directed (interface_direction (own_package resolve.now.packages) interface.now)
+        (full_name resolve.now interface.now) (described.Instance index)) }
     ensures label { OnOk result (IsLabel interface.now.name) }
 {
     let name = full_name(alloc, resolve, interface.package, &interface.name)?;
@@ -81,7 +85,9 @@ fn interface_declarations(
     requires placed { interface.now.«package».0 < length resolve.now.packages }
     requires types { place.types ≤ 131070 }
     requires rows { length rows.now ≤ 65535 }
-    ensures declarations { IfOk result (λ x. map decl_view x.0.items ≡ interface_declarations resolve.now.definitions place rows.now (interface_direction (own_package resolve.now.packages) interface.now) (full_name resolve.now interface.now)) }
+    ensures declarations { IfOk result (λ x. map decl_view x.0.items
+        ≡ interface_declarations resolve.now.definitions place rows.now
+        (interface_direction (own_package resolve.now.packages) interface.now) (full_name resolve.now interface.now)) }
     ensures place { IfOk result (λ x. x.1 ≡ front_after resolve.now.definitions place rows.now) }
     ensures few { IfOk result (λ x. x.1.types ≤ place.types + length rows.now + 1) }
     ensures label { OnOk result (IsLabel interface.now.name) }
@@ -112,8 +118,10 @@ fn interfaces_declared(
     requires parted { IsTrue (is_parted (length resolve.now.definitions) 0 resolve.now.interfaces resolve.now.worlds) }
     requires rows { length resolve.now.definitions ≤ 65535 }
     requires interfaces { length resolve.now.interfaces ≤ 65535 }
-    ensures declared { IfOk result (λ x. map decl_view x.0.items ≡ interfaces_declared resolve.now no_front 0 resolve.now.interfaces) }
-    ensures place { IfOk result (λ x. x.1 ≡ interfaces_front resolve.now.definitions no_front 0 resolve.now.interfaces) }
+    ensures declared { IfOk result (λ x. map decl_view x.0.items
+        ≡ interfaces_declared resolve.now no_front 0 resolve.now.interfaces) }
+    ensures place { IfOk result (λ x. x.1
+        ≡ interfaces_front resolve.now.definitions no_front 0 resolve.now.interfaces) }
     ensures few { IfOk result (λ x. x.1.types ≤ 131070) }
     ensures labelled { OnOk result (IsTrue (are_labelled resolve.now.definitions 0 resolve.now.interfaces)) }
 {
@@ -154,7 +162,8 @@ fn component_export(
 ) -> Result<RawDecl, AllocError>
     requires named { IsTrue (has_full_names resolve.now) }
     requires placed { world.now.«package».0 < length resolve.now.packages }
-    ensures declaration { IfOk result (λ d. decl_view d ≡ Export (world_name resolve.now world.now) (described.Component index)) }
+    ensures declaration { IfOk result (λ d. decl_view d
+        ≡ Export (world_name resolve.now world.now) (described.Component index)) }
     ensures label { OnOk result (IsLabel world.now.name) }
 {
     let name = full_name(alloc, resolve, world.package, &world.name)?;
@@ -178,10 +187,12 @@ fn push_world(
     requires instances { length place.instances ≡ length resolve.now.interfaces }
     requires start { start ≤ length resolve.now.definitions }
     requires stand { StandFrom (length resolve.now.interfaces) resolve.now.definitions start world.now.items }
-    ensures declarations { OnOk result (map decl_view decls.new.items ≡ map decl_view decls.old.items ++ world_declarations resolve.now place start world.now) }
+    ensures declarations { OnOk result (map decl_view decls.new.items ≡ map decl_view decls.old.items
+        ++ world_declarations resolve.now place start world.now) }
     ensures place { IfOk result (λ p. p ≡ world_front resolve.now.definitions place start world.now) }
     ensures label { OnOk result (IsLabel world.now.name) }
-    ensures labelled { OnOk result (IsTrue (list_all is_labelled (world_rows resolve.now.definitions start world.now))) }
+    ensures labelled { OnOk result (IsTrue
+        (list_all is_labelled (world_rows resolve.now.definitions start world.now))) }
 {
     let index = place.types;
     let first = RowPlace::first(place.indices, index);
@@ -201,7 +212,8 @@ pub fn declarations(alloc: Global, resolve: &Resolve) -> Result<Vec<RawDecl>, Al
     requires { IsInPackageForm resolve.now }
     ensures declared { IfOk result (λ ds. map decl_view ds.items ≡ package_declarations resolve.now) }
     ensures labelled { OnOk result (IsTrue (are_labelled resolve.now.definitions 0 resolve.now.interfaces)) }
-    ensures world_labels { OnOk result (IsTrue (are_worlds_labelled resolve.now.definitions (interfaces_end 0 resolve.now.interfaces) resolve.now.worlds)) }
+    ensures world_labels { OnOk result (IsTrue
+        (are_worlds_labelled resolve.now.definitions (interfaces_end 0 resolve.now.interfaces) resolve.now.worlds)) }
 {
     let (mut decls, mut place) = interfaces_declared(alloc, resolve)?;
     let mut start = interfaces_end(resolve.interfaces.as_slice());

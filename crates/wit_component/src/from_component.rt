@@ -22,7 +22,8 @@ fn standing(alloc: Global, raw: &RawComponent, bytes: &[u8]) -> Result<Resolve, 
     requires { ∥ component_file.spells bytes.now (raw_component_view raw.now) ∥₁ }
     ensures ok { IfOk result (λ r. ∥ ComponentStands raw.now r ∥₁) }
     ensures form { IfOk result (λ r. IsInPackageForm r) }
-    ensures same { IfOk result (λ p. (r : Resolve) → ComponentStands raw.now r → All AreDistinct (package_scopes r) → IsSamePackage p r) }
+    ensures same { IfOk result (λ p. (r : Resolve) → ComponentStands raw.now r → All AreDistinct (package_scopes r)
+        → IsSamePackage p r) }
     ensures err { IfErr result (λ e. (e ≡ ResolveError.NoMemory)
         ⊎ ((e ≡ ResolveError.NotThisShape) × ((r : Resolve) → ComponentStands raw.now r → ⊥))) }
 {
@@ -40,11 +41,11 @@ fn standing(alloc: Global, raw: &RawComponent, bytes: &[u8]) -> Result<Resolve, 
 }
 
 /// The closed table that a component stands for which these bytes spell, a package behind the interfaces of others that
-/// it imports: what is read of it is written again, and has to be the same. 43 `EmptyPackage` exactly where its one type
-/// is a component type without declarations, whatever is exported; 44 `NotThisShape` exactly where it stands for no
-/// package otherwise. 40 `Duplicate` where it stands for one, and a name of it stands twice in its scope, but for the case
-/// of its letters: the first in the order of the bytes, a definition's members before its name, an interface's definitions
-/// before the interface's. (Binary.md)
+/// it imports: what is read of it is written again, and has to be the same. 43 `EmptyPackage` exactly where its one
+/// type is a component type without declarations, whatever is exported; 44 `NotThisShape` exactly where it stands for
+/// no package otherwise. 40 `Duplicate` where it stands for one, and a name of it stands twice in its scope, but for
+/// the case of its letters: the first in the order of the bytes, a definition's members before its name, an interface's
+/// definitions before the interface's. (Binary.md)
 pub fn closed_from_component(
     alloc: Global,
     raw: &RawComponent,

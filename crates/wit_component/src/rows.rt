@@ -7,7 +7,9 @@ ghost use Rattle.ctype_format.specs.Names.{name_view};
 ghost use Rattle.ctype_format.specs.Raw.{Define, Func, Entry};
 ghost use Rattle.tables.specs.Tables.{function_of, is_there};
 ghost use Rattle.package_form.specs.Ids.{is_use};
-ghost use Rattle.wit_component.specs.Rows.{Place, signature_of, defined_of, definition_declared, definition_index, row_declarations, outer_alias, defined_types, row_types, row_offset, place_after, declarations_of, places_after};
+ghost use Rattle.wit_component.specs.Rows.{Place, signature_of, defined_of, definition_declared, definition_index};
+ghost use Rattle.wit_component.specs.Rows.{row_declarations, outer_alias, defined_types, row_types, row_offset};
+ghost use Rattle.wit_component.specs.Rows.{place_after, declarations_of, places_after};
 ghost use Rattle.wit_component.specs.Worlds.{directed, function_declared};
 ghost use Rattle.wit_component.specs.ToComponent.{is_labelled};
 
@@ -202,7 +204,8 @@ impl RowPlace {
         decls: &mut Vec<RawDecl>,
         kind: &TypeDefKind,
     ) -> Result<(), AllocError>
-        ensures { OnOk result (map decl_view decls.new.items ≡ map decl_view decls.old.items ++ definition_declared self.now kind.now) }
+        ensures { OnOk result (map decl_view decls.new.items ≡ map decl_view decls.old.items
+            ++ definition_declared self.now kind.now) }
     {
         if is_use(kind) {
             decls.push(outer_alias(self.used))?;
@@ -232,7 +235,9 @@ impl RowPlace {
         way: Direction,
         function: &Function,
     ) -> Result<(), AllocError>
-        ensures declarations { OnOk result (map decl_view decls.new.items ≡ map decl_view decls.old.items ++ function_declared self.now way (Some function.now)) }
+        ensures declarations { OnOk result
+            (map decl_view decls.new.items ≡ map decl_view decls.old.items
+            ++ function_declared self.now way (Some function.now)) }
         ensures label { OnOk result (IsLabel function.now.name) }
     {
         decls.push(signature_decl(alloc, &self.indices, function)?)?;
@@ -250,7 +255,9 @@ impl RowPlace {
         row: &Definition,
     ) -> Result<(), AllocError>
         requires { IsTrue (is_there (function_of (Some row.now))) }
-        ensures declarations { OnOk result (map decl_view decls.new.items ≡ map decl_view decls.old.items ++ function_declared self.now way (function_of (Some row.now))) }
+        ensures declarations { OnOk result
+            (map decl_view decls.new.items ≡ map decl_view decls.old.items
+            ++ function_declared self.now way (function_of (Some row.now))) }
         ensures labelled { OnOk result (IsTrue (is_labelled row.now)) }
     {
         match row {
@@ -266,7 +273,8 @@ impl RowPlace {
         decls: &mut Vec<RawDecl>,
         row: &Definition,
     ) -> Result<(), AllocError>
-        ensures declarations { OnOk result (map decl_view decls.new.items ≡ map decl_view decls.old.items ++ row_declarations self.now row.now) }
+        ensures declarations { OnOk result
+            (map decl_view decls.new.items ≡ map decl_view decls.old.items ++ row_declarations self.now row.now) }
         ensures labelled { OnOk result (IsTrue (is_labelled row.now)) }
     {
         match row {
@@ -303,7 +311,8 @@ impl RowPlace {
     pub fn pass_alias(&mut self) -> u32
         requires { self.old.types ≤ 1048576 }
         ensures index { result ≡ self.old.types }
-        ensures passed { self.new ≡ record { indices = self.old.indices; types = self.old.types + 1; used = self.old.used } }
+        ensures passed { self.new ≡ record
+            { indices = self.old.indices; types = self.old.types + 1; used = self.old.used } }
     {
         let index = self.types;
         self.types += 1;
@@ -320,7 +329,8 @@ impl RowPlace {
         requires types { self.old.types ≤ 524288 }
         requires used { self.old.used ≤ 524288 }
         requires rows { length rows.now ≤ 65535 }
-        ensures declarations { OnOk result (map decl_view decls.new.items ≡ map decl_view decls.old.items ++ declarations_of self.old rows.now) }
+        ensures declarations { OnOk result
+            (map decl_view decls.new.items ≡ map decl_view decls.old.items ++ declarations_of self.old rows.now) }
         ensures place { OnOk result (self.new ≡ places_after self.old rows.now) }
         ensures few { OnOk result (self.new.types ≤ self.old.types + 2 * length rows.now) }
         ensures passed { OnOk result (self.new.used ≡ self.old.used + length rows.now) }

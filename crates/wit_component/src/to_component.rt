@@ -33,7 +33,8 @@ fn parts_of(alloc: Global, resolve: &Resolve) -> Result<(Vec<RawType>, Vec<RawEx
     requires { IsInPackageForm resolve.now }
     ensures file { IfOk result (λ x. parts_file x.0 x.1 ≡ component_of resolve.now) }
     ensures labelled { OnOk result (IsTrue (are_labelled resolve.now.definitions 0 resolve.now.interfaces)) }
-    ensures world_labels { OnOk result (IsTrue (are_worlds_labelled resolve.now.definitions (interfaces_end 0 resolve.now.interfaces) resolve.now.worlds)) }
+    ensures world_labels { OnOk result (IsTrue
+        (are_worlds_labelled resolve.now.definitions (interfaces_end 0 resolve.now.interfaces) resolve.now.worlds)) }
 {
     let decls = declarations(alloc, resolve)?;
     let mut types = Vec::new(alloc);
@@ -57,8 +58,8 @@ pub fn component_with_bytes(
     RawComponent::with_bytes(alloc, types, exports)
 }
 
-/// The component type that a package is, in the layout of packages, and its shortest bytes. 44 `NotThisShape` exactly where the table isn't one
-/// that packages have, unless memory is wanting before that is known. (Binary.md)
+/// The component type that a package is, in the layout of packages, and its shortest bytes. 44 `NotThisShape` exactly
+/// where the table isn't one that packages have, unless memory is wanting before that is known. (Binary.md)
 pub fn to_written(alloc: Global, resolve: &Resolve) -> Result<(RawComponent, Vec<u8>), ResolveError>
     ensures ok { IfOk result (λ x. ComponentStands x.0 resolve.now) }
     ensures spelling { IfOk result (λ x. ∥ AppendsSpelling [] x.1.items (raw_component_view x.0) ∥₁) }

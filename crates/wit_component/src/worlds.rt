@@ -7,7 +7,8 @@ ghost use Rattle.tables.specs.Package.{interface_names};
 ghost use Rattle.tables.specs.declared.tables.WorldItemKind.TheVariants as item;
 ghost use Rattle.package_form.specs.Ends.{behind_item, behind_items};
 ghost use Rattle.package_form.specs.Form.{has_full_names};
-ghost use Rattle.wit_component.specs.Worlds.{rows_between, item_declarations, item_place, items_declared, items_place, StandsFrom, StandFrom};
+ghost use Rattle.wit_component.specs.Worlds.{rows_between, item_declarations, item_place, items_declared, items_place};
+ghost use Rattle.wit_component.specs.Worlds.{StandsFrom, StandFrom};
 ghost use Rattle.wit_component.specs.ToComponent.{is_labelled};
 
 use crate::names::full_name;
@@ -38,8 +39,13 @@ impl Declared {
         requires instances { length instances.now ≡ length resolve.now.interfaces }
         requires types { self.old.place.types ≤ 1048576 }
         ensures declarations { OnOk result (map decl_view self.new.decls.items ≡ map decl_view self.old.decls.items
-            ++ item_declarations (record { rows = resolve.now.definitions; names = interface_names resolve.now; instances = instances.now }) self.old.place 0 way (item.Interface id)) }
-        ensures place { OnOk result (self.new.place ≡ item_place resolve.now.definitions self.old.place 0 (item.Interface id)) }
+            ++ item_declarations (record {
+              rows = resolve.now.definitions;
+              names = interface_names resolve.now;
+              instances = instances.now;
+            }) self.old.place 0 way (item.Interface id)) }
+        ensures place { OnOk result (self.new.place
+            ≡ item_place resolve.now.definitions self.old.place 0 (item.Interface id)) }
     {
         let interface = &resolve.interfaces.as_slice()[id.0 as usize];
         let name = full_name(self.alloc, resolve, interface.package, &interface.name)?;
@@ -65,7 +71,8 @@ impl Declared {
         requires types { self.old.place.types ≤ 524288 }
         requires used { self.old.place.used ≤ 524288 }
         ensures declarations { OnOk result (map decl_view self.new.decls.items ≡ map decl_view self.old.decls.items
-            ++ item_declarations (record { rows = rows.now; names = []; instances = [] }) self.old.place start way (item.Function id)) }
+            ++ item_declarations (record { rows = rows.now; names = []; instances = [] }) self.old.place start way
+            (item.Function id)) }
         ensures place { OnOk result (self.new.place ≡ item_place rows.now self.old.place start (item.Function id)) }
         ensures few { OnOk result (self.new.place.types ≤ self.old.place.types + 2 * (id.0 + 1 - start)) }
         ensures passed { OnOk result (self.new.place.used ≡ self.old.place.used + (id.0 + 1 - start)) }
@@ -96,13 +103,19 @@ impl Declared {
         requires types { self.old.place.types ≤ 524288 }
         requires used { self.old.place.used ≤ 524288 }
         ensures declarations { OnOk result (map decl_view self.new.decls.items ≡ map decl_view self.old.decls.items
-            ++ item_declarations (record { rows = resolve.now.definitions; names = interface_names resolve.now; instances = instances.now }) self.old.place start item.now.direction item.now.kind) }
-        ensures place { OnOk result (self.new.place ≡ item_place resolve.now.definitions self.old.place start item.now.kind) }
+            ++ item_declarations (record {
+              rows = resolve.now.definitions;
+              names = interface_names resolve.now;
+              instances = instances.now;
+            }) self.old.place start item.now.direction item.now.kind) }
+        ensures place { OnOk result (self.new.place
+            ≡ item_place resolve.now.definitions self.old.place start item.now.kind) }
         ensures end { IfOk result (λ end. end ≡ behind_item start item.now.kind) }
         ensures within { IfOk result (λ end. (start ≤ end) × (end ≤ length resolve.now.definitions)) }
         ensures few { IfOk result (λ end. self.new.place.types ≤ self.old.place.types + 1 + 2 * (end - start)) }
         ensures passed { IfOk result (λ end. self.new.place.used ≡ self.old.place.used + (end - start)) }
-        ensures labelled { IfOk result (λ end. IsTrue (list_all is_labelled (rows_between resolve.now.definitions start end))) }
+        ensures labelled { IfOk result (λ end. IsTrue
+            (list_all is_labelled (rows_between resolve.now.definitions start end))) }
     {
         match item.kind {
             WorldItemKind::Interface(id) => {
@@ -136,9 +149,14 @@ pub fn items_declared(
     requires types { first.types ≡ 0 }
     requires used { first.used ≤ 262144 }
     ensures declarations { IfOk result (λ x. map decl_view x.0.items
-        ≡ items_declared (record { rows = resolve.now.definitions; names = interface_names resolve.now; instances = instances.now }) first start items.now) }
+        ≡ items_declared (record {
+          rows = resolve.now.definitions;
+          names = interface_names resolve.now;
+          instances = instances.now;
+        }) first start items.now) }
     ensures place { IfOk result (λ x. x.1 ≡ items_place resolve.now.definitions first start items.now) }
-    ensures labelled { OnOk result (IsTrue (list_all is_labelled (rows_between resolve.now.definitions start (behind_items start items.now)))) }
+    ensures labelled { OnOk result (IsTrue
+        (list_all is_labelled (rows_between resolve.now.definitions start (behind_items start items.now)))) }
 {
     let mut declared = Declared {
         alloc,

@@ -124,7 +124,8 @@ fn push_head(
     out.push('\n')
 }
 
-/// Appends `file:line:column: words`, the line with carets under the span, and the hint. Without a place in the text, no line.
+/// Appends `file:line:column: words`, the line with carets under the span, and the hint. Without a place in the text,
+/// no line.
 pub fn push_fault(
     alloc: Global,
     out: &mut String,

@@ -41,8 +41,8 @@ fn number_of(words: &str) -> Option<&str> {
     Some(number)
 }
 
-/// Appends a fault as an object: its file, its place if it has one, its number if it has one, its words, and its hint if there
-/// is one.
+/// Appends a fault as an object: its file, its place if it has one, its number if it has one, its words, and its hint
+/// if there is one.
 pub fn push_object(out: &mut String, fault: &Fault<'_>) -> Result<(), AllocError> {
     out.push_str("{\"file\":")?;
     push_string(out, fault.lexed.path)?;

@@ -1,9 +1,9 @@
 //! Faults of WIT texts: where they are, what to do about them, and how they are shown.
 //!
 //! A `Cause` says why files are no package, in the words of `witcall`. `Report::add` shows it at a place of a text, and
-//! `Report::add_package` at a place of one of the package's files: the line with carets, and a hint. The place of a byte offset
-//! and most hints are those of `wit_hints`. It stands on the crates whose errors it shows: `wit_text`, `tables` and
-//! `layout`.
+//! `Report::add_package` at a place of one of the package's files: the line with carets, and a hint. The place of a
+//! byte offset and most hints are those of `wit_hints`. It stands on the crates whose errors it shows: `wit_text`,
+//! `tables` and `layout`.
 #![tactic(auto)]
 
 mod cause;

@@ -167,7 +167,8 @@ impl Extent {
         }
     }
 
-    /// A definition. A function is the record of its parameters, which may be one deeper than a type: it counts as one less.
+    /// A definition. A function is the record of its parameters, which may be one deeper than a type: it counts as one
+    /// less.
     fn of_definition(rows: &[Extent], definition: &Definition) -> Extent {
         match definition {
             Definition::Type(definition) => Extent::of_kind(rows, &definition.kind),
@@ -242,8 +243,8 @@ fn named(
     }))
 }
 
-/// The first definition of a package that is above the limits of layouts. One without a name goes by the next that has one, of
-/// which it is a part.
+/// The first definition of a package that is above the limits of layouts. One without a name goes by the next that has
+/// one, of which it is a part.
 pub fn first_above_limits(alloc: Global, resolve: &Resolve) -> Result<Option<Refused>, AllocError> {
     let definitions = resolve.definitions.as_slice();
     let Some(first) = first_refused(alloc, definitions)? else {

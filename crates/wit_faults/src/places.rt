@@ -155,7 +155,8 @@ fn first_undeclared<'a>(
     Ok(None)
 }
 
-/// The place of a fault that all files of a package are needed to find: of a name in two files, and of a name that is unknown.
+/// The place of a fault that all files of a package are needed to find: of a name in two files, and of a name that is
+/// unknown.
 fn place_among<'a>(
     alloc: Global,
     files: &'a [Lexed<'a>],

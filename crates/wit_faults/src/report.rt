@@ -102,7 +102,8 @@ impl Report {
         self.push(alloc, &fault)
     }
 
-    /// Adds a fault of a file by itself, with its place and its hint. Packages that are known are those that the hint may name.
+    /// Adds a fault of a file by itself, with its place and its hint. Packages that are known are those that the hint
+    /// may name.
     pub fn add(
         &mut self,
         alloc: Global,

@@ -130,7 +130,8 @@ fn join<'a>(alloc: Global, first: Part<'a>, more: Vec<Part<'a>>) -> Result<Split
 
 /// Adds a package.
 fn push_member<'a>(members: &mut Vec<Member<'a>>, joined: Joined<'a>) -> Result<(), AllocError>
-    ensures { OnOk result (sum_by (λ m. length m.files.items) members.new.items ≡ sum_by (λ m. length m.files.items) members.old.items + length joined.entry.files.items) }
+    ensures { OnOk result (sum_by (λ m. length m.files.items) members.new.items
+        ≡ sum_by (λ m. length m.files.items) members.old.items + length joined.entry.files.items) }
 {
     let Joined {
         folder: _,
@@ -161,14 +162,15 @@ fn packages_of<'a>(alloc: Global, parts: Vec<Part<'a>>) -> Result<Vec<Member<'a>
     Ok(members)
 }
 
-/// The packages of the files whose texts can be read. The faults of the others are reported: if the status is 0, there are
-/// none, and each file is one of a package.
+/// The packages of the files whose texts can be read. The faults of the others are reported: if the status is 0, there
+/// are none, and each file is one of a package.
 pub fn members_of<'a>(
     alloc: Global,
     report: &mut Report,
     sources: &'a [Source],
 ) -> Result<Vec<Member<'a>>, AllocError>
-    ensures { IfOk result (λ members. report.new.status ≡ 0 → sum_by (λ m. length m.files.items) members.items ≡ length sources.now) }
+    ensures { IfOk result (λ members. report.new.status ≡ 0
+        → sum_by (λ m. length m.files.items) members.items ≡ length sources.now) }
 {
     let texts = texts_of(alloc, sources)?;
     let headers = headers_of(alloc, texts.as_slice())?;

@@ -4,7 +4,9 @@ ghost use Rattle.std.specs.String.{string_bytes};
 ghost use Rattle.wit_tokens.specs.Tokens.{lexeme, lexemes};
 ghost use Rattle.wit_tokens.specs.View.{version_view, header_view};
 ghost use Rattle.wit_grammar.specs.Faults.{AnswersRead};
-ghost use Rattle.wit_grammar.specs.Grammar.{is_version_text, is_version_token, version, is_lower_name, lower_id, gate, first_feature, first_fault, package_word, version_or, header_fault, header_end, header};
+ghost use Rattle.wit_grammar.specs.Grammar.{is_version_text, is_version_token, version, is_lower_name, lower_id, gate};
+ghost use Rattle.wit_grammar.specs.Grammar.{first_feature, first_fault, package_word, version_or, header_fault};
+ghost use Rattle.wit_grammar.specs.Grammar.{header_end, header};
 
 use crate::parser::{feature_or, label_of, met, name_of, punctuation, same};
 use atoms::{Label, is_package_label, is_version};
@@ -42,7 +44,8 @@ fn lower_identifier<'a>(
     source: &[u8],
     tokens: &'a [Token],
 ) -> Result<(Label, &'a [Token]), TextError>
-    ensures gives { AnswersRead (λ x. (x.0, lexemes source.now x.1.now)) result ((lower_id (length source.now)).read (lexemes source.now tokens.now)) }
+    ensures gives { AnswersRead (λ x. (x.0, lexemes source.now x.1.now)) result
+        ((lower_id (length source.now)).read (lexemes source.now tokens.now)) }
     ensures shorter { IfOk result (λ x. length x.1.now < length tokens.now) }
 {
     match tokens {
@@ -90,7 +93,8 @@ pub fn version<'a>(
     source: &[u8],
     tokens: &'a [Token],
 ) -> Result<(Option<String>, &'a [Token]), TextError>
-    ensures gives { AnswersRead (λ x. (version_view x.0, lexemes source.now x.1.now)) result (version.read (lexemes source.now tokens.now)) }
+    ensures gives { AnswersRead (λ x. (version_view x.0, lexemes source.now x.1.now)) result
+        (version.read (lexemes source.now tokens.now)) }
     ensures shorter { IfOk result (λ x. length x.1.now ≤ length tokens.now) }
 {
     let [first, rest @ ..] = tokens else {
@@ -107,7 +111,9 @@ pub fn version<'a>(
 
 /// What is wanted behind a version that may be left out, before this mark, where a token of this kind stands.
 pub fn version_or(version: &Option<String>, mark: Punctuation, kind: TokenKind) -> Expected
-    ensures { (start end : ℕ) → (text : List ℕ) → result ≡ version_or (version_view version.now) mark (record { token = record { kind = kind; start = start; end = end }; text = text }) }
+    ensures { (start end : ℕ) → (text : List ℕ)
+        → result ≡ version_or (version_view version.now) mark
+        (record { token = record { kind = kind; start = start; end = end }; text = text }) }
 {
     if version.is_none() && same(kind, TokenKind::Version) {
         Expected::Version
@@ -143,7 +149,8 @@ fn header_end<'a>(
     version: &Option<String>,
     tokens: &'a [Token],
 ) -> Result<(Token, &'a [Token]), TextError>
-    ensures gives { AnswersRead (λ x. (lexeme source.now x.0, lexemes source.now x.1.now)) result ((header_end (length source.now) (version_view version.now)).read (lexemes source.now tokens.now)) }
+    ensures gives { AnswersRead (λ x. (lexeme source.now x.0, lexemes source.now x.1.now)) result
+        ((header_end (length source.now) (version_view version.now)).read (lexemes source.now tokens.now)) }
     ensures shorter { IfOk result (λ x. length x.1.now < length tokens.now) }
 {
     let semicolon = TokenKind::Punctuation(Punctuation::Semicolon);
@@ -155,7 +162,8 @@ fn header_end<'a>(
 
 #[tactic(auto, unfolding(crate::specs::Grammar::package_word))]
 fn package_word<'a>(source: &[u8], tokens: &'a [Token]) -> Result<(Token, &'a [Token]), TextError>
-    ensures gives { AnswersRead (λ x. (lexeme source.now x.0, lexemes source.now x.1.now)) result ((package_word (length source.now)).read (lexemes source.now tokens.now)) }
+    ensures gives { AnswersRead (λ x. (lexeme source.now x.0, lexemes source.now x.1.now)) result
+        ((package_word (length source.now)).read (lexemes source.now tokens.now)) }
     ensures shorter { IfOk result (λ x. length x.1.now < length tokens.now) }
 {
     let package = TokenKind::Keyword(Keyword::Package);
@@ -172,7 +180,8 @@ pub fn header<'a>(
     source: &[u8],
     tokens: &'a [Token],
 ) -> Result<(PackageId, &'a [Token]), TextError>
-    ensures gives { AnswersRead (λ x. (header_view x.0, lexemes source.now x.1.now)) result ((header (length source.now)).read (lexemes source.now tokens.now)) }
+    ensures gives { AnswersRead (λ x. (header_view x.0, lexemes source.now x.1.now)) result
+        ((header (length source.now)).read (lexemes source.now tokens.now)) }
     ensures shorter { IfOk result (λ x. length x.1.now < length tokens.now) }
 {
     let (_, tokens) = package_word(source, tokens)?;

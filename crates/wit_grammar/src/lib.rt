@@ -1,6 +1,6 @@
-//! The grammar of WIT texts, written in `productions`, and what each reader of it takes from the tokens in hand: single tokens, names,
-//! lists with commas, types, paths, and the head of a file. `wit_text` reads whole files by it. Stands on `atoms` (productions, labels and
-//! versions) and on `wit_tokens` (tokens and trees).
+//! The grammar of WIT texts, written in `productions`, and what each reader of it takes from the tokens in hand: single
+//! tokens, names, lists with commas, types, paths, and the head of a file. `wit_text` reads whole files by it. Stands
+//! on `atoms` (productions, labels and versions) and on `wit_tokens` (tokens and trees).
 #![tactic(auto)]
 
 mod file_head;

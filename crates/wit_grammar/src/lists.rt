@@ -40,7 +40,8 @@ pub trait EntryReader {
         tokens: &'a [Token],
     ) -> Result<(Self::Entry, &'a [Token]), TextError>
         requires { length tokens.now ≤ limit }
-        ensures gives { AnswersRead (λ x. (meaning x.0, lexemes source.now x.1.now)) result ((production self.now (length source.now)).read (lexemes source.now tokens.now)) }
+        ensures gives { AnswersRead (λ x. (meaning x.0, lexemes source.now x.1.now)) result
+            ((production self.now (length source.now)).read (lexemes source.now tokens.now)) }
         ensures shorter { IfOk result (λ x. length x.1.now < length tokens.now) };
 
     /// What is wanted behind it, where no comma and no `}` stands.
@@ -56,7 +57,9 @@ pub fn comma_list<'a, R: EntryReader>(
     tokens: &'a [Token],
 ) -> Result<(Vec<R::Entry>, &'a [Token]), TextError>
     requires { length tokens.now ≤ limit }
-    ensures gives { AnswersRead (λ x. (map R.meaning x.0.items, lexemes source.now x.1.now)) result ((listed (is comma) (is close_brace) (λ x. wanted (length source.now) (R.wanted_behind x)) (R.production reader.now (length source.now)) limit).read (lexemes source.now tokens.now)) }
+    ensures gives { AnswersRead (λ x. (map R.meaning x.0.items, lexemes source.now x.1.now)) result
+        ((listed (is comma) (is close_brace) (λ x. wanted (length source.now) (R.wanted_behind x))
+        (R.production reader.now (length source.now)) limit).read (lexemes source.now tokens.now)) }
     ensures shorter { IfOk result (λ x. length x.1.now < length tokens.now) }
 {
     let mut list = Vec::new(alloc);

@@ -82,7 +82,8 @@ pub fn feature_or(
 
 /// Takes a token of this kind, if it comes next.
 pub fn peek<'a>(source: &[u8], tokens: &'a [Token], kind: TokenKind) -> (Option<Token>, &'a [Token])
-    ensures gives { (peek kind).read (lexemes source.now tokens.now) ≡ Ok (optional_lexeme source.now result.0, lexemes source.now result.1.now) }
+    ensures gives { (peek kind).read (lexemes source.now tokens.now)
+        ≡ Ok (optional_lexeme source.now result.0, lexemes source.now result.1.now) }
     ensures shorter { length result.1.now ≤ length tokens.now }
 {
     match tokens {
@@ -98,7 +99,8 @@ pub fn token<'a>(
     kind: TokenKind,
     wanted: Expected,
 ) -> Result<(Token, &'a [Token]), TextError>
-    ensures gives { AnswersRead (λ x. (lexeme source.now x.0, lexemes source.now x.1.now)) result ((token_of_kind (length source.now) kind wanted).read (lexemes source.now tokens.now)) }
+    ensures gives { AnswersRead (λ x. (lexeme source.now x.0, lexemes source.now x.1.now)) result
+        ((token_of_kind (length source.now) kind wanted).read (lexemes source.now tokens.now)) }
     ensures shorter { IfOk result (λ x. length x.1.now < length tokens.now) }
 {
     match tokens {
@@ -113,7 +115,8 @@ pub fn punctuation<'a>(
     tokens: &'a [Token],
     mark: Punctuation,
 ) -> Result<(Token, &'a [Token]), TextError>
-    ensures gives { AnswersRead (λ x. (lexeme source.now x.0, lexemes source.now x.1.now)) result ((punctuation (length source.now) mark).read (lexemes source.now tokens.now)) }
+    ensures gives { AnswersRead (λ x. (lexeme source.now x.0, lexemes source.now x.1.now)) result
+        ((punctuation (length source.now) mark).read (lexemes source.now tokens.now)) }
     ensures shorter { IfOk result (λ x. length x.1.now < length tokens.now) }
 {
     let kind = TokenKind::Punctuation(mark);
@@ -143,7 +146,8 @@ pub fn identifier<'a>(
     source: &[u8],
     tokens: &'a [Token],
 ) -> Result<(Label, &'a [Token]), TextError>
-    ensures gives { AnswersRead (λ x. (x.0, lexemes source.now x.1.now)) result ((id (length source.now)).read (lexemes source.now tokens.now)) }
+    ensures gives { AnswersRead (λ x. (x.0, lexemes source.now x.1.now)) result
+        ((id (length source.now)).read (lexemes source.now tokens.now)) }
     ensures shorter { IfOk result (λ x. length x.1.now < length tokens.now) }
 {
     match tokens {
@@ -161,7 +165,9 @@ pub fn comma_or<'a>(
     tokens: &'a [Token],
     close: Punctuation,
 ) -> Result<(bool, &'a [Token]), TextError>
-    ensures gives { AnswersRead (λ x. (x.0, lexemes source.now x.1.now)) result ((comma_or (is comma) (is (kind.Punctuation close)) (wanted (length source.now) (want.Punctuation Comma))).read (lexemes source.now tokens.now)) }
+    ensures gives { AnswersRead (λ x. (x.0, lexemes source.now x.1.now)) result
+        ((comma_or (is comma) (is (kind.Punctuation close)) (wanted (length source.now) (want.Punctuation Comma))).read
+        (lexemes source.now tokens.now)) }
     ensures shorter { IfOk result (λ x. length x.1.now < length tokens.now) }
 {
     let close = TokenKind::Punctuation(close);
@@ -184,7 +190,9 @@ pub fn separator<'a>(
     close: Punctuation,
     expected: Expected,
 ) -> Result<(bool, &'a [Token]), TextError>
-    ensures gives { AnswersRead (λ x. (x.0, lexemes source.now x.1.now)) result ((separator (is comma) (is (kind.Punctuation close)) (wanted (length source.now) expected)).read (lexemes source.now tokens.now)) }
+    ensures gives { AnswersRead (λ x. (x.0, lexemes source.now x.1.now)) result
+        ((separator (is comma) (is (kind.Punctuation close)) (wanted (length source.now) expected)).read
+        (lexemes source.now tokens.now)) }
     ensures shorter { IfOk result (λ x. length x.1.now < length tokens.now) }
 {
     let close = TokenKind::Punctuation(close);

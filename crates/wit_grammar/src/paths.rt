@@ -21,7 +21,8 @@ pub fn foreign<'a>(
     name: Label,
     tokens: &'a [Token],
 ) -> Result<(Path, &'a [Token]), TextError>
-    ensures gives { AnswersRead (λ x. (path_view x.0, lexemes source.now x.1.now)) result ((foreign (length source.now) namespace name).read (lexemes source.now tokens.now)) }
+    ensures gives { AnswersRead (λ x. (path_view x.0, lexemes source.now x.1.now)) result
+        ((foreign (length source.now) namespace name).read (lexemes source.now tokens.now)) }
     ensures shorter { IfOk result (λ x. length x.1.now < length tokens.now) }
 {
     let (_, tokens) = punctuation(source, tokens, Punctuation::Slash)?;
@@ -43,7 +44,8 @@ fn behind_namespace<'a>(
     namespace: Label,
     tokens: &'a [Token],
 ) -> Result<(Path, &'a [Token]), TextError>
-    ensures gives { AnswersRead (λ x. (path_view x.0, lexemes source.now x.1.now)) result ((behind_namespace (length source.now) namespace).read (lexemes source.now tokens.now)) }
+    ensures gives { AnswersRead (λ x. (path_view x.0, lexemes source.now x.1.now)) result
+        ((behind_namespace (length source.now) namespace).read (lexemes source.now tokens.now)) }
     ensures shorter { IfOk result (λ x. length x.1.now < length tokens.now) }
 {
     let (name, tokens) = identifier(alloc, source, tokens)?;
@@ -58,7 +60,8 @@ pub fn path<'a>(
     first: Label,
     tokens: &'a [Token],
 ) -> Result<(Path, &'a [Token]), TextError>
-    ensures gives { AnswersRead (λ x. (path_view x.0, lexemes source.now x.1.now)) result ((path (length source.now) first).read (lexemes source.now tokens.now)) }
+    ensures gives { AnswersRead (λ x. (path_view x.0, lexemes source.now x.1.now)) result
+        ((path (length source.now) first).read (lexemes source.now tokens.now)) }
     ensures shorter { IfOk result (λ x. length x.1.now ≤ length tokens.now) }
 {
     let colon = TokenKind::Punctuation(Punctuation::Colon);
@@ -97,7 +100,8 @@ pub fn path_end<'a>(
     mark: Punctuation,
     tokens: &'a [Token],
 ) -> Result<(Token, &'a [Token]), TextError>
-    ensures gives { AnswersRead (λ x. (lexeme source.now x.0, lexemes source.now x.1.now)) result ((path_end (length source.now) (path_view path.now) mark).read (lexemes source.now tokens.now)) }
+    ensures gives { AnswersRead (λ x. (lexeme source.now x.0, lexemes source.now x.1.now)) result
+        ((path_end (length source.now) (path_view path.now) mark).read (lexemes source.now tokens.now)) }
     ensures shorter { IfOk result (λ x. length x.1.now < length tokens.now) }
 {
     match tokens {

@@ -5,7 +5,10 @@ ghost use Rattle.wit_tokens.specs.Tokens.{lexeme, lexemes};
 ghost use Rattle.wit_tokens.specs.View.{ty_view, boxed_view};
 ghost use Rattle.wit_tokens.specs.Syntax.{ResultOf};
 ghost use Rattle.wit_grammar.specs.Faults.{AnswersRead};
-ghost use Rattle.wit_grammar.specs.Grammar.{keyword_start, kind_start, is_start, begins_type, type_fault, begun, type_behind, type_phrase, is_bare, greater_wanted, close_list, close_angle, list, option, members, tuple, error_type, result_error, result_ok, result_parts, result_type, ty};
+ghost use Rattle.wit_grammar.specs.Grammar.{keyword_start, kind_start, is_start, begins_type, type_fault, begun};
+ghost use Rattle.wit_grammar.specs.Grammar.{type_behind, type_phrase, is_bare, greater_wanted, close_list, close_angle};
+ghost use Rattle.wit_grammar.specs.Grammar.{list, option, members, tuple, error_type, result_error, result_ok};
+ghost use Rattle.wit_grammar.specs.Grammar.{result_parts, result_type, ty};
 
 use crate::parser::{is_name, label_of, met, punctuation, same, separator};
 use std::alloc::Global;
@@ -133,7 +136,8 @@ fn close_list<'a>(
     ty: &TypeExpression,
     tokens: &'a [Token],
 ) -> Result<(Token, &'a [Token]), TextError>
-    ensures gives { AnswersRead (λ x. (lexeme source.now x.0, lexemes source.now x.1.now)) result ((close_list (length source.now) (ty_view ty.now)).read (lexemes source.now tokens.now)) }
+    ensures gives { AnswersRead (λ x. (lexeme source.now x.0, lexemes source.now x.1.now)) result
+        ((close_list (length source.now) (ty_view ty.now)).read (lexemes source.now tokens.now)) }
     ensures shorter { IfOk result (λ x. length x.1.now < length tokens.now) }
 {
     let greater = TokenKind::Punctuation(Punctuation::Greater);
@@ -155,7 +159,8 @@ fn close_angle<'a>(
     ty: &TypeExpression,
     tokens: &'a [Token],
 ) -> Result<(Token, &'a [Token]), TextError>
-    ensures gives { AnswersRead (λ x. (lexeme source.now x.0, lexemes source.now x.1.now)) result ((close_angle (length source.now) (ty_view ty.now)).read (lexemes source.now tokens.now)) }
+    ensures gives { AnswersRead (λ x. (lexeme source.now x.0, lexemes source.now x.1.now)) result
+        ((close_angle (length source.now) (ty_view ty.now)).read (lexemes source.now tokens.now)) }
     ensures shorter { IfOk result (λ x. length x.1.now < length tokens.now) }
 {
     let greater = TokenKind::Punctuation(Punctuation::Greater);
@@ -175,7 +180,8 @@ pub fn type_at<'a>(
     tokens: &'a [Token],
 ) -> Result<(TypeExpression, &'a [Token]), TextError>
     requires { length tokens.now ≤ limit }
-    ensures gives { AnswersRead (λ x. (ty_view x.0, lexemes source.now x.1.now)) result ((ty (length source.now) nesting).read (lexemes source.now tokens.now)) }
+    ensures gives { AnswersRead (λ x. (ty_view x.0, lexemes source.now x.1.now)) result
+        ((ty (length source.now) nesting).read (lexemes source.now tokens.now)) }
     ensures shorter { IfOk result (λ x. length x.1.now < length tokens.now) }
 {
     if nesting == 0 {
@@ -194,7 +200,8 @@ fn type_of<'a>(
     tokens: &'a [Token],
 ) -> Result<(TypeExpression, &'a [Token]), TextError>
     requires { length tokens.now ≤ limit }
-    ensures gives { AnswersRead (λ x. (ty_view x.0, lexemes source.now x.1.now)) result ((type_phrase (length source.now) (ty (length source.now) nesting)).read (lexemes source.now tokens.now)) }
+    ensures gives { AnswersRead (λ x. (ty_view x.0, lexemes source.now x.1.now)) result
+        ((type_phrase (length source.now) (ty (length source.now) nesting)).read (lexemes source.now tokens.now)) }
     ensures shorter { IfOk result (λ x. length x.1.now < length tokens.now) }
 {
     match tokens {
@@ -216,7 +223,9 @@ pub fn type_behind<'a>(
     tokens: &'a [Token],
 ) -> Result<(TypeExpression, &'a [Token]), TextError>
     requires { length tokens.now ≤ limit }
-    ensures gives { AnswersRead (λ x. (ty_view x.0, lexemes source.now x.1.now)) result ((type_behind (length source.now) (ty (length source.now) nesting) (lexeme source.now first)).read (lexemes source.now tokens.now)) }
+    ensures gives { AnswersRead (λ x. (ty_view x.0, lexemes source.now x.1.now)) result
+        ((type_behind (length source.now) (ty (length source.now) nesting) (lexeme source.now first)).read
+        (lexemes source.now tokens.now)) }
     ensures shorter { IfOk result (λ x. length x.1.now ≤ length tokens.now) }
 {
     if is_name(source, first) {
@@ -237,7 +246,8 @@ fn begun<'a>(
     tokens: &'a [Token],
 ) -> Result<(TypeExpression, &'a [Token]), TextError>
     requires { length tokens.now ≤ limit }
-    ensures gives { AnswersRead (λ x. (ty_view x.0, lexemes source.now x.1.now)) result ((begun (length source.now) (ty (length source.now) nesting) start).read (lexemes source.now tokens.now)) }
+    ensures gives { AnswersRead (λ x. (ty_view x.0, lexemes source.now x.1.now)) result
+        ((begun (length source.now) (ty (length source.now) nesting) start).read (lexemes source.now tokens.now)) }
     ensures shorter { IfOk result (λ x. length x.1.now ≤ length tokens.now) }
 {
     match start {
@@ -260,7 +270,8 @@ fn list_type<'a>(
     tokens: &'a [Token],
 ) -> Result<(TypeExpression, &'a [Token]), TextError>
     requires { length tokens.now ≤ limit }
-    ensures gives { AnswersRead (λ x. (ty_view x.0, lexemes source.now x.1.now)) result ((list (length source.now) (ty (length source.now) nesting)).read (lexemes source.now tokens.now)) }
+    ensures gives { AnswersRead (λ x. (ty_view x.0, lexemes source.now x.1.now)) result
+        ((list (length source.now) (ty (length source.now) nesting)).read (lexemes source.now tokens.now)) }
     ensures shorter { IfOk result (λ x. length x.1.now < length tokens.now) }
 {
     let (_, tokens) = punctuation(source, tokens, Punctuation::Less)?;
@@ -279,7 +290,8 @@ fn option_type<'a>(
     tokens: &'a [Token],
 ) -> Result<(TypeExpression, &'a [Token]), TextError>
     requires { length tokens.now ≤ limit }
-    ensures gives { AnswersRead (λ x. (ty_view x.0, lexemes source.now x.1.now)) result ((option (length source.now) (ty (length source.now) nesting)).read (lexemes source.now tokens.now)) }
+    ensures gives { AnswersRead (λ x. (ty_view x.0, lexemes source.now x.1.now)) result
+        ((option (length source.now) (ty (length source.now) nesting)).read (lexemes source.now tokens.now)) }
     ensures shorter { IfOk result (λ x. length x.1.now < length tokens.now) }
 {
     let (_, tokens) = punctuation(source, tokens, Punctuation::Less)?;
@@ -298,7 +310,8 @@ fn tuple_type<'a>(
     tokens: &'a [Token],
 ) -> Result<(TypeExpression, &'a [Token]), TextError>
     requires { length tokens.now ≤ limit }
-    ensures gives { AnswersRead (λ x. (ty_view x.0, lexemes source.now x.1.now)) result ((tuple (length source.now) (ty (length source.now) nesting)).read (lexemes source.now tokens.now)) }
+    ensures gives { AnswersRead (λ x. (ty_view x.0, lexemes source.now x.1.now)) result
+        ((tuple (length source.now) (ty (length source.now) nesting)).read (lexemes source.now tokens.now)) }
     ensures shorter { IfOk result (λ x. length x.1.now < length tokens.now) }
 {
     let (_, tokens) = punctuation(source, tokens, Punctuation::Less)?;
@@ -315,7 +328,8 @@ fn member_list<'a>(
     tokens: &'a [Token],
 ) -> Result<(Vec<TypeExpression>, &'a [Token]), TextError>
     requires { length tokens.now ≤ limit }
-    ensures gives { AnswersRead (λ x. (map ty_view x.0.items, lexemes source.now x.1.now)) result ((members (length source.now) (ty (length source.now) nesting) limit).read (lexemes source.now tokens.now)) }
+    ensures gives { AnswersRead (λ x. (map ty_view x.0.items, lexemes source.now x.1.now)) result
+        ((members (length source.now) (ty (length source.now) nesting) limit).read (lexemes source.now tokens.now)) }
     ensures shorter { IfOk result (λ x. length x.1.now < length tokens.now) }
 {
     let mut list = Vec::new(alloc);
@@ -342,7 +356,8 @@ fn result_type<'a>(
     tokens: &'a [Token],
 ) -> Result<(TypeExpression, &'a [Token]), TextError>
     requires { length tokens.now ≤ limit }
-    ensures gives { AnswersRead (λ x. (ty_view x.0, lexemes source.now x.1.now)) result ((result_type (length source.now) (ty (length source.now) nesting)).read (lexemes source.now tokens.now)) }
+    ensures gives { AnswersRead (λ x. (ty_view x.0, lexemes source.now x.1.now)) result
+        ((result_type (length source.now) (ty (length source.now) nesting)).read (lexemes source.now tokens.now)) }
     ensures shorter { IfOk result (λ x. length x.1.now ≤ length tokens.now) }
 {
     let less = TokenKind::Punctuation(Punctuation::Less);
@@ -364,7 +379,8 @@ fn result_parts<'a>(
     tokens: &'a [Token],
 ) -> Result<(TypeExpression, &'a [Token]), TextError>
     requires { length tokens.now ≤ limit }
-    ensures gives { AnswersRead (λ x. (ty_view x.0, lexemes source.now x.1.now)) result ((result_parts (length source.now) (ty (length source.now) nesting)).read (lexemes source.now tokens.now)) }
+    ensures gives { AnswersRead (λ x. (ty_view x.0, lexemes source.now x.1.now)) result
+        ((result_parts (length source.now) (ty (length source.now) nesting)).read (lexemes source.now tokens.now)) }
     ensures shorter { IfOk result (λ x. length x.1.now ≤ length tokens.now) }
 {
     let underscore = TokenKind::Punctuation(Punctuation::Underscore);
@@ -386,7 +402,8 @@ fn result_error<'a>(
     tokens: &'a [Token],
 ) -> Result<(TypeExpression, &'a [Token]), TextError>
     requires { length tokens.now ≤ limit }
-    ensures gives { AnswersRead (λ x. (ty_view x.0, lexemes source.now x.1.now)) result ((result_error (length source.now) (ty (length source.now) nesting)).read (lexemes source.now tokens.now)) }
+    ensures gives { AnswersRead (λ x. (ty_view x.0, lexemes source.now x.1.now)) result
+        ((result_error (length source.now) (ty (length source.now) nesting)).read (lexemes source.now tokens.now)) }
     ensures shorter { IfOk result (λ x. length x.1.now ≤ length tokens.now) }
 {
     let (_, tokens) = punctuation(source, tokens, Punctuation::Comma)?;
@@ -405,7 +422,8 @@ fn error_type<'a>(
     tokens: &'a [Token],
 ) -> Result<(TypeExpression, &'a [Token]), TextError>
     requires { length tokens.now ≤ limit }
-    ensures gives { AnswersRead (λ x. (ty_view x.0, lexemes source.now x.1.now)) result ((error_type (length source.now) (ty (length source.now) nesting)).read (lexemes source.now tokens.now)) }
+    ensures gives { AnswersRead (λ x. (ty_view x.0, lexemes source.now x.1.now)) result
+        ((error_type (length source.now) (ty (length source.now) nesting)).read (lexemes source.now tokens.now)) }
     ensures shorter { IfOk result (λ x. length x.1.now ≤ length tokens.now) }
 {
     let (error, tokens) = type_at(alloc, source, nesting, tokens)?;
@@ -423,7 +441,8 @@ fn result_ok<'a>(
     tokens: &'a [Token],
 ) -> Result<(TypeExpression, &'a [Token]), TextError>
     requires { length tokens.now ≤ limit }
-    ensures gives { AnswersRead (λ x. (ty_view x.0, lexemes source.now x.1.now)) result ((result_ok (length source.now) (ty (length source.now) nesting)).read (lexemes source.now tokens.now)) }
+    ensures gives { AnswersRead (λ x. (ty_view x.0, lexemes source.now x.1.now)) result
+        ((result_ok (length source.now) (ty (length source.now) nesting)).read (lexemes source.now tokens.now)) }
     ensures shorter { IfOk result (λ x. length x.1.now ≤ length tokens.now) }
 {
     let greater = TokenKind::Punctuation(Punctuation::Greater);

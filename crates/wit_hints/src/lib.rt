@@ -1,9 +1,9 @@
 //! Hints: what to do about a fault of a WIT text.
 //!
-//! `hint_of_text` looks at the token that is not allowed where it is, and at what is around it: the brackets that it is in, and
-//! the tokens beside it. It knows words of other languages, and what WIT writes for them. `hint_of_unknown` and
-//! `hint_of_duplicate` are hints about names; `find_twins` finds the two places of a name that is twice. `source_lines` has the
-//! line and the column of a byte offset. It stands on `wit_text` and `wit_places`.
+//! `hint_of_text` looks at the token that is not allowed where it is, and at what is around it: the brackets that it is
+//! in, and the tokens beside it. It knows words of other languages, and what WIT writes for them. `hint_of_unknown` and
+//! `hint_of_duplicate` are hints about names; `find_twins` finds the two places of a name that is twice. `source_lines`
+//! has the line and the column of a byte offset. It stands on `wit_text` and `wit_places`.
 #![tactic(auto)]
 
 mod bad;

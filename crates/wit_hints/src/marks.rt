@@ -224,8 +224,8 @@ fn missing(spot: &Spot<'_>, mark: Punctuation) -> Punctuation {
     }
 }
 
-/// What to do if this mark has to come. If nothing is found in its place, where to write it: after the token before, if this is
-/// in an earlier line.
+/// What to do if this mark has to come. If nothing is found in its place, where to write it: after the token before, if
+/// this is in an earlier line.
 pub fn of_mark(alloc: Global, spot: &Spot<'_>, mark: Punctuation) -> Result<String, AllocError> {
     if !are_parameters_over(spot, mark) {
         let found = of_found(alloc, spot, mark)?;

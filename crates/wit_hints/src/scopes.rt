@@ -43,7 +43,8 @@ fn declares(keyword: Keyword) -> bool {
     )
 }
 
-/// Whether a name is declared after this token and before this mark: that of a function, a field, a case, a label or a parameter.
+/// Whether a name is declared after this token and before this mark: that of a function, a field, a case, a label or a
+/// parameter.
 fn is_member(before: Option<Punctuation>, next: Option<Punctuation>) -> bool {
     match before {
         Some(Punctuation::OpenParenthesis) => next == Some(Punctuation::Colon),
@@ -177,8 +178,8 @@ fn twin_line(alloc: Global, text: &str, at: usize, name: &str) -> Option<usize> 
     Some(place_at(text, lexed.span_at(twin)?.start)?.line)
 }
 
-/// The line in which a name is that a word may not be changed to, as its scope has it already. If the text has other faults after
-/// the word, what comes before it is looked at alone.
+/// The line in which a name is that a word may not be changed to, as its scope has it already. If the text has other
+/// faults after the word, what comes before it is looked at alone.
 pub fn line_of_taken(
     alloc: Global,
     lexed: &Lexed<'_>,

@@ -4,7 +4,8 @@ ghost use Rattle.wit_tokens.specs.Syntax.{Alias};
 ghost use Rattle.wit_tokens.specs.View.{ty_view, field_view, case_view, optional_view, definition_view};
 ghost use Rattle.wit_tokens.specs.declared.token.Punctuation.TheVariants as mark;
 ghost use Rattle.wit_print.specs.Words.{mark_word, keyword_word, name_word};
-ghost use Rattle.wit_print.specs.Canonical.{blank, item_line, payload_words, case_words, field_words, label_words, lined_words, definition_words};
+ghost use Rattle.wit_print.specs.Canonical.{blank, item_line, payload_words, case_words, field_words, label_words};
+ghost use Rattle.wit_print.specs.Canonical.{lined_words, definition_words};
 ghost use Rattle.wit_print.specs.Adding.{AddsWords};
 
 use crate::function::write_member;
@@ -74,7 +75,8 @@ fn write_labels(out: &mut String, labels: &[Label]) -> Result<(), AllocError>
 
 /// Puts the head of a definition with braces behind the text.
 fn write_head(out: &mut String, keyword: Keyword, name: &Label) -> Result<(), AllocError>
-    ensures { OnOk result (AddsWords (keyword_word item_line keyword ∷ name_word blank name.now ∷ mark_word blank mark.OpenBrace ∷ []) out.old out.new) }
+    ensures { OnOk result (AddsWords (keyword_word item_line keyword ∷ name_word blank name.now
+        ∷ mark_word blank mark.OpenBrace ∷ []) out.old out.new) }
 {
     write_keyword(out, ITEM_LINE, keyword)?;
     write_name(out, " ", name)?;

@@ -2,7 +2,8 @@
 ghost use Rattle.std.specs.Prelude.{◌≡◌, [], ◌++◌, map, OnOk};
 ghost use Rattle.wit_tokens.specs.Syntax.{Uses};
 ghost use Rattle.wit_tokens.specs.View.{used_view, version_view, path_view, entry_view, world_entry_view};
-ghost use Rattle.wit_print.specs.Canonical.{local_words, used_words, uses_words, version_words, path_words, direction_keyword, entry_words, world_entry_words, braced_words};
+ghost use Rattle.wit_print.specs.Canonical.{local_words, used_words, uses_words, version_words, path_words};
+ghost use Rattle.wit_print.specs.Canonical.{direction_keyword, entry_words, world_entry_words, braced_words};
 ghost use Rattle.wit_print.specs.Adding.{AddsWords};
 
 use crate::definition::{ITEM_LINE, write_definition};
@@ -75,7 +76,8 @@ fn write_path(out: &mut String, space: &str, path: &Path) -> Result<(), AllocErr
 }
 
 fn write_use(out: &mut String, item: &Use) -> Result<(), AllocError>
-    ensures { OnOk result (AddsWords (entry_words (Uses item.now.span (path_view item.now.interface) (map used_view item.now.names.items))) out.old out.new) }
+    ensures { OnOk result (AddsWords (entry_words
+        (Uses item.now.span (path_view item.now.interface) (map used_view item.now.names.items))) out.old out.new) }
 {
     write_keyword(out, ITEM_LINE, Keyword::Use)?;
     write_path(out, " ", &item.interface)?;
@@ -139,7 +141,8 @@ fn write_world_entry(out: &mut String, item: &WorldItem) -> Result<(), AllocErro
 
 /// Puts the items of a world behind the text, and the `}`.
 pub(crate) fn write_world_entries(out: &mut String, items: &[WorldItem]) -> Result<(), AllocError>
-    ensures { OnOk result (AddsWords (braced_words world_entry_words (map world_entry_view items.now)) out.old out.new) }
+    ensures { OnOk result (AddsWords (braced_words world_entry_words (map world_entry_view items.now)) out.old
+        out.new) }
 {
     for item in items {
         write_world_entry(out, item)?;

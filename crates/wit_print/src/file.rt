@@ -51,8 +51,8 @@ fn write_file(out: &mut String, ast: &Ast) -> Result<(), AllocError>
     write_items(out, ast.items.as_slice())
 }
 
-/// Appends the canonical text of a file: a line for each item, members of a definition on lines of their own. Where memory is
-/// wanting, the text is as it was.
+/// Appends the canonical text of a file: a line for each item, members of a definition on lines of their own. Where
+/// memory is wanting, the text is as it was.
 pub fn print_file(alloc: Global, ast: &Ast, out: &mut String) -> Result<(), AllocError>
     ensures ok { OnOk result (string_bytes out.new ≡ string_bytes out.old ++ canonical_text (file_view ast.now)) }
     ensures err { OnErr result (string_bytes out.new ≡ string_bytes out.old) }

@@ -77,7 +77,8 @@ pub(crate) fn write_type(
 /// Puts the type that a list or an option is made of behind the text, in `<` and `>`.
 #[cycle(ty)]
 fn write_inner(out: &mut String, ty: &TypeExpression) -> Result<(), AllocError>
-    ensures { OnOk result (AddsWords (mark_word [] mark.Less ∷ (ty_words [] (ty_view ty.now) ++ mark_word [] mark.Greater ∷ [])) out.old out.new) }
+    ensures { OnOk result (AddsWords (mark_word [] mark.Less
+        ∷ (ty_words [] (ty_view ty.now) ++ mark_word [] mark.Greater ∷ [])) out.old out.new) }
 {
     write_mark(out, "", Punctuation::Less)?;
     write_type(out, "", ty)?;
@@ -122,7 +123,8 @@ fn write_ok_before(out: &mut String, ok: &Option<Box<TypeExpression>>) -> Result
 /// Puts the error's type of a result behind the text, behind its comma, and the `>`.
 #[cycle(ty)]
 fn write_error(out: &mut String, ty: &TypeExpression) -> Result<(), AllocError>
-    ensures { OnOk result (AddsWords (mark_word [] mark.Comma ∷ (ty_words blank (ty_view ty.now) ++ mark_word [] mark.Greater ∷ [])) out.old out.new) }
+    ensures { OnOk result (AddsWords (mark_word [] mark.Comma
+        ∷ (ty_words blank (ty_view ty.now) ++ mark_word [] mark.Greater ∷ [])) out.old out.new) }
 {
     write_mark(out, "", Punctuation::Comma)?;
     write_type(out, " ", ty)?;

@@ -4,7 +4,8 @@ ghost use Rattle.wit_tokens.specs.Lexing.{limit};
 ghost use Rattle.wit_tokens.specs.Tokens.{lexemes};
 ghost use Rattle.wit_tokens.specs.View.{ty_view, optional_view, case_view, definition_view};
 ghost use Rattle.wit_grammar.specs.Faults.{AnswersRead};
-ghost use Rattle.wit_grammar.specs.Grammar.{nesting, alias, record_body, payload, optional_payload, case_fault, case_id, variant_case, variant_body, enum_cases, flag_names};
+ghost use Rattle.wit_grammar.specs.Grammar.{nesting, alias, record_body, payload, optional_payload, case_fault};
+ghost use Rattle.wit_grammar.specs.Grammar.{case_id, variant_case, variant_body, enum_cases, flag_names};
 
 use crate::functions::{NESTING, field};
 use atoms::Label;
@@ -24,7 +25,8 @@ pub fn alias<'a>(
     tokens: &'a [Token],
 ) -> Result<(TypeDefKind, &'a [Token]), TextError>
     requires { length tokens.now ≤ limit }
-    ensures gives { AnswersRead (λ x. (definition_view x.0, lexemes source.now x.1.now)) result ((alias (length source.now) nesting).read (lexemes source.now tokens.now)) }
+    ensures gives { AnswersRead (λ x. (definition_view x.0, lexemes source.now x.1.now)) result
+        ((alias (length source.now) nesting).read (lexemes source.now tokens.now)) }
     ensures shorter { IfOk result (λ x. length x.1.now < length tokens.now) }
 {
     let (_, tokens) = punctuation(source, tokens, Punctuation::Equals)?;
@@ -75,7 +77,8 @@ pub fn record_fields<'a>(
     tokens: &'a [Token],
 ) -> Result<(TypeDefKind, &'a [Token]), TextError>
     requires { length tokens.now ≤ limit }
-    ensures gives { AnswersRead (λ x. (definition_view x.0, lexemes source.now x.1.now)) result ((record_body (length source.now) nesting).read (lexemes source.now tokens.now)) }
+    ensures gives { AnswersRead (λ x. (definition_view x.0, lexemes source.now x.1.now)) result
+        ((record_body (length source.now) nesting).read (lexemes source.now tokens.now)) }
     ensures shorter { IfOk result (λ x. length x.1.now < length tokens.now) }
 {
     let (_, tokens) = punctuation(source, tokens, Punctuation::OpenBrace)?;
@@ -91,7 +94,8 @@ fn payload<'a>(
     tokens: &'a [Token],
 ) -> Result<(TypeExpression, &'a [Token]), TextError>
     requires { length tokens.now ≤ limit }
-    ensures gives { AnswersRead (λ x. (ty_view x.0, lexemes source.now x.1.now)) result ((payload (length source.now) nesting).read (lexemes source.now tokens.now)) }
+    ensures gives { AnswersRead (λ x. (ty_view x.0, lexemes source.now x.1.now)) result
+        ((payload (length source.now) nesting).read (lexemes source.now tokens.now)) }
     ensures shorter { IfOk result (λ x. length x.1.now < length tokens.now) }
 {
     let (ty, tokens) = type_at(alloc, source, NESTING, tokens)?;
@@ -107,7 +111,8 @@ fn optional_payload<'a>(
     tokens: &'a [Token],
 ) -> Result<(Option<TypeExpression>, &'a [Token]), TextError>
     requires { length tokens.now ≤ limit }
-    ensures gives { AnswersRead (λ x. (optional_view x.0, lexemes source.now x.1.now)) result ((optional_payload (length source.now) nesting).read (lexemes source.now tokens.now)) }
+    ensures gives { AnswersRead (λ x. (optional_view x.0, lexemes source.now x.1.now)) result
+        ((optional_payload (length source.now) nesting).read (lexemes source.now tokens.now)) }
     ensures shorter { IfOk result (λ x. length x.1.now ≤ length tokens.now) }
 {
     let open = TokenKind::Punctuation(Punctuation::OpenParenthesis);
@@ -139,7 +144,8 @@ fn case_id<'a>(
     source: &[u8],
     tokens: &'a [Token],
 ) -> Result<(Label, &'a [Token]), TextError>
-    ensures gives { AnswersRead (λ x. (x.0, lexemes source.now x.1.now)) result ((case_id (length source.now)).read (lexemes source.now tokens.now)) }
+    ensures gives { AnswersRead (λ x. (x.0, lexemes source.now x.1.now)) result
+        ((case_id (length source.now)).read (lexemes source.now tokens.now)) }
     ensures shorter { IfOk result (λ x. length x.1.now < length tokens.now) }
 {
     match tokens {
@@ -158,7 +164,8 @@ fn variant_case<'a>(
     tokens: &'a [Token],
 ) -> Result<(Case, &'a [Token]), TextError>
     requires { length tokens.now ≤ limit }
-    ensures gives { AnswersRead (λ x. (case_view x.0, lexemes source.now x.1.now)) result ((variant_case (length source.now) nesting).read (lexemes source.now tokens.now)) }
+    ensures gives { AnswersRead (λ x. (case_view x.0, lexemes source.now x.1.now)) result
+        ((variant_case (length source.now) nesting).read (lexemes source.now tokens.now)) }
     ensures shorter { IfOk result (λ x. length x.1.now < length tokens.now) }
 {
     let (name, tokens) = case_id(alloc, source, tokens)?;
@@ -208,7 +215,8 @@ pub fn variant_cases<'a>(
     tokens: &'a [Token],
 ) -> Result<(TypeDefKind, &'a [Token]), TextError>
     requires { length tokens.now ≤ limit }
-    ensures gives { AnswersRead (λ x. (definition_view x.0, lexemes source.now x.1.now)) result ((variant_body (length source.now) nesting).read (lexemes source.now tokens.now)) }
+    ensures gives { AnswersRead (λ x. (definition_view x.0, lexemes source.now x.1.now)) result
+        ((variant_body (length source.now) nesting).read (lexemes source.now tokens.now)) }
     ensures shorter { IfOk result (λ x. length x.1.now < length tokens.now) }
 {
     let (_, tokens) = punctuation(source, tokens, Punctuation::OpenBrace)?;
@@ -264,7 +272,8 @@ pub fn enum_cases<'a>(
     tokens: &'a [Token],
 ) -> Result<(TypeDefKind, &'a [Token]), TextError>
     requires { length tokens.now ≤ limit }
-    ensures gives { AnswersRead (λ x. (definition_view x.0, lexemes source.now x.1.now)) result ((enum_cases (length source.now)).read (lexemes source.now tokens.now)) }
+    ensures gives { AnswersRead (λ x. (definition_view x.0, lexemes source.now x.1.now)) result
+        ((enum_cases (length source.now)).read (lexemes source.now tokens.now)) }
     ensures shorter { IfOk result (λ x. length x.1.now < length tokens.now) }
 {
     let (_, tokens) = punctuation(source, tokens, Punctuation::OpenBrace)?;
@@ -280,7 +289,8 @@ pub fn flag_names<'a>(
     tokens: &'a [Token],
 ) -> Result<(TypeDefKind, &'a [Token]), TextError>
     requires { length tokens.now ≤ limit }
-    ensures gives { AnswersRead (λ x. (definition_view x.0, lexemes source.now x.1.now)) result ((flag_names (length source.now)).read (lexemes source.now tokens.now)) }
+    ensures gives { AnswersRead (λ x. (definition_view x.0, lexemes source.now x.1.now)) result
+        ((flag_names (length source.now)).read (lexemes source.now tokens.now)) }
     ensures shorter { IfOk result (λ x. length x.1.now < length tokens.now) }
 {
     let (_, tokens) = punctuation(source, tokens, Punctuation::OpenBrace)?;

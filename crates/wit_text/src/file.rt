@@ -7,7 +7,8 @@ ghost use Rattle.wit_tokens.specs.Tokens.{lexeme, lexemes};
 ghost use Rattle.wit_tokens.specs.Syntax.{File};
 ghost use Rattle.wit_tokens.specs.View.{item_view, file_view};
 ghost use Rattle.wit_grammar.specs.Faults.{AnswersRead};
-ghost use Rattle.wit_grammar.specs.Grammar.{nesting, file_keyword, file_feature, file_fault, begins_item, item, optional_item, items, file};
+ghost use Rattle.wit_grammar.specs.Grammar.{nesting, file_keyword, file_feature, file_fault, begins_item, item};
+ghost use Rattle.wit_grammar.specs.Grammar.{optional_item, items, file};
 ghost use Rattle.wit_text.specs.Reading.{IsRead, FaultyText};
 
 use crate::interfaces::interface;
@@ -72,7 +73,8 @@ fn item<'a>(
     tokens: &'a [Token],
 ) -> Result<(Item, &'a [Token]), TextError>
     requires { length tokens.now ≤ limit }
-    ensures gives { AnswersRead (λ x. (item_view x.0, lexemes source.now x.1.now)) result ((item (length source.now) nesting (lexeme source.now first)).read (lexemes source.now tokens.now)) }
+    ensures gives { AnswersRead (λ x. (item_view x.0, lexemes source.now x.1.now)) result
+        ((item (length source.now) nesting (lexeme source.now first)).read (lexemes source.now tokens.now)) }
     ensures shorter { IfOk result (λ x. length x.1.now < length tokens.now) }
 {
     if same(first.kind, TokenKind::Keyword(Keyword::Interface)) {
@@ -90,7 +92,8 @@ fn optional_item<'a>(
     tokens: &'a [Token],
 ) -> Result<(Option<Item>, &'a [Token]), TextError>
     requires { length tokens.now ≤ limit }
-    ensures gives { AnswersRead (λ x. (option_map item_view x.0, lexemes source.now x.1.now)) result ((optional_item (length source.now) nesting).read (lexemes source.now tokens.now)) }
+    ensures gives { AnswersRead (λ x. (option_map item_view x.0, lexemes source.now x.1.now)) result
+        ((optional_item (length source.now) nesting).read (lexemes source.now tokens.now)) }
     ensures shorter { IfOk result (λ x. IfSome x.0 (λ i. length x.1.now < length tokens.now)) }
 {
     match tokens {
@@ -104,7 +107,8 @@ fn optional_item<'a>(
 
 /// Nothing more stands there.
 fn ended(source: &[u8], tokens: &[Token]) -> Result<(), TextError>
-    ensures { AnswersRead (λ _. (0, [])) result ((at_end (file_fault (length source.now))).read (lexemes source.now tokens.now)) }
+    ensures { AnswersRead (λ _. (0, [])) result
+        ((at_end (file_fault (length source.now))).read (lexemes source.now tokens.now)) }
 {
     match tokens {
         [] => Ok(()),
@@ -115,7 +119,8 @@ fn ended(source: &[u8], tokens: &[Token]) -> Result<(), TextError>
 /// What stands behind the package, to the end.
 fn items(alloc: Global, source: &[u8], tokens: &[Token]) -> Result<Vec<Item>, TextError>
     requires { length tokens.now < limit }
-    ensures { AnswersRead (λ x. (map item_view x.items, [])) result ((items (length source.now) nesting limit).read (lexemes source.now tokens.now)) }
+    ensures { AnswersRead (λ x. (map item_view x.items, [])) result
+        ((items (length source.now) nesting limit).read (lexemes source.now tokens.now)) }
 {
     let mut list = Vec::new(alloc);
     let mut left = tokens;
@@ -133,7 +138,8 @@ fn items(alloc: Global, source: &[u8], tokens: &[Token]) -> Result<Vec<Item>, Te
 #[tactic(auto, unfolding(wit_grammar::specs::Grammar::file))]
 fn file(alloc: Global, source: &[u8], tokens: &[Token]) -> Result<Ast, TextError>
     requires { length tokens.now ≤ limit }
-    ensures { AnswersRead (λ a. (file_view a, [])) result ((file (length source.now) nesting).read (lexemes source.now tokens.now)) }
+    ensures { AnswersRead (λ a. (file_view a, [])) result
+        ((file (length source.now) nesting).read (lexemes source.now tokens.now)) }
 {
     let (package, tokens) = header(alloc, source, tokens)?;
     let items = items(alloc, source, tokens)?;

@@ -6,7 +6,9 @@ ghost use Rattle.wit_tokens.specs.View.{ty_view, field_view, function_view, opti
 ghost use Rattle.wit_grammar.specs.Faults.{AnswersRead, unless_feature};
 ghost use Rattle.wit_tokens.specs.declared.error.Expected.TheVariants as want;
 ghost use Rattle.wit_tokens.specs.declared.token.Keyword.TheVariants as kw;
-ghost use Rattle.wit_grammar.specs.Grammar.{nesting, member, after_member, param_list, parameters, result_fault, function_result, optional_result, function, async_feature, func_word, after_function, function_end, whole_function};
+ghost use Rattle.wit_grammar.specs.Grammar.{nesting, member, after_member, param_list, parameters, result_fault};
+ghost use Rattle.wit_grammar.specs.Grammar.{function_result, optional_result, function, async_feature, func_word};
+ghost use Rattle.wit_grammar.specs.Grammar.{after_function, function_end, whole_function};
 
 use std::alloc::Global;
 use wit_grammar::{
@@ -27,7 +29,8 @@ pub fn field<'a>(
     tokens: &'a [Token],
 ) -> Result<(Field, &'a [Token]), TextError>
     requires { length tokens.now ≤ limit }
-    ensures gives { AnswersRead (λ x. (field_view x.0, lexemes source.now x.1.now)) result ((member (length source.now) nesting).read (lexemes source.now tokens.now)) }
+    ensures gives { AnswersRead (λ x. (field_view x.0, lexemes source.now x.1.now)) result
+        ((member (length source.now) nesting).read (lexemes source.now tokens.now)) }
     ensures shorter { IfOk result (λ x. length x.1.now < length tokens.now) }
 {
     let (name, tokens) = identifier(alloc, source, tokens)?;
@@ -39,7 +42,8 @@ pub fn field<'a>(
 /// What stands behind a parameter: whether more follow.
 #[tactic(auto, unfolding(wit_grammar::specs::Grammar::after_member))]
 fn after_param<'a>(source: &[u8], tokens: &'a [Token]) -> Result<(bool, &'a [Token]), TextError>
-    ensures gives { AnswersRead (λ x. (x.0, lexemes source.now x.1.now)) result ((after_member (length source.now)).read (lexemes source.now tokens.now)) }
+    ensures gives { AnswersRead (λ x. (x.0, lexemes source.now x.1.now)) result
+        ((after_member (length source.now)).read (lexemes source.now tokens.now)) }
     ensures shorter { IfOk result (λ x. length x.1.now < length tokens.now) }
 {
     comma_or(source, tokens, Punctuation::CloseParenthesis)
@@ -52,7 +56,8 @@ fn param_list<'a>(
     tokens: &'a [Token],
 ) -> Result<(Vec<Field>, &'a [Token]), TextError>
     requires { length tokens.now < limit }
-    ensures gives { AnswersRead (λ x. (map field_view x.0.items, lexemes source.now x.1.now)) result ((param_list (length source.now) nesting limit).read (lexemes source.now tokens.now)) }
+    ensures gives { AnswersRead (λ x. (map field_view x.0.items, lexemes source.now x.1.now)) result
+        ((param_list (length source.now) nesting limit).read (lexemes source.now tokens.now)) }
     ensures shorter { IfOk result (λ x. length x.1.now < length tokens.now) }
 {
     let mut list = Vec::new(alloc);
@@ -76,7 +81,8 @@ fn parameters<'a>(
     tokens: &'a [Token],
 ) -> Result<(Vec<Field>, &'a [Token]), TextError>
     requires { length tokens.now < limit }
-    ensures gives { AnswersRead (λ x. (map field_view x.0.items, lexemes source.now x.1.now)) result ((parameters (length source.now) nesting).read (lexemes source.now tokens.now)) }
+    ensures gives { AnswersRead (λ x. (map field_view x.0.items, lexemes source.now x.1.now)) result
+        ((parameters (length source.now) nesting).read (lexemes source.now tokens.now)) }
     ensures shorter { IfOk result (λ x. length x.1.now < length tokens.now) }
 {
     let close = TokenKind::Punctuation(Punctuation::CloseParenthesis);
@@ -108,7 +114,8 @@ fn function_result<'a>(
     tokens: &'a [Token],
 ) -> Result<(TypeExpression, &'a [Token]), TextError>
     requires { length tokens.now ≤ limit }
-    ensures gives { AnswersRead (λ x. (ty_view x.0, lexemes source.now x.1.now)) result ((function_result (length source.now) nesting).read (lexemes source.now tokens.now)) }
+    ensures gives { AnswersRead (λ x. (ty_view x.0, lexemes source.now x.1.now)) result
+        ((function_result (length source.now) nesting).read (lexemes source.now tokens.now)) }
     ensures shorter { IfOk result (λ x. length x.1.now < length tokens.now) }
 {
     match tokens {
@@ -127,7 +134,8 @@ fn optional_result<'a>(
     tokens: &'a [Token],
 ) -> Result<(Option<TypeExpression>, &'a [Token]), TextError>
     requires { length tokens.now ≤ limit }
-    ensures gives { AnswersRead (λ x. (optional_view x.0, lexemes source.now x.1.now)) result ((optional_result (length source.now) nesting).read (lexemes source.now tokens.now)) }
+    ensures gives { AnswersRead (λ x. (optional_view x.0, lexemes source.now x.1.now)) result
+        ((optional_result (length source.now) nesting).read (lexemes source.now tokens.now)) }
     ensures shorter { IfOk result (λ x. length x.1.now ≤ length tokens.now) }
 {
     let arrow = TokenKind::Punctuation(Punctuation::Arrow);
@@ -148,7 +156,8 @@ fn function<'a>(
     tokens: &'a [Token],
 ) -> Result<(FuncType, &'a [Token]), TextError>
     requires { length tokens.now ≤ limit }
-    ensures gives { AnswersRead (λ x. (function_view x.0, lexemes source.now x.1.now)) result ((function (length source.now) nesting).read (lexemes source.now tokens.now)) }
+    ensures gives { AnswersRead (λ x. (function_view x.0, lexemes source.now x.1.now)) result
+        ((function (length source.now) nesting).read (lexemes source.now tokens.now)) }
     ensures shorter { IfOk result (λ x. length x.1.now < length tokens.now) }
 {
     let (_, tokens) = punctuation(source, tokens, Punctuation::OpenParenthesis)?;
@@ -159,7 +168,8 @@ fn function<'a>(
 
 /// What is answered where no `func` stands.
 fn func_fault(source: &[u8], tokens: &[Token]) -> TextError
-    ensures { result ≡ unless_feature (length source.now) async_feature (want.Keyword kw.Func) (lexemes source.now tokens.now) }
+    ensures { result ≡ unless_feature (length source.now) async_feature (want.Keyword kw.Func)
+        (lexemes source.now tokens.now) }
 {
     let keyword = TokenKind::Keyword(Keyword::Async);
     let feature = match tokens {
@@ -172,7 +182,8 @@ fn func_fault(source: &[u8], tokens: &[Token]) -> TextError
 /// `func` in an interface.
 #[tactic(auto, unfolding(wit_grammar::specs::Grammar::func_word))]
 pub fn func_word<'a>(source: &[u8], tokens: &'a [Token]) -> Result<(Token, &'a [Token]), TextError>
-    ensures gives { AnswersRead (λ x. (lexeme source.now x.0, lexemes source.now x.1.now)) result ((func_word (length source.now) async_feature).read (lexemes source.now tokens.now)) }
+    ensures gives { AnswersRead (λ x. (lexeme source.now x.0, lexemes source.now x.1.now)) result
+        ((func_word (length source.now) async_feature).read (lexemes source.now tokens.now)) }
     ensures shorter { IfOk result (λ x. length x.1.now < length tokens.now) }
 {
     let func = TokenKind::Keyword(Keyword::Func);
@@ -199,7 +210,8 @@ fn function_end<'a>(
     ty: &FuncType,
     tokens: &'a [Token],
 ) -> Result<(Token, &'a [Token]), TextError>
-    ensures gives { AnswersRead (λ x. (lexeme source.now x.0, lexemes source.now x.1.now)) result ((function_end (length source.now) (function_view ty.now)).read (lexemes source.now tokens.now)) }
+    ensures gives { AnswersRead (λ x. (lexeme source.now x.0, lexemes source.now x.1.now)) result
+        ((function_end (length source.now) (function_view ty.now)).read (lexemes source.now tokens.now)) }
     ensures shorter { IfOk result (λ x. length x.1.now < length tokens.now) }
 {
     let semicolon = TokenKind::Punctuation(Punctuation::Semicolon);
@@ -217,7 +229,8 @@ pub fn whole_function<'a>(
     tokens: &'a [Token],
 ) -> Result<(FuncType, &'a [Token]), TextError>
     requires { length tokens.now ≤ limit }
-    ensures gives { AnswersRead (λ x. (function_view x.0, lexemes source.now x.1.now)) result ((whole_function (length source.now) nesting).read (lexemes source.now tokens.now)) }
+    ensures gives { AnswersRead (λ x. (function_view x.0, lexemes source.now x.1.now)) result
+        ((whole_function (length source.now) nesting).read (lexemes source.now tokens.now)) }
     ensures shorter { IfOk result (λ x. length x.1.now < length tokens.now) }
 {
     let (ty, tokens) = function(alloc, source, tokens)?;

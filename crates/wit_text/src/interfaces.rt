@@ -4,7 +4,9 @@ ghost use Rattle.wit_tokens.specs.Lexing.{limit};
 ghost use Rattle.wit_tokens.specs.Tokens.{lexeme, lexemes};
 ghost use Rattle.wit_tokens.specs.View.{definition_view, entry_view, item_view};
 ghost use Rattle.wit_grammar.specs.Faults.{AnswersRead};
-ghost use Rattle.wit_grammar.specs.Grammar.{nesting, item_kind, is_item_start, begins_entry, item_feature, entry_fault, definition, defined, declared, keyword_entry, entry_behind, entry, entry_list, interface};
+ghost use Rattle.wit_grammar.specs.Grammar.{nesting, item_kind, is_item_start, begins_entry, item_feature, entry_fault};
+ghost use Rattle.wit_grammar.specs.Grammar.{definition, defined, declared, keyword_entry, entry_behind, entry};
+ghost use Rattle.wit_grammar.specs.Grammar.{entry_list, interface};
 
 use crate::definitions::{alias, enum_cases, flag_names, record_fields, variant_cases};
 use crate::functions::{func_word, whole_function};
@@ -55,7 +57,8 @@ fn definition<'a>(
     tokens: &'a [Token],
 ) -> Result<(TypeDefKind, &'a [Token]), TextError>
     requires { length tokens.now ≤ limit }
-    ensures gives { AnswersRead (λ x. (definition_view x.0, lexemes source.now x.1.now)) result ((definition (length source.now) nesting start).read (lexemes source.now tokens.now)) }
+    ensures gives { AnswersRead (λ x. (definition_view x.0, lexemes source.now x.1.now)) result
+        ((definition (length source.now) nesting start).read (lexemes source.now tokens.now)) }
     ensures shorter { IfOk result (λ x. length x.1.now < length tokens.now) }
 {
     match start {
@@ -80,7 +83,8 @@ fn defined<'a>(
     tokens: &'a [Token],
 ) -> Result<(InterfaceItem, &'a [Token]), TextError>
     requires { length tokens.now ≤ limit }
-    ensures gives { AnswersRead (λ x. (entry_view x.0, lexemes source.now x.1.now)) result ((defined (length source.now) nesting start span).read (lexemes source.now tokens.now)) }
+    ensures gives { AnswersRead (λ x. (entry_view x.0, lexemes source.now x.1.now)) result
+        ((defined (length source.now) nesting start span).read (lexemes source.now tokens.now)) }
     ensures shorter { IfOk result (λ x. length x.1.now < length tokens.now) }
 {
     let (name, tokens) = identifier(alloc, source, tokens)?;
@@ -98,7 +102,8 @@ fn declared<'a>(
     tokens: &'a [Token],
 ) -> Result<(InterfaceItem, &'a [Token]), TextError>
     requires { length tokens.now ≤ limit }
-    ensures gives { AnswersRead (λ x. (entry_view x.0, lexemes source.now x.1.now)) result ((declared (length source.now) nesting span name).read (lexemes source.now tokens.now)) }
+    ensures gives { AnswersRead (λ x. (entry_view x.0, lexemes source.now x.1.now)) result
+        ((declared (length source.now) nesting span name).read (lexemes source.now tokens.now)) }
     ensures shorter { IfOk result (λ x. length x.1.now < length tokens.now) }
 {
     let (_, tokens) = punctuation(source, tokens, Punctuation::Colon)?;
@@ -117,7 +122,8 @@ fn keyword_entry<'a>(
     tokens: &'a [Token],
 ) -> Result<(InterfaceItem, &'a [Token]), TextError>
     requires { length tokens.now ≤ limit }
-    ensures gives { AnswersRead (λ x. (entry_view x.0, lexemes source.now x.1.now)) result ((keyword_entry (length source.now) nesting start span).read (lexemes source.now tokens.now)) }
+    ensures gives { AnswersRead (λ x. (entry_view x.0, lexemes source.now x.1.now)) result
+        ((keyword_entry (length source.now) nesting start span).read (lexemes source.now tokens.now)) }
     ensures shorter { IfOk result (λ x. length x.1.now < length tokens.now) }
 {
     match start {
@@ -140,7 +146,8 @@ fn entry_behind<'a>(
     tokens: &'a [Token],
 ) -> Result<(InterfaceItem, &'a [Token]), TextError>
     requires { length tokens.now ≤ limit }
-    ensures gives { AnswersRead (λ x. (entry_view x.0, lexemes source.now x.1.now)) result ((entry_behind (length source.now) nesting (lexeme source.now first)).read (lexemes source.now tokens.now)) }
+    ensures gives { AnswersRead (λ x. (entry_view x.0, lexemes source.now x.1.now)) result
+        ((entry_behind (length source.now) nesting (lexeme source.now first)).read (lexemes source.now tokens.now)) }
     ensures shorter { IfOk result (λ x. length x.1.now < length tokens.now) }
 {
     if is_name(source, first) {
@@ -158,7 +165,8 @@ fn entry<'a>(
     tokens: &'a [Token],
 ) -> Result<(InterfaceItem, &'a [Token]), TextError>
     requires { length tokens.now ≤ limit }
-    ensures gives { AnswersRead (λ x. (entry_view x.0, lexemes source.now x.1.now)) result ((entry (length source.now) nesting).read (lexemes source.now tokens.now)) }
+    ensures gives { AnswersRead (λ x. (entry_view x.0, lexemes source.now x.1.now)) result
+        ((entry (length source.now) nesting).read (lexemes source.now tokens.now)) }
     ensures shorter { IfOk result (λ x. length x.1.now < length tokens.now) }
 {
     match tokens {
@@ -176,7 +184,8 @@ fn entry_list<'a>(
     tokens: &'a [Token],
 ) -> Result<(Vec<InterfaceItem>, &'a [Token]), TextError>
     requires { length tokens.now < limit }
-    ensures gives { AnswersRead (λ x. (map entry_view x.0.items, lexemes source.now x.1.now)) result ((entry_list (length source.now) nesting limit).read (lexemes source.now tokens.now)) }
+    ensures gives { AnswersRead (λ x. (map entry_view x.0.items, lexemes source.now x.1.now)) result
+        ((entry_list (length source.now) nesting limit).read (lexemes source.now tokens.now)) }
     ensures shorter { IfOk result (λ x. length x.1.now < length tokens.now) }
 {
     let close = TokenKind::Punctuation(Punctuation::CloseBrace);
@@ -201,7 +210,8 @@ pub fn interface<'a>(
     tokens: &'a [Token],
 ) -> Result<(Item, &'a [Token]), TextError>
     requires { length tokens.now ≤ limit }
-    ensures gives { AnswersRead (λ x. (item_view x.0, lexemes source.now x.1.now)) result ((interface (length source.now) nesting).read (lexemes source.now tokens.now)) }
+    ensures gives { AnswersRead (λ x. (item_view x.0, lexemes source.now x.1.now)) result
+        ((interface (length source.now) nesting).read (lexemes source.now tokens.now)) }
     ensures shorter { IfOk result (λ x. length x.1.now < length tokens.now) }
 {
     let (name, tokens) = identifier(alloc, source, tokens)?;

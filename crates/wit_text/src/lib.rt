@@ -1,6 +1,6 @@
-//! WIT texts: how tokens are read as syntax trees. `parse` carries the promise: it answers the tree exactly where the text's
-//! tokens spell it by the grammar, and else the first fault with its span. The whole profile is read: interfaces with uses,
-//! types and functions, and worlds. Stands on `wit_grammar`, on `wit_tokens` for tokens and trees, and on
+//! WIT texts: how tokens are read as syntax trees. `parse` carries the promise: it answers the tree exactly where the
+//! text's tokens spell it by the grammar, and else the first fault with its span. The whole profile is read: interfaces
+//! with uses, types and functions, and worlds. Stands on `wit_grammar`, on `wit_tokens` for tokens and trees, and on
 //! `atoms` for labels and versions.
 #![tactic(auto)]
 

@@ -19,7 +19,8 @@ fn local_name<'a>(
     source: &[u8],
     tokens: &'a [Token],
 ) -> Result<(Option<Label>, &'a [Token]), TextError>
-    ensures gives { AnswersRead (λ x. (x.0, lexemes source.now x.1.now)) result ((local_alias (length source.now)).read (lexemes source.now tokens.now)) }
+    ensures gives { AnswersRead (λ x. (x.0, lexemes source.now x.1.now)) result
+        ((local_alias (length source.now)).read (lexemes source.now tokens.now)) }
     ensures shorter { IfOk result (λ x. length x.1.now ≤ length tokens.now) }
 {
     let word = TokenKind::Keyword(Keyword::As);
@@ -39,7 +40,8 @@ fn used<'a>(
     source: &[u8],
     tokens: &'a [Token],
 ) -> Result<(UsedName, &'a [Token]), TextError>
-    ensures gives { AnswersRead (λ x. (used_view x.0, lexemes source.now x.1.now)) result ((used (length source.now)).read (lexemes source.now tokens.now)) }
+    ensures gives { AnswersRead (λ x. (used_view x.0, lexemes source.now x.1.now)) result
+        ((used (length source.now)).read (lexemes source.now tokens.now)) }
     ensures shorter { IfOk result (λ x. length x.1.now < length tokens.now) }
 {
     let (name, tokens) = identifier(alloc, source, tokens)?;
@@ -92,7 +94,8 @@ pub fn use_item<'a>(
     tokens: &'a [Token],
 ) -> Result<(InterfaceItem, &'a [Token]), TextError>
     requires { length tokens.now ≤ limit }
-    ensures gives { AnswersRead (λ x. (entry_view x.0, lexemes source.now x.1.now)) result ((use_item (length source.now) span).read (lexemes source.now tokens.now)) }
+    ensures gives { AnswersRead (λ x. (entry_view x.0, lexemes source.now x.1.now)) result
+        ((use_item (length source.now) span).read (lexemes source.now tokens.now)) }
     ensures shorter { IfOk result (λ x. length x.1.now < length tokens.now) }
 {
     let (first, tokens) = identifier(alloc, source, tokens)?;

@@ -4,7 +4,10 @@ ghost use Rattle.wit_tokens.specs.Lexing.{limit};
 ghost use Rattle.wit_tokens.specs.Tokens.{lexeme, lexemes};
 ghost use Rattle.wit_tokens.specs.View.{world_entry_view, item_view};
 ghost use Rattle.wit_grammar.specs.Faults.{AnswersRead};
-ghost use Rattle.wit_grammar.specs.Grammar.{nesting, keyword_direction, direction_of, world_keyword, world_feature, world_fault, single_keyword, single_kind, single_fault, begins_behind_colon, whole_foreign, single, colon_behind, world_colon, world_entry_behind, world_entry, world_list, world};
+ghost use Rattle.wit_grammar.specs.Grammar.{nesting, keyword_direction, direction_of, world_keyword, world_feature};
+ghost use Rattle.wit_grammar.specs.Grammar.{world_fault, single_keyword, single_kind, single_fault};
+ghost use Rattle.wit_grammar.specs.Grammar.{begins_behind_colon, whole_foreign, single, colon_behind, world_colon};
+ghost use Rattle.wit_grammar.specs.Grammar.{world_entry_behind, world_entry, world_list, world};
 
 use crate::functions::whole_function;
 use atoms::Label;
@@ -120,7 +123,8 @@ fn whole_foreign<'a>(
     name: Label,
     tokens: &'a [Token],
 ) -> Result<(WorldItem, &'a [Token]), TextError>
-    ensures gives { AnswersRead (λ x. (world_entry_view x.0, lexemes source.now x.1.now)) result ((whole_foreign (length source.now) direction namespace name).read (lexemes source.now tokens.now)) }
+    ensures gives { AnswersRead (λ x. (world_entry_view x.0, lexemes source.now x.1.now)) result
+        ((whole_foreign (length source.now) direction namespace name).read (lexemes source.now tokens.now)) }
     ensures shorter { IfOk result (λ x. length x.1.now < length tokens.now) }
 {
     let (path, tokens) = foreign(alloc, source, namespace, name, tokens)?;
@@ -140,7 +144,8 @@ fn single<'a>(
     tokens: &'a [Token],
 ) -> Result<(WorldItem, &'a [Token]), TextError>
     requires { length tokens.now ≤ limit }
-    ensures gives { AnswersRead (λ x. (world_entry_view x.0, lexemes source.now x.1.now)) result ((single (length source.now) nesting direction span name).read (lexemes source.now tokens.now)) }
+    ensures gives { AnswersRead (λ x. (world_entry_view x.0, lexemes source.now x.1.now)) result
+        ((single (length source.now) nesting direction span name).read (lexemes source.now tokens.now)) }
     ensures shorter { IfOk result (λ x. length x.1.now < length tokens.now) }
 {
     let (ty, tokens) = whole_function(alloc, source, tokens)?;
@@ -160,7 +165,9 @@ fn colon_behind<'a>(
     tokens: &'a [Token],
 ) -> Result<(WorldItem, &'a [Token]), TextError>
     requires { length tokens.now ≤ limit }
-    ensures gives { AnswersRead (λ x. (world_entry_view x.0, lexemes source.now x.1.now)) result ((colon_behind (length source.now) nesting direction span name (lexeme source.now first)).read (lexemes source.now tokens.now)) }
+    ensures gives { AnswersRead (λ x. (world_entry_view x.0, lexemes source.now x.1.now)) result
+        ((colon_behind (length source.now) nesting direction span name (lexeme source.now first)).read
+        (lexemes source.now tokens.now)) }
     ensures shorter { IfOk result (λ x. length x.1.now < length tokens.now) }
 {
     if is_name(source, first) {
@@ -181,7 +188,8 @@ fn world_colon<'a>(
     tokens: &'a [Token],
 ) -> Result<(WorldItem, &'a [Token]), TextError>
     requires { length tokens.now ≤ limit }
-    ensures gives { AnswersRead (λ x. (world_entry_view x.0, lexemes source.now x.1.now)) result ((world_colon (length source.now) nesting direction span name).read (lexemes source.now tokens.now)) }
+    ensures gives { AnswersRead (λ x. (world_entry_view x.0, lexemes source.now x.1.now)) result
+        ((world_colon (length source.now) nesting direction span name).read (lexemes source.now tokens.now)) }
     ensures shorter { IfOk result (λ x. length x.1.now < length tokens.now) }
 {
     let (_, tokens) = punctuation(source, tokens, Punctuation::Colon)?;
@@ -203,7 +211,8 @@ fn world_entry_behind<'a>(
     tokens: &'a [Token],
 ) -> Result<(WorldItem, &'a [Token]), TextError>
     requires { length tokens.now ≤ limit }
-    ensures gives { AnswersRead (λ x. (world_entry_view x.0, lexemes source.now x.1.now)) result ((world_entry_behind (length source.now) nesting direction span).read (lexemes source.now tokens.now)) }
+    ensures gives { AnswersRead (λ x. (world_entry_view x.0, lexemes source.now x.1.now)) result
+        ((world_entry_behind (length source.now) nesting direction span).read (lexemes source.now tokens.now)) }
     ensures shorter { IfOk result (λ x. length x.1.now < length tokens.now) }
 {
     let semicolon = TokenKind::Punctuation(Punctuation::Semicolon);
@@ -225,7 +234,8 @@ fn world_entry<'a>(
     tokens: &'a [Token],
 ) -> Result<(WorldItem, &'a [Token]), TextError>
     requires { length tokens.now ≤ limit }
-    ensures gives { AnswersRead (λ x. (world_entry_view x.0, lexemes source.now x.1.now)) result ((world_entry (length source.now) nesting).read (lexemes source.now tokens.now)) }
+    ensures gives { AnswersRead (λ x. (world_entry_view x.0, lexemes source.now x.1.now)) result
+        ((world_entry (length source.now) nesting).read (lexemes source.now tokens.now)) }
     ensures shorter { IfOk result (λ x. length x.1.now < length tokens.now) }
 {
     let [first, rest @ ..] = tokens else {
@@ -244,7 +254,8 @@ fn world_list<'a>(
     tokens: &'a [Token],
 ) -> Result<(Vec<WorldItem>, &'a [Token]), TextError>
     requires { length tokens.now < limit }
-    ensures gives { AnswersRead (λ x. (map world_entry_view x.0.items, lexemes source.now x.1.now)) result ((world_list (length source.now) nesting limit).read (lexemes source.now tokens.now)) }
+    ensures gives { AnswersRead (λ x. (map world_entry_view x.0.items, lexemes source.now x.1.now)) result
+        ((world_list (length source.now) nesting limit).read (lexemes source.now tokens.now)) }
     ensures shorter { IfOk result (λ x. length x.1.now < length tokens.now) }
 {
     let close = TokenKind::Punctuation(Punctuation::CloseBrace);
@@ -270,7 +281,8 @@ pub fn world<'a>(
     tokens: &'a [Token],
 ) -> Result<(Item, &'a [Token]), TextError>
     requires { length tokens.now ≤ limit }
-    ensures gives { AnswersRead (λ x. (item_view x.0, lexemes source.now x.1.now)) result ((world (length source.now) nesting span).read (lexemes source.now tokens.now)) }
+    ensures gives { AnswersRead (λ x. (item_view x.0, lexemes source.now x.1.now)) result
+        ((world (length source.now) nesting span).read (lexemes source.now tokens.now)) }
     ensures shorter { IfOk result (λ x. length x.1.now < length tokens.now) }
 {
     let (name, tokens) = identifier(alloc, source, tokens)?;

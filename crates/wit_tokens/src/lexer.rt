@@ -1,7 +1,12 @@
 //! From text to tokens.
-ghost use Rattle.std.specs.Prelude.{◌≡◌, ◌<◌, ◌≤◌, ◌+◌, ◌^◌, ◌∷◌, IsTrue, false, length, take, drop, if◌then◌else◌, IfOk, IfErr, IfSome, IfNone, None};
+ghost use Rattle.std.specs.Prelude.{◌≡◌, ◌<◌, ◌≤◌, ◌+◌, ◌^◌, ◌∷◌, IsTrue, false, length, take, drop, if◌then◌else◌};
+ghost use Rattle.std.specs.Prelude.{IfOk, IfErr, IfSome, IfNone, None};
 ghost use Rattle.atoms.specs.Label.{are_words};
-ghost use Rattle.wit_tokens.specs.Lexing.{is_letter, is_blank, is_in_version, blank_run, word_run, digit_run, version_run, line_run, comment_run, plus, begins_with, begins_pair, begins_letter, begins_digit, mark_of, char_len, token, slash_front, word_kind, word_front, escape_front, at_front, front_of, Takes, limit, Lexes, LexFault};
+ghost use Rattle.wit_tokens.specs.Lexing.{is_letter, is_blank, is_in_version, blank_run, word_run, digit_run};
+ghost use Rattle.wit_tokens.specs.Lexing.{version_run, line_run, comment_run, plus, begins_with, begins_pair};
+ghost use Rattle.wit_tokens.specs.Lexing.{begins_letter, begins_digit, mark_of, char_len, token, slash_front};
+ghost use Rattle.wit_tokens.specs.Lexing.{word_kind, word_front, escape_front, at_front, front_of, Takes, limit, Lexes};
+ghost use Rattle.wit_tokens.specs.Lexing.{LexFault};
 ghost use Rattle.wit_tokens.specs.declared.lexer.Front.TheVariants as front;
 ghost use Rattle.wit_tokens.specs.declared.token.Punctuation.TheVariants as mark;
 ghost use Rattle.wit_tokens.specs.declared.token.TokenKind.TheVariants as kind;
@@ -92,8 +97,8 @@ fn blank_len(text: &[u8]) -> usize
     len
 }
 
-/// The length of the word at the front, if it is a label of lower-case letters and digits, of any length. Most words are
-/// such, and one way over their bytes finds them. `None` says nothing.
+/// The length of the word at the front, if it is a label of lower-case letters and digits, of any length. Most words
+/// are such, and one way over their bytes finds them. `None` says nothing.
 fn lower_word_len(text: &[u8]) -> Option<usize>
     ensures is { IfSome result (λ n. n ≡ word_run text.now) }
     ensures words { IfSome result (λ n. IsTrue (are_words (take n text.now))) }

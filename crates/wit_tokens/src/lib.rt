@@ -1,6 +1,6 @@
-//! Tokens of WIT texts: what they are, where they stand, and why a text is refused. `lex` carries the promise: it answers
-//! the text's one list of tokens, or the first character, word or comment that is neither token nor blank. `wit_syntax` has
-//! the syntax trees. Stands on `atoms` for labels.
+//! Tokens of WIT texts: what they are, where they stand, and why a text is refused. `lex` carries the promise: it
+//! answers the text's one list of tokens, or the first character, word or comment that is neither token nor blank.
+//! `wit_syntax` has the syntax trees. Stands on `atoms` for labels.
 #![tactic(auto)]
 
 mod error;

@@ -1,5 +1,5 @@
-//! The syntax trees of WIT texts, and in `specs/View.antt` the plain tree that each stands for. Stands on `atoms` for labels
-//! and on `wit_tokens` for spans.
+//! The syntax trees of WIT texts, and in `specs/View.antt` the plain tree that each stands for. Stands on `atoms` for
+//! labels and on `wit_tokens` for spans.
 
 mod ast;
 

@@ -1,6 +1,7 @@
 //! One call whose arguments and result are JSON.
 
-ghost use Rattle.std.specs.Prelude.{◌≡◌, ◌≢◌, ◌≤◌, ℕ, List, true, false, length, take, map, IfOk, IfErr, OnOk, IsErrOf, string_bytes, Ok, option_to_list};
+ghost use Rattle.std.specs.Prelude.{◌≡◌, ◌≢◌, ◌≤◌, ℕ, List, true, false, length, take, map, IfOk, IfErr, OnOk, IsErrOf};
+ghost use Rattle.std.specs.Prelude.{string_bytes, Ok, option_to_list};
 ghost use Rattle.std.specs.Option.{option_map};
 ghost use Rattle.std.specs.Io.KnownBytes.{Appends, Keeps};
 ghost use Rattle.canonical_abi.specs.Values.{HaveTypes};
@@ -31,7 +32,7 @@ const MEMORY: u32 = 65_536;
 const MAX_MEMORY: u32 = 1_048_576;
 
 /// Calls a function of the package over two fresh memories, and writes its result as compact JSON and a
-/// newline, or nothing where it has no result. `args` is a JSON array of the arguments. The body is run
+/// newline, or nothing if it has no result. `args` is a JSON array of the arguments. The body is run
 /// once, and is then as that call left it. Faults come in this order: 63, those of `args` (61, 62), those
 /// of the call, 65; only after 65 a beginning may have been written. With 63, faults of `args` and 54 the
 /// body was not run.
@@ -46,12 +47,15 @@ pub fn run_call_with<W: Sink, B: Body<Space>>(
 ) -> Result<(), Refused>
     requires { W.has_failed writer.old ≡ false }
     ensures ok { OnOk result ((output : List ℕ)
-        × Prints «package».now.resolve iface.now func.now args.now (B.runs body.old) (B.posts body.old) (B.state body.old) (B.state body.new) output
+        × Prints «package».now.resolve iface.now func.now args.now (B.runs body.old) (B.posts body.old)
+        (B.state body.old) (B.state body.new) output
         × Appends (W.contents writer.old) (W.contents writer.new) output) }
     ensures begun { IsErrOf result Refused.Write → (output : List ℕ) × (count : ℕ)
-        × Prints «package».now.resolve iface.now func.now args.now (B.runs body.old) (B.posts body.old) (B.state body.old) (B.state body.new) output
+        × Prints «package».now.resolve iface.now func.now args.now (B.runs body.old) (B.posts body.old)
+        (B.state body.old) (B.state body.new) output
         × (count ≤ length output) × Appends (W.contents writer.old) (W.contents writer.new) (take count output) }
-    ensures err { IfErr result (RunCallRefuses «package».now.resolve iface.now func.now args.now (B.runs body.old) (B.posts body.old) (B.state body.old) (B.state body.new)) }
+    ensures err { IfErr result (RunCallRefuses «package».now.resolve iface.now func.now args.now (B.runs body.old)
+        (B.posts body.old) (B.state body.old) (B.state body.new)) }
     ensures not_run { IfErr result (λ e. IsBeforeCall e → body.new ≡ body.old) }
     ensures broken { IsErrOf result Refused.Write → W.has_failed writer.new ≡ true }
     ensures unbroken { W.has_failed writer.new ≡ true → IsErrOf result Refused.Write }
@@ -93,7 +97,8 @@ pub fn run_call<W: Sink>(
         × Prints «package».now.resolve iface.now func.now args.now (runs body) (posts body) (state body) after output
         × (count ≤ length output) × Appends (W.contents writer.old) (W.contents writer.new) (take count output) }
     ensures err { IfErr result (λ e. (after : List ℕ)
-        × RunCallRefuses «package».now.resolve iface.now func.now args.now (runs body) (posts body) (state body) after e) }
+        × RunCallRefuses «package».now.resolve iface.now func.now args.now (runs body) (posts body) (state body) after
+        e) }
     ensures broken { IsErrOf result Refused.Write → W.has_failed writer.new ≡ true }
     ensures unbroken { W.has_failed writer.new ≡ true → IsErrOf result Refused.Write }
     ensures unwritten { IfErr result (λ e. e ≢ Refused.Write → Keeps (W.contents writer.old) (W.contents writer.new)) }
@@ -124,7 +129,8 @@ fn output_of(
     requires function { IsFunction «package».now.resolve func }
     requires typed { HaveTypes (option_to_list (option_map value_of answer))
         (result_fields (function_type «package».now.resolve func).result) }
-    ensures { IfOk result (λ output. IsOutputOf «package».now.resolve (function_signature (function_at «package».now.resolve func)).result
+    ensures { IfOk result (λ output. IsOutputOf «package».now.resolve
+        (function_signature (function_at «package».now.resolve func)).result
         (option_map value_of answer) (string_bytes output)) }
 {
     let ty = result_type(package.resolve(), func);

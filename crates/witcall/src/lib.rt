@@ -1,9 +1,10 @@
 //! Packages, typed calls and JSON: the library of the program.
 //!
-//! `open` reads a package from its text or its binary, `open_set` one that uses others, and `Package::to_binary` and `Package::to_text` write it. `Session` carries typed
-//! calls between two components, `run_call` makes one call whose arguments and result are JSON, `run` does what needs a
-//! file alone, and `report` tells why something was refused. `command` reads the words of a command line. It stands on all
-//! layers below and shows their types; `Session::call` carries the promise of a call.
+//! `open` reads a package from its text or its binary, `open_set` one that uses others, and `Package::to_binary` and
+//! `Package::to_text` write it. `Session` carries typed calls between two components, `run_call` makes one call whose
+//! arguments and result are JSON, `run` does what needs a file alone, and `report` says why something was refused.
+//! `command` reads the words of a command line. It depends on all layers below and shows their types; the contract of
+//! `Session::call` proves the promise of a call.
 #![tactic(auto)]
 
 mod calling;

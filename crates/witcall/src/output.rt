@@ -6,7 +6,7 @@ ghost use Rattle.std.specs.Io.KnownBytes.{Appends};
 use crate::refused::Refused;
 use atoms::{Sink, write_all};
 
-/// Writes all the bytes: 65 where a write fails, and then a beginning of them is written.
+/// Writes all the bytes: 65 if a write fails, and then a beginning of them is written.
 pub fn write_bytes<W: Sink>(writer: &mut W, bytes: &[u8]) -> Result<(), Refused>
     requires { W.has_failed writer.old ≡ false }
     ensures ok { OnOk result (Appends (W.contents writer.old) (W.contents writer.new) bytes.now) }

@@ -18,14 +18,14 @@ use lift_lower::{Flats, Types, Val, ask_area, lower_arguments, store};
 use opening::Package;
 use tables::{FunctionId, ValType};
 
-/// The core values that a call is given. The last is the address of the return area, where there is one.
+/// The core values that a call is given. The last is the address of the return area, if there is one.
 #[derive(Drop)]
 pub(crate) struct Placed {
     pub(crate) flats: Flats,
     pub(crate) area: Option<u32>,
 }
 
-/// Lowers the arguments into the caller, and then asks for the return area where the result does not go flat.
+/// Lowers the arguments into the caller, and then asks for the return area if the result does not go flat.
 /// Takes no memory of the host.
 pub(crate) fn place_call<C: Guest>(
     table: &Types,
@@ -35,12 +35,14 @@ pub(crate) fn place_call<C: Guest>(
 ) -> Result<Placed, Fault>
     requires function { IsFunction table.now func }
     requires typed { HaveTypes (map value_of arguments.now) (function_type table.now func).params }
-    ensures placed { IfOk result (λ placed. IsReady C.allocates (function_type table.now func) (map value_of arguments.now)
+    ensures placed { IfOk result (λ placed. IsReady C.allocates (function_type table.now func)
+        (map value_of arguments.now)
         (C.memory caller.old) placed.flats.items placed.area (C.memory caller.new)) }
     ensures small { IfOk result (λ _. IsLimited (C.memory caller.new)) }
     ensures area { IfOk result (λ placed. IsAreaIn (result_fields (function_type table.now func).result)
         (C.memory caller.new).bytes placed.area) }
-    ensures fault { IfErr result (λ fault. IsNotReady C.allocates (function_type table.now func) (map value_of arguments.now)
+    ensures fault { IfErr result (λ fault. IsNotReady C.allocates (function_type table.now func)
+        (map value_of arguments.now)
         (C.memory caller.old) fault (C.memory caller.new)) }
 {
     let mut flats = lower_arguments(table, func, arguments, caller)?;
@@ -64,7 +66,8 @@ pub(crate) fn place_value<C: Guest>(
 ) -> Result<Held, Fault>
     requires known { IsTypeOf «package».now.resolve ty }
     requires typed { HasType (value_of value.now) (closed_type «package».now.resolve ty) }
-    ensures placed { PlacesValue C.allocates (closed_type «package».now.resolve ty) (value_of value.now) (C.memory caller.old)
+    ensures placed { PlacesValue C.allocates (closed_type «package».now.resolve ty) (value_of value.now)
+        (C.memory caller.old)
         (placed_answer «package».now.resolve result) (C.memory caller.new) }
     ensures known { IfOk result (λ held. IsTypeOf «package».now.resolve held.ty) }
     ensures same_type { IfOk result (λ held. held.ty ≡ ty) }

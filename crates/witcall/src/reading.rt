@@ -9,7 +9,7 @@ use atoms::{ReadUpToError, Source, read_up_to};
 use opening::{MAX_INPUT, OpenError};
 use std::alloc::Global;
 
-/// All the bytes of a reader, or the first 1,048,577 where there are more, however they are cut. Where a
+/// All the bytes of a reader, or the first 1,048,577 if there are more, however they are cut. If a
 /// read fails this is 20, with the number of bytes that came before.
 pub fn read_all<R: Source>(alloc: Global, reader: &mut R) -> Result<Vec<u8>, OpenError>
     requires { R.has_failed reader.old ≡ false }

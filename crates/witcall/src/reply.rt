@@ -35,15 +35,16 @@ pub struct Reply {
     value: Option<Val>,
     ghost function: { IsFunction «package».resolve func },
     ghost named: { params.items ≡ (function_signature (function_at «package».resolve func)).params },
-    ghost typed: { ∥ HaveTypes (map value_of (option_to_list value)) (result_fields (function_type «package».resolve func).result) ∥₁ },
+    ghost typed: { ∥ HaveTypes (map value_of (option_to_list value))
+        (result_fields (function_type «package».resolve func).result) ∥₁ },
 }
 
 impl Reply {
     ghost use Rattle.std.specs.Prelude.{IfOk, IfErr};
     ghost use Rattle.witcall.specs.Replying.{IsReplyOf, ReplyRefuses, DenotesNoArguments, RepliesWith, HasNoRoom};
 
-    /// The body of a function of the package: 63 where it has no function of that name, 61 and 62
-    /// where `reply` is no JSON array of the one value of its result, or of none where it has no result.
+    /// The body of a function of the package: 63 if it has no function of that name, 61 and 62
+    /// if `reply` is no JSON array of the one value of its result, or of none if it has no result.
     pub fn of(
         alloc: Global,
         package: &Package,
@@ -71,7 +72,8 @@ impl Reply {
     /// Lifts the arguments that it was given.
     fn lift_arguments(&self, memory: &Space, arguments: &[Flat]) -> Result<(), Stopped>
         ensures ok { OnOk result ((vs : List Value) × Denotes max_flat_params
-            (function_type self.now.«package».resolve self.now.func).params (space_memory memory.now).bytes arguments.now vs) }
+            (function_type self.now.«package».resolve self.now.func).params (space_memory memory.now).bytes
+            arguments.now vs) }
         ensures err { OnErr result (DenotesNoArguments self.now.«package».resolve self.now.func
             (space_memory memory.now).bytes arguments.now) }
     {
@@ -92,7 +94,8 @@ impl Reply {
     /// Lowers its value as the answer.
     fn lower_value(&self, memory: &mut Space) -> Result<FlatResults, Stopped>
         ensures ok { IfOk result (λ flats. RepliesWith (function_type self.now.«package».resolve self.now.func)
-            (map value_of (option_to_list self.now.value)) (space_memory memory.old) flats.items (space_memory memory.new)) }
+            (map value_of (option_to_list self.now.value)) (space_memory memory.old) flats.items
+            (space_memory memory.new)) }
         ensures err { OnErr result (HasNoRoom (function_type self.now.«package».resolve self.now.func)
             (map value_of (option_to_list self.now.value)) (space_memory memory.old) (space_memory memory.new)) }
     {
@@ -100,7 +103,7 @@ impl Reply {
         let ty = result_type(table.resolve(), self.func);
         let types = ty.as_slice();
         let values = self.value.as_slice();
-        // Its value has its type, as the test tells `lower_answer`.
+        // Its value has its type, which `lower_answer` requires.
         if !have_types(table.resolve(), table.layouts(), types, values) {
             unreachable!()
         }

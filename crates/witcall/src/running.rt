@@ -1,6 +1,7 @@
 //! What is made of a whole input, and written.
 
-ghost use Rattle.std.specs.Prelude.{◌≡◌, ◌≢◌, ◌≤◌, ◌⊎◌, ◌∷◌, ◌++◌, [], ℕ, List, true, false, length, take, Err, IfOk, IfErr, OnOk, IsErrOf};
+ghost use Rattle.std.specs.Prelude.{◌≡◌, ◌≢◌, ◌≤◌, ◌⊎◌, ◌∷◌, ◌++◌, [], ℕ, List, true, false, length, take, Err, IfOk};
+ghost use Rattle.std.specs.Prelude.{IfErr, OnOk, IsErrOf};
 ghost use Rattle.std.specs.Io.KnownBytes.{Appends, Consumes, Keeps};
 ghost use Rattle.atoms.specs.Streams.{ReadsUpTo, ConsumesMany};
 ghost use Rattle.opening.specs.Opening.{IsOpened, OpenRefuses};
@@ -29,9 +30,10 @@ fn made(alloc: Global, job: Job, package: &Package) -> Result<Vec<u8>, Refused>
     }
 }
 
-/// Does a job with all the bytes of a reader, and writes what it makes, once it is whole: `run_set` behind no package. Faults come in this order: 20,
-/// those of `open`, 17, 36 or want of memory, 65; only after 65 a beginning may have been written. All bytes are read before anything is opened, so a
-/// read that fails is told as 20, whatever the bytes are.
+/// Does a job with all the bytes of a reader, and writes what it makes, once it is whole: `run_set` with no package.
+/// Faults come in this order: 20, those of `open`, 17, 36 or out of memory, 65; only after 65 a beginning may have
+/// been written. All bytes are read before anything is opened, so if a read fails the fault is 20, whatever the bytes
+/// are.
 pub fn run<R: Source, W: Sink>(
     alloc: Global,
     job: Job,
@@ -42,7 +44,8 @@ pub fn run<R: Source, W: Sink>(
     requires writer { W.has_failed writer.old ≡ false }
     ensures ok { OnOk result ((output : List ℕ) × MakesOutput [] (R.remaining reader.old) job output
         × Appends (W.contents writer.old) (W.contents writer.new) output) }
-    ensures begun { IsErrOf result Refused.Write → (output : List ℕ) × (count : ℕ) × MakesOutput [] (R.remaining reader.old) job output
+    ensures begun { IsErrOf result Refused.Write → (output : List ℕ) × (count : ℕ)
+        × MakesOutput [] (R.remaining reader.old) job output
         × (count ≤ length output) × Appends (W.contents writer.old) (W.contents writer.new) (take count output) }
     ensures err { IfErr result (RunRefuses [] (R.remaining reader.old) job) }
     ensures memory { result ≡ Err (Refused.Open OpenError.NoMemory) → R.has_failed reader.new ≡ false }
@@ -50,7 +53,8 @@ pub fn run<R: Source, W: Sink>(
         ((R.has_failed reader.new ≡ true) × ConsumesMany (R.remaining reader.old) (R.remaining reader.new) n) }
     ensures failing { R.has_failed reader.new ≡ true → (n : ℕ) × (result ≡ Err (Refused.Open (OpenError.Read n))) }
     ensures whole { R.has_failed reader.new ≡ false → result ≢ Err (Refused.Open OpenError.NoMemory)
-        → (bytes : List ℕ) × ReadsUpTo 1048576 (R.remaining reader.old) bytes × Consumes (R.remaining reader.old) (R.remaining reader.new) bytes }
+        → (bytes : List ℕ) × ReadsUpTo 1048576 (R.remaining reader.old) bytes
+        × Consumes (R.remaining reader.old) (R.remaining reader.new) bytes }
     ensures broken { IsErrOf result Refused.Write → W.has_failed writer.new ≡ true }
     ensures unbroken { W.has_failed writer.new ≡ true → IsErrOf result Refused.Write }
     ensures unwritten { IfErr result (λ e. e ≢ Refused.Write → Keeps (W.contents writer.old) (W.contents writer.new)) }
@@ -58,7 +62,7 @@ pub fn run<R: Source, W: Sink>(
     run_set(alloc, job, &[], reader, writer)
 }
 
-/// The bytes of packages, the last behind the earlier ones.
+/// The bytes of packages: the last may depend on the earlier ones.
 fn all_inputs<'a>(
     alloc: Global,
     earlier: &'a [Vec<u8>],
@@ -74,17 +78,19 @@ fn all_inputs<'a>(
     Ok(inputs)
 }
 
-/// Opens a package behind these.
+/// Opens a package that may depend on these.
 fn opened_behind(alloc: Global, earlier: &[Vec<u8>], last: &[u8]) -> Result<Package, OpenError>
     ensures ok { IfOk result (λ p. IsOpened (all_items earlier.now ++ last.now ∷ []) p.resolve) }
-    ensures err { IfErr result (λ e. (e ≡ OpenError.NoMemory) ⊎ OpenRefuses (all_items earlier.now ++ last.now ∷ []) e) }
+    ensures err { IfErr result (λ e. (e ≡ OpenError.NoMemory)
+        ⊎ OpenRefuses (all_items earlier.now ++ last.now ∷ []) e) }
 {
     let inputs = all_inputs(alloc, earlier, last)?;
     open_set(alloc, inputs.as_slice())
 }
 
-/// Does a job as `run`, with a package that may use interfaces of these, the earlier ones, each of which may use those before it. What is wrong
-/// with one of them comes before all that is wrong with the package, but that its bytes are read first.
+/// Does a job as `run`, with a package that may use interfaces of these, the earlier ones, each of which may use those
+/// before it. What is wrong with one of them comes before all that is wrong with the package, except that its bytes are
+/// read first.
 pub fn run_set<R: Source, W: Sink>(
     alloc: Global,
     job: Job,
@@ -94,9 +100,11 @@ pub fn run_set<R: Source, W: Sink>(
 ) -> Result<(), Refused>
     requires reader { R.has_failed reader.old ≡ false }
     requires writer { W.has_failed writer.old ≡ false }
-    ensures ok { OnOk result ((output : List ℕ) × MakesOutput (all_items earlier.now) (R.remaining reader.old) job output
+    ensures ok { OnOk result ((output : List ℕ)
+        × MakesOutput (all_items earlier.now) (R.remaining reader.old) job output
         × Appends (W.contents writer.old) (W.contents writer.new) output) }
-    ensures begun { IsErrOf result Refused.Write → (output : List ℕ) × (count : ℕ) × MakesOutput (all_items earlier.now) (R.remaining reader.old) job output
+    ensures begun { IsErrOf result Refused.Write → (output : List ℕ) × (count : ℕ)
+        × MakesOutput (all_items earlier.now) (R.remaining reader.old) job output
         × (count ≤ length output) × Appends (W.contents writer.old) (W.contents writer.new) (take count output) }
     ensures err { IfErr result (RunRefuses (all_items earlier.now) (R.remaining reader.old) job) }
     ensures memory { result ≡ Err (Refused.Open OpenError.NoMemory) → R.has_failed reader.new ≡ false }
@@ -104,7 +112,8 @@ pub fn run_set<R: Source, W: Sink>(
         ((R.has_failed reader.new ≡ true) × ConsumesMany (R.remaining reader.old) (R.remaining reader.new) n) }
     ensures failing { R.has_failed reader.new ≡ true → (n : ℕ) × (result ≡ Err (Refused.Open (OpenError.Read n))) }
     ensures whole { R.has_failed reader.new ≡ false → result ≢ Err (Refused.Open OpenError.NoMemory)
-        → (bytes : List ℕ) × ReadsUpTo 1048576 (R.remaining reader.old) bytes × Consumes (R.remaining reader.old) (R.remaining reader.new) bytes }
+        → (bytes : List ℕ) × ReadsUpTo 1048576 (R.remaining reader.old) bytes
+        × Consumes (R.remaining reader.old) (R.remaining reader.new) bytes }
     ensures broken { IsErrOf result Refused.Write → W.has_failed writer.new ≡ true }
     ensures unbroken { W.has_failed writer.new ≡ true → IsErrOf result Refused.Write }
     ensures unwritten { IfErr result (λ e. e ≢ Refused.Write → Keeps (W.contents writer.old) (W.contents writer.new)) }

@@ -12,7 +12,8 @@ ghost use Rattle.canonical_abi.specs.Session.{PlacesValue, ReadsValue, TakesStep
 ghost use Rattle.canonical_abi.specs.Headline.{IsPromised};
 ghost use Rattle.values.specs.Val.{value_of};
 ghost use Rattle.witcall.specs.Session.{typed_answer};
-ghost use Rattle.witcall.specs.Steps.{IsKnownAnswer, IsOfStep, IsStep, answer_of, held_of, placed_answer, read_answer, step_of, RunsSteps};
+ghost use Rattle.witcall.specs.Steps.{IsKnownAnswer, IsOfStep, IsStep, answer_of, held_of, placed_answer, read_answer};
+ghost use Rattle.witcall.specs.Steps.{step_of, RunsSteps};
 
 use crate::placing::{place_call, place_value};
 use crate::steps::{Answer, Held, Step, held_by};
@@ -76,11 +77,11 @@ impl<'a, C: Guest, E: Guest, B: Body<E>> Session<'a, C, E, B> {
         (self.caller, self.callee, self.body)
     }
 
-    /// Calls a function of the package: lowers the arguments into the caller and asks for the return area
-    /// where the result does not go flat (step `place`), calls the link, and lifts the result (step `take`).
-    /// The blocks that it asked for stay live. Memory of the host is taken for the result's tree alone: none for no result, or
-    /// for one of a plain type. Over honest guests within the limit the callee finds exactly the arguments and is run once, the caller lifts exactly its
-    /// answer, no byte outside the blocks is changed, and a trap stands.
+    /// Calls a function of the package: lowers the arguments into the caller and asks for the return area if the
+    /// result does not go flat (step `place`), calls the link, and lifts the result (step `take`). The blocks that it
+    /// asked for stay live. Memory of the host is taken for the result's tree alone: none for no result, or for one of
+    /// a plain type. With honest guests within the limit the callee finds exactly the arguments and is run once, the
+    /// caller lifts exactly its answer, no byte outside the blocks is changed, and a trap has the cause it names.
     pub fn call(
         &mut self,
         alloc: Global,
@@ -91,29 +92,56 @@ impl<'a, C: Guest, E: Guest, B: Body<E>> Session<'a, C, E, B> {
         requires typed { HaveTypes (map value_of arguments.now)
             (function_type self.old.package.now.resolve func).params }
         ensures call { TypedCall
-            (record { caller_allocates = C.allocates; callee_allocates = E.allocates; runs = B.runs self.old.body; posts = B.posts self.old.body })
+            (record {
+              caller_allocates = C.allocates;
+              callee_allocates = E.allocates;
+              runs = B.runs self.old.body;
+              posts = B.posts self.old.body;
+            })
             exact
             (function_type self.old.package.now.resolve func)
             (map value_of arguments.now)
-            (record { caller = C.memory self.old.caller; callee = E.memory self.old.callee; body = B.state self.old.body })
+            (record {
+              caller = C.memory self.old.caller;
+              callee = E.memory self.old.callee;
+              body = B.state self.old.body;
+            })
             (typed_answer result)
-            (record { caller = C.memory self.new.caller; callee = E.memory self.new.callee; body = B.state self.new.body }) }
+            (record {
+              caller = C.memory self.new.caller;
+              callee = E.memory self.new.callee;
+              body = B.state self.new.body;
+            }) }
         ensures promise { IsPromised
-            (record { caller_allocates = C.allocates; callee_allocates = E.allocates; runs = B.runs self.old.body; posts = B.posts self.old.body })
+            (record {
+              caller_allocates = C.allocates;
+              callee_allocates = E.allocates;
+              runs = B.runs self.old.body;
+              posts = B.posts self.old.body;
+            })
             C.releases
             E.releases
             exact
             (function_type self.old.package.now.resolve func)
             (map value_of arguments.now)
-            (record { caller = C.memory self.old.caller; callee = E.memory self.old.callee; body = B.state self.old.body })
+            (record {
+              caller = C.memory self.old.caller;
+              callee = E.memory self.old.callee;
+              body = B.state self.old.body;
+            })
             (typed_answer result)
-            (record { caller = C.memory self.new.caller; callee = E.memory self.new.callee; body = B.state self.new.body }) }
+            (record {
+              caller = C.memory self.new.caller;
+              callee = E.memory self.new.callee;
+              body = B.state self.new.body;
+            }) }
         ensures same_runs { AllowsSameRuns (B.runs self.old.body) (B.runs self.new.body) }
         ensures same_posts { AllowsSamePosts (B.posts self.old.body) (B.posts self.new.body) }
         ensures typed { IfOk result (λ v. HaveTypes (option_to_list (option_map value_of v))
             (result_fields (function_type self.old.package.now.resolve func).result)) }
         ensures package { self.new.package.now ≡ self.old.package.now }
-        ensures no_memory { IfSome (function_type self.old.package.now.resolve func).result IsPlain → result ≢ Err Fault.NoMemory }
+        ensures no_memory { IfSome (function_type self.old.package.now.resolve func).result IsPlain
+            → result ≢ Err Fault.NoMemory }
     {
         call_typed(
             alloc,
@@ -126,8 +154,8 @@ impl<'a, C: Guest, E: Guest, B: Body<E>> Session<'a, C, E, B> {
         )
     }
 
-    /// Stores a value in a block of the caller, which is asked for first, and tells where. The block stays live until it is
-    /// given back. A trap is in step `place`: the first request that fails. Takes no memory of the host.
+    /// Stores a value in a block of the caller, which is asked for first, and returns where. The block stays live until
+    /// it is freed. A trap is in step `place`: the first request that fails. Takes no memory of the host.
     pub fn place(&mut self, ty: ValType, value: &Val) -> Result<Held, Fault>
         requires known { IsTypeOf self.old.package.now.resolve ty }
         requires typed { HasType (value_of value.now) (closed_type self.old.package.now.resolve ty) }
@@ -142,11 +170,12 @@ impl<'a, C: Guest, E: Guest, B: Body<E>> Session<'a, C, E, B> {
         place_value(self.package, ty, value, &mut self.caller)
     }
 
-    /// The value that stands in the caller where one was placed, or the first fault there, in step `take`. `NoMemory`
-    /// where the host has none for the value, and never where its type is plain.
+    /// The value that the caller holds where one was placed, or the first fault there, in step `take`. `NoMemory`
+    /// if the host has none for the value, and never if its type is plain.
     pub fn read(&self, alloc: Global, held: &Held) -> Result<Val, Fault>
         requires { IsTypeOf self.now.package.now.resolve held.now.ty }
-        ensures read { ReadsValue (C.memory self.now.caller) (held_of self.now.package.now.resolve held.now) (read_answer result) }
+        ensures read { ReadsValue (C.memory self.now.caller) (held_of self.now.package.now.resolve held.now)
+            (read_answer result) }
         ensures plain { IsPlain (closed_type self.now.package.now.resolve held.now.ty) → result ≢ Err Fault.NoMemory }
         ensures typed { IfOk result (λ v. HasType (value_of v) (closed_type self.now.package.now.resolve held.now.ty)) }
     {
@@ -161,7 +190,7 @@ impl<'a, C: Guest, E: Guest, B: Body<E>> Session<'a, C, E, B> {
         )
     }
 
-    /// Gives a block of the caller back. Takes no memory of the host.
+    /// Frees a block of the caller. Takes no memory of the host.
     pub fn release(&mut self, at: u32, size: u32) -> Result<(), NotTaken>
         ensures released { C.releases (C.memory self.old.caller) at size (is_ok result) (C.memory self.new.caller) }
         ensures callee { self.new.callee ≡ self.old.callee }
@@ -171,9 +200,9 @@ impl<'a, C: Guest, E: Guest, B: Body<E>> Session<'a, C, E, B> {
         self.caller.free(at, size)
     }
 
-    /// Takes these steps in turn, whatever each answers, and appends their answers, a fault too. Room for all answers is
-    /// made first: where the host has none, nothing is done. A step that reads tells by its number, counted from 0, which
-    /// of these steps placed the value.
+    /// Takes these steps in turn, whatever each answers, and appends their answers, a fault too. Memory for all answers
+    /// is taken first: if the host has none, nothing is done. A step that reads says by its number, counted from 0,
+    /// which of these steps placed the value.
     pub fn run(
         &mut self,
         alloc: Global,
@@ -182,14 +211,27 @@ impl<'a, C: Guest, E: Guest, B: Body<E>> Session<'a, C, E, B> {
     ) -> Result<(), AllocError>
         requires { All (IsStep self.old.package.now.resolve) steps.now }
         ensures run { OnOk result (RunsSteps
-            (record { caller_allocates = C.allocates; callee_allocates = E.allocates; runs = B.runs self.old.body; posts = B.posts self.old.body })
+            (record {
+              caller_allocates = C.allocates;
+              callee_allocates = E.allocates;
+              runs = B.runs self.old.body;
+              posts = B.posts self.old.body;
+            })
             C.releases
             self.old.package.now.resolve
             steps.now
             answers.old.items
-            (record { caller = C.memory self.old.caller; callee = E.memory self.old.callee; body = B.state self.old.body })
+            (record {
+              caller = C.memory self.old.caller;
+              callee = E.memory self.old.callee;
+              body = B.state self.old.body;
+            })
             answers.new.items
-            (record { caller = C.memory self.new.caller; callee = E.memory self.new.callee; body = B.state self.new.body })) }
+            (record {
+              caller = C.memory self.new.caller;
+              callee = E.memory self.new.callee;
+              body = B.state self.new.body;
+            })) }
         ensures same_runs { AllowsSameRuns (B.runs self.old.body) (B.runs self.new.body) }
         ensures same_posts { AllowsSamePosts (B.posts self.old.body) (B.posts self.new.body) }
         ensures package { self.new.package.now ≡ self.old.package.now }
@@ -212,14 +254,27 @@ impl<'a, C: Guest, E: Guest, B: Body<E>> Session<'a, C, E, B> {
         requires step { IsStep self.old.package.now.resolve step.now }
         requires before { All (IsKnownAnswer self.old.package.now.resolve) before.now }
         ensures taken { let r = self.old.package.now.resolve in TakesStep
-            (record { caller_allocates = C.allocates; callee_allocates = E.allocates; runs = B.runs self.old.body; posts = B.posts self.old.body })
+            (record {
+              caller_allocates = C.allocates;
+              callee_allocates = E.allocates;
+              runs = B.runs self.old.body;
+              posts = B.posts self.old.body;
+            })
             C.releases
             exact
             (map (answer_of r) before.now)
-            (record { caller = C.memory self.old.caller; callee = E.memory self.old.callee; body = B.state self.old.body })
+            (record {
+              caller = C.memory self.old.caller;
+              callee = E.memory self.old.callee;
+              body = B.state self.old.body;
+            })
             (step_of r step.now)
             (answer_of r result)
-            (record { caller = C.memory self.new.caller; callee = E.memory self.new.callee; body = B.state self.new.body }) }
+            (record {
+              caller = C.memory self.new.caller;
+              callee = E.memory self.new.callee;
+              body = B.state self.new.body;
+            }) }
         ensures known { IsKnownAnswer self.old.package.now.resolve result }
         ensures same_type { IsOfStep step.now result }
         ensures same_runs { AllowsSameRuns (B.runs self.old.body) (B.runs self.new.body) }
@@ -253,7 +308,12 @@ pub(crate) fn call_typed<C: Guest, E: Guest, B: Body<E>>(
     requires function { IsFunction «package».now.resolve func }
     requires typed { HaveTypes (map value_of arguments.now) (function_type «package».now.resolve func).params }
     ensures call { TypedCall
-        (record { caller_allocates = C.allocates; callee_allocates = E.allocates; runs = B.runs body.old; posts = B.posts body.old })
+        (record {
+          caller_allocates = C.allocates;
+          callee_allocates = E.allocates;
+          runs = B.runs body.old;
+          posts = B.posts body.old;
+        })
         exact
         (function_type «package».now.resolve func)
         (map value_of arguments.now)
@@ -261,7 +321,12 @@ pub(crate) fn call_typed<C: Guest, E: Guest, B: Body<E>>(
         (typed_answer result)
         (record { caller = C.memory caller.new; callee = E.memory callee.new; body = B.state body.new }) }
     ensures promise { IsPromised
-        (record { caller_allocates = C.allocates; callee_allocates = E.allocates; runs = B.runs body.old; posts = B.posts body.old })
+        (record {
+          caller_allocates = C.allocates;
+          callee_allocates = E.allocates;
+          runs = B.runs body.old;
+          posts = B.posts body.old;
+        })
         C.releases
         E.releases
         exact

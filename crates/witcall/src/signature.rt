@@ -8,7 +8,7 @@ use crate::refused::Refused;
 use opening::Package;
 use tables::FunctionId;
 
-/// The function of a name: 63 where there is none.
+/// The function of a name: 63 if there is none.
 pub fn function_named(package: &Package, iface: &str, func: &str) -> Result<FunctionId, Refused>
     ensures function { IfOk result (IsFunction «package».now.resolve) }
     ensures named { IfOk result (IsNamed «package».now.resolve iface.now func.now) }

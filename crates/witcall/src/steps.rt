@@ -11,7 +11,7 @@ use lift_lower::Val;
 use opening::Package;
 use tables::{FunctionId, Resolve, ValType};
 
-/// A value that stands in the caller: its type and its address.
+/// A value that the caller holds: its type and its address.
 #[derive(Clone, Copy, Debug, PartialEq, Eq)]
 pub struct Held {
     pub ty: ValType,
@@ -27,7 +27,7 @@ pub enum Step {
     Place(ValType, Val),
     /// What a step of the same list placed is read: its number, counted from 0.
     Read(usize),
-    /// A block is given back: its address and its size in bytes.
+    /// A block is freed: its address and its size in bytes.
     Release(u32, u32),
 }
 

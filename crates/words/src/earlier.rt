@@ -1,7 +1,8 @@
 //! The earlier packages' files, which stand right after the command, each as `--with FILE` or `--with=FILE`.
 
 ghost use Rattle.std.specs.Prelude.{◌≡◌, ◌++◌, ◌<◌, IfOk, IfSome, MatchOption, OnOk, drop, length};
-ghost use Rattle.words.specs.Earlier.{with_files, behind_files, other_words, texts_of, lent_texts, is_option, NamesNoFile, NamesFile};
+ghost use Rattle.words.specs.Earlier.{with_files, behind_files, other_words, texts_of, lent_texts, is_option};
+ghost use Rattle.words.specs.Earlier.{NamesNoFile, NamesFile};
 
 use std::alloc::{AllocError, Global};
 
@@ -12,9 +13,11 @@ fn is_option(word: &str) -> bool
     word.starts_with('-') && word != "-"
 }
 
-/// The file that the words begin with, and the words after it. A word that is an option is no file of the `--with` before it.
+/// The file that the words begin with, and the words after it. A word that is an option is no file of the `--with`
+/// before it.
 fn file_in_front(words: &[String]) -> Option<(&str, &[String])>
-    ensures named { MatchOption result (NamesNoFile (texts_of words.now)) (λ parts. NamesFile (texts_of words.now) parts.0.now (texts_of parts.1.now)) }
+    ensures named { MatchOption result (NamesNoFile (texts_of words.now))
+        (λ parts. NamesFile (texts_of words.now) parts.0.now (texts_of parts.1.now)) }
     ensures fewer { IfSome result (λ parts. length parts.1.now < length words.now) }
 {
     let [word, after @ ..] = words else {

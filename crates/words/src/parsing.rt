@@ -40,10 +40,9 @@ impl From<AllocError> for WordsError {
     }
 }
 
-/// Reads the program's words, the first of which is its own name and the second its command. The
-/// earlier packages' files stand right after these, each as `--with FILE` or `--with=FILE`; `clap` reads the other words.
-/// Words that it refuses are `Usage`: a missing or an extra word, an unknown command, an option,
-/// `--help`.
+/// Reads the program's words, the first of which is its own name and the second its command. The earlier packages'
+/// files stand right after these, each as `--with FILE` or `--with=FILE`; `clap` reads the other words. Words that it
+/// refuses are `Usage`: a missing or an extra word, an unknown command, an option, `--help`.
 pub fn command(alloc: Global, words: &[String]) -> Result<Command, WordsError>
     ensures earlier { IfOk result (λ asked. earlier_of asked ≡ with_files (drop 2 (texts_of words.now))) }
     ensures found { IfOk result (IsAskedBy (subcommand_of program_app (other_words (texts_of words.now)))) }
@@ -91,7 +90,8 @@ fn adding<'a>(
     name: &'a str,
     words: &[&'a str],
 ) -> Result<clap::Command<'a>, AllocError>
-    ensures { IfOk result (λ more. app_of more ≡ with_subcommand (app_of parser.entry) (with_words name.now (lent_texts words.now))) }
+    ensures { IfOk result (λ more. app_of more
+        ≡ with_subcommand (app_of parser.entry) (with_words name.now (lent_texts words.now))) }
 {
     let mut command = clap::Command::new(alloc, name).disable_help_flag(true);
     for word in words {

@@ -47,8 +47,8 @@ fn function_in(
     None
 }
 
-/// The function of this name that a world imports or exports, as `side` says, by the full name of the world: a function that is itself an item
-/// of the world. Those of interfaces are found by `Resolve::function`. (WIT.md, "Item: `world`")
+/// The function of this name that a world imports or exports, as `side` says, by the full name of the world: a function
+/// that is itself an item of the world. Those of interfaces are found by `Resolve::function`. (WIT.md, "Item: `world`")
 pub fn world_function(
     resolve: &Resolve,
     world: &str,

@@ -15,14 +15,15 @@ fn after<'a>(text: &'a [u8], front: &[u8]) -> Option<&'a [u8]>
 
 /// What a text has after this front and this mark.
 fn after_part<'a>(text: &'a [u8], front: &[u8], mark: u8) -> Option<&'a [u8]>
-    ensures { MatchOption result ((rest : List ℕ) → text.now ≢ front.now ++ mark ∷ rest) (λ x. text.now ≡ front.now ++ mark ∷ x.now) }
+    ensures { MatchOption result ((rest : List ℕ) → text.now ≢ front.now ++ mark ∷ rest)
+        (λ x. text.now ≡ front.now ++ mark ∷ x.now) }
 {
     let rest = after(text, front)?;
     after(rest, &[mark])
 }
 
-/// Whether the text is the full name of this name in the package: `namespace:package/name`, and `@version` if it has one. (WIT.md,
-/// "Package Names")
+/// Whether the text is the full name of this name in the package: `namespace:package/name`, and `@version` if it has
+/// one. (WIT.md, "Package Names")
 pub fn is_full_name(package: &PackageName, name: &Label, text: &str) -> bool
     ensures { IsTrue result ↔ (text.now ≡ own_name «package».now name.now) }
 {

@@ -1,6 +1,7 @@
-//! The walk over flat values; texts and lists stand in memory.
+//! The walk over flat values; texts and lists are in memory.
 ghost use Rattle.std.specs.Prelude.{◌≡◌, ◌+◌, ◌^◌, ◌<◌, ◌≤◌, ℕ, List, length, map, drop};
-ghost use Rattle.canonical_abi.specs.Types.{prim_type, variant_type, variant_cases, field_count, depth, fields_depth, cases_depth, IsStandard, AreStandardFields, AreStandardCases};
+ghost use Rattle.canonical_abi.specs.Types.{prim_type, variant_type, variant_cases, field_count, depth, fields_depth};
+ghost use Rattle.canonical_abi.specs.Types.{cases_depth, IsStandard, AreStandardFields, AreStandardCases};
 ghost use Rattle.canonical_abi.specs.Layout.{flat_kinds, field_kinds, payload_kinds};
 ghost use Rattle.canonical_abi.specs.Reading.{number_of, low_bits, lifting, lifting_fields, lifting_case};
 ghost use Rattle.canonical_abi.specs.Requests.{requests, fields_requests};
@@ -28,7 +29,8 @@ fn ask_flat_primitive(
 ) -> Result<(), Untold>
     requires { 0 < length flats.now }
     ensures asks { let t = prim_type (prim_of primitive) in
-        (m : List ℕ) → Asks (lifting t m (map number_of flats.now)) (requests t) slots.old count.old left.old result slots.new count.new left.new }
+        (m : List ℕ) → Asks (lifting t m (map number_of flats.now)) (requests t) slots.old count.old left.old result
+        slots.new count.new left.new }
     ensures left { left.new ≡ left.old }
     ensures count { count.new ≡ count.old }
 {
@@ -39,7 +41,7 @@ fn ask_flat_primitive(
 }
 
 impl Walk<'_> {
-    /// Tells what the value in the first of these flat values asks for.
+    /// Lists what the value in the first of these flat values asks for.
     #[cycle(flat)]
     fn ask_flat(
         &self,
@@ -55,9 +57,11 @@ impl Walk<'_> {
         requires carried { length (flat_kinds (closed_type self.now.types.now ty)) ≤ length flats.now }
         requires few { length flats.now ≤ 16 }
         ensures asks { let t = closed_type self.now.types.now ty in
-            Asks (lifting t self.now.source.now (map number_of flats.now)) (requests t) slots.old count.old left.old result slots.new count.new left.new }
+            Asks (lifting t self.now.source.now (map number_of flats.now)) (requests t) slots.old count.old left.old
+            result slots.new count.new left.new }
         ensures few { let t = closed_type self.now.types.now ty in
-            (d : ℕ) → IsStandard t → depth t ≤ d → IsFew d (length (flat_kinds t)) left.old left.new nodes.old nodes.new }
+            (d : ℕ) → IsStandard t → depth t ≤ d
+            → IsFew d (length (flat_kinds t)) left.old left.new nodes.old nodes.new }
         ensures each { (e : ℕ) → count.old ≤ nodes.old + e → count.new ≤ nodes.new + e }
     {
         visit(nodes);
@@ -82,7 +86,7 @@ impl Walk<'_> {
         }
     }
 
-    /// Tells what the members of a record ask for, each in the flat values behind those of the member before it.
+    /// Lists what the members of a record ask for, each in the flat values after those of the member before it.
     #[cycle(flat)]
     pub(crate) fn ask_flat_fields(
         &self,
@@ -100,9 +104,11 @@ impl Walk<'_> {
         requires carried { length (field_kinds (members_fields self.now.types.now members.now)) ≤ length flats.now }
         requires few { length flats.now ≤ 16 }
         ensures asks { let fs = members_fields self.now.types.now members.now in
-            Asks (lifting_fields fs self.now.source.now (map number_of flats.now)) (fields_requests fs) slots.old count.old left.old result slots.new count.new left.new }
+            Asks (lifting_fields fs self.now.source.now (map number_of flats.now)) (fields_requests fs) slots.old
+            count.old left.old result slots.new count.new left.new }
         ensures few { let fs = members_fields self.now.types.now members.now in
-            (d : ℕ) → AreStandardFields fs → fields_depth fs ≤ d → IsFew d (length (field_kinds fs)) left.old left.new nodes.old nodes.new }
+            (d : ℕ) → AreStandardFields fs → fields_depth fs ≤ d
+            → IsFew d (length (field_kinds fs)) left.old left.new nodes.old nodes.new }
         ensures each { (e : ℕ) → count.old ≤ nodes.old + e → count.new ≤ nodes.new + e }
     {
         let mut used: usize = 0;
@@ -117,7 +123,7 @@ impl Walk<'_> {
         Ok(())
     }
 
-    /// Tells what the payload of the case that the first flat value names asks for.
+    /// Lists what the payload of the case that the first flat value names asks for.
     #[cycle(flat)]
     fn ask_flat_variant(
         &self,
@@ -130,14 +136,18 @@ impl Walk<'_> {
     ) -> Result<(), Untold>
         requires inside { IsInside self.now.types.now ty }
         requires short { length self.now.source.now < 2 ^ 32 }
-        requires variant { variant_type (variant_cases (closed_type self.now.types.now ty)) ≡ closed_type self.now.types.now ty }
-        requires carried { length (payload_kinds (variant_cases (closed_type self.now.types.now ty))) < length flats.now }
+        requires variant { variant_type (variant_cases (closed_type self.now.types.now ty))
+            ≡ closed_type self.now.types.now ty }
+        requires carried { length (payload_kinds (variant_cases (closed_type self.now.types.now ty)))
+            < length flats.now }
         requires few { length flats.now ≤ 16 }
         ensures asks { let cs = variant_cases (closed_type self.now.types.now ty) in
             let ns = map number_of flats.now in
-            Asks (lifting_case cs self.now.source.now (drop 1 ns) (low_bits ns 0 32) (low_bits ns 0 32)) (requests (variant_type cs)) slots.old count.old left.old result slots.new count.new left.new }
+            Asks (lifting_case cs self.now.source.now (drop 1 ns) (low_bits ns 0 32) (low_bits ns 0 32))
+            (requests (variant_type cs)) slots.old count.old left.old result slots.new count.new left.new }
         ensures few { let cs = variant_cases (closed_type self.now.types.now ty) in
-            (d : ℕ) → AreStandardCases cs → cases_depth cs ≤ d → IsFew d (length (payload_kinds cs)) left.old left.new nodes.old nodes.new }
+            (d : ℕ) → AreStandardCases cs → cases_depth cs ≤ d
+            → IsFew d (length (payload_kinds cs)) left.old left.new nodes.old nodes.new }
         ensures each { (e : ℕ) → count.old ≤ nodes.old + e → count.new ≤ nodes.new + e }
     {
         let case = low_word(flats, 0);

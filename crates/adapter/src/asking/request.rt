@@ -1,4 +1,4 @@
-//! Requests, and the slots that they are told in.
+//! Requests, and the slots that they are written in.
 ghost use Rattle.std.specs.Prelude.{◌≡◌, ◌+◌, ◌-◌, ◌^◌, ◌<◌, ◌≤◌, [], ◌∷◌, min};
 ghost use Rattle.canonical_abi.specs.Requests.{request};
 ghost use Rattle.adapter.specs.Asking.{IsTold};
@@ -13,14 +13,14 @@ pub struct Request {
     pub size: u32,
 }
 
-/// Why nothing is told: what the bytes denote has this fault first, or asks for more than it may.
+/// Why no requests are listed: what the bytes denote has this fault first, or asks for more than it may.
 #[derive(Clone, Copy, Debug, PartialEq, Eq)]
 pub enum Untold {
     Fault(TrapKind),
     AboveLimit,
 }
 
-/// Tells one more request: in the next slot, where there is one. It takes its bytes of those that are left.
+/// Writes one more request into the next slot, if there is one, and subtracts its bytes from those that are left.
 pub(crate) fn tell(
     slots: &mut [Request],
     count: &mut usize,

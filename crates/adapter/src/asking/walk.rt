@@ -1,6 +1,8 @@
-//! The walk over values that stand in a memory.
+//! The walk over values that a memory holds.
 ghost use Rattle.std.specs.Prelude.{◌≡◌, ◌+◌, ◌-◌, ◌^◌, ◌<◌, ◌≤◌, ℕ, length, min, IsTrue};
-ghost use Rattle.canonical_abi.specs.Types.{prim_type, string_type, list_type, record_type, record_fields, variant_type, variant_cases, field_count, case_count, depth, fields_depth, cases_depth, IsStandard, AreStandardFields, AreStandardCases};
+ghost use Rattle.canonical_abi.specs.Types.{prim_type, string_type, list_type, record_type, record_fields};
+ghost use Rattle.canonical_abi.specs.Types.{variant_type, variant_cases, field_count, case_count, depth, fields_depth};
+ghost use Rattle.canonical_abi.specs.Types.{cases_depth, IsStandard, AreStandardFields, AreStandardCases};
 ghost use Rattle.canonical_abi.specs.Layout.{size, align, payload_place, end_from, field_extents, fields_size};
 ghost use Rattle.canonical_abi.specs.Reading.{reading, text_at, list_at, reading_fields, reading_case, case_number};
 ghost use Rattle.canonical_abi.specs.Requests.{requests, fields_requests};
@@ -16,7 +18,7 @@ use lift_lower::Types;
 use lift_lower::nodes::{Members, discriminant_bytes, number_of_size, test_block, text_in, u32_at};
 use tables::{Primitive, ValType};
 
-/// What values are told from: their types, and the bytes of the memory that holds them.
+/// What requests are listed from: the types of values, and the bytes of the memory that holds them.
 #[derive(Clone, Copy)]
 pub struct Walk<'a> {
     pub types: &'a Types<'a>,
@@ -47,7 +49,7 @@ fn ask_primitive(
     }
 }
 
-/// Whether the values of a type stand whatever their bytes are, and ask for nothing: numbers, bools, flags, and records
+/// Whether all bytes denote values of a type, which ask for nothing: numbers, bools, flags, and records
 /// of these. It looks at `most` types at most, and then answers no.
 #[cycle(nothing)]
 fn asks_nothing(table: &Types, ty: ValType, most: &mut usize) -> bool
@@ -96,7 +98,7 @@ fn is_plain(primitive: Primitive) -> bool
     false
 }
 
-/// Tells the block of a text of so many bytes, once it is tested.
+/// Lists the block of a text of so many bytes, after it is tested.
 pub(crate) fn ask_text(
     source: &[u8],
     start: usize,
@@ -107,7 +109,8 @@ pub(crate) fn ask_text(
 ) -> Result<(), Untold>
     requires start { start < 2 ^ 32 }
     requires len { len < 2 ^ 32 }
-    ensures asks { Asks (text_at source.now start len) (requests string_type) slots.old count.old left.old result slots.new count.new left.new }
+    ensures asks { Asks (text_at source.now start len) (requests string_type) slots.old count.old left.old result
+        slots.new count.new left.new }
     ensures spent { (s : ℕ) × (left.old ≡ left.new + s) }
     ensures each { (n : ℕ) → min (count.old + 1) (2 ^ 64 - 1) ≤ n → count.old ≤ n → count.new ≤ n }
 {
@@ -124,7 +127,7 @@ pub(crate) fn ask_text(
 }
 
 impl Walk<'_> {
-    /// Tells what the value at an address asks for.
+    /// Lists what the value at an address asks for.
     #[cycle(ask)]
     fn ask_at(
         &self,
@@ -139,7 +142,8 @@ impl Walk<'_> {
         requires short { length self.now.source.now < 2 ^ 32 }
         requires fits { at + size (closed_type self.now.types.now ty) ≤ length self.now.source.now }
         ensures asks { let t = closed_type self.now.types.now ty in
-            Asks (reading t self.now.source.now at) (requests t) slots.old count.old left.old result slots.new count.new left.new }
+            Asks (reading t self.now.source.now at) (requests t) slots.old count.old left.old result slots.new count.new
+            left.new }
         ensures few { let t = closed_type self.now.types.now ty in
             (d : ℕ) → IsStandard t → depth t ≤ d → IsFew d (size t) left.old left.new nodes.old nodes.new }
         ensures each { (e : ℕ) → count.old ≤ nodes.old + e → count.new ≤ nodes.new + e }
@@ -173,7 +177,7 @@ impl Walk<'_> {
         }
     }
 
-    /// Tells the block of a list, once it is tested, and what its elements ask for.
+    /// Lists the block of a list, after it is tested, and what its elements ask for.
     #[cycle(ask)]
     pub(crate) fn ask_list(
         &self,
@@ -190,11 +194,13 @@ impl Walk<'_> {
         requires start { start < 2 ^ 32 }
         requires len { len < 2 ^ 32 }
         ensures asks { let t = closed_type self.now.types.now element in
-            Asks (list_at (reading t self.now.source.now) self.now.source.now (align t) (size t) start len) (requests (list_type t))
+            Asks (list_at (reading t self.now.source.now) self.now.source.now (align t) (size t) start len)
+            (requests (list_type t))
             slots.old count.old left.old result slots.new count.new left.new }
         ensures few { let t = closed_type self.now.types.now element in
             (d : ℕ) → IsStandard t → depth t ≤ d → IsFew d 0 left.old left.new nodes.old nodes.new }
-        ensures each { (e : ℕ) → min (count.old + 1) (2 ^ 64 - 1) ≤ nodes.old + e → count.old ≤ nodes.old + e → count.new ≤ nodes.new + e }
+        ensures each { (e : ℕ) → min (count.old + 1) (2 ^ 64 - 1) ≤ nodes.old + e → count.old ≤ nodes.old + e
+            → count.new ≤ nodes.new + e }
     {
         let step = self.types.size_of(element);
         let align = self.types.align_of(element);
@@ -218,7 +224,8 @@ impl Walk<'_> {
         Ok(())
     }
 
-    /// Tells what the members of a record ask for, whose first begins at `at`, each at the next multiple of its alignment.
+    /// Lists what the members of a record ask for, whose first begins at `at`, each at the next multiple of its
+    /// alignment.
     #[cycle(ask)]
     pub(crate) fn ask_fields(
         &self,
@@ -233,11 +240,14 @@ impl Walk<'_> {
         requires inside { AreInside self.now.types.now members.now }
         requires short { length self.now.source.now < 2 ^ 32 }
         requires counted { field_count (members_fields self.now.types.now members.now) ≡ fields }
-        requires fits { at + end_from 0 (field_extents (members_fields self.now.types.now members.now)) ≤ length self.now.source.now }
+        requires fits { at + end_from 0 (field_extents (members_fields self.now.types.now members.now))
+            ≤ length self.now.source.now }
         ensures asks { let fs = members_fields self.now.types.now members.now in
-            Asks (reading_fields fs self.now.source.now at 0) (fields_requests fs) slots.old count.old left.old result slots.new count.new left.new }
+            Asks (reading_fields fs self.now.source.now at 0) (fields_requests fs) slots.old count.old left.old result
+            slots.new count.new left.new }
         ensures few { let fs = members_fields self.now.types.now members.now in
-            (d : ℕ) → AreStandardFields fs → fields_depth fs ≤ d → IsFew d (fields_size fs) left.old left.new nodes.old nodes.new }
+            (d : ℕ) → AreStandardFields fs → fields_depth fs ≤ d
+            → IsFew d (fields_size fs) left.old left.new nodes.old nodes.new }
         ensures each { (e : ℕ) → count.old ≤ nodes.old + e → count.new ≤ nodes.new + e }
     {
         let mut end: usize = 0;
@@ -252,7 +262,7 @@ impl Walk<'_> {
         Ok(())
     }
 
-    /// Tells what the payload of the case that the discriminant names asks for.
+    /// Lists what the payload of the case that the discriminant names asks for.
     #[cycle(ask)]
     fn ask_variant(
         &self,
@@ -266,14 +276,17 @@ impl Walk<'_> {
     ) -> Result<(), Untold>
         requires inside { IsInside self.now.types.now ty }
         requires short { length self.now.source.now < 2 ^ 32 }
-        requires variant { variant_type (variant_cases (closed_type self.now.types.now ty)) ≡ closed_type self.now.types.now ty }
+        requires variant { variant_type (variant_cases (closed_type self.now.types.now ty))
+            ≡ closed_type self.now.types.now ty }
         requires counted { case_count (variant_cases (closed_type self.now.types.now ty)) ≡ cases }
         requires fits { at + size (closed_type self.now.types.now ty) ≤ length self.now.source.now }
         ensures asks { let cs = variant_cases (closed_type self.now.types.now ty) in
             let i = case_number cs self.now.source.now at in
-            Asks (reading_case cs self.now.source.now (at + payload_place cs) i i) (requests (variant_type cs)) slots.old count.old left.old result slots.new count.new left.new }
+            Asks (reading_case cs self.now.source.now (at + payload_place cs) i i) (requests (variant_type cs))
+            slots.old count.old left.old result slots.new count.new left.new }
         ensures few { let cs = variant_cases (closed_type self.now.types.now ty) in
-            (d : ℕ) → AreStandardCases cs → cases_depth cs ≤ d → IsFew d (size (variant_type cs)) left.old left.new nodes.old nodes.new }
+            (d : ℕ) → AreStandardCases cs → cases_depth cs ≤ d
+            → IsFew d (size (variant_type cs)) left.old left.new nodes.old nodes.new }
         ensures each { (e : ℕ) → count.old ≤ nodes.old + e → count.new ≤ nodes.new + e }
     {
         let case = number_of_size(self.source, at, discriminant_bytes(cases));
@@ -283,7 +296,7 @@ impl Walk<'_> {
         let Some(member) = payload else {
             return Ok(());
         };
-        // A payload stands at the variant's alignment.
+        // The offset of a payload is the variant's alignment.
         let place = self.types.align_of(ty);
         self.ask_at(member, at + place, slots, count, left, nodes)
     }

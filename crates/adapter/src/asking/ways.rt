@@ -19,11 +19,11 @@ use lift_lower::nodes::{Members, test_block};
 use tables::ValType;
 
 impl Walk<'_> {
-    /// Tells what the parameters of a call ask for, given as the record of them, which `flats` denote over the source: the first
-    /// requests, as many as there are slots, and how many there are in all, as far as 64 bits count. Where they denote none, it
-    /// answers the first fault, and the slots then say nothing. The kinds of `flats` were tested before. CanonicalABI.md,
-    /// "Lifting and Lowering Values". It visits `nodes` values, whatever it answers; elements that ask for nothing whatever
-    /// their bytes are, are not visited.
+    /// Lists what the parameters of a call ask for, given as the record of them, which `flats` denote over the source:
+    /// the first requests, as many as there are slots, and how many there are in all, as far as 64 bits count. If
+    /// they denote none, it returns the first fault, and the slots then say nothing. The kinds of `flats` were tested
+    /// before. CanonicalABI.md, "Lifting and Lowering Values". It visits `nodes` values, whatever it returns; elements
+    /// that ask for nothing whatever their bytes are, are not visited.
     pub fn ask_params(
         &self,
         params: ValType,
@@ -33,13 +33,18 @@ impl Walk<'_> {
         nodes: &mut u64,
     ) -> Result<usize, Untold>
         requires inside { IsInside self.now.types.now params }
-        requires is_record { closed_type self.now.types.now params ≡ record_type (record_fields (closed_type self.now.types.now params)) }
+        requires is_record { closed_type self.now.types.now params
+            ≡ record_type (record_fields (closed_type self.now.types.now params)) }
         requires short { length self.now.source.now < 2 ^ 32 }
-        requires kinds { map kind_of flats.now ≡ passed_kinds max_flat_params (record_fields (closed_type self.now.types.now params)) }
+        requires kinds { map kind_of flats.now
+            ≡ passed_kinds max_flat_params (record_fields (closed_type self.now.types.now params)) }
         ensures told { let ts = record_fields (closed_type self.now.types.now params) in
-            IfOk result (IsToldAhead (Denotes max_flat_params ts self.now.source.now flats.now) (params_requests max_flat_params ts) limit slots.old slots.new) }
+            IfOk result (IsToldAhead (Denotes max_flat_params ts self.now.source.now flats.now)
+            (params_requests max_flat_params ts) limit slots.old slots.new) }
         ensures fault { let ts = record_fields (closed_type self.now.types.now params) in
-            IfErr result (IsUntold (Denotes max_flat_params ts self.now.source.now flats.now) (DenotesFault max_flat_params ts self.now.source.now flats.now) (params_requests max_flat_params ts) limit) }
+            IfErr result (IsUntold (Denotes max_flat_params ts self.now.source.now flats.now)
+            (DenotesFault max_flat_params ts self.now.source.now flats.now) (params_requests max_flat_params ts)
+            limit) }
         ensures few { let ts = record_fields (closed_type self.now.types.now params) in
             (d : ℕ) → AreStandardFields ts → fields_depth ts ≤ d → nodes.new ≤ d * (limit + 16) }
         ensures each { IfOk result (λ count. count ≤ nodes.new + 1) }
@@ -70,8 +75,8 @@ impl Walk<'_> {
         Ok(count)
     }
 
-    /// Tells the same of the result of a call, of at most one type. Where it doesn't go flat it is put into the return area, for
-    /// which nothing is asked.
+    /// Lists the same of the result of a call, of at most one type. If it doesn't go flat it is put into the return
+    /// area, for which nothing is asked.
     pub fn ask_result(
         &self,
         types: &[ValType],
@@ -83,13 +88,17 @@ impl Walk<'_> {
         requires inside { AreAllInside self.now.types.now types.now }
         requires small { size (record_type (fields_of_types self.now.types.now types.now)) ≤ 16777216 }
         requires short { length self.now.source.now < 2 ^ 32 }
-        requires kinds { map kind_of flats.now ≡ passed_kinds max_flat_results (fields_of_types self.now.types.now types.now) }
+        requires kinds { map kind_of flats.now
+            ≡ passed_kinds max_flat_results (fields_of_types self.now.types.now types.now) }
         ensures told { let ts = fields_of_types self.now.types.now types.now in
-            IfOk result (IsToldAhead (Denotes max_flat_results ts self.now.source.now flats.now) (fields_requests ts) limit slots.old slots.new) }
+            IfOk result (IsToldAhead (Denotes max_flat_results ts self.now.source.now flats.now) (fields_requests ts)
+            limit slots.old slots.new) }
         ensures fault { let ts = fields_of_types self.now.types.now types.now in
-            IfErr result (IsUntold (Denotes max_flat_results ts self.now.source.now flats.now) (DenotesFault max_flat_results ts self.now.source.now flats.now) (fields_requests ts) limit) }
+            IfErr result (IsUntold (Denotes max_flat_results ts self.now.source.now flats.now)
+            (DenotesFault max_flat_results ts self.now.source.now flats.now) (fields_requests ts) limit) }
         ensures few { let ts = fields_of_types self.now.types.now types.now in
-            (d : ℕ) → AreStandardFields ts → fields_depth ts ≤ d → nodes.new ≤ d * (limit + size (record_type ts) + 16) }
+            (d : ℕ) → AreStandardFields ts → fields_depth ts ≤ d
+            → nodes.new ≤ d * (limit + size (record_type ts) + 16) }
         ensures each { IfOk result (λ count. count ≤ nodes.new) }
     {
         *nodes = 0;

@@ -11,8 +11,8 @@ use crate::host_lists::rows::{TypeInfo, type_info};
 use tables::{Choice, Definition, Member, TypeDefKind, TypeId, ValType};
 use values::Types;
 
-/// A member of a row. `offset` is a field's or a parameter's place in bytes, and of a case the place of the payload, whichever case it is.
-/// A case without payload has no type, as a label of flags.
+/// A member of a row. `offset` is a field's or a parameter's place in bytes, and of a case the place of the payload,
+/// whichever case it is. A case without payload has no type, as a label of flags.
 #[repr(C)]
 #[derive(Clone, Copy, Debug)]
 pub struct MemberInfo {

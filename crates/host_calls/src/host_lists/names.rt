@@ -1,6 +1,7 @@
 //! The names of rows and of their members.
 ghost use Rattle.std.specs.Prelude.{◌≡◌, ◌∷◌, [], option_map, slice_get};
-ghost use Rattle.host_calls.specs.Names.{definition_name, member_labels, definition_labels, row_name_at, member_name_at};
+ghost use Rattle.host_calls.specs.Names.{definition_name, member_labels, definition_labels, row_name_at};
+ghost use Rattle.host_calls.specs.Names.{member_name_at};
 ghost use Rattle.host_calls.specs.Told.{TellsName};
 
 use crate::CallError;
@@ -22,7 +23,8 @@ fn own_name(definition: &Definition) -> &[u8]
     }
 }
 
-/// Tells the name of a row: 70 where no package is open, 75 where no row has this number. A row without a name has 0 bytes.
+/// Tells the name of a row: 70 where no package is open, 75 where no row has this number. A row without a name has 0
+/// bytes.
 pub fn row_name(types: &Option<Types>, row: u32, out: &mut [u8]) -> Result<usize, CallError>
     ensures { TellsName types.now (λ r. row_name_at r row) out.old result out.new }
 {
@@ -83,7 +85,8 @@ fn label_of<'a>(definition: &'a Definition, index: usize) -> Option<&'a [u8]>
     }
 }
 
-/// Tells the label of a member of a row: 70 where no package is open, 75 where there is none. An element of a tuple has 0 bytes.
+/// Tells the label of a member of a row: 70 where no package is open, 75 where there is none. An element of a tuple has
+/// 0 bytes.
 pub fn member_name(
     types: &Option<Types>,
     row: u32,

@@ -1,7 +1,8 @@
 //! Where a row has its name: an interface or a world, and the full names of these.
 ghost use Rattle.std.specs.Prelude.{◌≡◌, IfOk, option_map, slice_get};
 ghost use Rattle.tables.specs.Names.{full_name_in};
-ghost use Rattle.host_calls.specs.Owners.{stated_owner, owner_kind, owner_number, numbered_owner, owner_name, owner_name_at};
+ghost use Rattle.host_calls.specs.Owners.{stated_owner, owner_kind, owner_number, numbered_owner, owner_name};
+ghost use Rattle.host_calls.specs.Owners.{owner_name_at};
 ghost use Rattle.host_calls.specs.Told.{TellsNewName};
 
 use crate::CallError;
@@ -64,7 +65,8 @@ fn full_name(
 
 /// The package of an interface or of a world, and its own name, if it is there.
 fn parts_of_owner(resolve: &Resolve, owner: Owner) -> Option<(PackageId, &Label)>
-    ensures { option_map (λ x. full_name_in (slice_get resolve.now.packages x.0.0) x.1.now) result ≡ owner_name resolve.now owner }
+    ensures { option_map (λ x. full_name_in (slice_get resolve.now.packages x.0.0) x.1.now) result
+        ≡ owner_name resolve.now owner }
 {
     match owner {
         Owner::Interface(id) => match resolve.interfaces.as_slice().get(id.0 as usize) {
@@ -78,7 +80,8 @@ fn parts_of_owner(resolve: &Resolve, owner: Owner) -> Option<(PackageId, &Label)
     }
 }
 
-/// Tells the full name of an interface (kind 1) or of a world (kind 2): 70 where no package is open, 75 where none has this number.
+/// Tells the full name of an interface (kind 1) or of a world (kind 2): 70 where no package is open, 75 where none has
+/// this number.
 pub fn owner_name(
     types: &Option<Types>,
     alloc: Global,

@@ -22,9 +22,10 @@ pub struct TypeInfo {
     pub align: u32,
 }
 
-/// A row of the table. `ty` is the row itself as a type; a function's size is that of the record of its parameters. `target` is a list's element,
-/// the type that an alias or a used name stands for, or a function's result. `owner_kind` is 1 where the row has a name in an interface, 2 where it has
-/// one in a world, and `owner` the number of either. `members` is the number of its fields, elements, cases, labels or parameters.
+/// A row of the table. `ty` is the row itself as a type; a function's size is that of the record of its parameters.
+/// `target` is a list's element, the type that an alias or a used name stands for, or a function's result. `owner_kind`
+/// is 1 where the row has a name in an interface, 2 where it has one in a world, and `owner` the number of either.
+/// `members` is the number of its fields, elements, cases, labels or parameters.
 #[repr(C)]
 #[derive(Clone, Copy, Debug)]
 pub struct RowInfo {

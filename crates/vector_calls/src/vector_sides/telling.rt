@@ -71,7 +71,8 @@ fn log_told(alloc: Global, key: &str, guest: &Logged) -> anyhow::Result<String> 
     }
 }
 
-/// Adds the bytes of both memories, and the requests to their allocators. Of lengths that the row says, the zeros at the end are left out.
+/// Adds the bytes of both memories, and the requests to their allocators. Of lengths that the row says, the zeros at
+/// the end are left out.
 pub fn push_memories(
     alloc: Global,
     members: &mut Vec<String>,

@@ -7,8 +7,8 @@ use crate::Span;
 use atoms::{AtomError, Label, is_package_label, is_version};
 use std::alloc::{AllocError, Global};
 
-/// A whole text. The names of its package make full names: the namespace and the name have lower-case words alone, and the
-/// version is one of SemVer.
+/// A whole text. The names of its package make full names: the namespace and the name have lower-case words alone, and
+/// the version is one of SemVer.
 #[derive(Debug, Drop)]
 pub struct Ast {
     pub package: PackageId,
@@ -19,11 +19,14 @@ pub struct Ast {
 }
 
 impl Ast {
-    /// The tree of a package without items, which are put into `items`. 4 `BadName` exactly where its names make no full names.
+    /// The tree of a package without items, which are put into `items`. 4 `BadName` exactly where its names make no
+    /// full names.
     pub fn new(alloc: Global, package: PackageId) -> Result<Ast, AtomError>
         ensures ok { IfOk result (λ a. (a.«package» ≡ «package») × (a.items.items ≡ [])) }
         ensures err { IfErr result (λ e. (e ≡ error.NoMemory) ⊎ ((e ≡ error.BadName)
-            × ((is_package_label «package».namespace && (is_package_label «package».name && is_version_or_none (option_map string_bytes «package».version))) ≡ false))) }
+            × ((is_package_label «package».namespace &&
+            (is_package_label «package».name && is_version_or_none (option_map string_bytes «package».version)))
+            ≡ false))) }
     {
         if !package.makes_full_names(alloc)? {
             return Err(AtomError::BadName);
@@ -45,7 +48,9 @@ pub struct PackageId {
 impl PackageId {
     /// Whether the names make full names, as those of a text's own package do. (WIT.md, "Package Names")
     pub fn makes_full_names(&self, alloc: Global) -> Result<bool, AllocError>
-        ensures { IfOk result (λ full. full ≡ (is_package_label self.now.namespace && (is_package_label self.now.name && is_version_or_none (option_map string_bytes self.now.version)))) }
+        ensures { IfOk result (λ full. full
+            ≡ (is_package_label self.now.namespace &&
+            (is_package_label self.now.name && is_version_or_none (option_map string_bytes self.now.version)))) }
     {
         if !is_package_label(self.namespace.as_bytes()) || !is_package_label(self.name.as_bytes()) {
             return Ok(false);

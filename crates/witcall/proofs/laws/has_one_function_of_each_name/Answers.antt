@@ -5,7 +5,7 @@ use Rattle.package_adding.proofs.BeginningsAreImports.{interfaces-labelled}
 use Rattle.package_text.specs.Writable.{package_labels}
 use Rattle.std.specs.Prelude.{All}
 use Rattle.tables.specs.declared.tables.Resolve.{Resolve}
-use Rattle.package_values.proofs.SetNamesStandForOne.{one-function}
+use Rattle.package_sets.proofs.DistinctNames.SetNamesStandForOne.{one-function}
 use Rattle.witcall.proofs.laws.has_one_function_of_each_name.Goals as goal
 
 pub returns : goal.returns

@@ -6,7 +6,7 @@ use Rattle.package_text.specs.Writable.{package_labels}
 use Rattle.std.specs.Prelude.{All}
 use Rattle.value_json.specs.ByNames.{LabelsAlike}
 use Rattle.tables.specs.declared.tables.Resolve.{Resolve}
-use Rattle.package_values.proofs.SetNamesStandForOne.{types-apart}
+use Rattle.package_sets.proofs.DistinctNames.SetNamesStandForOne.{types-apart}
 use Rattle.witcall.proofs.laws.is_labelled_by_names.Goals as goal
 
 pub returns : goal.returns

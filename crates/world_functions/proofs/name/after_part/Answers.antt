@@ -1,4 +1,4 @@
-use Rattle.world_functions.proofs.TextsComparedByParts.{both_behind}
+use Rattle.tables.proofs.TextsComparedByParts.{both_behind}
 use Rattle.world_functions.proofs.name.after_part.Goals as goal
 
 pub returns : goal.returns

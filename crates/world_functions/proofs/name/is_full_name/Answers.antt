@@ -1,6 +1,6 @@
 use Rattle.std.proofs.Common.{ap, sym, ◌∙◌}
 use Rattle.tables.specs.PackageNames.{PackageParts}
-use Rattle.world_functions.proofs.TextsComparedByParts.{tells-part}
+use Rattle.tables.proofs.TextsComparedByParts.{tells-part}
 use Rattle.world_functions.proofs.name.is_full_name.Goals as goal
 
 pub returns-in-Some : goal.returns-in-Some

@@ -1,6 +1,6 @@
 use Rattle.std.proofs.Common.{ap, ◌∙◌}
 use Rattle.tables.specs.PackageNames.{PackageParts}
-use Rattle.world_functions.proofs.TextsComparedByParts.{tells-part}
+use Rattle.tables.proofs.TextsComparedByParts.{tells-part}
 use Rattle.world_functions.proofs.name.is_in_namespace.Goals as goal
 
 pub returns-in-Some : goal.returns-in-Some

@@ -1,4 +1,4 @@
-use Rattle.world_functions.proofs.TextsComparedByParts.{tells-behind}
+use Rattle.tables.proofs.TextsComparedByParts.{tells-behind}
 use Rattle.world_functions.proofs.name.is_in_package.Goals as goal
 
 pub returns-in-Some : goal.returns-in-Some
