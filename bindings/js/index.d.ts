@@ -48,6 +48,9 @@ export interface Package {
   /** The package as a text. Of several it is the last one, which opens again after the others. */
   toText(): string;
 
+  /** The package and those before it as one document, which docs/package.schema.json describes. */
+  describe(): unknown;
+
   /** The package as a binary. Of several it is the last one, which opens again after the others. */
   toBinary(): Uint8Array;
 

@@ -176,6 +176,11 @@ export class Package {
     return decoder.decode(this.told("witcall_to_text"));
   }
 
+  /** The package and those before it as one document, which docs/package.schema.json describes. */
+  describe() {
+    return JSON.parse(decoder.decode(this.told("witcall_describe")));
+  }
+
   /** The package as a binary. Of several it is the last one, which opens again after the others. */
   toBinary() {
     return this.told("witcall_to_binary");

@@ -95,3 +95,30 @@ test("types of the greatest depth are opened, and their values carried", { skip 
   const nested = `${"result<".repeat(63)}u8${">".repeat(63)}`;
   assert.equal(witcall.open(`package a:b; interface c { type t = ${nested}; }`).types.length, 63);
 });
+
+test("a package is described", { skip }, async () => {
+  const witcall = await load(bytes());
+  const world = "world w { import c; export g: func(); }";
+  const text = `package a:b@1.0.0; interface c { f: func(x: list<u8>) -> u64; } ${world}`;
+  const list = { kind: "list", name: null, owner: null, size: 8, align: 4, flat: ["i32", "i32"], type: "u8" };
+  const flat = { parameters: ["i32", "i32"], results: ["i64"] };
+  const none = { parameters: [], results: [] };
+  const f = {
+    kind: "function",
+    name: "f",
+    owner: { interface: 0 },
+    parameters: [{ name: "x", type: 0, size: 8, align: 4, offset: 0 }],
+    result: { type: "u64", size: 8, align: 8 },
+    record: null,
+    area: null,
+    export: flat,
+    import: flat,
+  };
+  const g = { ...f, name: "g", owner: { world: 0 }, parameters: [], result: null, export: none, import: none };
+  assert.deepEqual(witcall.open(text).describe(), {
+    packages: ["a:b@1.0.0"],
+    interfaces: [{ name: "a:b/c@1.0.0", package: 0, uses: [], types: [], functions: [1] }],
+    worlds: [{ name: "a:b/w@1.0.0", package: 0, imports: [{ interface: 0 }], exports: [{ function: 2 }] }],
+    rows: [list, f, g],
+  });
+});
