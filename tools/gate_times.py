@@ -93,8 +93,8 @@ def summed(rows, key_of):
 
 
 def table(rows):
-    """The table's lines, of two crates each: those of the left half come first in the order in which the proofs began. At the end are the sums of
-    the seconds as they are shown."""
+    """The table's lines, of three crates each: those of the left third come first in the order in which the proofs
+    began. At the end are the sums of the seconds as they are shown."""
     seconds = summed(rows, lambda row: (row["crate"], row["kind"]))
     names = list(dict.fromkeys(crate for crate, _ in seconds))
     shown = {key: round(used) for key, used in seconds.items()}
@@ -104,9 +104,11 @@ def table(rows):
     for name in [*names, "all"]:
         cells = [f"{shown[name, kind]:,}" if (name, kind) in shown else "" for kind in KINDS]
         found.append(f"| {name if name == 'all' else f'`{name}`'} | {' | '.join(cells)} |")
-    half = (len(found) + 1) // 2
-    lines = ["| crate | proof | tests | edits | builds |" + " crate | proof | tests | edits | builds |", "|---" * 10 + "|"]
-    lines += [left + right.removeprefix("|") for left, right in itertools.zip_longest(found[:half], found[half:], fillvalue="| | | | | |")]
+    third = (len(found) + 2) // 3
+    groups = [found[begin:begin + third] for begin in (0, third, 2 * third)]
+    lines = ["|" + " crate | proof | tests | edits | builds |" * 3, "|---" * 15 + "|"]
+    lines += ["|" + "".join(cells.removeprefix("|") for cells in line)
+              for line in itertools.zip_longest(*groups, fillvalue="| | | | | |")]
     whole, edits = sum(sums.values()), sums["edits"]
     parts = f"{100 * edits / max(whole, 1):.0f} of 100 parts for the edits"
     return [*lines, "", f"{whole:,} seconds of processor time, {parts}"]
