@@ -234,7 +234,7 @@ if has helgrind valgrind; then
 fi
 if has hostile "$CC" && has_sanitizer hostile address,undefined; then
     step build-hostile checked_c_program "$here/c/hostile.c" "$build/hostile"
-    same hostile "$here/c/hostile.expected" "$build/hostile"
+    same hostile "$here/c/hostile.expected" "$build/hostile" 100
 fi
 if has lists "$CC" && has_sanitizer lists address,undefined; then
     step build-lists checked_c_program "$here/c/lists.c" "$build/lists"

@@ -5,8 +5,8 @@
  * usage: hostile [MILLISECONDS]
  *
  * A line for each case goes to standard output. The exit status is 1 where one isn't as wanted, or takes longer than
- * MILLISECONDS of processor time, by default 15,000: enough for an emulator on a busy machine, and far below what the
- * lists would take without a limit.
+ * MILLISECONDS of processor time. examples/run.sh asks for 100. The default of 15,000 is for an emulator on a busy
+ * machine, and far below what the lists would take without a limit.
  */
 #include "witcall.h"
 #include <stdbool.h>
