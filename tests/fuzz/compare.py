@@ -34,6 +34,11 @@ STEPS = {"place": 0, "lift-args": 2, "lower-args": 3, "lift-result": 5, "lower-r
 BAD_JSON, NO_ROOM, BAD_BLOCK, OTHER_BLOCK, ABOVE_LIMIT = 61, 71, 72, 73, 76
 
 
+def core_values(given):
+    """Core values of a host: an i32 is the low 32 bits of what the host has."""
+    return [("i64" if kind else "i32", bits if kind else bits % (1 << 32)) for kind, bits in given]
+
+
 class AboveLimit(Exception):
     """More bytes are asked for than the limit."""
 
@@ -112,7 +117,7 @@ class Half:
 
     def kinds(self, key):
         """Core values with their kinds in words; the library takes each kind but 0 as an i64."""
-        return [("i64" if kind else "i32", bits if kind else bits % (1 << 32)) for kind, bits in self.case[key]]
+        return core_values(self.case[key])
 
     def source(self):
         """The memory that is read."""
@@ -243,7 +248,7 @@ class JsonCase:
 
     def is_told(self):
         """Whether the answer was told as it has to be."""
-        case, answer = self.case, [(("i64" if kind else "i32"), bits) for kind, bits in self.case["answer"]]
+        case, answer = self.case, core_values(self.case["answer"])
         wanted = self.source.reads(answer, case["limit"])
         if wanted == "nothing":
             return case["told"] == [DONE, 0, 0, 0]
