@@ -1,7 +1,7 @@
 //! Why a file is no package, or can't be read.
 
-use crate::limits::Refused;
 use layout::LayoutError;
+use layout_limits::Refused;
 use std::alloc::AllocError;
 use tables::ResolveError;
 use thiserror::Error;

@@ -1,47 +1,26 @@
 //! What to do about a fault, as docs/ERRORS.md has it.
 
 use crate::cause::Cause;
-use crate::places::declared_twice;
+use crate::places::{Found, declared_twice};
+use crate::unknown::of_unknown;
 use layout::LayoutError;
 use std::alloc::{AllocError, Global};
 use tables::{PackageName, ResolveError};
-use wit_hints::{MORE_MEMORY, hint_of_duplicate, hint_of_text, hint_of_unknown};
-use wit_places::{Declarations, Lexed, PackageRef};
+use wit_hints::{MORE_MEMORY, hint_of_duplicate, hint_of_text};
+use wit_places::{Declarations, Lexed, PackageRef, chain_of, ring_of_interfaces};
+
+/// A package of a set, with its files.
+#[derive(Clone, Copy)]
+pub struct Known<'a> {
+    pub package: PackageRef<'a>,
+    pub files: &'a [Lexed<'a>],
+}
+
 /// What is around a fault: the files of its package, and the packages that a hint may name.
 #[derive(Clone, Copy)]
 pub struct Around<'a> {
     pub files: &'a [Lexed<'a>],
-    pub known: &'a [PackageRef<'a>],
-}
-
-/// The first interface of a package that declares a type of this name.
-fn interface_with<'a>(
-    alloc: Global,
-    files: &[Lexed<'a>],
-    word: &str,
-) -> Result<Option<&'a str>, AllocError> {
-    for lexed in files {
-        let interface = Declarations::of(alloc, lexed)?.interface_with(word);
-        if interface.is_some() {
-            return Ok(interface);
-        }
-    }
-    Ok(None)
-}
-
-/// What to do about a name that stands for nothing.
-fn of_unknown(
-    alloc: Global,
-    lexed: &Lexed<'_>,
-    files: &[Lexed<'_>],
-    word: &str,
-) -> Result<String, AllocError> {
-    match interface_with(alloc, files, word)? {
-        Some(interface) => {
-            format!(in alloc; "write `use {interface}.{{{word}}};` in this interface")
-        }
-        None => hint_of_unknown(alloc, lexed, word),
-    }
+    pub known: &'a [Known<'a>],
 }
 
 /// What to do about two declarations of a name, which may be in two files.
@@ -57,52 +36,98 @@ fn of_duplicate<'a>(
     }
 }
 
-/// Which package of the same name is here, if one is.
+/// What to do about a package that is not there: which one of the same name is.
 fn of_package(
     alloc: Global,
-    known: &[PackageRef<'_>],
+    known: &[Known<'_>],
     name: &PackageName,
 ) -> Result<String, AllocError> {
     for other in known {
-        if other.has_name_of(PackageRef::of_tables(name)) {
-            return format!(in alloc; "package `{name}` is not here; there is `{other}`");
+        let package = other.package;
+        if package.is(PackageRef::of_tables(name)) {
+            return format!(in alloc; "this is the package of the file: leave out `{name}/`");
+        }
+        if package.has_name_of(PackageRef::of_tables(name)) {
+            return format!(in alloc; "package `{name}` is not here; there is `{package}`");
         }
     }
     format!(in alloc; "give the file of package `{name}` too, or put it into the folder `deps`")
 }
 
+/// What to do about interfaces that use each other.
+fn of_interfaces(alloc: Global, files: &[Lexed<'_>]) -> Result<String, AllocError> {
+    let ring = ring_of_interfaces(alloc, files)?;
+    if ring.is_empty() {
+        return String::from_str(alloc, "interfaces or types name each other in a ring");
+    }
+    let chain = chain_of(alloc, ring.as_slice())?;
+    let chain = chain.as_str();
+    format!(in alloc; "interfaces use each other, {chain}: move what both use into one of its own")
+}
+
+/// What to do about types that are each declared as the next one.
+fn of_aliases(alloc: Global, ring: &[&str]) -> Result<String, AllocError> {
+    match ring {
+        [name] => format!(in alloc; "`{name}` names itself: give it a type"),
+        [first, second] => {
+            format!(in alloc; "`{first}` and `{second}` name each other: give one of them a type")
+        }
+        _ => {
+            let chain = chain_of(alloc, ring)?;
+            let chain = chain.as_str();
+            format!(in alloc; "types name each other, {chain}: give one of them a type")
+        }
+    }
+}
+
 /// What to do about types that contain themselves, or interfaces that use each other.
-fn of_cycle(alloc: Global, lexed: &Lexed<'_>) -> Result<String, AllocError> {
-    let Some(span) = Declarations::of(alloc, lexed)?.ring(alloc, lexed)? else {
-        return String::from_str(
-            alloc,
-            "interfaces use each other: move what both use into one of its own",
-        );
+fn of_cycle(alloc: Global, lexed: &Lexed<'_>, files: &[Lexed<'_>]) -> Result<String, AllocError> {
+    let declarations = Declarations::of(alloc, lexed)?;
+    let Some(span) = declarations.ring(alloc, lexed)? else {
+        return of_interfaces(alloc, files);
     };
+    let aliases = declarations.ring_of_aliases(alloc, lexed, span)?;
+    if !aliases.is_empty() {
+        return of_aliases(alloc, aliases.as_slice());
+    }
     let name = lexed.at(span);
     format!(in alloc;
         "a value has no pointers: keep the nodes in a `list<{name}>` and name them by `u32`"
     )
 }
 
+/// What to do about a package that has too much: of flags, too many labels.
+fn of_limit(alloc: Global, lexed: &Lexed<'_>) -> Result<String, AllocError> {
+    let declarations = Declarations::of(alloc, lexed)?;
+    let Some(flags) = declarations.long_flags(lexed) else {
+        return String::from_str(alloc, "split the package");
+    };
+    let (name, labels) = (lexed.at(flags.span), flags.labels);
+    format!(in alloc;
+        "flags have at most 32 labels, `{name}` has {labels}: use two sets, or a list of an enum"
+    )
+}
+
+/// What to do about a fault of names, or of the whole package.
 fn of_names(
     alloc: Global,
-    lexed: &Lexed<'_>,
+    found: Found<'_>,
     around: Around<'_>,
     error: &ResolveError,
 ) -> Result<String, AllocError> {
+    let lexed = found.lexed;
     let hint = match error {
         ResolveError::Unknown(label) => {
-            return of_unknown(alloc, lexed, around.files, label.as_str());
+            return of_unknown(alloc, found, around, label.as_str());
         }
         ResolveError::NoPackage(name) => return of_package(alloc, around.known, name),
         ResolveError::Duplicate(name) => {
             return of_duplicate(alloc, lexed, around.files, name.as_str());
         }
-        ResolveError::Cycle => return of_cycle(alloc, lexed),
+        ResolveError::Cycle => return of_cycle(alloc, lexed, around.files),
         ResolveError::EmptyPackage => "add an interface or a world",
         ResolveError::NotThisShape => "",
-        ResolveError::Limit => "split the package; of flags, use two sets, or a list of an enum",
+        ResolveError::Limit => return of_limit(alloc, lexed),
         ResolveError::SamePackage(_) => "put the files of this package into one folder",
         ResolveError::SetLimit => "leave out packages that are not used",
         ResolveError::NoMemory => MORE_MEMORY,
@@ -110,16 +135,20 @@ fn of_names(
     String::from_str(alloc, hint)
 }
 
-/// What to do about a fault that a file shows. No text if there is nothing to say.
+/// What to do about a fault that a file shows at a place. No text if there is nothing to say.
 pub fn hint_of(
     alloc: Global,
-    lexed: &Lexed<'_>,
+    found: Found<'_>,
     around: Around<'_>,
     cause: &Cause,
 ) -> Result<String, AllocError> {
+    let is_binary = found.lexed.text.starts_with("\0asm");
     let hint = match cause {
-        Cause::Text(error) => return hint_of_text(alloc, lexed, error),
-        Cause::Resolve(error) => return of_names(alloc, lexed, around, error),
+        Cause::Text(_) | Cause::NotUtf8(_) if is_binary => {
+            "this is a binary: `witcall text` prints its package as WIT"
+        }
+        Cause::Text(error) => return hint_of_text(alloc, found.lexed, error),
+        Cause::Resolve(error) => return of_names(alloc, found, around, error),
         Cause::Layout(LayoutError::TooLarge, _) => "use a list",
         Cause::Layout(LayoutError::TooDeep, _) => "nest less",
         Cause::Layout(LayoutError::NoMemory, _) => MORE_MEMORY,

@@ -10,14 +10,13 @@ mod cause;
 mod drawing;
 mod hints;
 mod json;
-mod limits;
 mod paint;
 mod places;
 mod report;
+mod unknown;
 
 pub use cause::{Cause, ReadError};
-pub use hints::Around;
-pub use limits::{Refused, first_above_limits};
+pub use hints::{Around, Known};
 pub use paint::{Paint, Part};
 pub use places::{Found, first_path};
 pub use report::{Report, Style};

@@ -1,12 +1,12 @@
 //! Where a fault stands in its text.
 
 use crate::cause::Cause;
-use crate::hints::Around;
-use crate::limits::Refused;
+use crate::hints::{Around, Known};
+use layout_limits::Refused;
 use std::alloc::{AllocError, Global};
 use tables::ResolveError;
 use wit_hints::find_twins;
-use wit_places::{Declarations, Lexed, PackageRef, importers};
+use wit_places::{Declarations, Lexed, PackageRef, importers, ring_of_interfaces};
 use wit_text::{Span, TextError, TokenKind};
 
 /// The first place where a name is used.
@@ -95,13 +95,9 @@ pub fn declared_twice<'a>(
 }
 
 /// Where a package is named that is not there: its version, if another version of it is known.
-fn of_package(
-    lexed: &Lexed<'_>,
-    known: &[PackageRef<'_>],
-    package: PackageRef<'_>,
-) -> Option<Span> {
+fn of_package(lexed: &Lexed<'_>, known: &[Known<'_>], package: PackageRef<'_>) -> Option<Span> {
     for other in known {
-        if other.has_name_of(package) {
+        if other.package.has_name_of(package) {
             return first_version(lexed, package).or(path_to(lexed, package));
         }
     }
@@ -178,7 +174,7 @@ fn place_among<'a>(
 fn of_names(
     alloc: Global,
     lexed: &Lexed<'_>,
-    known: &[PackageRef<'_>],
+    known: &[Known<'_>],
     error: &ResolveError,
 ) -> Result<Option<Span>, AllocError> {
     match error {
@@ -188,7 +184,10 @@ fn of_names(
             Ok(of_package(lexed, known, PackageRef::of_tables(name)))
         }
         ResolveError::Cycle => Declarations::of(alloc, lexed)?.ring(alloc, lexed),
-        ResolveError::Limit => Ok(Declarations::of(alloc, lexed)?.long_flags(lexed)),
+        ResolveError::Limit => {
+            let flags = Declarations::of(alloc, lexed)?.long_flags(lexed);
+            Ok(flags.map(|flags| flags.span))
+        }
         _ => Ok(None),
     }
 }
@@ -212,7 +211,7 @@ fn of_refused(
 pub fn place_in(
     alloc: Global,
     lexed: &Lexed<'_>,
-    known: &[PackageRef<'_>],
+    known: &[Known<'_>],
     cause: &Cause,
 ) -> Result<Option<Span>, AllocError> {
     match cause {
@@ -227,6 +226,25 @@ pub fn place_in(
     }
 }
 
+/// Where the first of interfaces that use each other uses the second.
+fn place_of_ring<'a>(
+    alloc: Global,
+    files: &'a [Lexed<'a>],
+) -> Result<Option<Found<'a>>, AllocError> {
+    let ring = ring_of_interfaces(alloc, files)?;
+    let Some(first) = ring.first() else {
+        return Ok(None);
+    };
+    let second = ring.get(1).unwrap_or(first);
+    for lexed in files {
+        let span = Declarations::of(alloc, lexed)?.use_in(lexed, first, second);
+        if span.is_some() {
+            return Ok(Some(Found { lexed, span }));
+        }
+    }
+    Ok(None)
+}
+
 /// The first file of a package that names it, and where.
 fn own_name<'a>(files: &'a [Lexed<'a>]) -> Option<Found<'a>> {
     for lexed in files {
@@ -239,7 +257,8 @@ fn own_name<'a>(files: &'a [Lexed<'a>]) -> Option<Found<'a>> {
     Some(Found { lexed, span: None })
 }
 
-/// Where a package has a fault: in the first file that has a place of it, or at the package's name.
+/// Where a package has a fault: in the first file that has a place of it, at the `use` of an interface that uses itself
+/// by others, or at the package's name.
 pub fn place_of<'a>(
     alloc: Global,
     around: Around<'a>,
@@ -255,6 +274,11 @@ pub fn place_of<'a>(
         if span.is_some() {
             return Ok(Some(Found { lexed, span }));
         }
+    }
+    if let Cause::Resolve(ResolveError::Cycle) = cause
+        && let Some(found) = place_of_ring(alloc, around.files)?
+    {
+        return Ok(Some(found));
     }
     Ok(own_name(around.files))
 }

@@ -3,7 +3,7 @@ ghost use Rattle.std.specs.Prelude.{◌≡◌, [], IfOk, OnOk, string_bytes};
 
 use crate::cause::Cause;
 use crate::drawing::{Fault, push_fault};
-use crate::hints::{Around, hint_of};
+use crate::hints::{Around, Known, hint_of};
 use crate::json::push_object;
 use crate::paint::Paint;
 use crate::places::{Found, first_path, place_in, place_of};
@@ -108,16 +108,16 @@ impl Report {
         &mut self,
         alloc: Global,
         lexed: &Lexed<'_>,
-        known: &[PackageRef<'_>],
+        known: &[Known<'_>],
         cause: &Cause,
     ) -> Result<(), AllocError>
         ensures { OnOk result (self.new.status ≡ 1) }
     {
         let words = format!(in alloc; "{cause}")?;
         let around = Around { files: &[], known };
-        let hint = hint_of(alloc, lexed, around, cause)?;
-        let place = place_in(alloc, lexed, known, cause)?;
-        self.add_at(alloc, lexed, place, words.as_str(), hint.as_str())
+        let span = place_in(alloc, lexed, known, cause)?;
+        let hint = hint_of(alloc, Found { lexed, span }, around, cause)?;
+        self.add_at(alloc, lexed, span, words.as_str(), hint.as_str())
     }
 
     /// Adds a fault at a place of a package. Without any file of it nothing is shown.
@@ -149,7 +149,7 @@ impl Report {
         let words = format!(in alloc; "{cause}")?;
         let found = place_of(alloc, around, cause)?;
         let hint = match found {
-            Some(found) => hint_of(alloc, found.lexed, around, cause)?,
+            Some(found) => hint_of(alloc, found, around, cause)?,
             None => String::new(alloc),
         };
         self.add_found(alloc, found, words.as_str(), hint.as_str())

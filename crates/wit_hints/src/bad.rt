@@ -1,35 +1,12 @@
 //! What to do about a character that begins no token, or a word that is no name.
 
 use crate::features::NO_FLOATS;
-use crate::foreign::{holder_for, is_float, type_for};
 use crate::scopes::line_of_taken;
-use crate::spot::{keyword_at, mark_at, word_at};
+use crate::types::may_have_next;
+use near_names::{hint_of_character, holder_for, is_float, kebab, rule_of_names, type_for};
 use std::alloc::{AllocError, Global};
-use wit_places::Lexed;
-use wit_text::{Punctuation, Span};
-
-/// A name in kebab case: a hyphen in place of `_` and before a capital letter, all in lower case.
-fn kebab(alloc: Global, word: &str) -> Result<String, AllocError> {
-    let mut name = String::new(alloc);
-    for character in word.chars() {
-        if character == '_' || (character.is_ascii_uppercase() && !name.is_empty()) {
-            name.push('-')?;
-        }
-        if character != '_' {
-            name.push(character.to_ascii_lowercase())?;
-        }
-    }
-    Ok(name)
-}
-
-/// The text before a span, with its tokens.
-fn front<'a>(alloc: Global, lexed: &Lexed<'a>, span: Span) -> Lexed<'a> {
-    Lexed::new(
-        alloc,
-        lexed.path,
-        lexed.text.get(..span.start).unwrap_or(""),
-    )
-}
+use wit_places::{Lexed, Spot, Within, keyword_at, mark_at, word_at};
+use wit_text::{Keyword, Punctuation, Span};
 
 /// The word that a text begins with, after blanks and colons.
 fn first_word(alloc: Global, text: &str) -> Result<String, AllocError> {
@@ -51,10 +28,9 @@ fn type_beside(
     span: Span,
     is_after: bool,
 ) -> Result<String, AllocError> {
-    let front = front(alloc, lexed, span);
-    let last = front.tokens.len().saturating_sub(1);
-    if !is_after && mark_at(&front, last).is_none() {
-        return String::from_str(alloc, word_at(&front, last));
+    let last = lexed.tokens.len().saturating_sub(1);
+    if !is_after && mark_at(lexed, last).is_none() {
+        return String::from_str(alloc, word_at(lexed, last));
     }
     let behind = lexed.text.get(span.end..).unwrap_or("");
     let word = first_word(alloc, behind)?;
@@ -85,11 +61,41 @@ fn of_question(alloc: Global, lexed: &Lexed<'_>, span: Span) -> Result<String, A
 }
 
 /// What to do about a `*`: of a `use`, or of a pointer.
-fn of_star(alloc: Global, lexed: &Lexed<'_>, span: Span) -> &'static str {
-    let front = front(alloc, lexed, span);
-    match mark_at(&front, front.tokens.len().saturating_sub(1)) {
+fn of_star(lexed: &Lexed<'_>) -> &'static str {
+    match mark_at(lexed, lexed.tokens.len().saturating_sub(1)) {
         Some(Punctuation::Dot | Punctuation::OpenBrace) => "name each type that is used",
         _ => "WIT has no pointers: write a `list<..>`, or an `option<..>`",
+    }
+}
+
+/// What to do about a `|`: between cases or labels, between types, or of a type.
+fn of_bar(lexed: &Lexed<'_>, span: Span) -> &'static str {
+    match Spot::of(lexed, span).within {
+        Within::Variant | Within::Enum | Within::Flags => "write `,` instead of `|`",
+        Within::Angles if may_have_next(lexed, lexed.tokens.len()) => "write `,` instead of `|`",
+        _ => "a choice of types is a `variant`",
+    }
+}
+
+/// Whether a text begins as one of WIT does.
+fn begins_file(lexed: &Lexed<'_>) -> bool {
+    match keyword_at(lexed, 0) {
+        Some(keyword) => matches!(
+            keyword,
+            Keyword::Package | Keyword::Interface | Keyword::World | Keyword::Use
+        ),
+        None => mark_at(lexed, 0) == Some(Punctuation::At),
+    }
+}
+
+/// What to do about a quote.
+fn of_quote(lexed: &Lexed<'_>) -> &'static str {
+    if !begins_file(lexed) {
+        return "this is no WIT: a file begins with `package NAMESPACE:NAME;`";
+    }
+    match mark_at(lexed, lexed.tokens.len().saturating_sub(1)) {
+        Some(Punctuation::Equals) => "WIT has no values: leave out `=` and what comes after it",
+        _ => "names have no quotes",
     }
 }
 
@@ -103,16 +109,16 @@ fn of_character(
     let hint = match word {
         "[" => return of_bracket(alloc, lexed, span),
         "?" => return of_question(alloc, lexed, span),
-        "*" => of_star(alloc, lexed, span),
-        "|" => "a choice of types is a `variant`",
+        "*" => of_star(lexed),
+        "|" => of_bar(lexed, span),
         "&" => "WIT has no references: leave it out",
-        "\"" | "'" => "names have no quotes",
+        "\"" | "'" => of_quote(lexed),
         "#" => "a comment begins with `//`",
         "\u{feff}" => "leave out this byte-order mark",
-        "\0" if lexed.text.starts_with("\0asm") => {
-            "this is a binary: `witcall text` prints its package as WIT"
-        }
-        _ => "WIT has no such character here",
+        _ => match word.chars().next() {
+            Some(character) if !character.is_ascii() => return hint_of_character(alloc, character),
+            _ => "WIT has no such character here",
+        },
     };
     String::from_str(alloc, hint)
 }
@@ -132,12 +138,18 @@ fn of_type(alloc: Global, lexed: &Lexed<'_>, span: Span, name: &str) -> Result<S
     if let Some(other) = type_for(name) {
         return format!(in alloc; "no `{word}` here; WIT has `{other}`");
     }
-    format!(in alloc; "a name is words joined by `-`, each in one case: write `{name}`")
+    let rule = rule_of_names(word);
+    format!(in alloc; "{rule}: write `{name}`")
 }
 
 /// What to do about a word that is no name, where a name has to come.
-fn of_name(alloc: Global, lexed: &Lexed<'_>, span: Span, name: &str) -> Result<String, AllocError> {
-    let rule = "a name is words joined by `-`, each in one case";
+pub fn of_name(
+    alloc: Global,
+    lexed: &Lexed<'_>,
+    span: Span,
+    name: &str,
+) -> Result<String, AllocError> {
+    let rule = rule_of_names(lexed.at(span));
     if let Some(line) = line_of_taken(alloc, lexed, span, name)? {
         return format!(in alloc; "{rule}; `{name}` is taken in line {line}");
     }
@@ -148,10 +160,10 @@ fn of_name(alloc: Global, lexed: &Lexed<'_>, span: Span, name: &str) -> Result<S
     }
 }
 
-/// Whether a type has to come after the last token of a text.
-fn ends_before_type(front: &Lexed<'_>) -> bool {
+/// Whether a type has to come after the last token.
+fn ends_before_type(lexed: &Lexed<'_>) -> bool {
     matches!(
-        mark_at(front, front.tokens.len().saturating_sub(1)),
+        mark_at(lexed, lexed.tokens.len().saturating_sub(1)),
         Some(Punctuation::Colon | Punctuation::Less | Punctuation::Arrow | Punctuation::Equals)
     )
 }
@@ -170,7 +182,7 @@ pub fn of_bad(alloc: Global, lexed: &Lexed<'_>, span: Span) -> Result<String, Al
             "a name is words joined by `-`, each from a letter on",
         );
     }
-    if ends_before_type(&front(alloc, lexed, span)) {
+    if ends_before_type(lexed) {
         return of_type(alloc, lexed, span, name);
     }
     of_name(alloc, lexed, span, name)

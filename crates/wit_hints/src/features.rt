@@ -1,11 +1,21 @@
 //! What to write in place of what is valid and not read.
 
-use crate::spot::{Spot, word_at};
+use crate::types::of_too_many;
 use std::alloc::{AllocError, Global};
+use wit_places::{Spot, word_at};
 use wit_text::{Feature, TokenKind};
 
 /// What to do about a float.
 pub static NO_FLOATS: &str = "give another type: floats are not read here";
+
+/// A float, which has as many bytes as a whole number.
+fn of_float(alloc: Global, spot: &Spot<'_>) -> Result<String, AllocError> {
+    let word = spot.word();
+    let number = if word == "f32" { "u32" } else { "u64" };
+    format!(in alloc;
+        "valid WIT, but not read here: for a check, write `{number}` instead of `{word}`"
+    )
+}
 
 /// The handle of a resource, or its declaration.
 fn of_resource(alloc: Global, spot: &Spot<'_>) -> Result<String, AllocError> {
@@ -24,12 +34,13 @@ fn of_resource(alloc: Global, spot: &Spot<'_>) -> Result<String, AllocError> {
 }
 
 /// A list of several types, or one of fixed length.
-fn of_list(spot: &Spot<'_>) -> &'static str {
+fn of_list(alloc: Global, spot: &Spot<'_>) -> Result<String, AllocError> {
     match spot.lexed.tokens.get(spot.index.saturating_add(1)) {
-        Some(token) if token.kind == TokenKind::Integer => {
-            "valid WIT, but not read here: for a check, leave out the length"
-        }
-        _ => "write `>` before it: a list has one type",
+        Some(token) if token.kind == TokenKind::Integer => String::from_str(
+            alloc,
+            "valid WIT, but not read here: for a check, leave out the length",
+        ),
+        _ => of_too_many(alloc, spot),
     }
 }
 
@@ -54,6 +65,7 @@ fn in_place(feature: Feature) -> &'static str {
         Feature::Include => "write what that world imports and exports",
         Feature::WorldUse => "leave it out, and move what needs it into an interface",
         Feature::WorldType => "move it into an interface",
+        Feature::NestedPackage => "give each package a file of its own",
         Feature::InlineInterface => "declare the interface before the world, and write its name",
         _ => "leave it out",
     }
@@ -62,11 +74,10 @@ fn in_place(feature: Feature) -> &'static str {
 /// What to write in place of a feature that is not read.
 pub fn of_feature(alloc: Global, spot: &Spot<'_>, feature: Feature) -> Result<String, AllocError> {
     match feature {
-        Feature::Float => String::from_str(alloc, NO_FLOATS),
+        Feature::Float => of_float(alloc, spot),
         Feature::Resource => of_resource(alloc, spot),
-        Feature::FixedLengthList => String::from_str(alloc, of_list(spot)),
+        Feature::FixedLengthList => of_list(alloc, spot),
         Feature::NamedResults => String::from_str(alloc, of_results(spot)),
-        Feature::NestedPackage => String::from_str(alloc, "give each package a file of its own"),
         _ => {
             let words = in_place(feature);
             format!(in alloc; "valid WIT, but not read here: for a check, {words}")

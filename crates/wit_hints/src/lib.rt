@@ -1,21 +1,22 @@
 //! Hints: what to do about a fault of a WIT text.
 //!
-//! `hint_of_text` looks at the token that is not allowed where it is, and at what is around it: the brackets that it is
-//! in, and the tokens beside it. It knows words of other languages, and what WIT writes for them. `hint_of_unknown` and
-//! `hint_of_duplicate` are hints about names; `find_twins` finds the two places of a name that is twice. `source_lines`
-//! has the line and the column of a byte offset. It stands on `wit_text` and `wit_places`.
+//! `hint_of_text` looks at the token that is not allowed where it is, and at what is around it: the brackets that it
+//! is in, and the tokens beside it. `hint_of_unknown` and `hint_of_duplicate` are hints about names; `find_twins`
+//! finds the two places of a name that is twice. `source_lines` has the line and the column of a byte offset. It
+//! stands on `wit_text`, `wit_places` and `near_names`.
 #![tactic(auto)]
 
 mod bad;
+mod earlier;
 mod features;
-mod foreign;
 mod marks;
 mod missing;
 mod names;
 mod scopes;
 pub mod source_lines;
-mod spot;
 mod texts;
+mod types;
+mod versions;
 
 pub use names::{hint_of_duplicate, hint_of_unknown};
 pub use scopes::{Twins, find_twins};

@@ -1,9 +1,10 @@
 //! What to do if a type, a name or a keyword has to come.
 
-use crate::foreign::{begins_function, declaration};
-use crate::spot::{Spot, Within, keyword_at, mark_at};
+use crate::types::{begins_type, is_type};
+use near_names::{begins_function, declaration, did_you_mean, nearest};
 use std::alloc::{AllocError, Global};
-use wit_text::{Keyword, Punctuation};
+use wit_places::{Spot, Within, keyword_at, mark_at, opener, word_at};
+use wit_text::{Keyword, Punctuation, TokenKind};
 
 /// Whether a type has to come.
 fn wants_type(spot: &Spot<'_>) -> bool {
@@ -47,6 +48,10 @@ fn of_type(alloc: Global, spot: &Spot<'_>) -> Result<String, AllocError> {
         (Some(Punctuation::OpenBrace), _) => {
             String::from_str(alloc, "declare a record, and write its name")
         }
+        (Some(Punctuation::Comma), _)
+            if word_at(spot.lexed, spot.before.saturating_sub(1)) == "result" => {
+            String::from_str(alloc, "write `_` for no value: `result<_, ..>`")
+        }
         (Some(_), _) => format!(in alloc; "a type is missing after `{}`", spot.word_before()),
         (None, _) => format!(in alloc; "a type has to come here, and `{}` is none", spot.word()),
     }
@@ -67,26 +72,15 @@ fn thing(within: Within) -> &'static str {
     }
 }
 
-/// Whether a word is a type that has a meaning of its own.
-fn is_type(keyword: Keyword) -> bool {
-    matches!(
-        keyword,
-        Keyword::Bool
-            | Keyword::Char
-            | Keyword::String
-            | Keyword::S8
-            | Keyword::S16
-            | Keyword::S32
-            | Keyword::S64
-            | Keyword::U8
-            | Keyword::U16
-            | Keyword::U32
-            | Keyword::U64
-            | Keyword::List
-            | Keyword::Option
-            | Keyword::Result
-            | Keyword::Tuple
-    )
+/// Whether a token is the name of a function of an interface, or a declaration.
+fn is_item_at(spot: &Spot<'_>, index: usize) -> bool {
+    match keyword_at(spot.lexed, index) {
+        Some(keyword) => matches!(
+            keyword,
+            Keyword::Record | Keyword::Variant | Keyword::Enum | Keyword::Flags | Keyword::Type
+        ),
+        None => spot.lexed.function_at(index).is_some(),
+    }
 }
 
 /// What to do about a keyword in place of a name: by default it can be escaped.
@@ -95,6 +89,8 @@ fn of_keyword(alloc: Global, spot: &Spot<'_>, keyword: Keyword) -> Result<String
     let is_named = mark_at(spot.lexed, next) == Some(Punctuation::Colon);
     let word = spot.word();
     match (keyword, spot.within) {
+        (Keyword::Static | Keyword::Async | Keyword::Import | Keyword::Export, Within::Interface)
+            if is_item_at(spot, next) => { format!(in alloc; "leave out `{word}`") }
         (Keyword::Func, Within::Interface | Within::World) if !is_named => {
             String::from_str(alloc, "a function is written `name: func(..)`")
         }
@@ -102,7 +98,9 @@ fn of_keyword(alloc: Global, spot: &Spot<'_>, keyword: Keyword) -> Result<String
             format!(in alloc; "`{word}` is for worlds: in an interface, write `use`")
         }
         (Keyword::Interface | Keyword::World, Within::Interface) if !is_named => {
-            String::from_str(alloc, "write `}` before it")
+            let open = opener(spot.lexed, spot.index).unwrap_or(0);
+            let name = word_at(spot.lexed, open.saturating_sub(1));
+            format!(in alloc; "close `{name}` with `}}` before it: no {word} is in an interface")
         }
         (Keyword::Interface, Within::World) => {
             String::from_str(alloc, "leave it out: write the name of the interface alone")
@@ -118,14 +116,43 @@ fn of_keyword(alloc: Global, spot: &Spot<'_>, keyword: Keyword) -> Result<String
     }
 }
 
+/// What to do about a `::`, at the second colon: in a `use`, or in a path.
+fn of_colons(alloc: Global, spot: &Spot<'_>) -> Result<String, AllocError> {
+    let first = spot.before.saturating_sub(1);
+    let next = spot.index.saturating_add(1);
+    let is_use = keyword_at(spot.lexed, first.saturating_sub(1)) == Some(Keyword::Use);
+    let interface = word_at(spot.lexed, first);
+    match (mark_at(spot.lexed, next), spot.lexed.name_at(next)) {
+        (Some(Punctuation::OpenBrace), _) if is_use => {
+            format!(in alloc; "write `.` instead of `::`: `use {interface}.{{..}};`")
+        }
+        (None, Some(name))
+            if is_use
+                && mark_at(spot.lexed, next.saturating_add(1)) == Some(Punctuation::Semicolon) => {
+            format!(in alloc; "a use is written `use {interface}.{{{name}}};`")
+        }
+        _ => String::from_str(alloc, "a path is written `namespace:name/interface`"),
+    }
+}
+
+/// What to do about a number in place of a name: it may be the front of a word.
+fn of_number(alloc: Global, spot: &Spot<'_>) -> Result<String, AllocError> {
+    let number = spot.word();
+    let next = spot.index.saturating_add(1);
+    match (spot.lexed.span_at(next), spot.lexed.name_at(next)) {
+        (Some(span), Some(name)) if span.start == spot.span.end => {
+            format!(in alloc; "a name begins with a letter: write `{name}{number}`")
+        }
+        _ => String::from_str(alloc, "a name begins with a letter"),
+    }
+}
+
 /// What to do if a name has to come, and a mark or nothing does.
 fn of_no_name(alloc: Global, spot: &Spot<'_>) -> Result<String, AllocError> {
     let (before, word) = (spot.word_before(), spot.word());
     let thing = thing(spot.within);
     match (mark_at(spot.lexed, spot.before), spot.mark()) {
-        (Some(Punctuation::Colon), Some(Punctuation::Colon)) => {
-            String::from_str(alloc, "a path is written `namespace:name/interface`")
-        }
+        (Some(Punctuation::Colon), Some(Punctuation::Colon)) => of_colons(alloc, spot),
         (None, Some(Punctuation::OpenBrace)) if before == "use" => {
             String::from_str(alloc, "a use is written `use interface.{name};`")
         }
@@ -156,6 +183,11 @@ pub fn of_identifier(alloc: Global, spot: &Spot<'_>) -> Result<String, AllocErro
     if spot.lexed.name_at(spot.index).is_some() {
         return String::from_str(alloc, "the name of a package is in lower case");
     }
+    if let Some(token) = spot.lexed.tokens.get(spot.index)
+        && token.kind == TokenKind::Integer
+    {
+        return of_number(alloc, spot);
+    }
     of_no_name(alloc, spot)
 }
 
@@ -165,31 +197,83 @@ fn of_func(alloc: Global, spot: &Spot<'_>) -> Result<String, AllocError> {
     if begins_function(word) {
         return format!(in alloc; "write `func` instead of `{word}`");
     }
-    match spot.mark() {
-        Some(Punctuation::OpenParenthesis) => String::from_str(alloc, "write `func` before it"),
-        Some(_) => String::from_str(alloc, "a function is written `name: func(..)`"),
-        None => {
+    let next = spot.index.saturating_add(1);
+    match (spot.mark(), mark_at(spot.lexed, next)) {
+        (Some(Punctuation::OpenParenthesis), _) => String::from_str(
+            alloc,
+            "write `func` before it",
+        ),
+        (None, Some(Punctuation::OpenParenthesis)) => {
+            let near = did_you_mean(alloc, word, &["func"])?;
+            if !near.is_empty() {
+                return Ok(near);
+            }
+            format!(in alloc; "write `func` instead of `{word}`")
+        }
+        (None, Some(Punctuation::Semicolon)) if begins_type(spot) => {
             format!(in alloc; "an interface has no fields: write `func() -> {word}`, or a record")
         }
+        (None, Some(Punctuation::Less)) if begins_type(spot) => {
+            String::from_str(
+                alloc,
+                "an interface has no fields: write `func() ->` before the type, or a record",
+            )
+        }
+        (None, _) if keyword_at(spot.lexed, next) == Some(Keyword::Func) => {
+            format!(in alloc; "leave out `{word}`")
+        }
+        _ => String::from_str(alloc, "a function is written `name: func(..)`"),
     }
+}
+
+/// Whether a word of a file begins what an interface has.
+fn is_of_interface(alloc: Global, spot: &Spot<'_>) -> Result<bool, AllocError> {
+    let word = spot.word();
+    let near = nearest(
+        alloc,
+        word,
+        &["record", "variant", "enum", "flags", "type", "use"],
+    )?;
+    Ok(
+        near.is_some()
+            || spot.lexed.is_named(spot.index)
+            || begins_function(word)
+            || declaration(word).is_some(),
+    )
+}
+
+/// What to do about a word where an interface or a world has to come.
+fn of_file_word(alloc: Global, spot: &Spot<'_>) -> Result<String, AllocError> {
+    let word = spot.word();
+    let near = did_you_mean(alloc, word, &["interface", "world"])?;
+    if !near.is_empty() {
+        return Ok(near);
+    }
+    if declaration(word) == Some("interface") {
+        return format!(in alloc; "write `interface` instead of `{word}`");
+    }
+    if is_of_interface(alloc, spot)? {
+        return String::from_str(alloc, "put it into an interface: `interface NAME { .. }`");
+    }
+    String::from_str(alloc, "an interface or a world has to come here")
 }
 
 /// What to do if an interface or a world has to come.
 fn of_file(alloc: Global, spot: &Spot<'_>) -> Result<String, AllocError> {
     let word = spot.word();
-    let hint = match keyword_at(spot.lexed, spot.index) {
-        Some(Keyword::Import | Keyword::Export | Keyword::Include) => {
+    let next = keyword_at(spot.lexed, spot.index.saturating_add(1));
+    let hint = match (spot.mark(), keyword_at(spot.lexed, spot.index)) {
+        (Some(Punctuation::CloseBrace), _) => "leave it out: all braces are closed before it",
+        (Some(Punctuation::Semicolon), _) => "leave it out: no `;` comes here",
+        (Some(_), _) => "an interface or a world has to come here",
+        (None, _) if matches!(next, Some(Keyword::Interface | Keyword::World)) => {
+            return format!(in alloc; "leave out `{word}`");
+        }
+        (None, Some(Keyword::Import | Keyword::Export | Keyword::Include)) => {
             "put it into a world: `world NAME { .. }`"
         }
-        Some(_) => "put it into an interface: `interface NAME { .. }`",
-        None if spot.mark() == Some(Punctuation::CloseBrace) => {
-            "leave it out: all braces are closed before it"
-        }
-        None if spot.mark() == Some(Punctuation::Semicolon) => "leave it out: no `;` comes here",
-        None if declaration(word) == Some("interface") => {
-            return format!(in alloc; "write `interface` instead of `{word}`");
-        }
-        None => "a file has interfaces and worlds: put it into `interface NAME { .. }`",
+        (None, Some(_)) => "put it into an interface: `interface NAME { .. }`",
+        (None, None) => return of_file_word(alloc, spot),
     };
     String::from_str(alloc, hint)
 }
@@ -200,19 +284,21 @@ pub fn of_missing_keyword(
     spot: &Spot<'_>,
     keyword: Keyword,
 ) -> Result<String, AllocError> {
-    match keyword {
-        Keyword::Package => String::from_str(
-            alloc,
-            "begin the file with `package NAMESPACE:NAME;`, or give it with files of one package",
-        ),
-        Keyword::Func => of_func(alloc, spot),
-        Keyword::Interface => of_file(alloc, spot),
-        _ if spot.mark() == Some(Punctuation::Semicolon) => {
-            String::from_str(alloc, "leave it out: no `;` comes here")
-        }
-        _ => String::from_str(
-            alloc,
-            "a world has imports and exports: write `import` or `export`",
-        ),
+    let near: &[&str] = match keyword {
+        Keyword::Func => return of_func(alloc, spot),
+        Keyword::Interface => return of_file(alloc, spot),
+        Keyword::Package => &["package"],
+        _ => &["import", "export", "include", "use", "type"],
+    };
+    let near = did_you_mean(alloc, spot.word(), near)?;
+    if !near.is_empty() {
+        return Ok(near);
     }
+    let hint = match keyword {
+        Keyword::Package =>
+            "begin the file with `package NAMESPACE:NAME;`, or give it with files of one package",
+        _ if spot.mark() == Some(Punctuation::Semicolon) => "leave it out: no `;` comes here",
+        _ => "a world has imports and exports: write `import` or `export`",
+    };
+    String::from_str(alloc, hint)
 }

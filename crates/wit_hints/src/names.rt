@@ -1,12 +1,11 @@
 //! What to do about a name that stands for nothing, or is twice in a scope.
 
 use crate::features::NO_FLOATS;
-use crate::foreign::{is_float, is_nothing, type_for};
 use crate::scopes::{Twins, find_twins};
 use crate::source_lines::place_at;
+use near_names::{is_float, is_nothing, nearest, type_for};
 use std::alloc::{AllocError, Global};
-use strsim::levenshtein;
-use wit_places::{Declarations, Lexed};
+use wit_places::{Declarations, Lexed, names_of_types};
 
 /// The words that are types.
 static TYPES: [&str; 15] = [
@@ -14,40 +13,17 @@ static TYPES: [&str; 15] = [
     "u16", "u32", "u64",
 ];
 
-/// The nearer of two names to a word. A name is near if less than a third of the letters differ, or one.
-fn nearer<'a>(
-    alloc: Global,
-    word: &str,
-    best: Option<(usize, &'a str)>,
-    name: &'a str,
-) -> Result<Option<(usize, &'a str)>, AllocError> {
-    let edits = levenshtein(alloc, word, name)?;
-    let most = match best {
-        Some((least, _)) => least,
-        None => (word.len() / 3).saturating_add(1),
-    };
-    if edits > 0 && edits < most {
-        return Ok(Some((edits, name)));
-    }
-    Ok(best)
-}
-
-/// The nearest to a word among the words that are types and the names that the text uses.
-fn nearest<'a>(
+/// The nearest to a word among the words that are types and the names of types that the text has.
+fn nearest_type<'a>(
     alloc: Global,
     lexed: &Lexed<'a>,
     word: &str,
-) -> Result<Option<(usize, &'a str)>, AllocError> {
-    let mut best = None;
+) -> Result<Option<&'a str>, AllocError> {
+    let mut names = names_of_types(alloc, lexed)?;
     for name in &TYPES {
-        best = nearer(alloc, word, best, name)?;
+        names.push(name)?;
     }
-    for index in 0..lexed.tokens.len() {
-        if let Some(name) = lexed.use_at(index) {
-            best = nearer(alloc, word, best, name)?;
-        }
-    }
-    Ok(best)
+    nearest(alloc, word, names.as_slice())
 }
 
 /// What to do about a type of another language.
@@ -75,8 +51,8 @@ pub fn hint_of_unknown(alloc: Global, lexed: &Lexed<'_>, word: &str) -> Result<S
     if !other.is_empty() {
         return Ok(other);
     }
-    match nearest(alloc, lexed, word)? {
-        Some((_, name)) => format!(in alloc; "no `{word}` here; did you mean `{name}`?"),
+    match nearest_type(alloc, lexed, word)? {
+        Some(name) => format!(in alloc; "no `{word}` here; did you mean `{name}`?"),
         None => {
             format!(in alloc; "declare `{word}`, or `use` it from the interface that has it")
         }

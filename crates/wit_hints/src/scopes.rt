@@ -1,9 +1,8 @@
 //! Names that are twice in one scope.
 
 use crate::source_lines::place_at;
-use crate::spot::{Bracket, bracket_of, keyword_at, mark_at, opener};
 use std::alloc::{AllocError, Global};
-use wit_places::Lexed;
+use wit_places::{Bracket, Lexed, bracket_of, keyword_at, mark_at, opener};
 use wit_text::{Keyword, Punctuation, Span};
 
 /// Two names of one scope that differ at most in the case of letters.

@@ -1,23 +1,64 @@
 //! What to do about a fault that is found as a text is read.
 
-use crate::bad::of_bad;
+use crate::bad::{of_bad, of_name};
+use crate::earlier::earlier_line;
 use crate::features::of_feature;
 use crate::marks::of_mark;
 use crate::missing::{of_identifier, of_missing_keyword};
-use crate::spot::{Spot, Within};
+use crate::versions::of_at;
+use near_names::kebab;
 use std::alloc::{AllocError, Global};
-use wit_places::Lexed;
-use wit_text::{Expected, Keyword, Punctuation, TextError};
+use wit_places::{Lexed, Spot, Within, keyword_at};
+use wit_text::{Expected, Keyword, Punctuation, Span, TextError};
 
 /// What to do if there is no memory.
 pub static MORE_MEMORY: &str = "give the process more memory";
 
-/// What to do about a `_` that is not allowed where it is: it is in a name, or in a result.
-fn of_underscore(spot: &Spot<'_>) -> &'static str {
-    match spot.within {
-        Within::Angles if spot.word_before() == "," => "leave out the `_` and the `,` before it",
-        _ => "names are joined by `-`, not by `_`",
+/// Whether a character is one of names, or a `_`.
+fn is_of_word(character: char) -> bool {
+    character.is_ascii_alphanumeric() || matches!(character, '_' | '-')
+}
+
+/// The word that has a `_`, from the token before it on.
+fn word_around(spot: &Spot<'_>) -> Option<Span> {
+    let start = spot.lexed.span_at(spot.before)?.start;
+    let text = spot.lexed.text.get(start..)?;
+    let length = text
+        .chars()
+        .take_while(|character| is_of_word(*character))
+        .count();
+    let end = start.saturating_add(length);
+    Some(Span { start, end })
+}
+
+/// The `_` that is at a place, or right after the keyword there.
+fn underscore_at(lexed: &Lexed<'_>, span: Span) -> Option<Span> {
+    if lexed.is_underscore(span) {
+        return Some(span);
     }
+    let index = lexed.index_of(span)?;
+    keyword_at(lexed, index)?;
+    let next = lexed.span_at(index.saturating_add(1))?;
+    (next.start == span.end && lexed.is_underscore(next)).then_some(next)
+}
+
+/// What to do about a `_` that is not allowed where it is: it is in a name, or in a result.
+fn of_underscore(alloc: Global, spot: &Spot<'_>) -> Result<String, AllocError> {
+    if matches!(spot.within, Within::Angles) && spot.word_before() == "," {
+        return String::from_str(alloc, "leave out the `_` and the `,` before it");
+    }
+    match word_around(spot) {
+        Some(word) if word.end > spot.span.end => {
+            let name = kebab(alloc, spot.lexed.at(word))?;
+            of_name(alloc, spot.lexed, word, name.as_str())
+        }
+        _ => String::from_str(alloc, "names are joined by `-`, not by `_`"),
+    }
+}
+
+/// Whether a `/` begins a line, as one that has to be a comment.
+fn begins_comment(spot: &Spot<'_>) -> bool {
+    spot.mark() == Some(Punctuation::Slash) && (earlier_line(spot).is_some() || spot.index == 0)
 }
 
 /// What to do if another token has to come.
@@ -27,12 +68,28 @@ fn of_expected(alloc: Global, spot: &Spot<'_>, expected: Expected) -> Result<Str
         Expected::Punctuation(Punctuation::Semicolon) => {
             of_mark(alloc, spot, Punctuation::Semicolon)
         }
+        Expected::Identifier | Expected::Keyword(_) if begins_comment(spot) => {
+            String::from_str(alloc, "a comment begins with `//`")
+        }
         _ if is_end => String::from_str(alloc, "the file ends here; is a `}` missing?"),
         Expected::Punctuation(mark) => of_mark(alloc, spot, mark),
         Expected::Keyword(Keyword::As) => of_mark(alloc, spot, Punctuation::Comma),
         Expected::Keyword(keyword) => of_missing_keyword(alloc, spot, keyword),
         Expected::Identifier => of_identifier(alloc, spot),
-        Expected::Version => String::from_str(alloc, "a version is three numbers, as `@1.0.0`"),
+        Expected::Version => of_at(alloc, spot),
+    }
+}
+
+/// What to do if another token has to come than the one at a place.
+fn of_unexpected(
+    alloc: Global,
+    lexed: &Lexed<'_>,
+    expected: Expected,
+    span: Span,
+) -> Result<String, AllocError> {
+    match underscore_at(lexed, span) {
+        Some(underscore) => of_underscore(alloc, &Spot::of(lexed, underscore)),
+        None => of_expected(alloc, &Spot::of(lexed, span), expected),
     }
 }
 
@@ -44,11 +101,8 @@ pub fn hint_of_text(
 ) -> Result<String, AllocError> {
     let hint = match error {
         TextError::BadChar(span) => return of_bad(alloc, lexed, *span),
-        TextError::Expected(_, span) if lexed.is_underscore(*span) => {
-            of_underscore(&Spot::of(lexed, *span))
-        }
         TextError::Expected(expected, span) => {
-            return of_expected(alloc, &Spot::of(lexed, *span), *expected);
+            return of_unexpected(alloc, lexed, *expected, *span);
         }
         TextError::Unsupported(feature, span) => {
             return of_feature(alloc, &Spot::of(lexed, *span), *feature);

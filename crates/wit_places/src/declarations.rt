@@ -1,7 +1,7 @@
 //! What a text declares, and where.
 
 use crate::lexed::Lexed;
-use crate::rings::place_on_ring;
+use crate::rings::ring_in;
 use std::alloc::{AllocError, Global};
 use tables::Sequence;
 use wit_text::{Keyword, Punctuation, Span, TokenKind};
@@ -18,14 +18,22 @@ pub struct Declaration<'a> {
     pub at: usize,
 }
 
+/// Flags that have more labels than flags may have.
+#[derive(Clone, Copy, Debug)]
+pub struct LongFlags {
+    /// Their name.
+    pub span: Span,
+    pub labels: usize,
+}
+
 /// The declarations of a text, in its order.
 #[derive(Debug, Drop)]
 pub struct Declarations<'a> {
     list: Vec<Declaration<'a>>,
 }
 
-/// The most declarations among which a type that contains itself is looked for.
-const MAX_LOOKED_AT: usize = 4096;
+/// The most declarations among which a ring is looked for.
+pub const MAX_LOOKED_AT: usize = 4096;
 
 /// The most labels of flags.
 const MAX_FLAGS: usize = 32;
@@ -41,6 +49,16 @@ fn declares_type(keyword: Keyword) -> bool {
 /// Whether a keyword begins an interface or a world.
 fn opens_scope(keyword: Keyword) -> bool {
     matches!(keyword, Keyword::Interface | Keyword::World)
+}
+
+/// Where the interface or the world ends whose name is at a token: at the token that begins the next one.
+pub fn end_of_scope(lexed: &Lexed<'_>, at: usize) -> usize {
+    for index in at..lexed.tokens.len() {
+        if lexed.is_keyword(index, Keyword::Interface) || lexed.is_keyword(index, Keyword::World) {
+            return index;
+        }
+    }
+    lexed.tokens.len()
 }
 
 /// Whether a token ends the declaration of a type.
@@ -138,6 +156,11 @@ impl<'a> Declarations<'a> {
         Ok(Declarations { list })
     }
 
+    /// All of them.
+    pub fn as_slice(&self) -> &[Declaration<'a>] {
+        self.list.as_slice()
+    }
+
     /// The place in the list of the declaration of a name in a scope.
     fn place_of(&self, scope: usize, name: &str) -> Option<usize> {
         self.list.iter().position(|declaration| declaration.scope == scope
@@ -181,12 +204,7 @@ impl<'a> Declarations<'a> {
     /// The name of a function, where the interface or the world of this name declares it.
     pub fn function_in(&self, lexed: &Lexed<'_>, scope: &str, name: &str) -> Option<Span> {
         let first = self.scope_named(scope)?.at;
-        for index in first..lexed.tokens.len() {
-            if lexed.is_keyword(index, Keyword::Interface)
-                || lexed.is_keyword(index, Keyword::World)
-            {
-                return None;
-            }
+        for index in first..end_of_scope(lexed, first) {
             if lexed.function_at(index) == Some(name) {
                 return lexed.span_at(index);
             }
@@ -194,13 +212,16 @@ impl<'a> Declarations<'a> {
         None
     }
 
-    /// The name of the first flags that have too many labels.
-    pub fn long_flags(&self, lexed: &Lexed<'_>) -> Option<Span> {
+    /// The first flags that have too many labels.
+    pub fn long_flags(&self, lexed: &Lexed<'_>) -> Option<LongFlags> {
         for declaration in &self.list {
-            if declaration.keyword == Keyword::Flags
-                && labels_in(lexed, declaration.at) > MAX_FLAGS
-            {
-                return lexed.span_at(declaration.at);
+            if declaration.keyword != Keyword::Flags {
+                continue;
+            }
+            let labels = labels_in(lexed, declaration.at);
+            if labels > MAX_FLAGS {
+                let span = lexed.span_at(declaration.at)?;
+                return Some(LongFlags { span, labels });
             }
         }
         None
@@ -234,13 +255,67 @@ impl<'a> Declarations<'a> {
         for declaration in &self.list {
             graph.push(self.uses_of(alloc, lexed, declaration)?)?;
         }
-        let Some(place) = place_on_ring(alloc, graph.as_slice())? else {
+        let ring = ring_in(alloc, graph.as_slice())?;
+        let Some(place) = ring.first() else {
             return Ok(None);
         };
-        match self.list.get(place) {
+        match self.list.get(*place) {
             Some(declaration) => Ok(lexed.span_at(declaration.at)),
             None => Ok(None),
         }
+    }
+
+    /// The type that another one is, which is declared as `type NAME = OTHER;`, by its place in the list.
+    fn aliased(&self, lexed: &Lexed<'_>, place: usize) -> Option<usize> {
+        let declaration = self.list.get(place)?;
+        let name = declaration.at.saturating_add(2);
+        if declaration.keyword != Keyword::Type
+            || lexed.tokens.get(name.saturating_add(1))?.kind
+                != TokenKind::Punctuation(Punctuation::Semicolon)
+        {
+            return None;
+        }
+        self.place_of(declaration.scope, lexed.name_at(name)?)
+    }
+
+    /// The names of a ring of types from the one at a span on, if each of them is declared as the next one.
+    pub fn ring_of_aliases(
+        &self,
+        alloc: Global,
+        lexed: &Lexed<'_>,
+        span: Span,
+    ) -> Result<Vec<&'a str>, AllocError> {
+        let mut names = Vec::new(alloc);
+        let at = lexed.index_of(span);
+        let first = self
+            .list
+            .iter()
+            .position(|declaration| Some(declaration.at) == at);
+        let mut next = first;
+        for _ in 0..self.list.len() {
+            let Some(place) = next else {
+                return Ok(Vec::new(alloc));
+            };
+            if let Some(declaration) = self.list.get(place) {
+                names.push(declaration.name)?;
+            }
+            next = self.aliased(lexed, place);
+            if next == first {
+                return Ok(names);
+            }
+        }
+        Ok(Vec::new(alloc))
+    }
+
+    /// The interface that a `use` of another interface names first, by its name.
+    pub fn use_in(&self, lexed: &Lexed<'_>, interface: &str, used: &str) -> Option<Span> {
+        let first = self.scope_named(interface)?.at;
+        for index in first..end_of_scope(lexed, first) {
+            if lexed.used_interface(index) == Some(used) {
+                return lexed.span_at(index.saturating_add(1));
+            }
+        }
+        None
     }
 
     /// The first interface that declares a type of this name.
@@ -291,4 +366,26 @@ pub fn importers(alloc: Global, lexed: &Lexed<'_>, name: &str) -> Result<Vec<usi
         }
     }
     Ok(scopes)
+}
+
+/// The names of types that a text declares or uses from an interface.
+pub fn names_of_types<'a>(alloc: Global, lexed: &Lexed<'a>) -> Result<Vec<&'a str>, AllocError> {
+    let mut names = Vec::new(alloc);
+    let mut is_listed = false;
+    let mut is_declared = false;
+    for (index, token) in lexed.tokens.iter().enumerate() {
+        if let Some(name) = lexed.name_at(index)
+            && (is_listed || is_declared)
+        {
+            names.push(name)?;
+        }
+        is_declared = false;
+        match token.kind {
+            TokenKind::Keyword(keyword) => is_declared = declares_type(keyword),
+            TokenKind::Punctuation(Punctuation::OpenBrace) => is_listed = lexed.is_used_list(index),
+            TokenKind::Punctuation(Punctuation::CloseBrace) => is_listed = false,
+            _ => {}
+        }
+    }
+    Ok(names)
 }

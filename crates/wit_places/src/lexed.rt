@@ -114,7 +114,7 @@ impl<'a> Lexed<'a> {
     }
 
     /// The token at a span, by its number.
-    fn index_of(&self, span: Span) -> Option<usize> {
+    pub fn index_of(&self, span: Span) -> Option<usize> {
         self.tokens.iter().position(|token| token.span() == span)
     }
 
@@ -139,7 +139,8 @@ impl<'a> Lexed<'a> {
         self.kind_of(span) == Some(TokenKind::Punctuation(Punctuation::Underscore))
     }
 
-    fn is_mark(&self, index: usize, mark: Punctuation) -> bool {
+    /// Whether a token is this mark.
+    pub fn is_mark(&self, index: usize, mark: Punctuation) -> bool {
         match self.tokens.get(index) {
             Some(token) => token.kind == TokenKind::Punctuation(mark),
             None => false,
@@ -171,6 +172,21 @@ impl<'a> Lexed<'a> {
             return None;
         }
         self.name_at(index)
+    }
+
+    /// Whether a token is a name with a `:` after it.
+    pub fn is_named(&self, index: usize) -> bool {
+        self.name_at(index).is_some() && self.is_mark(index.saturating_add(1), Punctuation::Colon)
+    }
+
+    /// The interface of the text's own package that a `use` at a token is from.
+    pub fn used_interface(&self, index: usize) -> Option<&'a str> {
+        if self.is_keyword(index, Keyword::Use)
+            && self.is_mark(index.saturating_add(2), Punctuation::Dot)
+        {
+            return self.name_at(index.saturating_add(1));
+        }
+        None
     }
 
     /// Whether a token begins the names of a `use`: it is a brace after a dot.

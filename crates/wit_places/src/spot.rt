@@ -1,7 +1,6 @@
 //! What is around a token that is not allowed where it is.
 
-use crate::source_lines::place_at;
-use wit_places::Lexed;
+use crate::lexed::Lexed;
 use wit_text::{Keyword, Punctuation, Span, TokenKind};
 
 /// What has the brackets that a token is in.
@@ -89,6 +88,24 @@ pub fn opener(lexed: &Lexed<'_>, index: usize) -> Option<usize> {
     None
 }
 
+/// How many commas are between a bracket and a token that it has, apart from those of brackets within it.
+pub fn commas_between(lexed: &Lexed<'_>, open: usize, index: usize) -> usize {
+    let mut commas: usize = 0;
+    let mut depth: usize = 0;
+    for place in open.saturating_add(1)..index {
+        let mark = mark_at(lexed, place);
+        match bracket_of(mark) {
+            Bracket::Opens => depth = depth.saturating_add(1),
+            Bracket::Closes => depth = depth.saturating_sub(1),
+            Bracket::Neither if depth == 0 && mark == Some(Punctuation::Comma) => {
+                commas = commas.saturating_add(1);
+            }
+            Bracket::Neither => {}
+        }
+    }
+    commas
+}
+
 /// What has braces after this keyword and a name.
 fn braces_of(keyword: Option<Keyword>) -> Within {
     match keyword {
@@ -147,6 +164,14 @@ impl<'a> Spot<'a> {
         }
     }
 
+    /// Whether the token is a version.
+    pub fn is_version(&self) -> bool {
+        match self.lexed.tokens.get(self.index) {
+            Some(token) => token.kind == TokenKind::Version,
+            None => false,
+        }
+    }
+
     /// The mark that the token is.
     pub fn mark(&self) -> Option<Punctuation> {
         mark_at(self.lexed, self.index)
@@ -160,16 +185,5 @@ impl<'a> Spot<'a> {
     /// The text of the token before it.
     pub fn word_before(&self) -> &'a str {
         word_at(self.lexed, self.before)
-    }
-
-    /// The line of the token before it, if this is an earlier line.
-    pub fn earlier_line(&self) -> Option<usize> {
-        let text = self.lexed.text;
-        let earlier = place_at(text, self.lexed.span_at(self.before)?.start)?;
-        let own = place_at(text, self.span.start)?;
-        if earlier.line < own.line {
-            return Some(earlier.line);
-        }
-        None
     }
 }

@@ -1,4 +1,7 @@
 //! What is above the limits of layouts: the first definition of a package that is too deep or too large.
+//!
+//! `first_above_limits` names it. It stands on `layout`, which has the limits, and on `tables`.
+#![tactic(auto)]
 
 use layout::{MAX_DEPTH, MAX_SIZE};
 use std::alloc::{AllocError, Global};

@@ -3,6 +3,11 @@
 /// What begins a function.
 static FUNCTIONS: [&str; 7] = ["fn", "fun", "function", "def", "func", "proc", "method"];
 
+/// What begins a constant.
+static CONSTANTS: [&str; 7] = [
+    "const", "constant", "let", "var", "val", "final", "readonly",
+];
+
 /// What begins a declaration.
 static DECLARATIONS: [(&str, &str); 14] = [
     ("struct", "record"),
@@ -96,6 +101,11 @@ fn written(table: &'static [(&'static str, &'static str)], word: &str) -> Option
         }
     }
     None
+}
+
+/// Whether a word begins a constant.
+pub fn is_constant(word: &str) -> bool {
+    CONSTANTS.contains(&word)
 }
 
 /// Whether a word begins a function.

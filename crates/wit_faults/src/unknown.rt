@@ -1,0 +1,223 @@
+//! What to do about a name that stands for nothing.
+
+use crate::hints::{Around, Known};
+use crate::places::Found;
+use near_names::nearest;
+use std::alloc::{AllocError, Global};
+use std::fmt::Write;
+use wit_hints::hint_of_unknown;
+use wit_places::{Declarations, Lexed, PackageRef};
+use wit_text::Keyword;
+
+/// The most interfaces of another package that a hint names.
+const MAX_NAMED: usize = 5;
+
+/// What a name has to stand for.
+#[derive(Clone, Copy)]
+enum Kind<'a> {
+    Type,
+    /// An interface of the text's own package.
+    Interface,
+    /// One of another package.
+    InterfaceOf(PackageRef<'a>),
+}
+
+/// The package of the path that ends in a token.
+fn package_before<'a>(lexed: &Lexed<'a>, index: usize) -> Option<PackageRef<'a>> {
+    Some(lexed.path_at(index.checked_sub(4)?)?.package)
+}
+
+/// Whether a token is the name of an interface of the text's own package, by what is before it.
+fn names_interface(lexed: &Lexed<'_>, index: usize) -> bool {
+    let before = index.saturating_sub(1);
+    lexed.is_keyword(before, Keyword::Use)
+        || lexed.is_keyword(before, Keyword::Import)
+        || lexed.is_keyword(before, Keyword::Export)
+}
+
+/// What the name at a place has to stand for.
+fn kind_of<'a>(found: Found<'a>) -> Option<Kind<'a>> {
+    let index = found.lexed.index_of(found.span?)?;
+    if let Some(package) = package_before(found.lexed, index) {
+        return Some(Kind::InterfaceOf(package));
+    }
+    if names_interface(found.lexed, index) {
+        return Some(Kind::Interface);
+    }
+    Some(Kind::Type)
+}
+
+/// The names of the interfaces of files.
+fn interfaces_of<'a>(alloc: Global, files: &[Lexed<'a>]) -> Result<Vec<&'a str>, AllocError> {
+    let mut names = Vec::new(alloc);
+    for lexed in files {
+        push_interfaces(alloc, &mut names, lexed)?;
+    }
+    Ok(names)
+}
+
+/// Adds the names of the interfaces of a file.
+fn push_interfaces<'a>(
+    alloc: Global,
+    names: &mut Vec<&'a str>,
+    lexed: &Lexed<'a>,
+) -> Result<(), AllocError> {
+    for declaration in Declarations::of(alloc, lexed)?.as_slice() {
+        if declaration.keyword == Keyword::Interface {
+            names.push(declaration.name)?;
+        }
+    }
+    Ok(())
+}
+
+/// Whether at least half of the letters of two names are the same, from the first on.
+fn begin_alike(name: &str, other: &str) -> bool {
+    let letters = name.chars().zip(other.chars());
+    let same = letters
+        .take_while(|(letter, other)| letter == other)
+        .count();
+    same >= name.len().max(other.len()).saturating_sub(same)
+}
+
+/// The nearest of these names, or the first that begins as the word does.
+fn nearest_interface<'a>(
+    alloc: Global,
+    names: &[&'a str],
+    word: &str,
+) -> Result<Option<&'a str>, AllocError> {
+    let near = nearest(alloc, word, names)?;
+    Ok(near.or(names.iter().copied().find(|name| begin_alike(name, word))))
+}
+
+/// The name of the package that files are of.
+fn package_of<'a>(files: &[Lexed<'a>]) -> Option<PackageRef<'a>> {
+    for lexed in files {
+        if let Some(path) = lexed.own_package() {
+            return Some(path.package);
+        }
+    }
+    None
+}
+
+/// A package of the same name as that of these files, with another version.
+fn other_version<'a>(around: Around<'a>, own: PackageRef<'_>) -> Option<PackageRef<'a>> {
+    for known in around.known {
+        if known.package.has_name_of(own) && !known.package.is(own) {
+            return Some(known.package);
+        }
+    }
+    None
+}
+
+/// What to do about a name that is no interface of its own package.
+fn of_interface(alloc: Global, around: Around<'_>, word: &str) -> Result<String, AllocError> {
+    let names = interfaces_of(alloc, around.files)?;
+    if let Some(name) = nearest_interface(alloc, names.as_slice(), word)? {
+        return format!(in alloc; "no interface `{word}` in this package; did you mean `{name}`?");
+    }
+    if let Some(own) = package_of(around.files)
+        && let Some(other) = other_version(around, own)
+    {
+        return format!(in alloc;
+            "no interface `{word}` in package `{own}`: if it is of `{other}`, give both one version"
+        );
+    }
+    format!(in alloc;
+        "no interface `{word}` in this package: declare it, or write `namespace:name/{word}` if another package has it"
+    )
+}
+
+/// The interfaces of a package among those that are known.
+fn interfaces_in<'a>(
+    alloc: Global,
+    known: &[Known<'a>],
+    package: PackageRef<'_>,
+) -> Result<Vec<&'a str>, AllocError> {
+    for other in known {
+        if other.package.is(package) {
+            return interfaces_of(alloc, other.files);
+        }
+    }
+    Ok(Vec::new(alloc))
+}
+
+/// Names with commas between them: the first ones, if they are many.
+fn listed(alloc: Global, names: &[&str]) -> Result<String, AllocError> {
+    let mut text = String::new(alloc);
+    for (place, name) in names.iter().take(MAX_NAMED).enumerate() {
+        let before = if place == 0 { "" } else { ", " };
+        write!(text, "{before}`{name}`")?;
+    }
+    if names.len() > MAX_NAMED {
+        text.push_str(", ..")?;
+    }
+    Ok(text)
+}
+
+/// What to do about a name that is no interface of another package.
+fn of_other_interface(
+    alloc: Global,
+    known: &[Known<'_>],
+    package: PackageRef<'_>,
+    word: &str,
+) -> Result<String, AllocError> {
+    let names = interfaces_in(alloc, known, package)?;
+    let names = names.as_slice();
+    if names.is_empty() {
+        return format!(in alloc; "package `{package}` has no interface");
+    }
+    if let Some(name) = nearest_interface(alloc, names, word)? {
+        return format!(in alloc;
+            "package `{package}` has no interface `{word}`; did you mean `{name}`?"
+        );
+    }
+    let listed = listed(alloc, names)?;
+    let listed = listed.as_str();
+    format!(in alloc; "package `{package}` has no interface `{word}`; it has {listed}")
+}
+
+/// The first interface of a package that declares a type of this name.
+fn interface_with<'a>(
+    alloc: Global,
+    files: &[Lexed<'a>],
+    word: &str,
+) -> Result<Option<&'a str>, AllocError> {
+    for lexed in files {
+        let interface = Declarations::of(alloc, lexed)?.interface_with(word);
+        if interface.is_some() {
+            return Ok(interface);
+        }
+    }
+    Ok(None)
+}
+
+/// What to do about a name that is no type.
+fn of_type(
+    alloc: Global,
+    lexed: &Lexed<'_>,
+    files: &[Lexed<'_>],
+    word: &str,
+) -> Result<String, AllocError> {
+    match interface_with(alloc, files, word)? {
+        Some(interface) => {
+            format!(in alloc; "write `use {interface}.{{{word}}};` in this interface")
+        }
+        None => hint_of_unknown(alloc, lexed, word),
+    }
+}
+
+/// What to do about a name that stands for nothing.
+pub fn of_unknown(
+    alloc: Global,
+    found: Found<'_>,
+    around: Around<'_>,
+    word: &str,
+) -> Result<String, AllocError> {
+    match kind_of(found) {
+        Some(Kind::Interface) => of_interface(alloc, around, word),
+        Some(Kind::InterfaceOf(package)) => {
+            of_other_interface(alloc, around.known, package, word)
+        }
+        Some(Kind::Type) | None => of_type(alloc, found.lexed, around.files, word),
+    }
+}
