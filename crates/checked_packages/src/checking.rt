@@ -8,12 +8,13 @@ ghost use Rattle.package_text.specs.Writable.{IsWritable};
 
 use crate::graph::graph_of;
 use layout::Layouts;
+use layout_limits::first_above_limits;
 use package_adding::PackageSet;
 use package_order::{Arrangement, arranged};
 use std::alloc::{AllocError, Global};
 use std::fmt::Write;
 use tables::{Resolve, Sequence};
-use wit_faults::{Around, Cause, PackageRef, Report, first_above_limits, first_path};
+use wit_faults::{Around, Cause, Known, PackageRef, Report, first_path};
 use wit_files::{Member, Source, members_of};
 
 /// A package without a fault: its own tables, which begin with what it uses of others.
@@ -68,7 +69,7 @@ pub fn main_of(packages: &[Checked]) -> usize {
 struct Checker<'a> {
     alloc: Global,
     /// The package of each member.
-    known: Vec<PackageRef<'a>>,
+    known: Vec<Known<'a>>,
     /// Which members have no fault.
     is_good: Vec<bool>,
     /// The packages of these, and what was found of each.
@@ -94,7 +95,10 @@ impl<'a> Checker<'a> {
     fn new(alloc: Global, members: &'a [Member<'_>]) -> Result<Checker<'a>, AllocError>
         ensures { IfOk result (λ c. length c.checked.items ≡ 0) }
     {
-        let known = members.iter().map(|member| member.package());
+        let known = members.iter().map(|member| Known {
+            package: member.package(),
+            files: member.files.as_slice(),
+        });
         Ok(Checker {
             alloc,
             known: known.collect(alloc)?,
@@ -108,7 +112,7 @@ impl<'a> Checker<'a> {
     fn first_bad(&self, used: &[usize]) -> Option<PackageRef<'a>> {
         for place in used {
             if !self.is_good.get(*place).copied().unwrap_or(false) {
-                return self.known.get(*place).copied();
+                return self.known.get(*place).map(|known| known.package);
             }
         }
         None
