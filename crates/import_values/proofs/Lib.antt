@@ -1,0 +1,4 @@
+mod ReadArgumentsHaveNoFault
+mod ResultsFromParts
+mod AnsweredMemoriesKeepNames
+mod RefusedAnswers

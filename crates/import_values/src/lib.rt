@@ -1,0 +1,13 @@
+//! A guest's call of a function that a host serves, with typed values: its arguments are read from the guest's memory,
+//! and its result is put there.
+//!
+//! An `ImportCall` has the core values that the guest passed. Its result goes flat, or into the return area, whose
+//! address is the last of them. Stands on `host_values` (what is read), `host_calls` (core values in arrays, errors) and
+//! `lift_lower` (lifting and lowering).
+#![tactic(auto)]
+
+mod answering;
+mod call;
+mod reading;
+
+pub use call::ImportCall;
