@@ -11,7 +11,8 @@
  * witcall_call_enter, witcall_call_leave and their requests take it in place of both.
  *
  * A host that is the caller itself has values as texts of JSON, and one memory: witcall_json_requests and witcall_fill_json are the first half,
- * and witcall_read_json is the second.
+ * and witcall_read_json is the second. So has a host that is called: witcall_read_arguments_json is its first half, and
+ * witcall_result_json_requests and witcall_fill_result_json are the second.
  *
  * What the host owes. No test of the library can find a break of these:
  *   - Each pointer is good for its length, and of length 0 it may be null. A pointer to a handle, a call, a row or a member is not null.
@@ -22,8 +23,8 @@
  *   - One call at a time uses a handle, and calls of two threads are ordered; see below. (A call doesn't know of others.)
  *   - Each block was free in the memory that it is in. (Only that memory's allocator knows which bytes are free.)
  *   - func is the function that the host runs, and answer is what its core function returned. (Other values of the same kinds look the same.)
- *   - The flats of witcall_leave are those of witcall_enter. (The library keeps nothing between the halves; their number and kinds are
- *     tested.) A witcall_call has this done. It is as witcall_begin wrote it.
+ *   - The flats of witcall_leave are those of witcall_enter, and those of witcall_fill_result_json those of witcall_read_arguments_json. (The
+ *     library keeps nothing between the halves; their number and kinds are tested.) A witcall_call has this done. It is as witcall_begin wrote it.
  *   - Between the halves only the allocators and the core function change the memories. (The library doesn't see them then.)
  *   - malloc, realloc and free are of one allocator. malloc and realloc align a block to each power of two up to 16 that divides its size.
  *     (They are the program's.)
@@ -64,7 +65,7 @@ extern "C" {
 #define WITCALL_TRAP 2      /* a trap of the call: number is its kind, 1 to 8 (K1 to K8), and step where it was found */
 #define WITCALL_NO_MEMORY 3 /* the library had no memory; number is 66, of witcall_open also 21, 35, 46 or 52 */
 
-/* The steps of a trap. WITCALL_PLACE is that of witcall_json_requests and of witcall_fill_json. */
+/* The steps of a trap. WITCALL_PLACE is that of values as JSON that are put into a memory. */
 #define WITCALL_PLACE 0
 #define WITCALL_LIFT_ARGS 2
 #define WITCALL_LOWER_ARGS 3
@@ -73,7 +74,7 @@ extern "C" {
 
 /* Refusals of this library alone, and of texts of JSON. */
 #define WITCALL_BAD_JSON 61      /* the text is no UTF-8, no JSON, or nests more than 127 deep */
-#define WITCALL_NOT_THIS_TYPE 62 /* the JSON is no array of the function's arguments: witcall_json_fault tells where */
+#define WITCALL_NOT_THIS_TYPE 62 /* the JSON is no array of the function's arguments, and witcall_json_fault tells where; or it is no result */
 #define WITCALL_NO_FUNCTION 63 /* no function has this name or this number */
 #define WITCALL_NOT_OPEN 70    /* the handle is WITCALL_NONE, closed, or stands for a package that was refused */
 #define WITCALL_NO_ROOM 71     /* an array has less room than count */
@@ -251,6 +252,12 @@ witcall_status witcall_to_text(witcall_package *package, uint8_t *text, size_t t
  * offsets and core signatures. docs/package.schema.json is its schema. count bytes; if there is no room, this is 71, and count is the length. */
 witcall_status witcall_describe(witcall_package *package, uint8_t *json, size_t json_len);
 
+/* What is wrong with the packages of WIT texts, in any order, as one JSON array. The texts' bytes stand one after another, as those of
+ * witcall_open_set; texts of one package are its files. A fault is an object, as `wit-explain check --json` has it: file is the index of the text,
+ * in digits; line, column, endLine and endColumn are its place, if it has one; error is its number, and message its words; hint says what to do.
+ * The array is empty if nothing is wrong. count bytes; if there is no room, this is 71, and count is the length. */
+witcall_status witcall_explain(const uint8_t *bytes, size_t bytes_len, const size_t *lengths, size_t lengths_len, uint8_t *json, size_t json_len);
+
 /* How the parameters and the result of a function lie in memory; count parts. */
 witcall_status witcall_parameters(witcall_package *package, uint32_t func, witcall_part *parts, size_t parts_len);
 witcall_status witcall_result(witcall_package *package, uint32_t func, witcall_part *parts, size_t parts_len);
@@ -320,6 +327,28 @@ witcall_status witcall_json_fault(witcall_package *package, uint32_t func, const
  * witcall_leave_requests, and bounds the time and the memory of the call (docs/C.md). */
 witcall_status witcall_read_json(witcall_package *package, uint32_t func, const witcall_value *answer, size_t answer_len,
                                  uint8_t *memory, size_t memory_len, uint8_t *json, size_t json_len, uint64_t limit);
+
+/* Calls of a host's own function by a guest that imports it, with values as texts of JSON, over the memory of the guest. flats are the core values
+ * that the guest passed to its import: those of the arguments, and behind them the return area's address, if the result does not go flat.
+ *
+ * The arguments that the guest passed, as compact JSON: an array of one value for each parameter, in count bytes. The memory is only read. If the
+ * number or the kinds of flats are not the function's, this is K8 in step WITCALL_LIFT_ARGS. If there is no room, this is 71, and count is the
+ * length. limit is as that of witcall_enter_requests, and bounds the time and the memory of the call (docs/C.md). */
+witcall_status witcall_read_arguments_json(witcall_package *package, uint32_t func, const witcall_value *flats, size_t flats_len,
+                                           uint8_t *memory, size_t memory_len, uint8_t *json, size_t json_len, uint64_t limit);
+
+/* Tells the blocks that witcall_fill_result_json will ask for, in order, in the same way as witcall_json_requests. json is the value of the result,
+ * with no array around it, and of 0 bytes if the function has no result. If it is no such value, this is 61 or 62. The return area is no block. */
+witcall_status witcall_result_json_requests(witcall_package *package, uint32_t func, const uint8_t *json, size_t json_len,
+                                            witcall_request *requests, size_t requests_len, uint64_t limit);
+
+/* Puts the result that the text says into the guest's blocks and its return area: count values for the guest, at most one. back has room for
+ * WITCALL_MAX_VALUES, whatever the function. The text is tested first, then the room, then flats as by witcall_read_arguments_json, and then the
+ * blocks, before a byte is written: a block that meets the return area is 72. Then the return area is tested, and if it is misaligned or not
+ * inside, this is K3 or K4 in step WITCALL_PLACE. If there are fewer blocks than requests, this is K6 in step WITCALL_PLACE. */
+witcall_status witcall_fill_result_json(witcall_package *package, uint32_t func, const witcall_value *flats, size_t flats_len,
+                                        const uint8_t *json, size_t json_len, uint8_t *memory, size_t memory_len,
+                                        const witcall_block *blocks, size_t blocks_len, witcall_value *back, size_t back_len);
 
 /* Begins a call of a function with these flats, and writes it. If their number or their kinds are not the function's, this is K8 in step
  * WITCALL_LIFT_ARGS. If it is not done, the call is as it was. */

@@ -1,3 +1,4 @@
 mod InputsStandInOrder
 mod RequestsInArrays
 mod CallsOfFunctions
+mod ArgumentsAsTuples

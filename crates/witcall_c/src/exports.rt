@@ -14,6 +14,7 @@ ghost use Rattle.host_calls.specs.Rows.{row_info_at};
 ghost use Rattle.host_calls.specs.Told.{BytesDone, TellsName, TellsNewName, TellsOfTable};
 ghost use Rattle.opening.specs.Sets.{all_bytes};
 ghost use Rattle.c_border.specs.CallObject.{BeginsCall, flats_of};
+ghost use Rattle.c_border.specs.Explained.{Explains};
 ghost use Rattle.c_border.specs.Json.{JsonAsks, JsonFaults, JsonFills, JsonReads};
 ghost use Rattle.c_border.specs.Line.{LineDone};
 ghost use Rattle.c_border.specs.Written.{Describes, WritesBinary, WritesText};
@@ -732,4 +733,19 @@ pub extern "C" fn witcall_describe(alloc: Global, handle: &mut Handle, json: &mu
     let done = c_border::describe(package(&held), alloc, json);
     handle.give(held);
     Status::of(done)
+}
+
+/// What is wrong with the packages of these texts, whose bytes stand one after another, as `wit-explain check --json` tells
+/// of files: an array of objects, each with the index of its text as `file`.
+#[unsafe(no_mangle)]
+pub extern "C" fn witcall_explain(
+    alloc: Global,
+    bytes: &[u8],
+    lengths: &[usize],
+    json: &mut [u8],
+) -> Status
+    ensures { (done : Result ℕ CallError) × (result ≡ status_of done)
+        × Explains bytes.now lengths.now json.old done json.new }
+{
+    Status::of(c_border::explain(alloc, bytes, lengths, json))
 }

@@ -10,4 +10,5 @@ mod calls;
 mod exports;
 mod handle;
 mod held;
+mod imports;
 mod kept;
