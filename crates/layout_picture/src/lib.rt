@@ -17,4 +17,5 @@ mod type_layout;
 
 pub use names::{member_name, type_text};
 pub use sheet::{Form, Sheet};
+pub use signatures::push_signature;
 pub use type_layout::{Part, TypeLayout, case_number_size};

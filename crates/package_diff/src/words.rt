@@ -1,0 +1,155 @@
+//! Types and functions as WIT spells them.
+
+use atoms::Label;
+use layout_picture::type_text;
+use std::alloc::{AllocError, Global};
+use std::fmt::Write;
+use tables::{Case, Field, Function, Parameter, Resolve, TypeDefKind, ValType};
+
+/// A text about types of a table.
+#[derive(Drop)]
+pub struct Words<'a> {
+    alloc: Global,
+    table: &'a Resolve,
+    text: String,
+}
+
+/// What stands before the member of this index.
+fn comma(index: usize) -> &'static str {
+    if index == 0 { "" } else { ", " }
+}
+
+impl<'a> Words<'a> {
+    fn new(alloc: Global, table: &'a Resolve, text: &str) -> Result<Words<'a>, AllocError> {
+        Ok(Words {
+            alloc,
+            table,
+            text: String::from_str(alloc, text)?,
+        })
+    }
+
+    fn push_type(&mut self, ty: ValType) -> Result<(), AllocError> {
+        let words = type_text(self.alloc, self.table, ty)?;
+        self.text.push_str(words.as_str())
+    }
+
+    fn push_fields(&mut self, fields: &[Field]) -> Result<(), AllocError> {
+        for (index, field) in fields.iter().enumerate() {
+            write!(self.text, "{}{}: ", comma(index), field.name.as_str())?;
+            self.push_type(field.ty)?;
+        }
+        Ok(())
+    }
+
+    fn push_parameters(&mut self, parameters: &[Parameter]) -> Result<(), AllocError> {
+        for (index, parameter) in parameters.iter().enumerate() {
+            write!(self.text, "{}{}: ", comma(index), parameter.name.as_str())?;
+            self.push_type(parameter.ty)?;
+        }
+        Ok(())
+    }
+
+    fn push_cases(&mut self, cases: &[Case]) -> Result<(), AllocError> {
+        for (index, case) in cases.iter().enumerate() {
+            write!(self.text, "{}{}", comma(index), case.name.as_str())?;
+            if let Some(ty) = case.ty {
+                self.text.push('(')?;
+                self.push_type(ty)?;
+                self.text.push(')')?;
+            }
+        }
+        Ok(())
+    }
+
+    fn push_labels(&mut self, labels: &[Label]) -> Result<(), AllocError> {
+        for (index, label) in labels.iter().enumerate() {
+            write!(self.text, "{}{}", comma(index), label.as_str())?;
+        }
+        Ok(())
+    }
+
+    fn push_payload(&mut self, ty: Option<ValType>) -> Result<(), AllocError> {
+        match ty {
+            Some(ty) => self.push_type(ty),
+            None => self.text.push('_'),
+        }
+    }
+
+    fn push_payloads(&mut self, types: &[Option<ValType>]) -> Result<(), AllocError> {
+        for (index, ty) in types.iter().enumerate() {
+            self.text.push_str(comma(index))?;
+            self.push_payload(*ty)?;
+        }
+        Ok(())
+    }
+
+    fn push_elements(&mut self, types: &[ValType]) -> Result<(), AllocError> {
+        for (index, ty) in types.iter().enumerate() {
+            self.text.push_str(comma(index))?;
+            self.push_type(*ty)?;
+        }
+        Ok(())
+    }
+
+    /// Appends what stands between the brackets of a type.
+    fn push_members(&mut self, kind: &TypeDefKind) -> Result<(), AllocError> {
+        match kind {
+            TypeDefKind::Use(target) => self.push_type(ValType::Id(*target)),
+            TypeDefKind::Alias(ty) | TypeDefKind::List(ty) | TypeDefKind::Option(ty) => {
+                self.push_type(*ty)
+            }
+            TypeDefKind::Result(ok, error) => self.push_payloads(&[*ok, *error]),
+            TypeDefKind::Tuple(types) => self.push_elements(types.as_slice()),
+            TypeDefKind::Record(fields) => self.push_fields(fields.as_slice()),
+            TypeDefKind::Variant(cases) => self.push_cases(cases.as_slice()),
+            TypeDefKind::Enum(labels) | TypeDefKind::Flags(labels) => {
+                self.push_labels(labels.as_slice())
+            }
+        }
+    }
+}
+
+/// What stands before the members of a type of this kind, and behind them.
+fn brackets(kind: &TypeDefKind) -> (&'static str, &'static str) {
+    match kind {
+        TypeDefKind::Use(_) => ("use ", ""),
+        TypeDefKind::Alias(_) => ("type ", ""),
+        TypeDefKind::List(_) => ("type list<", ">"),
+        TypeDefKind::Option(_) => ("type option<", ">"),
+        TypeDefKind::Result(_, _) => ("type result<", ">"),
+        TypeDefKind::Tuple(_) => ("type tuple<", ">"),
+        TypeDefKind::Record(_) => ("record { ", " }"),
+        TypeDefKind::Variant(_) => ("variant { ", " }"),
+        TypeDefKind::Enum(_) => ("enum { ", " }"),
+        TypeDefKind::Flags(_) => ("flags { ", " }"),
+    }
+}
+
+/// What a type with a label is, as `record { count: u32 }` or `type list<u8>`.
+pub fn type_words(
+    alloc: Global,
+    table: &Resolve,
+    kind: &TypeDefKind,
+) -> Result<String, AllocError> {
+    let (front, back) = brackets(kind);
+    let mut words = Words::new(alloc, table, front)?;
+    words.push_members(kind)?;
+    words.text.push_str(back)?;
+    Ok(words.text)
+}
+
+/// What a function is, as `func(count: u32) -> u32`.
+pub fn function_words(
+    alloc: Global,
+    table: &Resolve,
+    function: &Function,
+) -> Result<String, AllocError> {
+    let mut words = Words::new(alloc, table, "func(")?;
+    words.push_parameters(function.params.as_slice())?;
+    words.text.push(')')?;
+    if let Some(ty) = function.result {
+        words.text.push_str(" -> ")?;
+        words.push_type(ty)?;
+    }
+    Ok(words.text)
+}
