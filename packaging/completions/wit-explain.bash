@@ -11,16 +11,16 @@ _wit_explain() {
     if [[ $before == --color ]]; then
         mapfile -t COMPREPLY < <(compgen -W 'auto always never' -- "$current")
     elif [ "$COMP_CWORD" -eq 1 ]; then
-        mapfile -t COMPREPLY < <(compgen -W 'check show text bin encode layout call bind --help --version' -- "$current")
+        mapfile -t COMPREPLY < <(compgen -W 'check show text bin encode layout diff call bind --help --version' -- "$current")
     elif [[ ${COMP_WORDS[1]} == bind && $COMP_CWORD -eq 2 && $current != -* ]]; then
         mapfile -t COMPREPLY < <(compgen -W 'c ts' -- "$current")
     elif [[ $current == -* ]]; then
         case ${COMP_WORDS[1]} in
-            check) options='--json --color --help' ;;
-            layout) options='--svg --color --help' ;;
+            check | show) options='--json --color --help' ;;
+            layout) options='--svg --json --color --help' ;;
             bin) options='-o --output --color --help' ;;
             encode) options='-o --output --world --color --help' ;;
-            show | text | call) options='--color --help' ;;
+            text | diff | call) options='--color --help' ;;
             bind) options='--color --help' ;;
             *) options=--help ;;
         esac

@@ -1,5 +1,7 @@
 //! Help and version.
 
+use std::alloc::{AllocError, Global};
+
 /// The program and its version.
 pub static VERSION: &str = "wit-explain 0.2.0\n";
 
@@ -7,13 +9,16 @@ static PROGRAM: &str = "\
 wit-explain: faults of WIT files with lines, pictures of types, calls step by step, and bindings for C and TypeScript
 
 usage: wit-explain check [--json] PATH..
-       wit-explain show PATH..
-       wit-explain text PATH
-       wit-explain bin -o FILE PATH
-       wit-explain encode [--world NAME] -o FILE PATH
+       wit-explain show [--json] PATH..
+       wit-explain text PATH..
+       wit-explain bin -o FILE PATH..
+       wit-explain encode [--world NAME] -o FILE PATH..
+       wit-explain decode FILE
        wit-explain layout [--svg FILE] PATH [TYPE]
+       wit-explain layout --json PATH..
+       wit-explain diff OLD NEW
        wit-explain call PATH INTERFACE FUNCTION ARGUMENTS [ANSWER]
-       wit-explain bind c|ts PATH
+       wit-explain bind c|ts PATH..
        wit-explain COMMAND --help
        wit-explain --help | --version
 
@@ -23,7 +28,7 @@ variable NO_COLOR is empty or not set.
 Exit status: 0 if all is well, 1 after a fault or a trap, 2 if the words are no command.
 ";
 
-static CHECK: &str = "\
+const CHECK: &str = "\
 usage: wit-explain check [--json] [--color WHEN] PATH..
 
 Checks the packages of these files, each after those that it depends on. Prints the first fault of the text of each
@@ -32,45 +37,65 @@ the line with the place marked, and a hint. Prints nothing if all is well.
 With --json, prints the faults as an array of objects.
 ";
 
-static SHOW: &str = "\
-usage: wit-explain show [--color WHEN] PATH..
+const SHOW: &str = "\
+usage: wit-explain show [--json] [--color WHEN] PATH..
 
 Prints what each package of these files has: its name, and for each interface and each world how many names, types and
 functions. Dependencies are read and not shown. The lines are those of `witcall show`.
+With --json, prints one document of all interfaces, worlds, types, functions and layouts, dependencies too. Of several
+packages it is of the last that is no dependency. docs/package.schema.json is its schema.
 ";
 
-static TEXT: &str = "\
-usage: wit-explain text [--color WHEN] PATH
+const TEXT: &str = "\
+usage: wit-explain text [--color WHEN] PATH..
 
 Prints the package of these files as one canonical text, as `witcall text` does. Comments are left out. Of several
 packages it is the last that is no dependency.
 ";
 
-static BIN: &str = "\
-usage: wit-explain bin [--color WHEN] -o FILE PATH
+const BIN: &str = "\
+usage: wit-explain bin [--color WHEN] -o FILE PATH..
 
 Writes the package of these files to FILE as a binary, as `witcall bin` does. Of several packages it is the last that is
 no dependency. --output FILE is the same.
 ";
 
-static ENCODE: &str = "\
-usage: wit-explain encode [--world NAME] [--color WHEN] -o FILE PATH
+const ENCODE: &str = "\
+usage: wit-explain encode [--world NAME] [--color WHEN] -o FILE PATH..
 
 Writes the package of these files to FILE as wit-component encodes it: what wasm-tools reads in place of WIT text. With
 --world, writes that world alone, as wit-bindgen puts it into the section `component-type` of a module. Of several
 packages it is the last that is no dependency. --output FILE is the same as -o FILE.
 ";
 
-static LAYOUT: &str = "\
+const DECODE: &str = "\
+usage: wit-explain decode [--color WHEN] FILE
+
+Prints the packages of a binary that another tool wrote, each as one canonical text, after those that it depends on.
+FILE is a package as wasm-tools writes it in place of WIT text, a world as wit-bindgen puts it into the section
+`component-type` of a module, or a module with such a section. Packages that the one of FILE depends on have no more
+than what is used of them.
+";
+
+const LAYOUT: &str = "\
 usage: wit-explain layout [--svg FILE] [--color WHEN] PATH [TYPE]
 
 Draws the bytes of the types of these files, or of those named TYPE: each field with its offset, size and alignment,
 padding, the cases of a variant side by side, and the flat core values. Without TYPE, the two core signatures of each
 function too. Dependencies are read and not drawn. With --svg, writes the pictures to FILE as SVG, or to standard output
-if FILE is `-`.
+if FILE is `-`. With --json, prints the document of `show --json`.
 ";
 
-static CALL: &str = "\
+const DIFF: &str = "\
+usage: wit-explain diff [--color WHEN] OLD NEW
+
+Tells what changed from the package of the path OLD to that of NEW: the items that were removed, changed and added, by
+their names without versions. Of a function that changed, it says whether a host that was built for OLD can call it: if
+its types cross in the same way, labels aside, so that the core signatures and the layouts are the same. The exit status
+is 1 if such a host can't call each function of OLD any more. Prints nothing if nothing changed.
+";
+
+const CALL: &str = "\
 usage: wit-explain call [--color WHEN] PATH INTERFACE FUNCTION ARGUMENTS [ANSWER]
 
 Makes a call as `witcall call` does, and shows what it did: the core values on each side, the blocks that were
@@ -79,8 +104,8 @@ array of one value for each parameter. ANSWER is a JSON array of the value that 
 there is none.
 ";
 
-static BIND: &str = "\
-usage: wit-explain bind c|ts PATH
+const BIND: &str = "\
+usage: wit-explain bind c|ts PATH..
 
 bind c prints a C header with the types and functions of these packages, dependencies too. Types are structs as they lie
 in a memory, with assertions of sizes, alignments and offsets. For each function there is one that makes the core values
@@ -89,23 +114,40 @@ bind ts prints declarations for TypeScript of a package and of what it uses: the
 package of witcall takes and returns. Of several packages it is the last that is no dependency.
 ";
 
-/// The help of the program, or that of a command. None if there is no such command.
-pub fn help_of(command: Option<&str>) -> Option<&'static str> {
-    match command {
-        None => Some(PROGRAM),
-        Some("check") => Some(CHECK),
-        Some("show") => Some(SHOW),
-        Some("text") => Some(TEXT),
-        Some("bin") => Some(BIN),
-        Some("encode") => Some(ENCODE),
-        Some("layout") => Some(LAYOUT),
-        Some("call") => Some(CALL),
-        Some("bind") => Some(BIND),
-        Some(_) => None,
+/// The commands, each with its help.
+static COMMANDS: [(&str, &str); 10] = [
+    ("check", CHECK),
+    ("show", SHOW),
+    ("text", TEXT),
+    ("bin", BIN),
+    ("encode", ENCODE),
+    ("decode", DECODE),
+    ("layout", LAYOUT),
+    ("diff", DIFF),
+    ("call", CALL),
+    ("bind", BIND),
+];
+
+/// The help of a command. None if there is no such command.
+pub fn help_of(command: &str) -> Option<&'static str> {
+    for (name, help) in &COMMANDS {
+        if *name == command {
+            return Some(*help);
+        }
     }
+    None
 }
 
-/// The help for words that are no command.
+/// The names of the commands.
+pub fn names_of_commands(alloc: Global) -> Result<Vec<&'static str>, AllocError> {
+    let mut names = Vec::new(alloc);
+    for (name, _) in &COMMANDS {
+        names.push(*name)?;
+    }
+    Ok(names)
+}
+
+/// The help of the program.
 pub fn usage() -> &'static str {
     PROGRAM
 }

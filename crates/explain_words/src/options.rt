@@ -19,6 +19,35 @@ enum Pending {
     World,
 }
 
+/// What an option says.
+#[derive(Clone, Copy, Debug, PartialEq, Eq)]
+enum Kind {
+    Help,
+    Json,
+    /// The word after it, or after its `=`.
+    Valued(Pending),
+}
+
+/// The options.
+static OPTIONS: [(&str, Kind); 6] = [
+    ("--help", Kind::Help),
+    ("--json", Kind::Json),
+    ("--color", Kind::Valued(Pending::Color)),
+    ("--svg", Kind::Valued(Pending::Svg)),
+    ("--output", Kind::Valued(Pending::Output)),
+    ("--world", Kind::Valued(Pending::World)),
+];
+
+/// What words are.
+#[derive(Debug, Drop)]
+pub enum Parsed<'a> {
+    Options(Options<'a>),
+    /// An option that there isn't.
+    Unknown(&'a str),
+    /// An option lacks its word, or has another one than those that it takes.
+    Incomplete,
+}
+
 /// What the words say.
 #[derive(Debug, Drop)]
 pub struct Options<'a> {
@@ -45,7 +74,48 @@ fn color_of(word: &str) -> Option<ColorChoice> {
     }
 }
 
+/// The name of an option, which may have its word after a `=`.
+fn name_of(word: &str) -> &str {
+    match word.split_once('=') {
+        Some((name, _)) => name,
+        None => word,
+    }
+}
+
+/// What an option of this name says.
+fn kind_of(name: &str) -> Option<Kind> {
+    for (option, kind) in &OPTIONS {
+        if *option == name {
+            return Some(*kind);
+        }
+    }
+    None
+}
+
+/// The names of the options.
+pub fn names_of_options(alloc: Global) -> Result<Vec<&'static str>, AllocError> {
+    let mut names = Vec::new(alloc);
+    for (option, _) in &OPTIONS {
+        names.push(*option)?;
+    }
+    Ok(names)
+}
+
 impl<'a> Options<'a> {
+    /// Nothing yet.
+    fn new(alloc: Global) -> Options<'a> {
+        Options {
+            words: Vec::new(alloc),
+            color: ColorChoice::Auto,
+            is_json: false,
+            is_help: false,
+            svg: None,
+            output: None,
+            world: None,
+            pending: None,
+        }
+    }
+
     /// Takes the word of an option. False if it is none that the option has.
     fn take_value(&mut self, option: Pending, word: &'a str) -> bool {
         match option {
@@ -60,27 +130,21 @@ impl<'a> Options<'a> {
         true
     }
 
-    /// Takes an option that has no word of its own after it. False if there is none of this name.
+    /// Takes an option. False if there is none of this name, or if it takes no such word.
     fn take_option(&mut self, word: &'a str) -> bool {
-        match word {
-            "--help" => self.is_help = true,
-            "--json" => self.is_json = true,
-            "--color" => self.pending = Some(Pending::Color),
-            "--svg" => self.pending = Some(Pending::Svg),
-            "--output" => self.pending = Some(Pending::Output),
-            "--world" => self.pending = Some(Pending::World),
-            _ => match word.split_once('=') {
-                Some(("--color", color)) => return self.take_value(Pending::Color, color),
-                Some(("--svg", file)) => return self.take_value(Pending::Svg, file),
-                Some(("--output", file)) => return self.take_value(Pending::Output, file),
-                Some(("--world", name)) => return self.take_value(Pending::World, name),
-                _ => return false,
-            },
+        match (kind_of(name_of(word)), word.split_once('=')) {
+            (Some(Kind::Help), None) => self.is_help = true,
+            (Some(Kind::Json), None) => self.is_json = true,
+            (Some(Kind::Valued(option)), None) => self.pending = Some(option),
+            (Some(Kind::Valued(option)), Some((_, value))) => {
+                return self.take_value(option, value);
+            }
+            _ => return false,
         }
         true
     }
 
-    /// Takes a word. False if it is an option that there isn't.
+    /// Takes a word. False if it is an option that there isn't, or a word that an option doesn't take.
     fn take(&mut self, word: &'a str) -> Result<bool, AllocError> {
         if let Some(option) = self.pending {
             self.pending = None;
@@ -98,25 +162,21 @@ impl<'a> Options<'a> {
     }
 }
 
-/// What these words say. None if an option is unknown or has no word.
-pub fn options_of<'a>(alloc: Global, words: &[&'a str]) -> Result<Option<Options<'a>>, AllocError> {
-    let mut options = Options {
-        words: Vec::new(alloc),
-        color: ColorChoice::Auto,
-        is_json: false,
-        is_help: false,
-        svg: None,
-        output: None,
-        world: None,
-        pending: None,
-    };
+/// What these words say.
+pub fn options_of<'a>(alloc: Global, words: &[&'a str]) -> Result<Parsed<'a>, AllocError> {
+    let mut options = Options::new(alloc);
     for word in words {
+        let is_value = options.pending.is_some();
         if !options.take(word)? {
-            return Ok(None);
+            return Ok(if is_value || kind_of(name_of(word)).is_some() {
+                Parsed::Incomplete
+            } else {
+                Parsed::Unknown(word)
+            });
         }
     }
     if options.pending.is_some() {
-        return Ok(None);
+        return Ok(Parsed::Incomplete);
     }
-    Ok(Some(options))
+    Ok(Parsed::Options(options))
 }

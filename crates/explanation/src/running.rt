@@ -2,10 +2,14 @@
 
 use call_command::{CallWords, report_call};
 use checked_packages::{CheckedSet, check_sources, main_of};
-use explain_words::{ColorChoice, Options, VERSION, help_of, options_of, usage};
+use explain_words::{
+    ColorChoice, Options, Parsed, VERSION, help_of, options_of, refusal_of_option,
+    refusal_of_words, usage,
+};
 use layout_picture::Form;
 use package_commands::{
-    binary_of, declarations_for_ts, encoded, header_for_c, picture_of, push_contents, text_of,
+    binary_of, declarations_for_ts, document_of, encoded, header_for_c, picture_of, push_contents,
+    push_decoded, push_differences, text_of,
 };
 use std::alloc::AllocError;
 use std::fmt::{Display, Write};
@@ -62,9 +66,10 @@ fn check(rt: &HostRuntime, options: &Options<'_>, paths: &[&str]) -> Result<Repo
     Ok(report)
 }
 
-/// Reports that a package can't be written.
-fn refuse<E: Display>(report: &mut Report, path: &str, error: &E) -> Result<(), AllocError> {
+/// Reports that a package of these paths can't be written, at the first of them.
+fn refuse<E: Display>(report: &mut Report, paths: &[&str], error: &E) -> Result<(), AllocError> {
     report.status = 1;
+    let path = paths.first().copied().unwrap_or("");
     writeln!(report.text, "{path}: {error}")?;
     Ok(())
 }
@@ -79,17 +84,33 @@ fn contents(rt: &HostRuntime, options: &Options<'_>, paths: &[&str]) -> Result<R
     Ok(report)
 }
 
-/// Writes the canonical text of the last package of a path that is no dependency.
-fn text(rt: &HostRuntime, options: &Options<'_>, path: &str) -> Result<Report, AllocError> {
+/// Writes all that the last package of these paths has that is no dependency, as one JSON document.
+fn document(rt: &HostRuntime, options: &Options<'_>, paths: &[&str]) -> Result<Report, AllocError> {
     let mut report = new_report(rt, options);
-    let packages = checked_paths(rt, &mut report, &[path])?;
+    let packages = checked_paths(rt, &mut report, paths)?;
+    if report.status != 0 {
+        report.finish()?;
+        return Ok(report);
+    }
+    let list = packages.list.as_slice();
+    if let Some(package) = list.get(main_of(list)) {
+        let document = document_of(rt.alloc(), package)?;
+        writeln!(report.text, "{}", document.as_str())?;
+    }
+    Ok(report)
+}
+
+/// Writes the canonical text of the last package of these paths that is no dependency.
+fn text(rt: &HostRuntime, options: &Options<'_>, paths: &[&str]) -> Result<Report, AllocError> {
+    let mut report = new_report(rt, options);
+    let packages = checked_paths(rt, &mut report, paths)?;
     let list = packages.list.as_slice();
     if report.status == 0
         && let Some(package) = list.get(main_of(list))
     {
         match text_of(rt.alloc(), package) {
             Ok(text) => report.text.push_str(text.as_str())?,
-            Err(error) => refuse(&mut report, path, &error)?,
+            Err(error) => refuse(&mut report, paths, &error)?,
         }
     }
     Ok(report)
@@ -104,44 +125,53 @@ fn save(rt: &HostRuntime, report: &mut Report, file: &str, bytes: &[u8]) -> Resu
     Ok(())
 }
 
-/// Writes the binary of the last package of a path that is no dependency to a file.
+/// Writes the binary of the last package of these paths that is no dependency to a file.
 fn binary(
     rt: &HostRuntime,
     options: &Options<'_>,
-    path: &str,
+    paths: &[&str],
     file: &str,
 ) -> Result<Report, AllocError> {
     let mut report = new_report(rt, options);
-    let packages = checked_paths(rt, &mut report, &[path])?;
+    let packages = checked_paths(rt, &mut report, paths)?;
     let list = packages.list.as_slice();
     if report.status == 0
         && let Some(package) = list.get(main_of(list))
     {
         match binary_of(rt.alloc(), package) {
             Ok(bytes) => save(rt, &mut report, file, bytes.as_slice())?,
-            Err(error) => refuse(&mut report, path, &error)?,
+            Err(error) => refuse(&mut report, paths, &error)?,
         }
     }
     Ok(report)
 }
 
-/// Writes the last package of a path that is no dependency to a file as other tools read it, or a world of it.
+/// Writes the last package of these paths that is no dependency to a file as other tools read it, or a world of it.
 fn encode(
     rt: &HostRuntime,
     options: &Options<'_>,
-    path: &str,
+    paths: &[&str],
     file: &str,
 ) -> Result<Report, AllocError> {
     let mut report = new_report(rt, options);
-    let packages = checked_paths(rt, &mut report, &[path])?;
+    let packages = checked_paths(rt, &mut report, paths)?;
     let list = packages.list.as_slice();
     if report.status == 0
         && let Some(package) = list.get(main_of(list))
     {
         match encoded(rt.alloc(), package, options.world) {
             Ok(bytes) => save(rt, &mut report, file, bytes.as_slice())?,
-            Err(error) => refuse(&mut report, path, &error)?,
+            Err(error) => refuse(&mut report, paths, &error)?,
         }
+    }
+    Ok(report)
+}
+
+/// Prints the packages of a binary that another tool wrote.
+fn decode(rt: &HostRuntime, options: &Options<'_>, path: &str) -> Result<Report, AllocError> {
+    let mut report = new_report(rt, options);
+    if let Err(error) = push_decoded(rt, &mut report, path) {
+        refuse(&mut report, &[path], &error)?;
     }
     Ok(report)
 }
@@ -187,27 +217,44 @@ fn layout(
     Ok(report)
 }
 
-/// Writes a header for C of the packages of a path.
-fn bind_c(rt: &HostRuntime, options: &Options<'_>, path: &str) -> Result<Report, AllocError> {
+/// Writes a header for C of the packages of these paths.
+fn bind_c(rt: &HostRuntime, options: &Options<'_>, paths: &[&str]) -> Result<Report, AllocError> {
     let mut report = new_report(rt, options);
-    let packages = checked_paths(rt, &mut report, &[path])?;
+    let packages = checked_paths(rt, &mut report, paths)?;
     if report.status != 0 {
         return Ok(report);
     }
     match header_for_c(rt.alloc(), &packages) {
         Ok(header) => report.text.push_str(header.as_str())?,
-        Err(cause) => refuse(&mut report, path, &cause)?,
+        Err(cause) => refuse(&mut report, paths, &cause)?,
     }
     Ok(report)
 }
 
-/// Writes declarations for TypeScript of the packages of a path.
-fn bind_ts(rt: &HostRuntime, options: &Options<'_>, path: &str) -> Result<Report, AllocError> {
+/// Writes declarations for TypeScript of the packages of these paths.
+fn bind_ts(rt: &HostRuntime, options: &Options<'_>, paths: &[&str]) -> Result<Report, AllocError> {
     let mut report = new_report(rt, options);
-    let packages = checked_paths(rt, &mut report, &[path])?;
+    let packages = checked_paths(rt, &mut report, paths)?;
     if report.status == 0 {
         let declarations = declarations_for_ts(rt.alloc(), &packages)?;
         report.text.push_str(declarations.as_str())?;
+    }
+    Ok(report)
+}
+
+/// Tells what changed from the package of one path to that of another.
+fn differences(
+    rt: &HostRuntime,
+    options: &Options<'_>,
+    old: &str,
+    new: &str,
+) -> Result<Report, AllocError> {
+    let mut report = new_report(rt, options);
+    let before = checked_paths(rt, &mut report, &[old])?;
+    let after = checked_paths(rt, &mut report, &[new])?;
+    if report.status == 0 {
+        let (before, after) = (before.list.as_slice(), after.list.as_slice());
+        push_differences(rt.alloc(), &mut report, before, after)?;
     }
     Ok(report)
 }
@@ -248,11 +295,26 @@ fn run_call(
     call(rt, options, path, &words)
 }
 
+/// Says that there is no such command, or how the commands are written.
+fn refuse_words(rt: &HostRuntime, words: &[&str]) -> Result<Report, AllocError> {
+    let text = refusal_of_words(rt.alloc(), words)?;
+    Report::said(rt.alloc(), text.as_str(), 2)
+}
+
+/// Says that there is no such option.
+fn refuse_option(rt: &HostRuntime, option: &str) -> Result<Report, AllocError> {
+    let text = refusal_of_option(rt.alloc(), option)?;
+    Report::said(rt.alloc(), text.as_str(), 2)
+}
+
 /// Says what the program or a command does.
 fn help(rt: &HostRuntime, words: &[&str]) -> Result<Report, AllocError> {
-    match help_of(words.first().copied()) {
+    let Some(command) = words.first() else {
+        return Report::said(rt.alloc(), usage(), 0);
+    };
+    match help_of(command) {
         Some(text) => Report::said(rt.alloc(), text, 0),
-        None => Report::said(rt.alloc(), usage(), 2),
+        None => refuse_words(rt, words),
     }
 }
 
@@ -264,11 +326,13 @@ fn run_plain(
 ) -> Result<Report, AllocError> {
     match words {
         ["show", paths @ ..] if !paths.is_empty() => contents(rt, options, paths),
-        ["text", path] => text(rt, options, path),
+        ["text", paths @ ..] if !paths.is_empty() => text(rt, options, paths),
+        ["diff", old, new] => differences(rt, options, old, new),
+        ["decode", path] => decode(rt, options, path),
         ["call", path, words @ ..] => run_call(rt, options, path, words),
-        ["bind", "c", path] => bind_c(rt, options, path),
-        ["bind", "ts", path] => bind_ts(rt, options, path),
-        _ => Report::said(rt.alloc(), usage(), 2),
+        ["bind", "c", paths @ ..] if !paths.is_empty() => bind_c(rt, options, paths),
+        ["bind", "ts", paths @ ..] if !paths.is_empty() => bind_ts(rt, options, paths),
+        _ => refuse_words(rt, words),
     }
 }
 
@@ -280,21 +344,26 @@ fn run_options(rt: &HostRuntime, options: &Options<'_>) -> Result<Report, AllocE
     }
     let output = options.output;
     match (words, output) {
-        (["encode", path], Some(file)) if !options.is_json && options.svg.is_none() => {
-            encode(rt, options, path, file)
+        (["encode", paths @ ..], Some(file))
+            if !paths.is_empty() && !options.is_json && options.svg.is_none() => {
+            encode(rt, options, paths, file)
         }
-        _ if options.world.is_some() => Report::said(rt.alloc(), usage(), 2),
+        _ if options.world.is_some() => refuse_words(rt, words),
         (["--version"], None) => Report::said(rt.alloc(), VERSION, 0),
         (["check", paths @ ..], None) if !paths.is_empty() && options.svg.is_none() => {
             check(rt, options, paths)
+        }
+        (["show" | "layout", paths @ ..], None)
+            if options.is_json && !paths.is_empty() && options.svg.is_none() => {
+            document(rt, options, paths)
         }
         (["layout", path], None) if !options.is_json => layout(rt, options, path, None),
         (["layout", path, wanted], None) if !options.is_json => {
             layout(rt, options, path, Some(wanted))
         }
-        _ if options.is_json || options.svg.is_some() => Report::said(rt.alloc(), usage(), 2),
-        (["bin", path], Some(file)) => binary(rt, options, path, file),
-        (_, Some(_)) => Report::said(rt.alloc(), usage(), 2),
+        _ if options.is_json || options.svg.is_some() => refuse_words(rt, words),
+        (["bin", paths @ ..], Some(file)) if !paths.is_empty() => binary(rt, options, paths, file),
+        (_, Some(_)) => refuse_words(rt, words),
         (words, None) => run_plain(rt, options, words),
     }
 }
@@ -302,7 +371,8 @@ fn run_options(rt: &HostRuntime, options: &Options<'_>) -> Result<Report, AllocE
 /// Does what the words ask for, which come after the program's own name.
 pub fn run(rt: &HostRuntime, words: &[&str]) -> Result<Report, AllocError> {
     match options_of(rt.alloc(), words)? {
-        Some(options) => run_options(rt, &options),
-        None => Report::said(rt.alloc(), usage(), 2),
+        Parsed::Options(options) => run_options(rt, &options),
+        Parsed::Unknown(option) => refuse_option(rt, option),
+        Parsed::Incomplete => Report::said(rt.alloc(), usage(), 2),
     }
 }

@@ -2,6 +2,7 @@
 
 use checked_packages::Checked;
 use overview::shown;
+use package_document::document;
 use std::alloc::{AllocError, Global};
 use wit_faults::Report;
 
@@ -18,4 +19,9 @@ pub fn push_contents(
         }
     }
     Ok(())
+}
+
+/// All that a package and those that it uses have, as one JSON document.
+pub fn document_of(alloc: Global, package: &Checked) -> Result<String, AllocError> {
+    document(alloc, &package.tables, &package.layouts)
 }

@@ -1,16 +1,20 @@
 //! What the commands of `wit-explain` do with checked packages, but for calls.
 //!
-//! `push_contents` says what packages have, and `picture_of` draws their types. `text_of`, `binary_of` and `encoded`
-//! write one, `header_for_c` writes a header of all, and `declarations_for_ts` declarations of one and of what it uses.
-//! Texts are those of `package_text`, binaries those of `wit_component` and of `component_encoding`, lines those of
-//! `overview`, pictures those of `layout_picture`, headers those of `c_header`, and declarations those of
-//! `ts_declarations`.
+//! `push_contents` says what packages have, `document_of` all of it as JSON, and `picture_of` draws their types.
+//! `push_differences` tells what changed from one to another. `text_of`, `binary_of` and `encoded` write one,
+//! `header_for_c` writes a header of all, and `declarations_for_ts` declarations of one and of what it uses.
+//! `push_decoded` reads packages from a binary and writes their texts. Texts are those of `package_text`, binaries those
+//! of `wit_component` and of `component_encoding`, lines those of `overview`, pictures those of `layout_picture`, changes
+//! those of `package_diff`, headers those of `c_header`, and declarations those of `ts_declarations`. Binaries are read
+//! by `component_decoding` and `decoded_packages`.
 #![tactic(auto)]
 
 mod binary;
 mod binding;
 mod canonical_text;
 mod contents;
+mod decoding;
+mod differences;
 mod encoding;
 mod pictures;
 mod refusal;
@@ -18,7 +22,9 @@ mod refusal;
 pub use binary::binary_of;
 pub use binding::{declarations_for_ts, header_for_c};
 pub use canonical_text::text_of;
-pub use contents::push_contents;
+pub use contents::{document_of, push_contents};
+pub use decoding::{Undecoded, push_decoded};
+pub use differences::push_differences;
 pub use encoding::{Unencoded, encoded};
 pub use pictures::picture_of;
 pub use refusal::Unwritten;
