@@ -5,7 +5,8 @@
 #
 # BUILD is the folder that it builds in, else a temporary one. --released and --built are those of tools/install.sh.
 # With --c only those hosts are run that need a C compiler alone, with its sanitizers and pkg-config if these are there:
-# host, faults, threads, moved, lists, values, vectors and json_vectors. With --bindings only python and crate are run.
+# host, faults, threads, moved, lists, values, served, vectors, json_vectors and import_vectors. With --bindings only
+# python and crate are run.
 #
 # | host           | is                                                | needs                                               |
 # |----------------|---------------------------------------------------|-----------------------------------------------------|
@@ -18,8 +19,10 @@
 # | hostile        | memories that ask for more than they hold, in C   | the compiler's sanitizers                           |
 # | lists          | what packages have, beside examples/c/shop.h      | the compiler's sanitizers                           |
 # | values         | a call with values as JSON, in C                  | the compiler's sanitizers                           |
+# | served         | calls of the host's functions with such values    | the compiler's sanitizers                           |
 # | vectors        | the stored calls of crates/vectors, in C          | python3                                             |
 # | json_vectors   | its rows of a host's memory, with values as JSON  | python3                                             |
+# | import_vectors | its calls, as a host with values as JSON serves   | python3                                             |
 # | bindings       | examples/c/shop.h, made anew                      |                                                     |
 # | engine         | core modules in Node's engine, their traps        | clang, lld, Node with its headers                   |
 # | js             | the same modules, linked by bindings/js           | clang, lld, Node, the module of the release         |
@@ -244,6 +247,10 @@ if has values "$CC" && has_sanitizer values address,undefined; then
     step build-values checked_c_program "$here/c/values.c" "$build/values"
     same values "$here/c/values.expected" "$build/values"
 fi
+if has served "$CC" && has_sanitizer served address,undefined; then
+    step build-served checked_c_program "$here/c/served.c" "$build/served"
+    same served "$here/c/served.expected" "$build/served"
+fi
 for rows in vectors json_vectors; do
     if has "$rows" python3; then
         step "build-$rows" c_program "$here/c/$rows.c" "$build/$rows"
@@ -254,6 +261,9 @@ for rows in vectors json_vectors; do
         fi
     fi
 done
+if has import_vectors python3 && [ -x "$build/json_vectors" ]; then
+    same import_vectors "$here/c/import_vectors.expected" python3 "$here/c/import_vectors.py" "$build/json_vectors"
+fi
 if has bindings; then
     same bindings "$here/c/shop.h" "$prefix/bin/wit-explain" bind c "$here/c/shop.wit"
 fi

@@ -4,9 +4,12 @@
  *
  * A step:      package interface function memory length, and then one of these
  *              asks json
+ *              answer-asks json
  *              fills json blocks room
  *              reads values limit
- * its answer:  JSON, as docs/FORMATS.md has it ("Rows of a host's memory")
+ *              receives values
+ *              answers values json blocks
+ * its answer:  JSON, as docs/FORMATS.md has it ("Rows of a host's memory"); of the last two as import_vectors.py has it
  *
  * Words are those of words.h. A text of JSON is bytes, and blocks are "align:size:address,..". The memory has zeros up
  * to its length. A limit "-" is none.
@@ -95,10 +98,10 @@ static void tell_error(witcall_status status) {
 }
 
 /* The values up to the last that was put. */
-static void tell_handed(const witcall_value *handed, size_t room) {
+static void tell_values(const char *name, const witcall_value *handed, size_t room) {
     while (room > 0 && handed[room - 1].kind == 1 && handed[room - 1].bits == UINT64_MAX)
         room--;
-    printf(",\"handed\":[");
+    printf(",\"%s\":[", name);
     for (size_t i = 0; i < room; i++)
         printf("%s[\"%s\",%" PRIu64 "]", i ? "," : "", handed[i].kind ? "i64" : "i32", handed[i].bits);
     printf("]");
@@ -116,16 +119,19 @@ static void tell_memory(bytes memory) {
 
 /* ---- the steps ---- */
 
-static void asks(host *h, char **rest) {
+/* What tells the blocks of arguments, or those of a result. */
+typedef witcall_status asking(witcall_package *package, uint32_t func, const uint8_t *json, size_t json_len,
+                              witcall_request *requests, size_t requests_len, uint64_t limit);
+
+static void asks(host *h, char **rest, asking *ask) {
     bytes json = text_of(rest);
-    witcall_status counted = witcall_json_requests(&h->package, h->func, json.at, json.len, NULL, 0, NO_LIMIT);
+    witcall_status counted = ask(&h->package, h->func, json.at, json.len, NULL, 0, NO_LIMIT);
     if (counted.code != WITCALL_DONE) {
         printf("{");
         tell_error(counted);
     } else {
         witcall_request *asked = room_for(counted.count, sizeof *asked);
-        witcall_status told =
-            witcall_json_requests(&h->package, h->func, json.at, json.len, asked, counted.count, NO_LIMIT);
+        witcall_status told = ask(&h->package, h->func, json.at, json.len, asked, counted.count, NO_LIMIT);
         if (done(told) != counted.count)
             fail("requests are counted in two ways");
         printf("{\"asks\":[");
@@ -138,14 +144,20 @@ static void asks(host *h, char **rest) {
     free(json.at);
 }
 
+/* Places for core values, none of which was put. */
+static witcall_value *places_of(size_t room) {
+    witcall_value *places = room_for(room, sizeof *places);
+    for (size_t i = 0; i < room; i++)
+        places[i] = (witcall_value){.kind = 1, .bits = UINT64_MAX};
+    return places;
+}
+
 static void fills(host *h, char **rest) {
     size_t count;
     bytes json = text_of(rest);
     witcall_block *blocks = blocks_of(word_of(rest), &count);
     size_t room = strtoul(word_of(rest), NULL, 10);
-    witcall_value *handed = room_for(room, sizeof *handed);
-    for (size_t i = 0; i < room; i++)
-        handed[i] = (witcall_value){.kind = 1, .bits = UINT64_MAX};
+    witcall_value *handed = places_of(room);
     witcall_status filled = witcall_fill_json(
         &h->package, h->func, json.at, json.len, h->memory.at, h->memory.len, blocks, count, handed, room);
     printf("{");
@@ -153,7 +165,7 @@ static void fills(host *h, char **rest) {
         printf("\"filled\":%" PRIu32, filled.count);
     else
         tell_error(filled);
-    tell_handed(handed, room);
+    tell_values("handed", handed, room);
     tell_memory(h->memory);
     printf("}\n");
     free(handed), free(blocks), free(json.at);
@@ -193,15 +205,64 @@ static void reads(host *h, char **rest) {
     free(before);
 }
 
+static witcall_status receive_into(host *h, const values *flats, bytes text) {
+    return witcall_read_arguments_json(
+        &h->package, h->func, flats->at, flats->len, h->memory.at, h->memory.len, text.at, text.len, NO_LIMIT);
+}
+
+/* The arguments of a guest's call; a text of them has two bytes at least. */
+static void receives(host *h, char **rest) {
+    values flats = values_of(word_of(rest));
+    witcall_status counted = receive_into(h, &flats, (bytes){NULL, 0});
+    printf("{");
+    if (counted.code == WITCALL_REFUSED && counted.number == WITCALL_NO_ROOM) {
+        bytes text = {room_for(counted.count, 1), counted.count};
+        if (done(receive_into(h, &flats, text)) != text.len)
+            fail("a text has two lengths");
+        printf("\"received\":%.*s", (int)text.len, text.at);
+        free(text.at);
+    } else {
+        tell_error(counted);
+    }
+    printf("}\n");
+}
+
+/* The result of a guest's call. */
+static void answers(host *h, char **rest) {
+    size_t count;
+    values flats = values_of(word_of(rest));
+    bytes json = text_of(rest);
+    witcall_block *blocks = blocks_of(word_of(rest), &count);
+    witcall_value *back = places_of(WITCALL_MAX_VALUES);
+    witcall_status filled = witcall_fill_result_json(
+        &h->package, h->func, flats.at, flats.len, json.at, json.len, h->memory.at, h->memory.len, blocks, count, back,
+        WITCALL_MAX_VALUES);
+    printf("{");
+    if (filled.code == WITCALL_DONE)
+        printf("\"answered\":%" PRIu32, filled.count);
+    else
+        tell_error(filled);
+    tell_values("back", back, WITCALL_MAX_VALUES);
+    tell_memory(h->memory);
+    printf("}\n");
+    free(back), free(blocks), free(json.at);
+}
+
 static void take(char *line) {
     host h = host_of(&line);
     const char *step = word_of(&line);
     if (strcmp(step, "asks") == 0)
-        asks(&h, &line);
+        asks(&h, &line, witcall_json_requests);
+    else if (strcmp(step, "answer-asks") == 0)
+        asks(&h, &line, witcall_result_json_requests);
     else if (strcmp(step, "fills") == 0)
         fills(&h, &line);
     else if (strcmp(step, "reads") == 0)
         reads(&h, &line);
+    else if (strcmp(step, "receives") == 0)
+        receives(&h, &line);
+    else if (strcmp(step, "answers") == 0)
+        answers(&h, &line);
     else
         fail("no step");
     witcall_close(&h.package);

@@ -7,7 +7,7 @@ The rows are those of crates/vectors that have `host` (docs/FORMATS.md, "Rows of
 examples/c/json_vectors.c, built, or one that takes the same lines. An answer has to be the stored one to the byte.
 Steps that can't be taken are left out:
 
-  answer asks  all of them, as no call of the library tells the blocks of a result
+  answer asks  those whose list has not just the one value of the result, which no text says
   room         if PROGRAM always has room for 17 core values: the steps that say another room
   blocks       if PROGRAM's blocks are always those that are asked for: the steps with other blocks, and with more
 
@@ -22,7 +22,7 @@ import sys
 ROOT = pathlib.Path(__file__).resolve().parent.parent.parent
 sys.path.insert(0, str(ROOT))
 sys.dont_write_bytecode = True
-from tools.models.calls import line_of  # noqa: E402
+from tools.models.calls import line_of, package_of  # noqa: E402
 from tools.models.hosts import MOST_VALUES, Host  # noqa: E402
 
 VECTORS = ROOT / "crates/vectors"
@@ -58,6 +58,8 @@ def step_line(step):
     word, given, *rest = step
     if word == "asks":
         return f"asks {hex_of(text_of(given))}"
+    if word == "answer asks":
+        return f"answer-asks {hex_of(''.join(map(line_of, given)))}"
     if word == "fills":
         blocks, room = [*rest, MOST_VALUES][:2]
         return f"fills {hex_of(text_of(given))} {listed(blocks)} {room}"
@@ -79,11 +81,17 @@ def has_other_blocks(row, step):
     return asked is not None and found != [tuple(request) for request in asked[: len(found)]]
 
 
+def is_one_text(row, values):
+    """Whether a text says the values of a result: that of one value, or no bytes where there is no result."""
+    has_result = package_of(row).function(row["iface"], row["func"]).result is not None
+    return isinstance(values, list) and (len(values) == 1 or not values and not has_result)
+
+
 def left_out(row, step, lacks):
     """Why a step is left out, or None."""
     word = step[0]
-    if word == "answer asks":
-        return "no call tells the blocks of a result"
+    if word == "answer asks" and not is_one_text(row, step[1]):
+        return "a list that has not just the value of the result"
     if word == "fills" and "room" in lacks and step[3:] not in ([], [MOST_VALUES]):
         return "another room"
     if word == "fills" and "blocks" in lacks and has_other_blocks(row, step):

@@ -5,7 +5,8 @@
  *   3. The core function runs.
  *   4. witcall_read_json writes what it answered as JSON.
  *
- * witcall_json_fault says what is wrong in arguments that are refused, and witcall_describe has all of the package in one document.
+ * witcall_json_fault says what is wrong in arguments that are refused, witcall_describe has all of the package in one
+ * document, and witcall_explain says what is wrong with texts.
  */
 #include "witcall.h"
 #include <stdio.h>
@@ -120,6 +121,18 @@ static void describe(void) {
     free(json);
 }
 
+/* Prints what is wrong with two texts, of which the first needs the second. */
+static void explain(void) {
+    static const char FIRST[] = "package demo:shop; interface till { use demo:books/desk.{copy}; pay: func(of: copi); }";
+    static const char SECOND[] = "package demo:books; interface desk { record copy { sum: u32 } }";
+    static const size_t LENGTHS[] = {sizeof FIRST - 1, sizeof SECOND - 1};
+    uint8_t texts[sizeof FIRST + sizeof SECOND], json[512];
+    memcpy(texts, FIRST, LENGTHS[0]);
+    memcpy(texts + LENGTHS[0], SECOND, LENGTHS[1]);
+    uint32_t length = done(witcall_explain(texts, LENGTHS[0] + LENGTHS[1], LENGTHS, 2, json, sizeof json));
+    printf("%.*s", (int)length, (const char *)json);
+}
+
 int main(void) {
     done(witcall_open(BYTES(TEXT), &package));
     uint32_t func = done(witcall_find(&package, BYTES("demo:books/desk"), BYTES("double")));
@@ -132,6 +145,7 @@ int main(void) {
     refuse(func, "[{\"title\":\"B\",\"pages\":[7,70000]}]");
     refuse(func, "[]");
     describe();
+    explain();
     witcall_close(&package);
     return 0;
 }

@@ -4,8 +4,9 @@
  *
  * What has to hold: the memory of the result is as it was, and the other one outside the blocks. What is asked for is
  * asked for with any limit from its sum on, and is 76 with any less. The arguments are put into just these blocks. What
- * is put asks for the same blocks again, as the result does whose JSON it is, and has that JSON again. A text that is
- * refused is refused before anything is written. tests/fuzz/compare.py compares the rest with the models.
+ * is put asks for the same blocks again, as the result does whose JSON it is, and has that JSON again, also as the
+ * arguments of a guest's call. Then the JSON is put into the same memory as the result of such a call, and is read there.
+ * A text that is refused is refused before anything is written. tests/fuzz/compare.py compares the rest with the models.
  */
 #include "calls.h"
 
@@ -110,6 +111,24 @@ static size_t record_blocks(call *c) {
     return flat > 16;
 }
 
+/* What was put is read as the arguments that a guest passes: as the same JSON if the library wrote that, and else as JSON
+ * that asks for the same blocks. */
+static void check_received(call *c, const asked *a, values given) {
+    static uint8_t text[MOST_JSON], held[MEMORY];
+    memory *m = &c->target;
+    memcpy(held, m->at, m->len);
+    witcall_status told = witcall_read_arguments_json(
+        &c->package, c->func, given.at, given.len, m->at, m->len, text, sizeof text, LIMIT);
+    HOLDS(memcmp(held, m->at, m->len) == 0);
+    mark_status(25, told);
+    if (is_refused(told, WITCALL_NO_ROOM))
+        return;
+    HOLDS(is_done(told) && told.count >= 2);
+    HOLDS(is_same(witcall_json_requests(&c->package, c->func, text, told.count, NULL, 0, LIMIT), a->status));
+    if (c->is_same_json)
+        HOLDS(told.count == c->json_len && memcmp(text, c->json, told.count) == 0);
+}
+
 /* What was put asks for the same blocks, as the arguments of a call of its own. */
 static void check_copy(call *c, const asked *a, const witcall_value *out, size_t count) {
     static witcall_request again[SLOTS];
@@ -122,6 +141,7 @@ static void check_copy(call *c, const asked *a, const witcall_value *out, size_t
         &c->package, c->func, given, count, c->target.at, c->target.len, again, SLOTS, LIMIT);
     HOLDS(is_same(status, a->status));
     HOLDS(status.count == 0 || memcmp(again, a->requests, status.count * sizeof *again) == 0);
+    check_received(c, a, (values){given, count});
 }
 
 /* What was put is the result whose JSON it is: it asks for the same blocks, and if it lies as a result does, it has the
@@ -185,6 +205,75 @@ static witcall_status check_fill(call *c, const asked *a, witcall_value *out) {
     if (is_done(status) && c->is_same_json)
         check_back(c, a, out, status.count);
     return status;
+}
+
+/* ---- a result that is put ---- */
+
+static witcall_status ask_result(const void *any, witcall_request *requests, size_t len, uint64_t limit) {
+    const call *c = any;
+    witcall_package package = c->package;
+    return witcall_result_json_requests(&package, c->func, c->json, c->json_len, requests, len, limit);
+}
+
+/* The core values of a guest's call, whose arguments are zeros, and its return area. */
+static values call_of_guest(call *c, input *in, witcall_block *area) {
+    uint32_t kinds[WITCALL_MAX_VALUES];
+    uint64_t bits_of[WITCALL_MAX_VALUES] = {0};
+    builder b = {.package = &c->package};
+    const witcall_type_info result = result_of(&b, c->func);
+    witcall_status params = witcall_lowered_params(&c->package, c->func, kinds, WITCALL_MAX_VALUES);
+    HOLDS(is_done(params));
+    *area = (witcall_block){1, 0, 0};
+    if (has_area(&b, c->func)) {
+        const uint32_t place = below(in, MEMORY);
+        *area = (witcall_block){1, result.size, place % 4 ? place / result.align * result.align : place};
+        bits_of[params.count - 1] = area->at;
+    }
+    return new_values(2, bits_of, kinds, params.count, c->at_end);
+}
+
+/* The result is read where it was put, as the same JSON. */
+static void check_answered(call *c, witcall_block area, const witcall_value *out, size_t count) {
+    static uint8_t text[MOST_JSON];
+    witcall_value answer = {0, area.at};
+    builder b = {.package = &c->package};
+    const bool is_stored = has_area(&b, c->func);
+    HOLDS(count == (is_stored || !c->json_len ? 0 : 1));
+    const values answered = {is_stored ? &answer : (witcall_value *)out, is_stored ? 1 : count};
+    witcall_status told = read_json(c, &c->target, answered, text, c->json_len);
+    HOLDS(is_done(told) && told.count == c->json_len && memcmp(text, c->json, c->json_len) == 0);
+}
+
+/* The JSON is put into the memory as the result of a guest's call. If it was read of an answer, it asks for the blocks that
+ * the answer does. */
+static void check_served(call *c, input *in, witcall_value *out) {
+    static witcall_request back[SLOTS];
+    witcall_block area;
+    memory *m = &c->target;
+    memcpy(m->before, m->at, m->len);
+    values flats = call_of_guest(c, in, &area);
+    asked a = ask_for(c, ask_result, c->at_end);
+    check_any_status(a.status);
+    mark_status(26, a.status);
+    if (is_done(a.status))
+        check_requests(c, ask_result, &a, c->at_end);
+    if (c->is_same_json) {
+        HOLDS(is_same(ask_back(c, back, SLOTS, LIMIT), a.status));
+        HOLDS(memcmp(back, a.requests, a.status.count * sizeof *back) == 0);
+    }
+    grant(&a, in, m->len, area, c->at_end);
+    memset(out, 0xee, WITCALL_MAX_VALUES * sizeof *out);
+    witcall_status status = witcall_fill_result_json(
+        &c->package, c->func, flats.at, flats.len, c->json, c->json_len, m->at, m->len, a.blocks, a.granted, out,
+        WITCALL_MAX_VALUES);
+    check_any_status(status);
+    mark_status(27, status);
+    check_written(m, &a, area, status.code == WITCALL_REFUSED && status.number != WITCALL_OTHER_BLOCK);
+    HOLDS(is_done(a.status) || !is_done(status));
+    if (is_no_json(a.status))
+        HOLDS(is_same(status, a.status));
+    if (is_done(status) && c->is_same_json)
+        check_answered(c, area, out, status.count);
 }
 
 /* ---- cases ---- */
@@ -311,6 +400,7 @@ static void check(call *c, input *in) {
     HOLDS(memcmp(c->source.at, c->source.before, c->source.len) == 0);
     mark_types(&c->package, status.code * 100 + status.number);
     put_case(c, &a, status, out);
+    check_served(c, in, out);
 }
 
 int LLVMFuzzerTestOneInput(const uint8_t *data, size_t len) {

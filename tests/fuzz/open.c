@@ -55,6 +55,23 @@ static void put_case(const uint8_t *data, size_t len, witcall_package *package, 
     put_words("}\n");
 }
 
+/* What is wrong with a text: nothing if it was opened, and otherwise the error that it was refused with. */
+static void check_explained(const uint8_t *bytes, size_t len, witcall_status status) {
+    static const uint8_t MAGIC[] = {0, 'a', 's', 'm'};
+    uint8_t json[8192], error[32];
+    if (len >= sizeof MAGIC && memcmp(bytes, MAGIC, sizeof MAGIC) == 0)
+        return;
+    witcall_status told = witcall_explain(bytes, len, &len, 1, json, sizeof json);
+    check_status(told);
+    if (is_refused(told, WITCALL_NO_ROOM))
+        return;
+    HOLDS(is_done(told) && told.count < sizeof json);
+    json[told.count] = 0;
+    HOLDS(is_done(status) == (strcmp((const char *)json, "[]\n") == 0));
+    snprintf((char *)error, sizeof error, "\"error\":%u,", status.number);
+    HOLDS(is_done(status) || strstr((const char *)json, (const char *)error));
+}
+
 int LLVMFuzzerTestOneInput(const uint8_t *data, size_t len) {
     if (len > FENCED)
         return -1;
@@ -64,6 +81,7 @@ int LLVMFuzzerTestOneInput(const uint8_t *data, size_t len) {
     witcall_package package = WITCALL_NONE;
     witcall_status status = witcall_open(bytes, len, &package);
     check_opened(&package, status, NULL, NULL, 0);
+    check_explained(bytes, len, status);
     put_case(data, len, &package, status);
     witcall_close(&package);
     HOLDS(!package.at && !package.is_open);
