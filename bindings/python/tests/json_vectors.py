@@ -50,7 +50,7 @@ class Host:
         self.data = memory.data
         return witcall.fill(self.package, self.function, text, memory, NO_LIMIT)
 
-    def asks(self, given):
+    def asked(self, put):
         """The blocks that an allocator is asked for, which has room for all at the same place."""
         asked = []
 
@@ -59,10 +59,24 @@ class Host:
             return 0
 
         try:
-            self.filled(bytes_of(given).decode(), allocate)
+            put(allocate)
         except witcall.WitcallError as error:
             return {"asks": asked} if asked else error_told(error)
         return {"asks": asked}
+
+    def asks(self, given):
+        """The blocks that arguments ask for."""
+        return self.asked(lambda allocate: self.filled(bytes_of(given).decode(), allocate))
+
+    def answer_asks(self, given):
+        """The blocks that a result asks for, in a memory with room where its call has zeros."""
+        text, flats = bytes_of(given).decode(), [0] * len(self.function.lowered.parameters)
+
+        def put(allocate):
+            memory = witcall.ArrayMemory(1 << 20, allocate)
+            witcall.answer(self.package, self.function, flats, text, memory, NO_LIMIT)
+
+        return self.asked(put)
 
     def fills(self, given, blocks, _room):
         """What is put into the blocks."""
@@ -101,7 +115,7 @@ def main():
         package_bytes, *words = line.rstrip("\n").split(" ")
         with witcall.open(bytes_of(package_bytes)) as package:
             step, *given = words[4:]
-            told = getattr(Host(package, words[:4]), step)(*given)
+            told = getattr(Host(package, words[:4]), step.replace("-", "_"))(*given)
         print(line_of(told))
 
 

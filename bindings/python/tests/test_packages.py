@@ -72,6 +72,29 @@ class Inputs(unittest.TestCase):
             witcall.open(f"package a:b; interface c {{ use {name}/d.{{t}}; }}")
 
 
+class Faults(unittest.TestCase):
+    def test_what_is_wrong_has_its_place_and_what_to_do(self):
+        broken = "package a:b; interface c { f: func(x: strng); }"
+        hint = "no `strng` here; did you mean `string`?"
+        fault = witcall.Fault(0, "error 41 unknown strng", 41, hint, 1, 39, 1, 44)
+        self.assertEqual(witcall.explain(broken), [fault])
+        good = "package a:b; interface c { type t = u8; }"
+        user = b"package d:e; interface f { use a:b/c.{t}; }"
+        self.assertEqual(witcall.explain(user, good), [])
+        self.assertEqual(witcall.explain(), [])
+        first, second = witcall.explain(user, broken)
+        self.assertEqual((first.text, first.number), (1, 41))
+        left_out = "not checked: it depends on a:b, which has a fault"
+        self.assertEqual(second, witcall.Fault(0, left_out))
+
+    def test_texts_of_one_package_are_its_files(self):
+        parts = (
+            "package a:b; interface c { use d.{t}; }",
+            "package a:b; interface d { type t = u8; }",
+        )
+        self.assertEqual(witcall.explain(*parts), [])
+
+
 class Closing(unittest.TestCase):
     def test_a_closed_package_is_not_open(self):
         package = witcall.open(TEXT)

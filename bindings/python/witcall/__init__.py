@@ -7,9 +7,11 @@ f
 
 from ._calls import Block, Call, CoreValue, Request
 from ._errors import NotThisType, OutOfMemory, Refused, Status, Trap, WitcallError
+from ._faults import Fault, explain
 from ._library import version
 from ._link import ArrayMemory, Memory, Stopped, grant, link
 from ._package import Package, open
+from ._serving import answer, receive, serve
 from ._table import CoreSignature, Function, Member, Type
 from ._values import bind, fill, read
 
@@ -19,6 +21,7 @@ __all__ = [
     "Call",
     "CoreSignature",
     "CoreValue",
+    "Fault",
     "Function",
     "Member",
     "Memory",
@@ -32,11 +35,15 @@ __all__ = [
     "Trap",
     "Type",
     "WitcallError",
+    "answer",
     "bind",
+    "explain",
     "fill",
     "grant",
     "link",
     "open",
     "read",
+    "receive",
+    "serve",
     "version",
 ]

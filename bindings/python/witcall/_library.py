@@ -81,6 +81,7 @@ _REQUESTS = [POINTER(CRequest), c_size_t, c_uint64]
 PARAMETERS: dict[str, list[Any]] = {
     "witcall_version": _BYTES,
     "witcall_open_set": [*_BYTES, POINTER(c_size_t), c_size_t, *_HANDLE],
+    "witcall_explain": [*_BYTES, POINTER(c_size_t), c_size_t, *_BYTES],
     "witcall_line": [*_HANDLE, *_BYTES],
     "witcall_status_line": [CStatus, *_BYTES],
     "witcall_find": [*_HANDLE, *_BYTES, *_BYTES],
@@ -102,6 +103,16 @@ PARAMETERS: dict[str, list[Any]] = {
     "witcall_fill_json": [*_OF_FUNCTION, *_BYTES, *_BYTES, *_BLOCKS, *_VALUES],
     "witcall_json_fault": [*_OF_FUNCTION, *_BYTES, *_BYTES],
     "witcall_read_json": [*_OF_FUNCTION, *_VALUES, *_BYTES, *_BYTES, c_uint64],
+    "witcall_read_arguments_json": [*_OF_FUNCTION, *_VALUES, *_BYTES, *_BYTES, c_uint64],
+    "witcall_result_json_requests": [*_OF_FUNCTION, *_BYTES, *_REQUESTS],
+    "witcall_fill_result_json": [
+        *_OF_FUNCTION,
+        *_VALUES,
+        *_BYTES,
+        *_BYTES,
+        *_BLOCKS,
+        *_VALUES,
+    ],
     "witcall_begin": [*_OF_FUNCTION, *_VALUES, POINTER(CCall)],
     "witcall_call_enter_requests": [*_OF_CALL, *_BYTES, *_REQUESTS],
     "witcall_call_enter": [*_OF_CALL, *_BYTES, *_BYTES, *_BLOCKS, *_VALUES],
@@ -178,6 +189,13 @@ def bytes_of(ask: Callable[[Any, int], CStatus]) -> bytes:
         if status.number != NO_ROOM or status.count <= room:
             return array.raw[: checked(status)]
         room = status.count
+
+
+def joined(inputs: list[bytes]) -> tuple[Any, ...]:
+    """Inputs one after another, with their lengths, as the library takes them."""
+    whole = b"".join(inputs)
+    lengths = (c_size_t * len(inputs))(*map(len, inputs))
+    return whole, len(whole), lengths, len(inputs)
 
 
 def version() -> str:

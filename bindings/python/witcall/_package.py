@@ -2,7 +2,6 @@
 
 from __future__ import annotations
 
-import ctypes
 import json
 import os
 import pathlib
@@ -21,6 +20,7 @@ from ._library import (
     bytes_of,
     checked,
     error_of,
+    joined,
     library,
     status_of,
     typed,
@@ -31,7 +31,8 @@ from ._table import Function, Table, Type
 Input = Union[str, bytes, bytearray, memoryview, "os.PathLike[str]"]
 
 
-def _bytes_of(source: Input) -> bytes:
+def bytes_of_input(source: Input) -> bytes:
+    """The bytes of a text, of a binary or of a file."""
     if isinstance(source, str):
         return source.encode()
     if isinstance(source, os.PathLike):
@@ -40,10 +41,7 @@ def _bytes_of(source: Input) -> bytes:
 
 
 def _open(handle: Handle, inputs: list[bytes]) -> CStatus:
-    joined = b"".join(inputs)
-    lengths = (ctypes.c_size_t * len(inputs))(*map(len, inputs))
-    words = (joined, len(joined), lengths, len(inputs), handle)
-    status: CStatus = library().witcall_open_set(*words)
+    status: CStatus = library().witcall_open_set(*joined(inputs), handle)
     return status
 
 
@@ -168,4 +166,4 @@ def open(*inputs: Input) -> Package:
     Raises:
         Refused: if the library refuses it; the line says why
     """
-    return Package([_bytes_of(it) for it in inputs])
+    return Package([bytes_of_input(it) for it in inputs])

@@ -146,6 +146,17 @@ def from_json(kind: Type, value: Any) -> Any:
     return _case(from_json, kind, value)
 
 
+def arguments_text(function: Function, arguments: Sequence[Any]) -> str:
+    """Values of Python for a function's parameters, as JSON."""
+    return json.dumps(_each(to_json, function.parameters, arguments), allow_nan=False)
+
+
+def arguments_of(function: Function, text: str) -> Sequence[Any]:
+    """The values of Python that JSON has for a function's parameters."""
+    found: Sequence[Any] = _each(from_json, function.parameters, json.loads(text))
+    return found
+
+
 def bind(
     package: Package,
     memory: Memory,
@@ -172,7 +183,7 @@ def bind(
 
     def bound(function: Function, body: Body, post_return: Optional[Body]) -> Callable[..., Any]:
         def call(*arguments: Any) -> Any:
-            given = json.dumps(_each(to_json, function.parameters, arguments), allow_nan=False)
+            given = arguments_text(function, arguments)
             handed = fill(package, function, given, memory, limit)
             answer = values_of(run(body, handed, BODY, stopping))
             text = read(package, function, answer, memory.data, limit)
