@@ -6,7 +6,7 @@
 mod words;
 
 use std::io::{self, BufRead};
-use witcall::{Block, Error, Function, Package, Request, Value};
+use witcall::{Block, Error, Function, Import, Package, Request, Value};
 use words::{bytes_of, digits_of, parts, values_of, NO_LIMIT};
 
 /// What a place for a core value has before one is put there.
@@ -61,6 +61,17 @@ fn memory_told(memory: &[u8]) -> String {
     digits_of(&memory[..length])
 }
 
+/// The blocks that are asked for, or why none are told.
+fn asked_told(asked: Result<Vec<Request>, Error>) -> String {
+    match asked {
+        Ok(asked) => {
+            let asked = asked.iter().map(|it| format!("[{},{}]", it.alignment, it.size));
+            format!("{{\"asks\":{}}}", listed(asked))
+        }
+        Err(error) => format!("{{{}}}", error_told(&error)),
+    }
+}
+
 impl Host {
     fn of(package: &str, interface: &str, name: &str, front: &str, length: &str) -> Result<Host, Error> {
         let package = Package::open(bytes_of(package))?;
@@ -71,13 +82,11 @@ impl Host {
     }
 
     fn asks(&self, json: &str) -> String {
-        match self.package.json_requests(&self.function, json, NO_LIMIT) {
-            Ok(asked) => {
-                let asked = asked.iter().map(|it| format!("[{},{}]", it.alignment, it.size));
-                format!("{{\"asks\":{}}}", listed(asked))
-            }
-            Err(error) => format!("{{{}}}", error_told(&error)),
-        }
+        asked_told(self.package.json_requests(&self.function, json, NO_LIMIT))
+    }
+
+    fn answer_asks(&self, json: &str) -> String {
+        asked_told(Import::new(&self.package, &self.function, NO_LIMIT).result_requests(json))
     }
 
     fn fills(&mut self, json: &str, blocks: &[Block]) -> String {
@@ -107,6 +116,7 @@ fn told(line: &str) -> Result<String, Error> {
     let mut host = Host::of(package, interface, name, front, length)?;
     Ok(match *step {
         ["asks", json] => host.asks(&text_of(json)),
+        ["answer-asks", json] => host.answer_asks(&text_of(json)),
         ["fills", json, blocks, _] => host.fills(&text_of(json), &parts(blocks).map(block).collect::<Vec<_>>()),
         ["reads", answer, "-"] => host.reads(&values_of(answer), NO_LIMIT),
         ["reads", answer, limit] => host.reads(&values_of(answer), limit.parse().expect("a limit")),

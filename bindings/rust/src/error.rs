@@ -36,7 +36,7 @@ pub enum TrapKind {
 /// In which step a trap came.
 #[derive(Clone, Copy, Debug, PartialEq, Eq, Hash)]
 pub enum Step {
-    /// The host's arguments are put into the memory of the component that it calls.
+    /// Values of the host, arguments or a result, are put into a component's memory.
     Place,
     /// The arguments are read in the caller.
     LiftArguments,

@@ -3,7 +3,8 @@
 //! A [`Package`] is opened from texts or binaries. It says which functions and types it has, and how their values lie
 //! in memory. A [`Link`] makes calls of one function between two [`Memory`]s: it has the allocators grant blocks,
 //! carries the values, and runs the callee's core function between both halves. A [`Call`] has the steps one by one. An
-//! [`Export`] calls a component's function with values of the host, as [`Json`].
+//! [`Export`] calls a component's function with values of the host, as [`Json`], and an [`Import`] serves a component
+//! that calls a function of the host.
 //!
 //! ```
 //! use witcall::{ArrayMemory, Link, Memory, Package, Value};
@@ -37,6 +38,8 @@
 mod call;
 mod error;
 mod export;
+mod fault;
+mod import;
 mod json;
 mod link;
 mod package;
@@ -47,6 +50,8 @@ mod table;
 pub use call::{Block, Call, Request, Value};
 pub use error::{Error, Step, Trap, TrapKind};
 pub use export::Export;
+pub use fault::{explain, Fault, Place};
+pub use import::Import;
 pub use json::{Json, NoJson};
 pub use link::{granted, ArrayMemory, Body, Link, Memory};
 pub use package::{version, Package};

@@ -33,6 +33,12 @@ impl fmt::Debug for Package {
     }
 }
 
+/// Inputs one after another, and their lengths.
+pub(crate) fn joined<Input: AsRef<[u8]>>(inputs: &[Input]) -> (Vec<u8>, Vec<usize>) {
+    let bytes: Vec<&[u8]> = inputs.iter().map(AsRef::as_ref).collect();
+    (bytes.concat(), bytes.iter().map(|input| input.len()).collect())
+}
+
 impl Package {
     /// Opens a package that depends on no other, from its text or its binary.
     ///
@@ -49,9 +55,8 @@ impl Package {
         if sys::abi() != sys::ABI {
             return Err(Error::OtherInterface(sys::abi()));
         }
-        let bytes: Vec<&[u8]> = inputs.iter().map(AsRef::as_ref).collect();
-        let lengths: Vec<usize> = bytes.iter().map(|input| input.len()).collect();
-        let (handle, status) = Handle::open(&bytes.concat(), &lengths);
+        let (bytes, lengths) = joined(inputs);
+        let (handle, status) = Handle::open(&bytes, &lengths);
         match checked(status) {
             Ok(_) => Ok(Package { handle: RefCell::new(handle) }),
             Err(error) => Err(refusal(handle, error)),

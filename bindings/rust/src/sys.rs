@@ -119,6 +119,14 @@ extern "C" {
         lengths_len: usize,
         package: *mut Handle,
     ) -> Status;
+    fn witcall_explain(
+        bytes: *const u8,
+        bytes_len: usize,
+        lengths: *const usize,
+        lengths_len: usize,
+        json: *mut u8,
+        json_len: usize,
+    ) -> Status;
     fn witcall_close(package: *mut Handle);
     fn witcall_line(package: *mut Handle, line: *mut u8, line_len: usize) -> Status;
     fn witcall_status_line(status: Status, line: *mut u8, line_len: usize) -> Status;
@@ -248,6 +256,40 @@ extern "C" {
         json_len: usize,
         limit: u64,
     ) -> Status;
+    fn witcall_read_arguments_json(
+        package: *mut Handle,
+        func: u32,
+        flats: *const RawValue,
+        flats_len: usize,
+        memory: *mut u8,
+        memory_len: usize,
+        json: *mut u8,
+        json_len: usize,
+        limit: u64,
+    ) -> Status;
+    fn witcall_result_json_requests(
+        package: *mut Handle,
+        func: u32,
+        json: *const u8,
+        json_len: usize,
+        requests: *mut RawRequest,
+        requests_len: usize,
+        limit: u64,
+    ) -> Status;
+    fn witcall_fill_result_json(
+        package: *mut Handle,
+        func: u32,
+        flats: *const RawValue,
+        flats_len: usize,
+        json: *const u8,
+        json_len: usize,
+        memory: *mut u8,
+        memory_len: usize,
+        blocks: *const RawBlock,
+        blocks_len: usize,
+        back: *mut RawValue,
+        back_len: usize,
+    ) -> Status;
 }
 
 /// What a name of a package is of.
@@ -288,6 +330,13 @@ pub fn version(version: &mut [u8]) -> Status {
 pub fn status_line(status: Status, line: &mut [u8]) -> Status {
     // SAFETY: as above.
     unsafe { witcall_status_line(status, line.as_mut_ptr(), line.len()) }
+}
+
+/// What is wrong with texts, which `bytes` has one after another.
+pub fn explain(bytes: &[u8], lengths: &[usize], json: &mut [u8]) -> Status {
+    let (texts, count) = (lengths.as_ptr(), lengths.len());
+    // SAFETY: each pointer goes with the length of its slice.
+    unsafe { witcall_explain(bytes.as_ptr(), bytes.len(), texts, count, json.as_mut_ptr(), json.len()) }
 }
 
 impl Handle {
@@ -460,5 +509,60 @@ impl Handle {
         let (from, from_len) = (memory.as_mut_ptr(), memory.len());
         // SAFETY: each pointer goes with the length of its slice, and no two slices overlap.
         unsafe { witcall_read_json(self, func, values, count, from, from_len, json.as_mut_ptr(), json.len(), limit) }
+    }
+
+    /// Writes the arguments that a component passed to its import as JSON.
+    pub fn read_arguments_json(
+        &mut self,
+        func: u32,
+        flats: &[RawValue],
+        memory: &mut [u8],
+        json: &mut [u8],
+        limit: u64,
+    ) -> Status {
+        let (values, count) = (flats.as_ptr(), flats.len());
+        let (from, from_len) = (memory.as_mut_ptr(), memory.len());
+        let (to, room) = (json.as_mut_ptr(), json.len());
+        // SAFETY: each pointer goes with the length of its slice, and no two slices overlap.
+        unsafe { witcall_read_arguments_json(self, func, values, count, from, from_len, to, room, limit) }
+    }
+
+    /// What a result as JSON asks for.
+    pub fn result_json_requests(&mut self, func: u32, json: &str, requests: &mut [RawRequest], limit: u64) -> Status {
+        let (asked, room) = (requests.as_mut_ptr(), requests.len());
+        // SAFETY: each pointer goes with the length of its slice.
+        unsafe { witcall_result_json_requests(self, func, json.as_ptr(), json.len(), asked, room, limit) }
+    }
+
+    /// Puts a result as JSON into blocks and the return area of a memory.
+    pub fn fill_result_json(
+        &mut self,
+        func: u32,
+        (flats, json): (&[RawValue], &str),
+        memory: &mut [u8],
+        blocks: &[RawBlock],
+        told: &mut [RawValue; MAX_VALUES],
+    ) -> Status {
+        let (values, count) = (flats.as_ptr(), flats.len());
+        let (text, len) = (json.as_ptr(), json.len());
+        let (to, to_len) = (memory.as_mut_ptr(), memory.len());
+        let (granted, granted_len, told) = (blocks.as_ptr(), blocks.len(), told.as_mut_ptr());
+        // SAFETY: each pointer goes with the length of its slice, and no two slices overlap.
+        unsafe {
+            witcall_fill_result_json(
+                self,
+                func,
+                values,
+                count,
+                text,
+                len,
+                to,
+                to_len,
+                granted,
+                granted_len,
+                told,
+                MAX_VALUES,
+            )
+        }
     }
 }

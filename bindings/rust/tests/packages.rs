@@ -2,7 +2,7 @@
 
 use std::path::Path;
 use std::{fs, thread};
-use witcall::{CoreType, Error, Kind, Owner, Package};
+use witcall::{explain, CoreType, Error, Fault, Kind, Owner, Package, Place};
 
 const TEXT: &str = "package a:b;\n\ninterface c {\n  f: func(x: u32) -> u32;\n}\n";
 
@@ -97,5 +97,30 @@ fn functions_of_worlds_and_of_sets_are_found() -> Result<(), Error> {
 fn a_package_goes_to_another_thread() -> Result<(), Error> {
     let package = Package::open(TEXT)?;
     assert_eq!(thread::spawn(move || package.to_text()).join().unwrap()?, TEXT);
+    Ok(())
+}
+
+#[test]
+fn what_is_wrong_has_its_place_and_what_to_do() -> Result<(), Error> {
+    let broken = "package a:b; interface c { f: func(x: strng); }";
+    let faults = explain(&[broken])?;
+    let (start, end) = (Place { line: 1, column: 39 }, Place { line: 1, column: 44 });
+    let fault = Fault {
+        text: 0,
+        number: Some(41),
+        message: "error 41 unknown strng".to_owned(),
+        hint: Some("no `strng` here; did you mean `string`?".to_owned()),
+        place: Some(start..end),
+    };
+    assert_eq!(faults, [fault]);
+    assert_eq!(faults[0].to_string(), "1:39: error 41 unknown strng (no `strng` here; did you mean `string`?)");
+    let good = "package a:b; interface c { type t = u8; }";
+    let user = "package d:e; interface f { use a:b/c.{t}; }";
+    assert_eq!(explain(&[user, good])?, []);
+    let none: [&str; 0] = [];
+    assert_eq!(explain(&none)?, []);
+    let [first, second] = &explain(&[user, broken])?[..] else { panic!("one fault of each") };
+    assert_eq!((first.text, first.number), (1, Some(41)));
+    assert_eq!(second.to_string(), "not checked: it depends on a:b, which has a fault");
     Ok(())
 }
