@@ -23,6 +23,28 @@ export interface Library {
    * @throws {WitError} if it is refused
    */
   open(inputs: Input | Input[]): Package;
+
+  /** What is wrong with the packages of these texts, in any order. Texts of one package are its files. */
+  explain(texts: Input | Input[]): Fault[];
+}
+
+/** Lines and columns count from 1, and a column is a character. Some faults have no place, and some no hint. */
+export interface Fault {
+  /** The index of the text. */
+  readonly text: number;
+
+  /** The number of the error in docs/ERRORS.md, if it has one. */
+  readonly number?: number;
+  readonly message: string;
+
+  /** What to do about it. */
+  readonly hint?: string;
+  readonly line?: number;
+  readonly column?: number;
+
+  /** Where the place ends: the character after its last one. */
+  readonly endLine?: number;
+  readonly endColumn?: number;
 }
 
 export interface Package {
@@ -238,6 +260,17 @@ export class WitError extends Error {
 
   /** The library's line, as `error 41 unknown size`. */
   readonly line: string;
+}
+
+/** A value of another type: `62 not this type`. The message is the library's line, the path and the fault. */
+export class NotThisType extends WitError {
+  constructor(number: number, line: string, told: string);
+
+  /** The first place that is wrong, as `[0].lines[2].count`; empty if there are too many arguments or too few. */
+  readonly path: string;
+
+  /** What has to stand there, and what does. */
+  readonly fault: string;
 }
 
 /** The end of a call between two components, as `trap K5 utf8 in lift-args`. The callee is not run again after it. */

@@ -2,4 +2,4 @@ export { imports } from "./lib/imports.js";
 export { load } from "./lib/library.js";
 export { lift } from "./lib/lift.js";
 export { granted, link } from "./lib/link.js";
-export { ModuleFault, Trap, WitError } from "./lib/errors.js";
+export { ModuleFault, NotThisType, Trap, WitError } from "./lib/errors.js";

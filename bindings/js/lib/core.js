@@ -8,7 +8,7 @@ const ABI = 2;
 
 /** Codes of a status, and numbers of refusals, as in include/witcall.h. */
 export const CODE = { DONE: 0, REFUSED: 1, TRAP: 2, NO_MEMORY: 3 };
-export const REFUSAL = { NO_MEMORY: 66, NOT_OPEN: 70, NO_ROOM: 71, NOT_THERE: 75 };
+export const REFUSAL = { NOT_THIS_TYPE: 62, NO_MEMORY: 66, NOT_OPEN: 70, NO_ROOM: 71, NOT_THERE: 75 };
 
 /** The room that witcall_status_line needs, and that of a status. */
 const MAX_STATUS_LINE = 64;

@@ -13,6 +13,27 @@ export class WitError extends Error {
   }
 }
 
+/** A fault as `[0].lines[2]: a `u8` is ..`: the path of a value, and what is wrong with it. */
+const FAULT = /^(\[\S*): (.+)$/s;
+
+/** A value of another type: 62. `path` is the place among the arguments, and `fault` what is wrong there. */
+export class NotThisType extends WitError {
+  name = "NotThisType";
+
+  /**
+   * @param {number} number
+   * @param {string} line
+   * @param {string} told the library's line about the place
+   */
+  constructor(number, line, told) {
+    super(number, line);
+    const [, path, fault] = FAULT.exec(told) ?? [told, "", told];
+    this.path = path;
+    this.fault = fault;
+    this.message = `${line}${path && ` at ${path}`}: ${fault}`;
+  }
+}
+
 /** A line as `trap K5 utf8 in lift-args`: the number of the kind, its word, and the word of the step. */
 const TRAP = /^trap K(\d) (\S+) in (\S+)$/;
 

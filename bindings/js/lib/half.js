@@ -8,7 +8,7 @@ export const MAX_VALUES = 17;
 const VALUE_SIZE = 16;
 const REQUEST_SIZE = 8;
 const BLOCK_SIZE = 12;
-const NOTHING = new Uint8Array();
+export const NOTHING = new Uint8Array();
 
 /**
  * How many requests and blocks have room in the block that each run has for its arrays, and where these stand in it.

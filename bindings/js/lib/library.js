@@ -1,5 +1,5 @@
 import { Core } from "./core.js";
-import { Package } from "./package.js";
+import { Package, explained } from "./package.js";
 
 const encoder = new TextEncoder();
 
@@ -21,6 +21,9 @@ function viewOf(source) {
   if (ArrayBuffer.isView(source)) return new Uint8Array(source.buffer, source.byteOffset, source.byteLength);
   return new Uint8Array(source);
 }
+
+const listOf = (inputs) => (Array.isArray(inputs) ? inputs : [inputs]);
+const bytesOf = (input) => (typeof input === "string" ? encoder.encode(input) : viewOf(input));
 
 async function plain(bytes) {
   if (!isGzip(bytes)) return bytes;
@@ -84,9 +87,18 @@ export class Library {
    * @returns {Package}
    */
   open(inputs) {
-    const all = Array.isArray(inputs) ? inputs : [inputs];
     // A copy, since the package is opened again from it, if the engine stopped the instance.
-    const bytesOf = (input) => (typeof input === "string" ? encoder.encode(input) : viewOf(input).slice());
-    return new Package(this, all.map(bytesOf));
+    return new Package(this, listOf(inputs).map((input) => bytesOf(input).slice()));
+  }
+
+  /**
+   * Tells what is wrong with the packages of these texts, in any order. Texts of one package are its files.
+   * @param {string | BufferSource | (string | BufferSource)[]} texts
+   * @returns {Fault[]} none if nothing is wrong
+   */
+  explain(texts) {
+    const all = listOf(texts).map(bytesOf);
+    if (all.length === 0) return [];
+    return explained(this.core, all).map(({ file, error, ...fault }) => ({ text: Number(file), number: error, ...fault }));
   }
 }

@@ -75,7 +75,7 @@ export const coreName = (func) => (func.interface ? `${func.interface}#${func.na
  * @param {object} func one of its functions
  * @param {{caller: Side, callee: Side, body: Function, post?: Function, limit: number}} sides
  */
-export function crossed(pkg, func, { caller, callee, body, post, limit }) {
+function crossed(pkg, func, { caller, callee, body, post, limit }) {
   const enter = new Half(pkg, func, "witcall_enter", limit);
   const leave = new Half(pkg, func, "witcall_leave", limit);
   // A result that is no core value goes to an address behind the arguments.

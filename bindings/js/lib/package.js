@@ -40,7 +40,8 @@ function refusal(core, status, handle) {
   }
 }
 
-function openedAs(space, inputs, handle) {
+/** Copies inputs into the module, one after another, and returns their address, their length, and those of their lengths. */
+function putInputs(space, inputs) {
   const { core } = space;
   const length = inputs.reduce((sum, input) => sum + input.length, 0);
   const bytes = space.take(length);
@@ -51,8 +52,28 @@ function openedAs(space, inputs, handle) {
     core.view.setBigUint64(lengths + 8 * place, BigInt(input.length), true);
     end += input.length;
   }
+  return [bytes, length, lengths, inputs.length];
+}
+
+function openedAs(space, inputs, handle) {
+  const { core } = space;
+  const [bytes, length, ...lengths] = putInputs(space, inputs);
   if (inputs.length === 1) return core.call("witcall_open", bytes, length, handle);
-  return core.call("witcall_open_set", bytes, length, lengths, inputs.length, handle);
+  return core.call("witcall_open_set", bytes, length, ...lengths, handle);
+}
+
+/**
+ * What is wrong with texts, as the library's document says it.
+ * @param {Core} core
+ * @param {Uint8Array[]} texts
+ */
+export function explained(core, texts) {
+  const space = new Space(core);
+  try {
+    return JSON.parse(decoder.decode(told(core, "witcall_explain", ...putInputs(space, texts))));
+  } finally {
+    space.free();
+  }
 }
 
 /** The bytes that an export writes into an array, which has as much room as it takes. */
@@ -79,7 +100,6 @@ export class Package {
   #inputs;
   #place;
   #table;
-  #owned = [];
 
   /**
    * @param {import("./library.js").Library} library
@@ -127,16 +147,6 @@ export class Package {
   /** Their types, each with its layout. */
   get types() {
     return this.#rows.types;
-  }
-
-  /** The library that the package is opened by. */
-  get library() {
-    return this.#library;
-  }
-
-  /** Closes another package with this one. */
-  owns(pkg) {
-    this.#owned.push(pkg);
   }
 
   /**
@@ -188,7 +198,6 @@ export class Package {
 
   /** Frees the package. It is not to be used any more; closing it again does nothing. */
   close() {
-    for (const pkg of this.#owned.splice(0)) pkg.close();
     const place = this.#place;
     this.#place = undefined;
     if (!place) return;

@@ -24,7 +24,7 @@ function bare(value) {
 }
 
 /** The text of a value of a type. */
-function encoded(value, named) {
+export function encoded(value, named) {
   const type = named && meant(named);
   if (!type) return bare(value);
   if (isPlain(type)) {
@@ -59,8 +59,11 @@ function decoded(json, named) {
   return Object.fromEntries(Object.entries(json).map(([key, it]) => [key, decoded(it, memberOf(type, key))]));
 }
 
+/** What a text of JSON says, with numbers as texts: a number of 64 bits is none of JavaScript's numbers. */
+const parsed = (text) => JSON.parse(text.replace(TOKEN, (token) => (token[0] === '"' ? token : `"${token}"`)));
+
 /** The value of a type that the library wrote as a text. */
-export function decodedText(text, type) {
-  // A number of 64 bits is none of JavaScript's numbers, so each goes as a text.
-  return decoded(JSON.parse(text.replace(TOKEN, (token) => (token[0] === '"' ? token : `"${token}"`))), type);
-}
+export const decodedText = (text, type) => decoded(parsed(text), type);
+
+/** The arguments that the library wrote as a text. */
+export const decodedAll = (text, parameters) => parsed(text).map((it, place) => decoded(it, parameters[place].type));

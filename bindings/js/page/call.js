@@ -1,11 +1,9 @@
 // A call with values as JSON, between two memories of this page.
 import { Half } from "../lib/half.js";
-import { filled, readText } from "../lib/lift.js";
-import { flatCount, resultReader } from "../lib/reach.js";
-import { single } from "../lib/single.js";
+import { flatCount } from "../lib/reach.js";
+import { Texts } from "../lib/texts.js";
 import { nameOf, walkOver } from "./parts.js";
 
-const encoder = new TextEncoder();
 const SIZE = 65536;
 const FIRST = 16;
 const MAX_FLAT = 16;
@@ -25,8 +23,6 @@ class Memory {
   }
 
   grant = (asked) => asked.map(({ align, size }) => this.take(align, size, "block"));
-
-  side = { bytes: () => this.bytes, grant: this.grant, limit: SIZE };
 }
 
 const word = (flat) => (typeof flat === "bigint" ? `i64 ${flat}` : `i32 ${flat}`);
@@ -81,7 +77,8 @@ function result(pkg, func, call) {
   const { args, reply, caller, callee, parts, steps, stores, done } = call;
   const enter = new Half(pkg, func, "witcall_enter", SIZE);
   const leave = new Half(pkg, func, "witcall_leave", SIZE);
-  const given = filled(pkg, func, encoder.encode(args), caller.side);
+  const [texts, replies] = [caller, callee].map((it) => new Texts(pkg, func, it, SIZE));
+  const given = texts.putArguments(args);
   const hasArea = func.result !== null && func.lowered.results.length === 0;
   const area = hasArea ? caller.take(func.result.alignment, func.result.size, "return area") : undefined;
   const flats = area ? [...given, area.at] : given;
@@ -92,7 +89,7 @@ function result(pkg, func, call) {
   parts.callee.push(...argumentParts(func, handed, callee.bytes));
   steps.push(`The callee's core function gets ${words(handed)}.`);
   stores.step = "The answer is written into the callee's memory";
-  const answer = answered(pkg, func, reply, callee);
+  const answer = answered(func, replies, given, { reply, callee });
   parts.callee.push(...resultParts(func, answer, callee.bytes));
   steps.push(`It answers ${words(answer)}.`);
   stores.step = "The answer goes into the caller's memory";
@@ -101,15 +98,15 @@ function result(pkg, func, call) {
   parts.caller.push(...resultParts(func, found, caller.bytes));
   steps.push(area ? `The caller finds the result at ${area.at}.` : `The caller gets ${words(back)}.`);
   if (!func.result) return;
-  done.result = readText(pkg, func, resultReader(func), found, caller.side);
+  done.result = texts.readResult(found);
   steps.push(`Read there, it is ${done.result}, of type ${nameOf(func.result.type)}.`);
 }
 
-/** Puts an answer into the callee's memory, and returns its core values. */
-function answered(pkg, func, reply, callee) {
+/** Puts an answer into the callee's memory, as the result of a call whose return area is there. Returns its core values. */
+function answered(func, texts, given, { reply, callee }) {
   if (!func.result) return [];
-  const { pkg: types, take, isFlat } = single(pkg, func);
-  const pads = isFlat ? "" : ",0".repeat(take.parameters.length - 1);
-  const side = { ...callee.side, limit: SIZE + take.size };
-  return filled(types, take, encoder.encode(`[${reply}${pads}]`), side);
+  if (func.lowered.results.length > 0) return texts.putResult(reply, given);
+  const { at } = callee.take(func.result.alignment, func.result.size, "block");
+  texts.putResult(reply, [...given, at]);
+  return [at];
 }

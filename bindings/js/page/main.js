@@ -5,7 +5,7 @@ import { called } from "./call.js";
 import { EXAMPLES } from "./examples.js";
 import { nameOf, partsOf, sampleOf } from "./parts.js";
 import { Lights, el, narrow, picture } from "./picture.js";
-import { faultOf, packagesOf } from "./text.js";
+import { packagesOf, placed } from "./text.js";
 
 const $ = (id) => document.getElementById(id);
 const [text, marks, numbers, fault, state] = ["text", "marks", "numbers", "fault", "state"].map($);
@@ -47,62 +47,74 @@ function scrolled() {
   marks.scrollLeft = text.scrollLeft;
 }
 
-function drawFault(found) {
-  fault.replaceChildren();
-  marks.replaceChildren();
-  if (!found) return;
-  const { line, hint, start, end, row, column, source, isSure } = found;
+/** A fault, with its line and what to do about it. */
+function boxOf({ message, hint, start, end, row, column, source }) {
   const where = row ? `line ${row}, column ${column}: ` : "";
-  const box = el("div", { class: "fault" }, el("strong", {}, `${where}${line}`));
+  const box = el("div", { class: "fault" }, el("strong", {}, `${where}${message}`));
   if (row) {
     const length = Math.max(Math.min(end - start, source.length - column + 1), 1);
     const indent = source.slice(0, column - 1).replace(/[^\t]/g, " ");
     box.append(el("pre", {}, `${source}\n`, el("span", { class: "caret" }, `${indent}${"^".repeat(length)}`)));
-    if (!isSure) box.append(el("p", { class: "dim" }, "The name is in more than one place. This is one of them."));
     const go = () => {
       text.focus();
       text.setSelectionRange(start, end);
     };
     box.append(el("button", { type: "button", on: { click: go } }, "Go there"));
-    const mark = el("mark", {}, text.value.slice(start, end) || " ");
-    marks.append(text.value.slice(0, start), mark, `${text.value.slice(end)}\n`);
   }
-  if (hint) box.append(el("p", {}, `What to do: ${hint}.`));
-  fault.append(box);
+  if (hint) box.append(el("p", {}, `What to do: ${hint}${hint.endsWith("?") ? "" : "."}`));
+  return box;
+}
+
+/** Marks the places of faults in the text. */
+function drawMarks(faults) {
+  let from = 0;
+  for (const { start, end } of faults.filter((it) => it.row).sort((one, other) => one.start - other.start)) {
+    if (start < from) continue;
+    marks.append(text.value.slice(from, start), el("mark", {}, text.value.slice(start, end) || " "));
+    from = end;
+  }
+  if (from > 0) marks.append(`${text.value.slice(from)}\n`);
+}
+
+function drawFaults(faults) {
+  fault.replaceChildren(...faults.map(boxOf));
+  marks.replaceChildren();
+  drawMarks(faults);
   scrolled();
 }
 
-/** Opens the packages of the text, one after another, so that it is known which one is refused. */
+/** What to do if each package by itself is right, but not this list of them. */
+const ORDER = { 47: "put a package behind those that it uses", 48: "write a package once" };
+
+/** Opens the packages of the text. Throws the error of a text that has faults. */
 function opened(parts) {
-  let last;
-  for (let count = 1; count <= parts.length; count++) {
-    const inputs = parts.slice(0, count).map((it) => it.text);
-    try {
-      const next = witcall.open(inputs);
-      last?.close();
-      last = next;
-    } catch (error) {
-      last?.close();
-      throw Object.assign(error, { part: parts[count - 1] });
-    }
+  const texts = parts.map((it) => it.text);
+  const faults = witcall.explain(texts).map((it) => placed(text.value, parts, it));
+  try {
+    const next = witcall.open(texts);
+    drawFaults([]);
+    return next;
+  } catch (error) {
+    if (!(error instanceof WitError)) throw error;
+    const { number, line } = error;
+    drawFaults(faults.length > 0 ? faults : [{ message: line, hint: ORDER[number] }]);
+    throw error;
   }
-  return last;
 }
 
 function changed() {
   drawNumbers();
+  const right = document.querySelector(".right");
   try {
     const next = opened(packagesOf(text.value));
     pkg?.close();
     pkg = next;
-    drawFault(undefined);
-    document.querySelector(".right").classList.remove("stale");
+    right.classList.remove("stale");
     draw();
   } catch (error) {
     if (!(error instanceof WitError)) throw error;
-    drawFault(faultOf(text.value, error.part, error));
     say(error.line, true);
-    document.querySelector(".right").classList.add("stale");
+    right.classList.add("stale");
   }
   keep();
 }

@@ -185,8 +185,8 @@ test("values of the guest that are none end in traps with their steps", { skip }
   assert.throws(() => host.say(100, 2), trap("trap K5 utf8 in lift-args", 5, "utf8", "lift-args"));
   assert.throws(() => host.sum(4, 1), trap("trap K3 align in lift-args", 3, "align", "lift-args"));
   assert.throws(() => host.next(3, 0n, 0, 64), trap("trap K2 case in lift-args", 2, "case", "lift-args"));
-  assert.throws(() => host.next(0, 0n, 0, 66), trap("trap K3 align in lower-result", 3, "align", "lower-result"));
-  assert.throws(() => host.next(0, 0n, 0, 64), trap("trap K6 full in lower-result", 6, "full", "lower-result"));
+  assert.throws(() => host.next(0, 0n, 0, 66), trap("trap K3 align in place", 3, "align", "place"));
+  assert.throws(() => host.next(0, 0n, 0, 64), trap("trap K6 full in place", 6, "full", "place"));
 });
 
 test("a limit bounds both ways", { skip }, () => {

@@ -1,6 +1,6 @@
 import assert from "node:assert/strict";
 import { test } from "node:test";
-import { Trap, WitError, lift } from "../index.js";
+import { NotThisType, Trap, WitError, lift } from "../index.js";
 import { decodedText, encodedAll } from "../lib/values.js";
 import { callee } from "./guests.js";
 import { loaded, skip } from "./support.js";
@@ -71,6 +71,18 @@ test("what is no value is refused before the component runs", { skip }, () => {
   }
   assert.equal(numberOf(65536, [{ name: "\ud800", count: 1 }], "open", undefined), 61);
   assert.equal(numberOf(14, [{ name: "tea", count: 1 }], "open", undefined), 76);
+});
+
+test("a value of another type has its place", { skip }, () => {
+  const total = shop("total", () => assert.fail("the component runs"));
+  assert.throws(() => total([{ name: "tea", count: 256 }], "open", undefined), (error) => {
+    assert.ok(error instanceof NotThisType && error instanceof WitError, error);
+    const { number, line, path, fault } = error;
+    const wanted = "a `u8` is a whole number from 0 to 255, and not `256`";
+    assert.deepEqual([number, line, path, fault], [62, "error 62 not this type", "[0][0].count", wanted]);
+    return error.message === `error 62 not this type at [0][0].count: ${wanted}`;
+  });
+  assert.throws(() => total([]), { name: "NotThisType", path: "" });
 });
 
 test("traps have their steps", { skip }, () => {

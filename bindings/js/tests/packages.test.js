@@ -136,3 +136,27 @@ test("many packages leave no memory behind", { skip }, () => {
   for (let count = 0; count < 500; count++) opened();
   assert.equal(witcall.core.bytes.length, before);
 });
+
+test("what is wrong with texts has its place and what to do", { skip }, () => {
+  const broken = "package a:b; interface c { f: func(x: strng); }";
+  const fault = {
+    text: 0,
+    number: 41,
+    line: 1,
+    column: 39,
+    endLine: 1,
+    endColumn: 44,
+    message: "error 41 unknown strng",
+    hint: "no `strng` here; did you mean `string`?",
+  };
+  assert.deepEqual(witcall.explain(broken), [fault]);
+  assert.deepEqual(witcall.explain([new TextEncoder().encode(broken)]), [fault]);
+  const good = "package a:b; interface c { type t = u8; }";
+  const user = "package d:e; interface f { use a:b/c.{t}; }";
+  assert.deepEqual(witcall.explain([user, good]), []);
+  assert.deepEqual(witcall.explain([]), []);
+  const parts = ["package a:b; interface c { use d.{t}; }", "package a:b; interface d { type t = u8; }"];
+  assert.deepEqual(witcall.explain(parts), []);
+  const [first, second] = witcall.explain([user, broken]);
+  assert.deepEqual([first.text, first.number, second], [1, 41, { text: 0, number: undefined, message: "not checked: it depends on a:b, which has a fault" }]);
+});

@@ -1,49 +1,41 @@
 // What the page says of texts, layouts and calls. tools/page_test.py opens the page itself.
 import assert from "node:assert/strict";
 import { test } from "node:test";
-import { WitError } from "../index.js";
 import { decodedText } from "../lib/values.js";
 import { called } from "../page/call.js";
 import { EXAMPLES } from "../page/examples.js";
 import { nameOf, partsOf, sampleOf } from "../page/parts.js";
-import { faultOf, packagesOf } from "../page/text.js";
+import { packagesOf, placed } from "../page/text.js";
 import { Random, randomType } from "./random.js";
 import { loaded, skip } from "./support.js";
 
 const witcall = await loaded();
 
-/** Where a fault is, as the line, the column, and the characters. */
-function placeOf(text) {
+/** Where the faults are: of each the line, the column, and the characters. */
+function placesOf(text) {
   const parts = packagesOf(text);
-  for (let count = 1; count <= parts.length; count++) {
-    try {
-      witcall.open(parts.slice(0, count).map((it) => it.text)).close();
-    } catch (error) {
-      assert.ok(error instanceof WitError, error);
-      const { row, column, start, end, isSure } = faultOf(text, parts[count - 1], error);
-      return row && `${row}:${column} ${text.slice(start, end)}${isSure ? "" : "?"}`;
-    }
-  }
-  return "opened";
+  const faults = witcall.explain(parts.map((it) => it.text)).map((it) => placed(text, parts, it));
+  return faults.map(({ row, column, start, end, message }) => (row ? `${row}:${column} ${text.slice(start, end)}` : message));
 }
 
 test("a fault has its line and its characters", { skip }, () => {
   const package_ = "package a:b;\n";
-  assert.equal(placeOf(`${package_}interface c { f: func(x: u8); }`), "opened");
-  assert.equal(placeOf(`${package_}interface c { f: func(x: size); }`), "2:26 size");
-  assert.equal(placeOf(`${package_}// größe ü\ninterface c { f: fun(x: u8); }`), "3:18 fun");
-  assert.equal(placeOf(`${package_}// size\n/* size\n size */ interface c { x-size: func(x: size); }`), "4:40 size");
-  assert.equal(placeOf(`${package_}interface c { record r { a: u8, A: u8 } }`), "2:33 A?");
-  assert.equal(placeOf(`${package_}interface c { f: func(x: u8`), "2:28 ");
-  assert.equal(placeOf(package_), undefined);
-  assert.equal(placeOf(`${package_}interface c { }\npackage d:e;\ninterface y { use a:b/c.{t}; }`), "4:26 t");
-  assert.equal(placeOf(`${package_}interface c { }\npackage d:e;\ninterface y { use a:x/c.{t}; }`), "4:19 a:x");
-  assert.equal(placeOf(`${package_}interface c { }\npackage a:b;\ninterface y { }`), "3:9 a:b");
+  assert.deepEqual(placesOf(`${package_}interface c { f: func(x: u8); }`), []);
+  assert.deepEqual(placesOf(`${package_}interface c { f: func(x: size); }`), ["2:26 size"]);
+  assert.deepEqual(placesOf(`${package_}// größe 🎲\ninterface c { f: fun(x: u8); }`), ["3:18 fun"]);
+  assert.deepEqual(placesOf(`${package_}/* 🎲 */ interface c { f: func(x: size); }`), ["2:35 size"]);
+  assert.deepEqual(placesOf(`${package_}// size\n/* size\n size */ interface c { x-size: func(x: size); }`), ["4:40 size"]);
+  assert.deepEqual(placesOf(`${package_}interface c { record r { a: u8, A: u8 } }`), ["2:33 A"]);
+  assert.deepEqual(placesOf(`${package_}interface c { f: func(x: u8`), ["2:28 "]);
+  assert.deepEqual(placesOf(package_), ["1:9 a:b"]);
+  assert.deepEqual(placesOf(`${package_}interface c { }\npackage d:e;\ninterface y { use a:b/c.{t}; }`), ["4:26 t"]);
+  assert.deepEqual(placesOf(`${package_}interface c { }\npackage d:e;\ninterface y { use a:x/c.{t}; }`), ["4:19 a:x"]);
+  assert.deepEqual(placesOf(`${package_}interface c { f: fun(); }\npackage d:e;\ninterface y { x: u9; }`), ["2:18 fun", "4:18 u9"]);
 });
 
 test("the examples open, but for the one with a fault", { skip }, () => {
-  const ends = Object.entries(EXAMPLES).map(([name, text]) => [name, placeOf(text)]);
-  assert.deepEqual(ends.filter(([, end]) => end !== "opened"), [["A fault", "4:38 size"]]);
+  const ends = Object.entries(EXAMPLES).map(([name, text]) => [name, placesOf(text)]);
+  assert.deepEqual(ends.filter(([, end]) => end.length > 0), [["A fault", ["4:38 size"]]]);
 });
 
 test("parts of a layout are inside it, and only those of cases overlap", { skip }, () => {
@@ -95,7 +87,7 @@ test("a call that is none says in which step", { skip }, () => {
   });
   assert.deepEqual(ends, [
     'Read there, it is "b", of type string.',
-    "error 62 not this type: The arguments are written into the caller's memory",
+    "error 62 not this type at [0]: a `string` is a text, and not `1`: The arguments are written into the caller's memory",
     "error 62 not this type: The answer is written into the callee's memory",
     "error 61 bad JSON: The arguments are written into the caller's memory",
   ]);
