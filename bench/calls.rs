@@ -1,5 +1,5 @@
-//! Times calls of one parameter from one memory into another: `Link::call`, and for each type loops that are written for it alone,
-//! of which the fastest counts.
+//! Times calls of one parameter from one memory into another: `Link::call`, and for each type loops that are written
+//! for it alone, of which the fastest counts.
 //!
 //! Each run checks that both write the same bytes over a target that was filled with others.
 
@@ -31,8 +31,7 @@ unsafe extern "C" {
         target: *mut u8,
         target_len: usize,
     ) -> bool;
-    fn bench_memories(kind: u32, count: u32, size: u32, rounds: u32, len: u32, grown: bool)
-    -> bool;
+    fn bench_memories(kind: u32, count: u32, size: u32, rounds: u32, len: u32, grown: bool) -> bool;
 }
 
 fn number(index: usize) -> u32 {
@@ -41,10 +40,15 @@ fn number(index: usize) -> u32 {
 
 // The values, each from address 0 on.
 
-fn fill_numbers(source: &mut [u8], count: usize) {
+/// Writes elements, each made of its index.
+fn fill_each<const N: usize>(source: &mut [u8], count: usize, element: impl Fn(usize) -> [u8; N]) {
     for (index, place) in source.as_chunks_mut().0.iter_mut().take(count).enumerate() {
-        *place = number(index).to_le_bytes();
+        *place = element(index);
     }
+}
+
+fn fill_numbers(source: &mut [u8], count: usize) {
+    fill_each(source, count, |index| number(index).to_le_bytes());
 }
 
 fn fill_bytes(source: &mut [u8], count: usize) {
@@ -56,9 +60,7 @@ fn fill_longs(source: &mut [u8], count: usize) {
 }
 
 fn fill_ascii(source: &mut [u8], count: usize) {
-    for (index, byte) in source.iter_mut().take(count).enumerate() {
-        *byte = b' ' + (number(index) >> 8) as u8 % 94;
-    }
+    fill_each(source, count, |index| [b' ' + (number(index) >> 8) as u8 % 94]);
 }
 
 /// Characters of one to four bytes in turn, ten bytes in all.
@@ -69,130 +71,149 @@ fn fill_mixed(source: &mut [u8], count: usize) {
 }
 
 fn fill_chars(source: &mut [u8], count: usize) {
-    for (index, place) in source.as_chunks_mut().0.iter_mut().take(count).enumerate() {
-        let code = number(index) % 0xd800;
-        *place = code.to_le_bytes();
-    }
+    fill_each(source, count, |index| (number(index) % 0xd800).to_le_bytes());
 }
 
 fn fill_bools(source: &mut [u8], count: usize) {
-    for (index, byte) in source.iter_mut().take(count).enumerate() {
-        *byte = (number(index) >> 16) as u8 % 2;
+    fill_each(source, count, |index| [(number(index) >> 16) as u8 % 2]);
+}
+
+/// Elements of `SIZE` bytes, of numbers, the first byte of each a number below `CASES`.
+fn fill_elements<const SIZE: usize, const CASES: u32>(source: &mut [u8], count: usize) {
+    fill_numbers(source, count * SIZE / 4);
+    for (index, place) in source.chunks_exact_mut(SIZE).take(count).enumerate() {
+        place[0] = ((number(index) >> 16) % CASES) as u8;
     }
-}
-
-/// Elements of so many bytes, of numbers, the first byte of each a number below `cases`.
-fn fill_elements(source: &mut [u8], count: usize, size: usize, cases: u32) {
-    fill_numbers(source, count * size / 4);
-    for (index, place) in source.chunks_exact_mut(size).take(count).enumerate() {
-        place[0] = ((number(index) >> 16) % cases) as u8;
-    }
-}
-
-fn fill_rows(source: &mut [u8], count: usize) {
-    fill_elements(source, count, 12, 256);
-}
-
-fn fill_options(source: &mut [u8], count: usize) {
-    fill_elements(source, count, 8, 2);
-}
-
-fn fill_choices(source: &mut [u8], count: usize) {
-    fill_elements(source, count, 8, 3);
 }
 
 /// Flags of twelve labels, with no other bit.
 fn fill_flags(source: &mut [u8], count: usize) {
-    for (index, place) in source.as_chunks_mut().0.iter_mut().take(count).enumerate() {
-        *place = ((number(index) >> 16) as u16 % 4096).to_le_bytes();
-    }
+    fill_each(source, count, |index| ((number(index) >> 16) as u16 % 4096).to_le_bytes());
 }
 
 /// `tuple<option<u8>, option<u32>>`
 fn fill_maybes(source: &mut [u8], count: usize) {
-    fill_elements(source, count, 12, 2);
+    fill_elements::<12, 2>(source, count);
     for (index, place) in source.chunks_exact_mut(12).take(count).enumerate() {
         place[4] = ((number(index) >> 20) % 2) as u8;
     }
 }
 
-fn fill_figures(source: &mut [u8], count: usize) {
-    fill_elements(source, count, 12, 3);
+/// An address and a length at a place.
+fn put_header(memory: &mut [u8], place: usize, at: usize, len: usize) {
+    memory[place..place + 4].copy_from_slice(&(at as u32).to_le_bytes());
+    memory[place + 4..place + 8].copy_from_slice(&(len as u32).to_le_bytes());
 }
 
-/// Texts or lists behind the block of their addresses and lengths.
-fn fill_parts(source: &mut [u8], count: usize, len: impl Fn(usize) -> usize) {
-    let mut at = count * 8;
+/// Texts behind the block of the elements of so many bytes, which end with the headers of the texts.
+fn fill_parts(source: &mut [u8], count: usize, size: usize, len: impl Fn(usize) -> usize) {
+    let mut at = count * size;
     for index in 0..count {
-        let len = len(index);
-        source[index * 8..index * 8 + 4].copy_from_slice(&(at as u32).to_le_bytes());
-        source[index * 8 + 4..index * 8 + 8].copy_from_slice(&(len as u32).to_le_bytes());
-        fill_ascii(&mut source[at..], len);
-        at += len;
+        put_header(source, (index + 1) * size - 8, at, len(index));
+        fill_ascii(&mut source[at..], len(index));
+        at += len(index);
     }
 }
 
+/// How many bytes the text of an element has: four to eleven.
+fn text_len(index: usize) -> usize {
+    4 + (number(index) >> 16) as usize % 8
+}
+
 fn fill_texts(source: &mut [u8], count: usize) {
-    fill_parts(source, count, |index| {
-        4 + (number(index) >> 16) as usize % 8
-    });
+    fill_parts(source, count, 8, text_len);
 }
 
 fn fill_lists(source: &mut [u8], count: usize) {
-    fill_parts(source, count, |_| 16);
+    fill_parts(source, count, 8, |_| 16);
 }
 
 /// `tuple<u32, string>`, the texts behind their block.
 fn fill_named(source: &mut [u8], count: usize) {
-    let mut at = count * 12;
-    for index in 0..count {
-        let len = 4 + (number(index) >> 16) as usize % 8;
-        let place = &mut source[index * 12..index * 12 + 12];
+    fill_parts(source, count, 12, text_len);
+    for (index, place) in source.chunks_exact_mut(12).take(count).enumerate() {
         place[..4].copy_from_slice(&number(index).to_le_bytes());
-        place[4..8].copy_from_slice(&(at as u32).to_le_bytes());
-        place[8..].copy_from_slice(&(len as u32).to_le_bytes());
-        fill_ascii(&mut source[at..], len);
-        at += len;
     }
 }
 
 /// `tuple<list<u8>, list<u16>>`: sixteen bytes and eight numbers.
 fn fill_both(source: &mut [u8], count: usize) {
-    let mut at = count * 16;
-    for index in 0..count {
-        for (place, len) in [(index * 16, 16), (index * 16 + 8, 8)] {
-            source[place..place + 4].copy_from_slice(&(at as u32).to_le_bytes());
-            source[place + 4..place + 8].copy_from_slice(&(len as u32).to_le_bytes());
-            fill_bytes(&mut source[at..], 16);
-            at += 16;
-        }
+    for part in 0..2 * count {
+        let at = (count + part) * 16;
+        put_header(source, part * 8, at, if part % 2 == 0 { 16 } else { 8 });
+        fill_bytes(&mut source[at..], 16);
     }
 }
 
 /// The header of a text behind it, at address 0.
 fn fill_answer(source: &mut [u8], count: usize) {
-    source[..4].copy_from_slice(&8u32.to_le_bytes());
-    source[4..8].copy_from_slice(&(count as u32).to_le_bytes());
+    put_header(source, 0, 8, count);
     fill_ascii(&mut source[8..], count);
 }
 
 // The loops that are written for one type. Each tells whether the value passed its tests.
+
+/// Copies elements one by one, until one doesn't pass.
+#[inline(always)]
+fn each<const N: usize>(
+    source: &[u8],
+    count: usize,
+    target: &mut [u8],
+    copy: impl Fn(&[u8; N], &mut [u8; N]) -> bool,
+) -> bool {
+    let source = &source.as_chunks().0[..count];
+    let target = &mut target.as_chunks_mut().0[..count];
+    for (place, copied) in source.iter().zip(target) {
+        if !copy(place, copied) {
+            return false;
+        }
+    }
+    true
+}
+
+/// Takes elements in chunks, until one doesn't pass.
+#[inline(always)]
+fn in_chunks<const N: usize>(
+    source: &[u8],
+    count: usize,
+    target: &mut [u8],
+    copy: impl Fn(&[[u8; N]], &mut [[u8; N]]) -> bool,
+) -> bool {
+    let source = &source.as_chunks().0[..count];
+    let target = &mut target.as_chunks_mut().0[..count];
+    for (places, copies) in source.chunks(CHUNK).zip(target.chunks_mut(CHUNK)) {
+        if !copy(places, copies) {
+            return false;
+        }
+    }
+    true
+}
+
+/// The same without a branch for each element: `copy` takes one, and tells how many of its cases are none.
+#[inline(always)]
+fn by_choice<const N: usize>(
+    source: &[u8],
+    count: usize,
+    target: &mut [u8],
+    copy: impl Fn(&[u8; N], &mut [u8; N]) -> u32,
+) -> bool {
+    in_chunks(source, count, target, |places, copies| {
+        let mut bad = 0;
+        for (place, copied) in places.iter().zip(copies) {
+            bad += copy(place, copied);
+        }
+        bad == 0
+    })
+}
 
 fn copy(source: &[u8], target: &mut [u8], len: usize) -> bool {
     target[..len].copy_from_slice(&source[..len]);
     true
 }
 
-fn copy_bytes(source: &[u8], count: usize, target: &mut [u8]) -> bool {
-    copy(source, target, count)
-}
-
-fn copy_numbers(source: &[u8], count: usize, target: &mut [u8]) -> bool {
-    copy(source, target, 4 * count)
-}
-
-fn copy_longs(source: &[u8], count: usize, target: &mut [u8]) -> bool {
-    copy(source, target, 8 * count)
+/// Elements of `SIZE` bytes that have no test.
+fn copy_elements<const SIZE: usize>(source: &[u8], count: usize, target: &mut [u8]) -> bool {
+    copy(source, target, SIZE * count)
 }
 
 fn copy_text(source: &[u8], count: usize, target: &mut [u8]) -> bool {
@@ -205,45 +226,36 @@ fn is_char(place: &[u8; 4]) -> bool {
 }
 
 fn copy_chars(source: &[u8], count: usize, target: &mut [u8]) -> bool {
-    let source = &source.as_chunks::<4>().0[..count];
-    let target = &mut target.as_chunks_mut::<4>().0[..count];
-    for (places, copies) in source.chunks(CHUNK).zip(target.chunks_mut(CHUNK)) {
-        if places.iter().filter(|place| !is_char(place)).count() > 0 {
-            return false;
+    in_chunks(source, count, target, |places, copies| {
+        let are_chars = places.iter().filter(|place| !is_char(place)).count() == 0;
+        if are_chars {
+            copies.copy_from_slice(places);
         }
-        copies.copy_from_slice(places);
-    }
-    true
+        are_chars
+    })
 }
 
 fn copy_chars_one_by_one(source: &[u8], count: usize, target: &mut [u8]) -> bool {
-    let source = &source.as_chunks::<4>().0[..count];
-    let target = &mut target.as_chunks_mut::<4>().0[..count];
-    for (place, copied) in source.iter().zip(target) {
-        if !is_char(place) {
-            return false;
-        }
+    each(source, count, target, |place, copied| {
         *copied = *place;
-    }
-    true
+        is_char(place)
+    })
 }
 
 fn copy_bools(source: &[u8], count: usize, target: &mut [u8]) -> bool {
-    for (byte, copied) in source[..count].iter().zip(&mut target[..count]) {
-        *copied = u8::from(*byte != 0);
-    }
-    true
+    each(source, count, target, |place: &[u8; 1], copied| {
+        copied[0] = u8::from(place[0] != 0);
+        true
+    })
 }
 
 fn copy_rows(source: &[u8], count: usize, target: &mut [u8]) -> bool {
-    let source = &source.as_chunks::<12>().0[..count];
-    let target = &mut target.as_chunks_mut::<12>().0[..count];
-    for (place, copied) in source.iter().zip(target) {
+    each(source, count, target, |place: &[u8; 12], copied| {
         copied[0] = place[0];
         copied[4..8].copy_from_slice(&place[4..8]);
         copied[8..10].copy_from_slice(&place[8..10]);
-    }
-    true
+        true
+    })
 }
 
 fn copy_options(source: &[u8], count: usize, target: &mut [u8]) -> bool {
@@ -262,21 +274,24 @@ fn copy_options(source: &[u8], count: usize, target: &mut [u8]) -> bool {
     true
 }
 
-/// Without a branch on the case: each element's bytes are those that were there, or the new ones.
+/// The bytes of an element that a mask takes, and the others as they were.
+#[inline(always)]
+fn blend(place: &[u8; 8], copied: &mut [u8; 8], mask: u64) {
+    let word = u64::from_le_bytes(*place) & mask | u64::from_le_bytes(*copied) & !mask;
+    *copied = word.to_le_bytes();
+}
+
+/// Without a branch on the case: each case has its mask.
 fn copy_by_masks(source: &[u8], count: usize, target: &mut [u8], masks: &[u64]) -> bool {
-    let source = &source.as_chunks::<8>().0[..count];
-    let target = &mut target.as_chunks_mut::<8>().0[..count];
-    for (places, copies) in source.chunks(CHUNK).zip(target.chunks_mut(CHUNK)) {
+    in_chunks(source, count, target, |places: &[[u8; 8]], copies| {
         if places.iter().any(|place| place[0] as usize >= masks.len()) {
             return false;
         }
         for (place, copied) in places.iter().zip(copies) {
-            let mask = masks[place[0] as usize];
-            let word = u64::from_le_bytes(*place) & mask | u64::from_le_bytes(*copied) & !mask;
-            *copied = word.to_le_bytes();
+            blend(place, copied, masks[place[0] as usize]);
         }
-    }
-    true
+        true
+    })
 }
 
 const NONE: u64 = 0xff;
@@ -287,29 +302,15 @@ fn copy_options_by_masks(source: &[u8], count: usize, target: &mut [u8]) -> bool
     copy_by_masks(source, count, target, &[NONE, WORD])
 }
 
-/// The masks of two cases by arithmetic.
 fn copy_options_by_choice(source: &[u8], count: usize, target: &mut [u8]) -> bool {
-    let source = &source.as_chunks::<8>().0[..count];
-    let target = &mut target.as_chunks_mut::<8>().0[..count];
-    for (places, copies) in source.chunks(CHUNK).zip(target.chunks_mut(CHUNK)) {
-        let mut bad = 0;
-        for (place, copied) in places.iter().zip(&mut *copies) {
-            bad += u32::from(place[0] > 1);
-            let mask = if place[0] == 0 { NONE } else { WORD };
-            let word = u64::from_le_bytes(*place) & mask | u64::from_le_bytes(*copied) & !mask;
-            *copied = word.to_le_bytes();
-        }
-        if bad > 0 {
-            return false;
-        }
-    }
-    true
+    by_choice(source, count, target, |place, copied| {
+        blend(place, copied, if place[0] == 0 { NONE } else { WORD });
+        u32::from(place[0] > 1)
+    })
 }
 
 fn copy_choices(source: &[u8], count: usize, target: &mut [u8]) -> bool {
-    let source = &source.as_chunks::<8>().0[..count];
-    let target = &mut target.as_chunks_mut::<8>().0[..count];
-    for (place, copied) in source.iter().zip(target) {
+    each(source, count, target, |place: &[u8; 8], copied| {
         match place[0] {
             0 => copied[4..8].copy_from_slice(&place[4..8]),
             1 => copied[4] = place[4],
@@ -317,25 +318,16 @@ fn copy_choices(source: &[u8], count: usize, target: &mut [u8]) -> bool {
             _ => return false,
         }
         copied[0] = place[0];
-    }
-    true
+        true
+    })
 }
 
 fn copy_choices_by_masks(source: &[u8], count: usize, target: &mut [u8]) -> bool {
     copy_by_masks(source, count, target, &[WORD, BYTE, NONE])
 }
 
-fn copy_pairs(source: &[u8], count: usize, target: &mut [u8]) -> bool {
-    copy(source, target, 8 * count)
-}
-
 fn copy_maybes(source: &[u8], count: usize, target: &mut [u8]) -> bool {
-    let source = &source.as_chunks::<12>().0[..count];
-    let target = &mut target.as_chunks_mut::<12>().0[..count];
-    for (place, copied) in source.iter().zip(target) {
-        if place[0] > 1 || place[4] > 1 {
-            return false;
-        }
+    each(source, count, target, |place: &[u8; 12], copied| {
         copied[0] = place[0];
         copied[4] = place[4];
         if place[0] == 1 {
@@ -344,34 +336,20 @@ fn copy_maybes(source: &[u8], count: usize, target: &mut [u8]) -> bool {
         if place[4] == 1 {
             copied[8..12].copy_from_slice(&place[8..12]);
         }
-    }
-    true
+        place[0] < 2 && place[4] < 2
+    })
 }
 
-/// Without a branch on the cases.
 fn copy_maybes_by_choice(source: &[u8], count: usize, target: &mut [u8]) -> bool {
-    let source = &source.as_chunks::<12>().0[..count];
-    let target = &mut target.as_chunks_mut::<12>().0[..count];
-    for (places, copies) in source.chunks(CHUNK).zip(target.chunks_mut(CHUNK)) {
-        let mut bad = 0;
-        for (place, copied) in places.iter().zip(&mut *copies) {
-            bad += u32::from(place[0] > 1) + u32::from(place[4] > 1);
-            copied[0] = place[0];
-            copied[1] = if place[0] == 0 { copied[1] } else { place[1] };
-            copied[4] = place[4];
-            for index in 8..12 {
-                copied[index] = if place[4] == 0 {
-                    copied[index]
-                } else {
-                    place[index]
-                };
-            }
+    by_choice(source, count, target, |place: &[u8; 12], copied| {
+        copied[0] = place[0];
+        copied[1] = if place[0] == 0 { copied[1] } else { place[1] };
+        copied[4] = place[4];
+        for index in 8..12 {
+            copied[index] = if place[4] == 0 { copied[index] } else { place[index] };
         }
-        if bad > 0 {
-            return false;
-        }
-    }
-    true
+        u32::from(place[0] > 1) + u32::from(place[4] > 1)
+    })
 }
 
 fn copy_figures(source: &[u8], count: usize, target: &mut [u8]) -> bool {
@@ -389,65 +367,33 @@ fn copy_figures(source: &[u8], count: usize, target: &mut [u8]) -> bool {
     true
 }
 
-/// Without a branch on the case.
 fn copy_figures_by_choice(source: &[u8], count: usize, target: &mut [u8]) -> bool {
-    let source = &source.as_chunks::<12>().0[..count];
-    let target = &mut target.as_chunks_mut::<12>().0[..count];
-    let number = |place: &[u8; 12], at: usize| {
-        u32::from_le_bytes([place[at], place[at + 1], place[at + 2], place[at + 3]])
-    };
-    for (places, copies) in source.chunks(CHUNK).zip(target.chunks_mut(CHUNK)) {
-        let mut bad = 0;
-        for (place, copied) in places.iter().zip(&mut *copies) {
-            bad += u32::from(place[0] > 2);
-            copied[0] = place[0];
-            let (old, new) = (number(copied, 4), number(place, 4));
-            let word = if place[0] < 2 { new } else { old };
-            copied[4..8].copy_from_slice(&word.to_le_bytes());
-            let (old, new) = (number(copied, 8), number(place, 8));
-            let word = if place[0] == 0 { new } else { old };
-            copied[8..12].copy_from_slice(&word.to_le_bytes());
+    let number =
+        |place: &[u8; 12], at: usize| u32::from_le_bytes([place[at], place[at + 1], place[at + 2], place[at + 3]]);
+    by_choice(source, count, target, |place, copied| {
+        copied[0] = place[0];
+        for (at, is_there) in [(4, place[0] < 2), (8, place[0] == 0)] {
+            let (old, new) = (number(copied, at), number(place, at));
+            let word = if is_there { new } else { old };
+            copied[at..at + 4].copy_from_slice(&word.to_le_bytes());
         }
-        if bad > 0 {
-            return false;
-        }
-    }
-    true
+        u32::from(place[0] > 2)
+    })
 }
 
 /// Flags of twelve labels.
 fn copy_flags(source: &[u8], count: usize, target: &mut [u8]) -> bool {
-    let source = &source.as_chunks::<2>().0[..count];
-    let target = &mut target.as_chunks_mut::<2>().0[..count];
-    for (place, copied) in source.iter().zip(target) {
+    each(source, count, target, |place, copied| {
         *copied = (u16::from_le_bytes(*place) & 0x0fff).to_le_bytes();
-    }
-    true
-}
-
-/// Each part gets a block of its own behind the block of their headers.
-fn copy_parts(
-    source: &[u8],
-    count: usize,
-    target: &mut [u8],
-    is_good: impl Fn(&[u8]) -> bool,
-) -> bool {
-    let mut top = 8 * count;
-    for index in 0..count {
-        let Some(end) = copy_part(source, index * 8, 1, target, top, &is_good) else {
-            return false;
-        };
-        top = end;
-    }
-    true
+        true
+    })
 }
 
 /// The part whose header is at an address, of elements of so many bytes, into a block from `top` on: where that ends.
 #[inline(always)]
 fn copy_part(
     source: &[u8],
-    at: usize,
-    size: usize,
+    (at, size): (usize, usize),
     target: &mut [u8],
     top: usize,
     is_good: impl Fn(&[u8]) -> bool,
@@ -464,31 +410,22 @@ fn copy_part(
     }
     let top = top.next_multiple_of(size);
     target.get_mut(top..top + len)?.copy_from_slice(part);
-    target[at..at + 4].copy_from_slice(&(top as u32).to_le_bytes());
-    target[at + 4..at + 8].copy_from_slice(&(count as u32).to_le_bytes());
+    put_header(target, at, top, count);
     Some(top + len)
 }
 
-fn copy_texts(source: &[u8], count: usize, target: &mut [u8]) -> bool {
-    copy_parts(source, count, target, |part| str::from_utf8(part).is_ok())
-}
-
-fn copy_ascii_first(source: &[u8], count: usize, target: &mut [u8]) -> bool {
-    copy_parts(source, count, target, |part| {
-        part.is_ascii() || str::from_utf8(part).is_ok()
-    })
-}
-
-fn copy_lists(source: &[u8], count: usize, target: &mut [u8]) -> bool {
-    copy_parts(source, count, target, |_| true)
-}
-
-fn copy_named(source: &[u8], count: usize, target: &mut [u8]) -> bool {
-    let is_text = |part: &[u8]| part.is_ascii() || str::from_utf8(part).is_ok();
-    let mut top = 12 * count;
-    for at in (0..12 * count).step_by(12) {
-        target[at..at + 4].copy_from_slice(&source[at..at + 4]);
-        let Some(end) = copy_part(source, at + 4, 1, target, top, is_text) else {
+/// Each part gets a block of its own behind the block of the elements of so many bytes, which end with its header.
+#[inline(always)]
+fn copy_parts(
+    source: &[u8],
+    (count, size): (usize, usize),
+    target: &mut [u8],
+    is_good: impl Fn(&[u8]) -> bool,
+) -> bool {
+    let mut top = size * count;
+    for at in (0..size * count).step_by(size) {
+        target[at..at + size - 8].copy_from_slice(&source[at..at + size - 8]);
+        let Some(end) = copy_part(source, (at + size - 8, 1), target, top, &is_good) else {
             return false;
         };
         top = end;
@@ -496,13 +433,31 @@ fn copy_named(source: &[u8], count: usize, target: &mut [u8]) -> bool {
     true
 }
 
+fn is_text(part: &[u8]) -> bool {
+    part.is_ascii() || str::from_utf8(part).is_ok()
+}
+
+fn copy_texts(source: &[u8], count: usize, target: &mut [u8]) -> bool {
+    copy_parts(source, (count, 8), target, |part| str::from_utf8(part).is_ok())
+}
+
+fn copy_ascii_first(source: &[u8], count: usize, target: &mut [u8]) -> bool {
+    copy_parts(source, (count, 8), target, is_text)
+}
+
+fn copy_lists(source: &[u8], count: usize, target: &mut [u8]) -> bool {
+    copy_parts(source, (count, 8), target, |_| true)
+}
+
+fn copy_named(source: &[u8], count: usize, target: &mut [u8]) -> bool {
+    copy_parts(source, (count, 12), target, is_text)
+}
+
 fn copy_both(source: &[u8], count: usize, target: &mut [u8]) -> bool {
     let mut top = 16 * count;
     for at in (0..16 * count).step_by(16) {
-        let Some(end) = copy_part(source, at, 1, target, top, |_| true) else {
-            return false;
-        };
-        let Some(end) = copy_part(source, at + 8, 2, target, end, |_| true) else {
+        let end = copy_part(source, (at, 1), target, top, |_| true);
+        let Some(end) = end.and_then(|end| copy_part(source, (at + 8, 2), target, end, |_| true)) else {
             return false;
         };
         top = end;
@@ -533,20 +488,14 @@ impl Shape {
         fill: fn(&mut [u8], usize),
         loops: &'static [Loop],
     ) -> Shape {
-        Shape {
-            name,
-            kind,
-            size,
-            fill,
-            loops,
-        }
+        Shape { name, kind, size, fill, loops }
     }
 }
 
 const SHAPES: [Shape; 19] = [
-    Shape::new("`list<u8>`", 1, 1, fill_bytes, &[copy_bytes]),
-    Shape::new("`list<u32>`", 2, 4, fill_numbers, &[copy_numbers]),
-    Shape::new("`list<u64>`", 3, 8, fill_longs, &[copy_longs]),
+    Shape::new("`list<u8>`", 1, 1, fill_bytes, &[copy_elements::<1>]),
+    Shape::new("`list<u32>`", 2, 4, fill_numbers, &[copy_elements::<4>]),
+    Shape::new("`list<u64>`", 3, 8, fill_longs, &[copy_elements::<8>]),
     Shape::new("`string`, ASCII", 0, 1, fill_ascii, &[copy_text]),
     Shape::new(
         "`string`, mixed",
@@ -555,56 +504,26 @@ const SHAPES: [Shape; 19] = [
         |source, count| fill_mixed(source, 10 * count),
         &[|source, count, target| copy_text(source, 10 * count, target)],
     ),
-    Shape::new(
-        "`list<char>`",
-        4,
-        4,
-        fill_chars,
-        &[copy_chars, copy_chars_one_by_one],
-    ),
+    Shape::new("`list<char>`", 4, 4, fill_chars, &[copy_chars, copy_chars_one_by_one]),
     Shape::new("`list<bool>`", 5, 1, fill_bools, &[copy_bools]),
-    Shape::new("`list<row>`", 6, 12, fill_rows, &[copy_rows]),
+    Shape::new("`list<row>`", 6, 12, fill_elements::<12, 256>, &[copy_rows]),
     Shape::new(
         "`list<option<u32>>`",
         7,
         8,
-        fill_options,
+        fill_elements::<8, 2>,
         &[copy_options, copy_options_by_masks, copy_options_by_choice],
     ),
-    Shape::new(
-        "`list<choice>`",
-        8,
-        8,
-        fill_choices,
-        &[copy_choices, copy_choices_by_masks],
-    ),
-    Shape::new("`list<tuple<u32, u32>>`", 9, 8, fill_longs, &[copy_pairs]),
-    Shape::new(
-        "`list<string>`",
-        10,
-        19,
-        fill_texts,
-        &[copy_texts, copy_ascii_first],
-    ),
+    Shape::new("`list<choice>`", 8, 8, fill_elements::<8, 3>, &[copy_choices, copy_choices_by_masks]),
+    Shape::new("`list<tuple<u32, u32>>`", 9, 8, fill_longs, &[copy_elements::<8>]),
+    Shape::new("`list<string>`", 10, 19, fill_texts, &[copy_texts, copy_ascii_first]),
     Shape::new("`list<list<u8>>`", 11, 24, fill_lists, &[copy_lists]),
-    Shape::new(
-        "`list<maybes>`",
-        12,
-        12,
-        fill_maybes,
-        &[copy_maybes, copy_maybes_by_choice],
-    ),
+    Shape::new("`list<maybes>`", 12, 12, fill_maybes, &[copy_maybes, copy_maybes_by_choice]),
     Shape::new("`list<named>`", 13, 23, fill_named, &[copy_named]),
-    Shape::new(
-        "`list<figure>`",
-        14,
-        12,
-        fill_figures,
-        &[copy_figures, copy_figures_by_choice],
-    ),
+    Shape::new("`list<figure>`", 14, 12, fill_elements::<12, 3>, &[copy_figures, copy_figures_by_choice]),
     Shape::new("`list<marks>`", 15, 2, fill_flags, &[copy_flags]),
     Shape::new("`list<both>`", 16, 48, fill_both, &[copy_both]),
-    Shape::new("`list<deep>`", 17, 4, fill_numbers, &[copy_numbers]),
+    Shape::new("`list<deep>`", 17, 4, fill_numbers, &[copy_elements::<4>]),
 ];
 
 /// What a short call is of, its function's number, and what it reads.
@@ -644,15 +563,9 @@ fn repeat(one: Loop, count: usize, rounds: u32, source: &[u8], target: &mut [u8]
     }
 }
 
-/// The nanoseconds of a call and of the fastest loop: all in turn, over the same two buffers. What the library takes for a call of
-/// no rounds is taken off.
-fn times(
-    shape: &Shape,
-    count: usize,
-    rounds: u32,
-    source: &mut [u8],
-    target: &mut [u8],
-) -> (f64, f64) {
+/// The nanoseconds of a call and of the fastest loop: all in turn, over the same two buffers. What the library takes
+/// for a call of no rounds is taken off.
+fn times(shape: &Shape, count: usize, rounds: u32, source: &mut [u8], target: &mut [u8]) -> (f64, f64) {
     let (mut none, mut ours, mut native) = (f64::INFINITY, f64::INFINITY, f64::INFINITY);
     for _ in 0..RUNS {
         none = none.min(time_of(|| call(shape, count, 0, source, target)));
@@ -687,14 +600,7 @@ fn row(shape: &Shape, bytes: usize) -> String {
     assert_same_bytes(shape, count, &mut source, &mut target);
     let (ours, native) = times(shape, count, rounds, &mut source, &mut target);
     let each = count as f64;
-    format!(
-        "| {} | {} | {:.3} | {:.3} | {:.2} |",
-        shape.name,
-        count,
-        ours / each,
-        native / each,
-        ours / native
-    )
+    format!("| {} | {} | {:.3} | {:.3} | {:.2} |", shape.name, count, ours / each, native / each, ours / native)
 }
 
 /// The nanoseconds of a short call, of a number, of numbers or of a string of five bytes.
@@ -714,8 +620,8 @@ fn call_over_memories(kind: u32, count: u32, size: u32, rounds: u32, grown: bool
     assert!(done, "the library refuses list {kind}");
 }
 
-/// The nanoseconds of a call over memories of one length: made so long, and grown to it. Both in turn; what the library takes to make
-/// them is taken off.
+/// The nanoseconds of a call over memories of one length: made so long, and grown to it. Both in turn; what the library
+/// takes to make them is taken off.
 fn times_over_memories(kind: u32, count: u32, size: u32) -> [f64; 2] {
     let rounds = 1024;
     let mut least = [[f64::INFINITY; 2]; 2];
@@ -735,14 +641,7 @@ fn row_over_memories(shape: &Shape) -> String {
     let count = SMALL / shape.size;
     let [made, grown] = times_over_memories(shape.kind, count as u32, (count * shape.size) as u32);
     let each = count as f64;
-    format!(
-        "| {} | {} | {:.3} | {:.3} | {:.2} |",
-        shape.name,
-        count,
-        made / each,
-        grown / each,
-        grown / made
-    )
+    format!("| {} | {} | {:.3} | {:.3} | {:.2} |", shape.name, count, made / each, grown / each, grown / made)
 }
 
 /// The rows of the types whose names have this word.
@@ -774,7 +673,8 @@ fn print_short_calls() {
     }
 }
 
-/// Prints all tables, or, by the word `short`, only the times of short calls, or the rows of the types whose names have the word.
+/// Prints all tables, or, by the word `short`, only the times of short calls, or the rows of the types whose names have
+/// the word.
 fn main() {
     match std::env::args().nth(1).as_deref() {
         Some("short") => print_short_calls(),

@@ -1,5 +1,5 @@
-/* Times calls through the C library: both halves of a call of a number, and the first half of a call with a list of bytes beside a
- * copy of as many bytes. Nanoseconds of processor time of the thread, the least of 15 runs.
+/* Times calls through the C library: both halves of a call of a number, and the first half of a call with a list of
+ * bytes beside a copy of as many bytes. Nanoseconds of processor time of the thread, the least of 15 runs.
  *
  * Each run checks what the calls answer, and that the list's bytes are those of the copy.
  */
@@ -44,7 +44,8 @@ static double time_of(void (*round)(uint32_t), uint32_t rounds) {
     return least;
 }
 
-/* Both halves of a call of `number`, which has no result, between memories of no bytes, as bench/calls.rs calls it by `Link::call`. */
+/* Both halves of a call of `number`, which has no result, between memories of no bytes, as bench/calls.rs calls it by
+ * `Link::call`. */
 static uint32_t number;
 
 static void call_of_number(uint32_t given) {

@@ -11,8 +11,10 @@
 #define CALLS 20000
 #define COUNT 16
 #define PLACE 1024
+#define BYTES(memory) memory, sizeof memory
 
-static const char TEXT[] = "package a:b; interface c { f: func(s: string, l: list<u32>) -> string; g: func(a: u32, b: u64) -> u32; }";
+static const char TEXT[] =
+    "package a:b; interface c { f: func(s: string, l: list<u32>) -> string; g: func(a: u32, b: u64) -> u32; }";
 static const char WORDS[] = "twenty bytes of text";
 static uint8_t caller[65536], callee[65536];
 static witcall_package package = WITCALL_NONE;
@@ -26,8 +28,10 @@ static uint32_t done(witcall_status status) {
 
 /* Blocks that an allocator grants. */
 static void grant(const witcall_request *asked, uint32_t count, witcall_block *blocks) {
-    for (uint32_t k = 0; k < count; k++)
-        blocks[k] = (witcall_block){asked[k].align, asked[k].size, PLACE + 256 + (asked[k].size == sizeof WORDS - 1 ? 0 : 512)};
+    for (uint32_t k = 0; k < count; k++) {
+        const uint32_t behind = asked[k].size == sizeof WORDS - 1 ? 256 : 768;
+        blocks[k] = (witcall_block){asked[k].align, asked[k].size, PLACE + behind};
+    }
 }
 
 static void call(uint32_t func, const witcall_value *flats, uint32_t length, witcall_value answer) {
@@ -36,15 +40,17 @@ static void call(uint32_t func, const witcall_value *flats, uint32_t length, wit
     witcall_block blocks[2];
     witcall_call begun;
     done(witcall_begin(&package, func, flats, length, &begun));
-    uint32_t count = done(witcall_call_enter_requests(&package, &begun, caller, sizeof caller, asked, 2, sizeof callee));
+    uint32_t count = done(witcall_call_enter_requests(&package, &begun, BYTES(caller), asked, 2, sizeof callee));
     grant(asked, count, blocks);
-    done(witcall_call_enter(&package, &begun, caller, sizeof caller, callee, sizeof callee, blocks, count, handed, WITCALL_MAX_VALUES));
-    count = done(witcall_call_leave_requests(&package, &begun, &answer, 1, callee, sizeof callee, asked, 2, sizeof caller));
+    done(witcall_call_enter(&package, &begun, BYTES(caller), BYTES(callee), blocks, count, handed, WITCALL_MAX_VALUES));
+    count = done(witcall_call_leave_requests(&package, &begun, &answer, 1, BYTES(callee), asked, 2, sizeof caller));
     grant(asked, count, blocks);
-    done(witcall_call_leave(&package, &begun, &answer, 1, callee, sizeof callee, caller, sizeof caller, blocks, count, back, WITCALL_MAX_VALUES));
+    done(witcall_call_leave(
+        &package, &begun, &answer, 1, BYTES(callee), BYTES(caller), blocks, count, back, WITCALL_MAX_VALUES));
 }
 
-static void measure(const char *what, const char *name, const witcall_value *flats, uint32_t length, witcall_value answer) {
+static void measure(
+    const char *what, const char *name, const witcall_value *flats, uint32_t length, witcall_value answer) {
     uint32_t func = done(witcall_find(&package, (const uint8_t *)"a:b/c", 5, (const uint8_t *)name, 1));
     double least = 1e9;
     for (int run = 0; run < RUNS; run++) {
@@ -63,7 +69,8 @@ int main(void) {
     memcpy(callee + PLACE + 32, WORDS, sizeof WORDS - 1);
     memcpy(callee + PLACE, pair, sizeof pair);
     done(witcall_open((const uint8_t *)TEXT, sizeof TEXT - 1, &package));
-    witcall_value values[] = {{0, PLACE + 32}, {0, sizeof WORDS - 1}, {0, PLACE + 64}, {0, COUNT}, {0, PLACE}}, numbers[] = {{0, 1}, {1, 2}};
+    witcall_value values[] = {{0, PLACE + 32}, {0, sizeof WORDS - 1}, {0, PLACE + 64}, {0, COUNT}, {0, PLACE}};
+    witcall_value numbers[] = {{0, 1}, {1, 2}};
     measure("a text and a list", "f", values, 5, (witcall_value){0, PLACE});
     measure("two numbers", "g", numbers, 2, (witcall_value){0, 1});
     witcall_close(&package);

@@ -64,7 +64,8 @@ for (const pages of [1, 256, 4096]) {
 }
 
 // A guest that hands on what it is called with: values of JavaScript go into it, out of it, and back again.
-const own = witcall.open(`package a:b; interface c { f: func(s: string, l: list<u32>) -> string; } world w { import c; }`);
+const own = witcall.open(`package a:b; world w { import c; }
+interface c { f: func(s: string, l: list<u32>) -> string; }`);
 const [func] = own.functions;
 let guest;
 const object = imports(own, "a:b/w", { "a:b/c": { f: (text) => text } }, { guest: () => guest, limit: 2 ** 31, grant });

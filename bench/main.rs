@@ -54,34 +54,18 @@ fn scalar(shape: Shape, size: usize) -> Type {
 
 fn text_type() -> Type {
     let shape = Shape::String;
-    Type {
-        size: 8,
-        align: 4,
-        shape,
-    }
+    Type { size: 8, align: 4, shape }
 }
 
 fn row_type() -> Type {
-    let members = vec![
-        scalar(Shape::U8, 1),
-        scalar(Shape::U32, 4),
-        scalar(Shape::U16, 2),
-    ];
+    let members = vec![scalar(Shape::U8, 1), scalar(Shape::U32, 4), scalar(Shape::U16, 2)];
     let shape = Shape::Record(members);
-    Type {
-        size: 12,
-        align: 4,
-        shape,
-    }
+    Type { size: 12, align: 4, shape }
 }
 
 fn list_type(element: Type) -> Type {
     let shape = Shape::List(Box::new(element));
-    Type {
-        size: 8,
-        align: 4,
-        shape,
-    }
+    Type { size: 8, align: 4, shape }
 }
 
 /// A memory that hands out what lies above a top.
@@ -272,12 +256,7 @@ fn load_native(kind: Kind, memory: &Memory) -> Option<Native> {
         Kind::Bytes => Some(Native::Bytes(memory.block(start, 1, count)?.to_vec())),
         Kind::Numbers => {
             let block = memory.block(start, 4, count * 4)?.as_chunks().0;
-            Some(Native::Numbers(
-                block
-                    .iter()
-                    .map(|place| u32::from_le_bytes(*place))
-                    .collect(),
-            ))
+            Some(Native::Numbers(block.iter().map(|place| u32::from_le_bytes(*place)).collect()))
         }
         Kind::Rows => {
             let block = memory.block(start, 4, count * 12)?.as_chunks::<12>().0;
@@ -309,12 +288,14 @@ enum Kind {
     Text,
 }
 
-const KINDS: [Kind; 5] = [
-    Kind::Bytes,
-    Kind::Numbers,
-    Kind::Rows,
-    Kind::Texts,
-    Kind::Text,
+/// Of each kind its name, how many elements a value has or how many times 16 bytes a text, and how many times a value
+/// is stored in one memory.
+const KINDS: [(Kind, &str, u32, u32); 5] = [
+    (Kind::Bytes, "`list<u8>`", 65_536, 250),
+    (Kind::Numbers, "`list<u32>`", 16_384, 250),
+    (Kind::Rows, "`list<row>`", 8_192, 160),
+    (Kind::Texts, "`list<string>`", 4_096, 140),
+    (Kind::Text, "`string`, for a byte", 65_536, 15),
 ];
 
 fn number(index: u32) -> u32 {
@@ -335,33 +316,15 @@ fn text(index: u32) -> String {
 
 impl Kind {
     fn name(self) -> &'static str {
-        match self {
-            Kind::Bytes => "`list<u8>`",
-            Kind::Numbers => "`list<u32>`",
-            Kind::Rows => "`list<row>`",
-            Kind::Texts => "`list<string>`",
-            Kind::Text => "`string`, for a byte",
-        }
+        KINDS[self as usize].1
     }
 
-    /// How many elements a value has, or how many times 16 bytes a text.
     fn count(self) -> u32 {
-        match self {
-            Kind::Bytes | Kind::Text => 65_536,
-            Kind::Numbers => 16_384,
-            Kind::Rows => 8_192,
-            Kind::Texts => 4_096,
-        }
+        KINDS[self as usize].2
     }
 
-    /// How many times a value is stored in one memory.
     fn rounds(self) -> u32 {
-        match self {
-            Kind::Bytes | Kind::Numbers => 250,
-            Kind::Rows => 160,
-            Kind::Texts => 140,
-            Kind::Text => 15,
-        }
+        KINDS[self as usize].3
     }
 
     /// By how many a round's time is divided.
@@ -384,13 +347,7 @@ impl Kind {
 
     fn value(self) -> Val {
         let indices = 0..self.count();
-        let row = |index| {
-            vec![
-                Val::U8(byte(index)),
-                Val::U32(number(index)),
-                Val::U16(half(index)),
-            ]
-        };
+        let row = |index| vec![Val::U8(byte(index)), Val::U32(number(index)), Val::U16(half(index))];
         match self {
             Kind::Bytes => Val::List(indices.map(|index| Val::U8(byte(index))).collect()),
             Kind::Numbers => Val::List(indices.map(|index| Val::U32(number(index))).collect()),
@@ -402,11 +359,7 @@ impl Kind {
 
     fn native(self) -> Native {
         let indices = 0..self.count();
-        let row = |index| Row {
-            a: byte(index),
-            b: number(index),
-            c: half(index),
-        };
+        let row = |index| Row { a: byte(index), b: number(index), c: half(index) };
         match self {
             Kind::Bytes => Native::Bytes(indices.map(byte).collect()),
             Kind::Numbers => Native::Numbers(indices.map(number).collect()),
@@ -425,15 +378,7 @@ fn least(mut time: impl FnMut() -> f64) -> f64 {
 /// Calls an export.
 fn call(export: Export, kind: Kind, rounds: u32, bytes: &mut [u8]) {
     // SAFETY: the exports require nothing of their arguments, and the slice is borrowed for the call.
-    let done = unsafe {
-        export(
-            kind as u32,
-            kind.count(),
-            rounds,
-            bytes.as_mut_ptr(),
-            bytes.len(),
-        )
-    };
+    let done = unsafe { export(kind as u32, kind.count(), rounds, bytes.as_mut_ptr(), bytes.len()) };
     assert!(done, "the library refuses {}", kind.name());
 }
 
@@ -448,10 +393,7 @@ fn round_of(export: Export, kind: Kind, bytes: &mut [u8]) -> f64 {
 }
 
 /// The nanoseconds of a round of storing, each in a new memory, and the bytes of the last.
-fn round_of_storing(
-    kind: Kind,
-    mut store: impl FnMut(&mut Memory) -> Option<()>,
-) -> (f64, Vec<u8>) {
+fn round_of_storing(kind: Kind, mut store: impl FnMut(&mut Memory) -> Option<()>) -> (f64, Vec<u8>) {
     let mut bytes = Vec::new();
     let all = least(|| {
         let mut memory = Memory::new();
@@ -467,11 +409,7 @@ fn round_of_storing(
 }
 
 /// The nanoseconds of a round of loading, and what was loaded last.
-fn round_of_loading<T>(
-    kind: Kind,
-    memory: &Memory,
-    load: impl Fn(&Memory) -> Option<T>,
-) -> (f64, T) {
+fn round_of_loading<T>(kind: Kind, memory: &Memory, load: impl Fn(&Memory) -> Option<T>) -> (f64, T) {
     let mut last = load(memory).expect("loaded");
     let all = least(|| {
         time_of(|| {
@@ -487,10 +425,7 @@ fn round_of_loading<T>(
 fn print_row(kind: Kind, what: &str, times: [f64; 3]) {
     let [library, tree, native] = times.map(|time| time / f64::from(kind.elements()));
     let name = kind.name();
-    println!(
-        "| {name} | {what} | {library:.3} | {tree:.3} | {native:.3} | {:.1} |",
-        library / tree
-    );
+    println!("| {name} | {what} | {library:.3} | {tree:.3} | {native:.3} | {:.1} |", library / tree);
 }
 
 fn bench_storing(kind: Kind) {
@@ -499,16 +434,8 @@ fn bench_storing(kind: Kind) {
     let library = round_of(bench_store, kind, &mut bytes);
     let (tree, tree_bytes) = round_of_storing(kind, |memory| store(&ty, &value, memory, 0));
     let (slices, native_bytes) = round_of_storing(kind, |memory| store_native(&native, memory));
-    assert!(
-        bytes == tree_bytes,
-        "{}: other bytes than those of the tree",
-        kind.name()
-    );
-    assert!(
-        bytes == native_bytes,
-        "{}: other bytes than those of the slices",
-        kind.name()
-    );
+    assert!(bytes == tree_bytes, "{}: other bytes than those of the tree", kind.name());
+    assert!(bytes == native_bytes, "{}: other bytes than those of the slices", kind.name());
     print_row(kind, "store", [library, tree, slices]);
 }
 
@@ -520,28 +447,16 @@ fn bench_loading(kind: Kind) {
     let library = round_of(bench_load, kind, &mut bytes);
     let (tree, last_value) = round_of_loading(kind, &memory, |memory| load(&ty, memory, 0));
     let (slices, last_native) = round_of_loading(kind, &memory, |memory| load_native(kind, memory));
-    assert!(
-        bytes == memory.bytes,
-        "{}: the library loads another value",
-        kind.name()
-    );
-    assert!(
-        last_value == value,
-        "{}: the tree's walk loads another value",
-        kind.name()
-    );
-    assert!(
-        last_native == native,
-        "{}: the slices' loop loads another value",
-        kind.name()
-    );
+    assert!(bytes == memory.bytes, "{}: the library loads another value", kind.name());
+    assert!(last_value == value, "{}: the tree's walk loads another value", kind.name());
+    assert!(last_native == native, "{}: the slices' loop loads another value", kind.name());
     print_row(kind, "load", [library, tree, slices]);
 }
 
 fn main() {
     println!("| type | | witcall | tree | slices | witcall / tree |");
     println!("|---|---|---|---|---|---|");
-    for kind in KINDS {
+    for (kind, ..) in KINDS {
         bench_storing(kind);
         bench_loading(kind);
     }

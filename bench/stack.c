@@ -1,10 +1,10 @@
-/* Measures how much stack the calls of the C library use. Each call runs in a thread whose stack was filled with one byte; what is still filled
- * afterwards was not used. What a thread uses that calls nothing is left out.
+/* Measures how much stack the calls of the C library use. Each call runs in a thread whose stack was filled with one
+ * byte; what is still filled afterwards was not used. What a thread uses that calls nothing is left out.
  *
  * usage: stack FILE ..
  *
- * Each file is opened as a package, and written as a text and as a binary. Calls are made of a function whose types nest 64 deep. A line for each
- * has the most bytes that it used.
+ * Each file is opened as a package, and written as a text and as a binary. Calls are made of a function whose types
+ * nest 64 deep. A line for each has the most bytes that it used.
  */
 #include "witcall.h"
 #include <pthread.h>
@@ -24,32 +24,27 @@ static size_t bytes_len;
 
 /* ---- the calls ---- */
 
-static void *nothing(void *data) {
-    return data;
+/* A call as a thread runs it. */
+#define CALL(name, call)            \
+    static void *name(void *data) { \
+        call;                       \
+        return data;                \
+    }
+
+static void check(witcall_status status) {
+    if (status.code != WITCALL_DONE)
+        exit(2);
 }
 
-static void *opens(void *data) {
-    witcall_open(bytes, bytes_len, &package);
-    return data;
-}
+CALL(nothing, (void)0)
+CALL(opens, witcall_open(bytes, bytes_len, &package))
+CALL(writes_text, witcall_to_text(&package, out, sizeof out))
+CALL(writes_binary, witcall_to_binary(&package, out, sizeof out))
+CALL(closes, witcall_close(&package))
 
-static void *writes_text(void *data) {
-    witcall_to_text(&package, out, sizeof out);
-    return data;
-}
-
-static void *writes_binary(void *data) {
-    witcall_to_binary(&package, out, sizeof out);
-    return data;
-}
-
-static void *closes(void *data) {
-    witcall_close(&package);
-    return data;
-}
-
-/* A call of `take: func(x: list<..<u8>..>)`, of lists within each other of one element each, and of `give: func() -> list<..>`. The lists lie
- * at 0, 8, 16 and so on in both memories; the answer behind those of the callee, and the return area behind those of the caller. */
+/* A call of `take: func(x: list<..<u8>..>)`, of lists within each other of one element each, and of
+ * `give: func() -> list<..>`. The lists lie at 0, 8, 16 and so on in both memories; the answer behind those of the
+ * callee, and the return area behind those of the caller. */
 #define LISTS 63
 #define BEHIND (8 * LISTS)
 
@@ -60,33 +55,14 @@ static witcall_block blocks[LISTS];
 static witcall_value handed[WITCALL_MAX_VALUES];
 static witcall_request asked[LISTS];
 
-static void check(witcall_status status) {
-    if (status.code != WITCALL_DONE)
-        exit(2);
-}
+#define TAKEN &package, take, FLATS, 2, source, sizeof source
+#define GIVEN &package, give, &ANSWER, 1, source, sizeof source
+#define INTO target, sizeof target, blocks, LISTS, handed, WITCALL_MAX_VALUES
 
-static void *enter_requests(void *data) {
-    check(witcall_enter_requests(&package, take, FLATS, 2, source, sizeof source, asked, LISTS, sizeof target));
-    return data;
-}
-
-static void *enters(void *data) {
-    check(witcall_enter(
-        &package, take, FLATS, 2, source, sizeof source, target, sizeof target, blocks, LISTS, handed, WITCALL_MAX_VALUES));
-    return data;
-}
-
-static void *leave_requests(void *data) {
-    check(witcall_leave_requests(&package, give, &ANSWER, 1, source, sizeof source, asked, LISTS, sizeof target));
-    return data;
-}
-
-static void *leaves(void *data) {
-    check(witcall_leave(
-        &package, give, &AREA, 1, &ANSWER, 1, source, sizeof source, target, sizeof target, blocks, LISTS, handed,
-        WITCALL_MAX_VALUES));
-    return data;
-}
+CALL(enter_requests, check(witcall_enter_requests(TAKEN, asked, LISTS, sizeof target)))
+CALL(enters, check(witcall_enter(TAKEN, INTO)))
+CALL(leave_requests, check(witcall_leave_requests(GIVEN, asked, LISTS, sizeof target)))
+CALL(leaves, check(witcall_leave(&package, give, &AREA, 1, &ANSWER, 1, source, sizeof source, INTO)))
 
 /* The same lists as JSON: each has one element, and the innermost one has the number 0. */
 static char json[2 * LISTS + 4];
@@ -97,21 +73,9 @@ static void write_json(void) {
     memset(json + LISTS + 2, ']', LISTS + 1);
 }
 
-static void *json_requests(void *data) {
-    check(witcall_json_requests(&package, take, BYTES(json), asked, LISTS, sizeof target));
-    return data;
-}
-
-static void *fills(void *data) {
-    check(witcall_fill_json(
-        &package, take, BYTES(json), target, sizeof target, blocks, LISTS, handed, WITCALL_MAX_VALUES));
-    return data;
-}
-
-static void *reads(void *data) {
-    check(witcall_read_json(&package, give, &ANSWER, 1, source, sizeof source, out, sizeof out, sizeof target));
-    return data;
-}
+CALL(json_requests, check(witcall_json_requests(&package, take, BYTES(json), asked, LISTS, sizeof target)))
+CALL(fills, check(witcall_fill_json(&package, take, BYTES(json), INTO)))
+CALL(reads, check(witcall_read_json(GIVEN, out, sizeof out, sizeof target)))
 
 /* ---- stacks ---- */
 

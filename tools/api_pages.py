@@ -3,11 +3,11 @@
 
 usage: tools/api_pages.py [--check]
 
-The items are those that tools/public_items.py reads. Of each the page of its crate has its declaration or its signature as the source lays it
-out, its docs (`///`), the clauses of its contract, and the definitions of crates/*/specs/ that these use, each with the comment above it. An
-item that another crate of CRATES declares has one line, which leads there. One that a crate without a page declares is shown on the first page
-that has it. With --check nothing is written, and the exit status is 1 if a page is not current. It is 1 as well if two headings of a page have
-one anchor.
+The items are those that tools/public_items.py reads. Of each the page of its crate has its declaration or its signature
+as the source lays it out, its docs (`///`), the clauses of its contract, and the definitions of crates/*/specs/ that
+these use, each with the comment above it. An item that another crate of CRATES declares has one line, which leads
+there. One that a crate without a page declares is shown on the first page that has it. With --check nothing is written,
+and the exit status is 1 if a page is not current. It is 1 as well if two headings of a page have one anchor.
 """
 import collections
 import functools
@@ -16,14 +16,13 @@ import sys
 import textwrap
 
 from believed import HEAD, WORD, File
-from check_conditions import COMMENT
 from crates_page import head, laid_out, wrapped
-from public_items import IMPL, block, files, find, given, members, type_name
-from repository import ROOT, keep_pages, place
+from public_items import IMPL, block, files, find, given, head_and_contract, members, type_name
+from repository import NO_CODE, ROOT, keep_pages, place
 
 FOLDER = ROOT / "docs" / "api"
-CRATES = ("witcall", "package_values", "opening", "lift_lower", "layout", "memory", "adapter", "host_calls", "host_values")
-CLAUSE = re.compile(r"(?:requires|ensures|ghost)\b")
+CRATES = ("witcall", "package_values", "opening", "lift_lower", "layout", "memory", "adapter", "host_calls",
+          "host_values", "import_values")
 # what ends the first statement of docs
 END = re.compile(r"(?:[.?!](?= [A-Z`])|[:;](?= )|\.$)")
 # what a declaration may name, and the name of a variant
@@ -134,7 +133,8 @@ Shown = collections.namedtuple("Shown", "crate name others item")
 
 @functools.lru_cache(None)
 def homes():
-    """The items that have a page, by their files and lines: each as the crate shows it that declares it, or the first that gives it."""
+    """The items that have a page, by their files and lines: each as the crate shows it that declares it, or the first
+    that gives it."""
     found = {}
     for crate in CRATES:
         names = collections.defaultdict(list)
@@ -194,28 +194,10 @@ def first_sentence(lines):
     return END.split(paragraph)[0].replace("|", "\\|")
 
 
-def depth(line):
-    """How many brackets a line opens more than it closes."""
-    bare = COMMENT.sub("", line)
-    return sum(bare.count(it) for it in "([{") - sum(bare.count(it) for it in ")]}")
-
-
 def function(item):
     """A function's signature, and its contract: two texts."""
-    found, begin, open_brackets = [], None, 0
-    for line in lines_of(item.path)[item.line - 1:]:
-        text = line.strip()
-        if not open_brackets and text in ("{", "{}"):
-            break
-        if not open_brackets and begin is None and CLAUSE.match(text):
-            begin = len(found)
-        found.append(line)
-        open_brackets += depth(line)
-        if not open_brackets and text.endswith((";", "{}")) or begin is None and text.endswith("{"):
-            break
-    end = len(found) if begin is None else begin
-    signature, contract = ("\n".join(it) for it in (found[:end], found[end:]))
-    return textwrap.dedent(signature).rstrip("{}; "), textwrap.dedent(contract).rstrip(";")
+    head, contract = ("\n".join(it) for it in head_and_contract(lines_of(item.path), item.line - 1))
+    return textwrap.dedent(head).rstrip("{}; "), textwrap.dedent(contract).rstrip(";")
 
 
 def declaration(item):
@@ -283,7 +265,8 @@ def specs(module):
 
 
 def meant(file, word):
-    """The file and the name of the definition that a word of a file means, or None. A file may hand on what it imports."""
+    """The file and the name of the definition that a word of a file means, or None. A file may hand on what it
+    imports."""
     first, _, rest = word.partition(".")
     if word in file.names:
         module, name = file.names[word]
@@ -367,7 +350,7 @@ def known(item, name):
 
 def types(shown, item, text):
     """Links to the other items that a signature or a declaration names, or nothing."""
-    words = dict.fromkeys(NAMED.findall(VARIANT.sub("", COMMENT.sub("", text))))
+    words = dict.fromkeys(NAMED.findall(VARIANT.sub("", NO_CODE.sub("", text))))
     found = [(word, known(item, word)) for word in words]
     links = [f"[`{word}`]({link(other, shown.crate)})" for word, other in found if other and other != shown]
     return wrapped(f"Uses {', '.join(links)}.") if links else ""
@@ -377,7 +360,8 @@ def called(shown, item, heading):
     """What a page has of a function or a method, under its heading."""
     signature, contract = function(item)
     parts = [heading, fenced(signature), laid_out(docs(item)), types(shown, item, signature)]
-    parts += [*([fenced(contract)] if contract else []), *listed(item, contract), where(item) if item.path != shown.item.path else ""]
+    parts += [*([fenced(contract)] if contract else []), *listed(item, contract),
+              where(item) if item.path != shown.item.path else ""]
     return "\n\n".join(filter(None, parts))
 
 
@@ -421,8 +405,10 @@ def section(shown):
         return "\n\n".join(filter(None, [called(shown, item, heading), others, where(item)]))
     methods = [it for it in members(item) if it.kind == "fn"]
     text = declaration(item)
-    parts = [heading, fenced(text), laid_out(docs(item)), types(shown, item, text), *(wrapped(it) for it in facts(shown, methods))]
-    parts += [*listed(item, text), others, where(item), *(called(shown, it, f"#### {method(shown, it)}") for it in methods)]
+    parts = [heading, fenced(text), laid_out(docs(item)), types(shown, item, text),
+             *(wrapped(it) for it in facts(shown, methods))]
+    parts += [*listed(item, text), others, where(item),
+              *(called(shown, it, f"#### {method(shown, it)}") for it in methods)]
     return "\n\n".join(filter(None, parts))
 
 
@@ -444,8 +430,10 @@ def page(crate):
     own = [it for it in homes().values() if it.crate == crate]
     names = sorted(given(crate).items(), key=lambda it: by_letter(it[0]))
     text = PAGE.format(
-        crate=crate, made=wrapped(OPENING.format(crate, MADE)), head=laid_out(head(crate)), names="\n".join(row(crate, *it) for it in names),
-        items="\n\n".join(group(it, own) for it in sorted({it.item.crate for it in own}, key=lambda it: (it != crate, it))),
+        crate=crate, made=wrapped(OPENING.format(crate, MADE)), head=laid_out(head(crate)),
+        names="\n".join(row(crate, *it) for it in names),
+        items="\n\n".join(group(it, own)
+                          for it in sorted({it.item.crate for it in own}, key=lambda it: (it != crate, it))),
     )
     anchors = collections.Counter(slug(it) for it in re.findall(r"^#+ (.*)$", text, re.M))
     if twice := [it for it, count in anchors.items() if count > 1]:

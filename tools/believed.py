@@ -219,7 +219,8 @@ def main():
         print(f"{sum(names.values()):5} {path.relative_to(ROOT / 'crates')}")
         for name, count in sorted(names.items()) if given.names else ():
             print(f"      {count:5} {name}")
-    print(f"{sum(sum(names.values()) for names in by_file.values())} lines, {sum(map(len, by_file.values()))} definitions")
+    counts = [count for names in by_file.values() for count in names.values()]
+    print(f"{sum(counts)} lines, {len(counts)} definitions")
     return 0
 
 

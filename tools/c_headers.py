@@ -1,4 +1,5 @@
-"""Reads a header that `wit-explain bind c` made: the functions of its interfaces, and its types, by their names in C."""
+"""Reads a header that `wit-explain bind c` made: the functions of its interfaces, and its types, by their names in
+C."""
 import re
 from dataclasses import dataclass, field
 
@@ -6,7 +7,8 @@ from dataclasses import dataclass, field
 STRUCT = re.compile(r"^typedef struct \{\n(.*?)^\} (\w+);\n", re.M | re.S)
 NUMBER = re.compile(r"^typedef (uint\d+_t) (\w+);\n(?!static_assert)", re.M)
 CASES = re.compile(r"^enum \{\n(.*?)^\};\ntypedef (?:struct \{\n.*?^\} (\w+);|uint\d+_t (\w+);)\n", re.M | re.S)
-FLAGS = re.compile(r"((?:^#define \w+ \(\(uint\d+_t\)\(UINT32_C\(1\) << \d+\)\)\n)*)^typedef uint\d+_t (\w+);\n(?!static_assert)", re.M)
+FLAGS = re.compile(r"((?:^#define \w+ \(\(uint\d+_t\)\(UINT32_C\(1\) << \d+\)\)\n)*)^typedef uint\d+_t (\w+);\n"
+                   r"(?!static_assert)", re.M)
 ELEMENT = re.compile(r"^static inline (\w+) \w+\(const uint8_t \*memory, (\w+) list, uint32_t place\) \{", re.M)
 MEMBER = re.compile(r"^ +(\w+) (\w+);$", re.M)
 TEXT = re.compile(r"^static const char \w+\[\] =(?: \{\n(.*?)^\}|\n(.*?));\n", re.M | re.S)
@@ -35,8 +37,8 @@ class Part:
 
 @dataclass(eq=False)
 class Type:
-    """A type: its C name, what it is (number, pair, record or variant), the parts that hold something, and the constants of its cases or
-    flags. A list has its element as its one part."""
+    """A type: its C name, what it is (number, pair, record or variant), the parts that hold something, and the
+    constants of its cases or flags. A list has its element as its one part."""
 
     c: str
     form: str = "number"
@@ -46,8 +48,9 @@ class Type:
 
 @dataclass(frozen=True)
 class Function:
-    """A function, with the C names of what is made for it. `result`, `read` and `answer` are None if it has no result, and `receive` is
-    None if it has no parameters. `blocks` has the sizes and alignments of the blocks that a call needs, by their C names."""
+    """A function, with the C names of what is made for it. `result`, `read` and `answer` are None if it has no result,
+    and `receive` is None if it has no parameters. `blocks` has the sizes and alignments of the blocks that a call
+    needs, by their C names."""
 
     full_name: str
     name: str
@@ -83,7 +86,8 @@ class Header:
         self.types = {"wit_string": Type("wit_string", "pair")}
         constants = {one or other: re.findall(r"(\w+) =", body) for body, one, other in CASES.findall(self.text)}
         for defines, name in FLAGS.findall(self.text):
-            self.types[name] = Type(name, "number", [], re.findall(r"#define (\w+)", defines) or constants.get(name, []))
+            self.types[name] = Type(name, "number", [],
+                                    re.findall(r"#define (\w+)", defines) or constants.get(name, []))
         elements = {name: element for element, name in ELEMENT.findall(self.text)}
         for body, name in STRUCT.findall(self.text):
             self.types[name] = self.struct(name, body, elements.get(name), constants.get(name, []))
@@ -113,4 +117,5 @@ class Header:
             record = self.types[parameters] if parameters else Type("", "record")
             made = self.type(result) if result else None
             numbers = {constant: int(number) for constant, number in re.findall(r"#define (\w+) (\d+)", blocks)}
-            yield Function(full_name, name, record, made, fill, read or None, count, numbers, receive or None, answer or None)
+            yield Function(full_name, name, record, made, fill, read or None, count, numbers, receive or None,
+                           answer or None)

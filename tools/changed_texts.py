@@ -20,39 +20,18 @@ import sys
 import tempfile
 
 ROOT = pathlib.Path(__file__).resolve().parent.parent
+sys.path.insert(0, str(ROOT))
+
+from tools.models.damaged import changed_text  # noqa: E402
+
 SEED = 5
 LONGEST = 6000
-WORDS = (
-    "record variant enum flags list option result tuple string u8 u64 func use type interface world package import"
-    " export { } ( ) < > , ; : = @ . -> _ - a b c d1 % // /* */"
-).split()
-MARKS = b" ;:,.{}()<>=-az09%@"
-CHANGES = [0, 1, 1, 2, 3, 6]
 
 
 def texts():
     """The texts of the repository that are not long, without those of other branches and of what is built."""
     found = sorted(it for it in ROOT.rglob("*.wit") if "out" not in it.relative_to(ROOT).parts)
     return [text for text in (it.read_bytes() for it in found) if len(text) < LONGEST]
-
-
-def changed(rng, text):
-    """A text with some changes: bytes, words, and parts of it that go or come twice."""
-    made = bytearray(text)
-    for _ in range(rng.choice(CHANGES)):
-        if not made:
-            break
-        place, kind = rng.randrange(len(made)), rng.random()
-        if kind < 0.3:
-            made[place] = rng.randrange(256) if rng.random() < 0.3 else rng.choice(MARKS)
-        elif kind < 0.55:
-            del made[place : place + rng.randrange(1, 12)]
-        elif kind < 0.8:
-            made[place:place] = b" " + rng.choice(WORDS).encode() + b" "
-        else:
-            start = rng.randrange(len(made))
-            made[place:place] = made[start : start + rng.randrange(1, 60)]
-    return bytes(made)
 
 
 def by_program(program, path):
@@ -83,7 +62,7 @@ def main():
         sys.exit("tools/changed_texts.py: no node")
     count = int(sys.argv[1]) if len(sys.argv) > 1 else 20000
     rng, given = random.Random(SEED), texts()
-    made = [changed(rng, rng.choice(given)) for _ in range(count)]
+    made = [changed_text(rng.choice(given), rng) for _ in range(count)]
     with tempfile.TemporaryDirectory() as name, concurrent.futures.ThreadPoolExecutor(2) as pool:
         folder = pathlib.Path(name)
         program = sys.argv[2] if len(sys.argv) > 2 else unpacked(folder)

@@ -1,16 +1,17 @@
 #!/usr/bin/env python3
-"""Checks the headers that `wit-explain bind c` writes: of every package in examples/, of some with names that are hard for C, and of random
-ones.
+"""Checks the headers that `wit-explain bind c` writes: of every package in examples/, of some with names that are hard
+for C, and of random ones.
 
 usage: tools/check_bindings.py [--program WIT-EXPLAIN] [N [SEED]]      N random packages or sets, 200 if it is not given
 
-Each header is compiled by gcc and by clang, as C11 and as C++17, with all warnings as errors; its asserts are those of sizes, alignments
-and offsets. Each function is then called with random values in a program in C or C++: the core values and the memory that its `fill`
-leaves are those of the model of the Canonical ABI (tools/models), and what its `read` reads is the value that the model put there. So is
-what the callee's `receive` reads, and the model reads the value that its `answer` gave. Each header is compiled with its short names, too.
+Each header is compiled by gcc and by clang, as C11 and as C++17, with all warnings as errors; its asserts are those of
+sizes, alignments and offsets. Each function is then called with random values in a program in C or C++: the core values
+and the memory that its `fill` leaves are those of the model of the Canonical ABI (tools/models), and what its `read`
+reads is the value that the model put there. So is what the callee's `receive` reads, and the model reads the value that
+its `answer` gave. Each header is compiled with its short names, too.
 
-The program is the one that was built, crates/explain/out/explain, if no other is named. It prints each package that fails, and a line with
-the numbers of all. The exit status is 1 if one fails.
+The program is the one that was built, crates/explain/out/explain, if no other is named. It prints each package that
+fails, and a line with the numbers of all. The exit status is 1 if one fails.
 """
 import argparse
 import os
@@ -27,10 +28,10 @@ sys.path.insert(0, str(ROOT))
 
 from tools.c_headers import Header  # noqa: E402
 from tools.models import abi  # noqa: E402
-from tools.models.cases.calls import STRINGS, Source  # noqa: E402
-from tools.models.crossing import Flat, Given, Stored, Way, value_at  # noqa: E402
+from tools.models.crossing import Flat, Given, Stored, Way, lifted, lowered  # noqa: E402
 from tools.models.memory import Bump, Memory  # noqa: E402
 from tools.models.opening import opened  # noqa: E402
+from tools.models.random_calls import Source  # noqa: E402
 
 EXAMPLES = sorted(it for it in (ROOT / "examples").rglob("*.wit") if it.parent.name != "wasi")
 # in an order in which each comes after those that it uses
@@ -42,17 +43,18 @@ CALLS = 3
 START, ROOM = 16, 1 << 16
 # packages of which two names become one in C, or a name one that C has
 COLLIDING = [
-    "package a:b; interface c { record d-e { x: u8, y: u16 } variant v { b-c(u8) } variant v-b { c(u8) } record f-parameters { z: u32 } "
-    "f: func(x: d-e, y: v) -> v-b; record g-load { a: u8 } record g { b: u64 } h: func(x: g-load, y: g, z: f-parameters) -> list<g-load>; } "
+    "package a:b; interface c { record d-e { x: u8, y: u16 } variant v { b-c(u8) } variant v-b { c(u8) } "
+    "record f-parameters { z: u32 } f: func(x: d-e, y: v) -> v-b; record g-load { a: u8 } record g { b: u64 } "
+    "h: func(x: g-load, y: g, z: f-parameters) -> list<g-load>; } "
     "interface c-d { record e { x: u64 } f: func(x: e); } interface wit { type %string = u8; }",
-    "package int:class; interface default { record NULL { %char: u8, INT-MAX: u8, errno: u16, %record: list<u8> } flags true { EOF, stdin } "
-    "enum false { %union, virtual } f: func(%list: NULL, return: true) -> false; }",
+    "package int:class; interface default { record NULL { %char: u8, INT-MAX: u8, errno: u16, %record: list<u8> } "
+    "flags true { EOF, stdin } enum false { %union, virtual } f: func(%list: NULL, return: true) -> false; }",
     "package wit:%string; interface load { record store { a: string } option-u8: func(x: option<u8>) -> store; } "
     "interface %list { type u8s = list<u8>; record %u8 { x: bool } f: func(x: list<u8>, y: list<%u8>) -> u8s; }",
 ]
 # labels that are hard for C, of which each is another one in lower case
-LABELS = """a int class NULL errno two-words A1 x-Y default stdin true %bool %record %list %u8 INT-MAX tag %as address length memory value at area
-flats parameters kind bits f0 ok none some this namespace""".split()
+LABELS = """a int class NULL errno two-words A1 x-Y default stdin true %bool %record %list %u8 INT-MAX tag %as address
+length memory value at area flats parameters kind bits f0 ok none some this namespace""".split()
 
 
 class Fault(Exception):
@@ -62,93 +64,74 @@ class Fault(Exception):
 # ---- packages
 
 
-class Packages:
-    """Random packages."""
+class Hard(Source):
+    """Makes random packages of labels that are hard for C."""
 
-    def __init__(self, seed):
-        self.random = random.Random(seed)
-        self.source = Source(seed, 0)
+    COUNTS = {"record": [1, 2, 4, 18], "variant": [1, 2, 3, 5, 5, 300], "enum": [1, 3, 8, 9, 16, 17, 32, 257],
+              "flags": [1, 3, 8, 9, 16, 17, 32], "type": []}
 
-    def set(self, number):
-        """The texts of a set: one package of the models' kind, one with hard names, or two of which one uses the other."""
-        if number % 3 == 0:
-            return [self.source.package()]
-        if number % 3 == 1:
-            return [self.package("hard:names@1.0.0-Rc.1", "types", "")]
-        low = self.package("low:level", "base", "")
-        return [low, self.package("top:level", "over", "use low:level/base.{t0, t1 as other-one};", ["t0", "other-one"])]
-
-    def members(self, count):
+    def labels(self, count):
         """So many labels."""
         labels = LABELS + [f"more-x{number}" for number in range(count)]
         return self.random.sample(labels[: max(count, len(LABELS))], count)
 
-    def definition(self, name, names):
-        """The definition of a type."""
-        shape = self.random.choice(["record", "variant", "enum", "flags", "type"])
-        if shape == "type":
-            return f"type {name} = {self.source.type(names)};"
-        if shape == "record":
-            parts = [f"{label}: {self.source.type(names)}" for label in self.members(self.random.choice([1, 2, 4, 18]))]
-        elif shape == "variant":
-            labels = self.members(self.random.choice([1, 2, 3, 5, 5, 300]))
-            parts = [label + (f"({self.source.type(names)})" if self.random.random() < 0.5 else "") for label in labels]
-        else:
-            parts = self.members(self.random.choice([1, 3, 8, 9, 16, 17, 32] + ([257] if shape == "enum" else [])))
-        return f"{shape} {name} {{ {', '.join(parts)} }}"
+    def call(self, name, names):
+        """A function."""
+        return self.function(name, self.labels(self.random.choice([0, 1, 2, 3, 17])), names)
 
-    def package(self, name, interface, use, names=()):
+    def package_of(self, name, interface, use="", names=()):
         """A package of an interface of types and functions, and one that uses it."""
         names, items = list(names), []
         for number in range(3):
             own = f"t{number}" if not use else f"own-t{number}"
             items.append(self.definition(own, names))
             names.append(own)
-        functions = [self.function(f"{word}-call", names) for word in ("first", "other")]
-        after = f"interface after {{ use {interface}.{{{names[-1]} as last}}; {self.function('%list', ['last'])} }}"
+        functions = [self.call(f"{word}-call", names) for word in ("first", "other")]
+        after = f"interface after {{ use {interface}.{{{names[-1]} as last}}; {self.call('%list', ['last'])} }}"
         return f"package {name}; interface {interface} {{ {use} {' '.join(items)} {' '.join(functions)} }} {after}"
 
-    def function(self, name, names):
-        """A function."""
-        count = self.random.choice([0, 1, 2, 3, 17])
-        parameters = ", ".join(f"{label}: {self.source.type(names)}" for label in self.members(count))
-        result = f" -> {self.source.type(names)}" if self.random.random() < 0.8 else ""
-        return f"{name}: func({parameters}){result};"
+
+def random_set(number, seed):
+    """The texts of a set: one package of the models' kind, one with hard names, or two of which one uses the other."""
+    hard = Hard(seed, 0)
+    if number % 3 == 0:
+        return [Source(seed, 0).package()]
+    if number % 3 == 1:
+        return [hard.package_of("hard:names@1.0.0-Rc.1", "types")]
+    use = "use low:level/base.{t0, t1 as other-one};"
+    return [hard.package_of("low:level", "base"), hard.package_of("top:level", "over", use, ["t0", "other-one"])]
 
 
 # ---- values
 
 
-class Values:
-    """Random values of closed types."""
+def random_scalar(source, t):
+    """A bool, a char or a number."""
+    if t.word == "bool":
+        return source.random() < 0.5
+    if t.word == "char":
+        return source.choice("a\u00e9\u20ac\U0001f600\U0010ffff")
+    bits = 8 * t.size
+    small = [source.randrange(0, 4), 8 * source.randrange(0, 16)]
+    number = source.choice([*small, (1 << bits) - 1, 1 << bits - 1, source.getrandbits(bits), source.getrandbits(bits)])
+    return number - (1 << bits) if t.word[0] == "s" and number >> bits - 1 else number
 
-    def __init__(self, seed):
-        self.random = random.Random(seed)
 
-    def scalar(self, t):
-        """A bool, a char or a number."""
-        if t.word == "bool":
-            return self.random.random() < 0.5
-        if t.word == "char":
-            return self.random.choice("a\u00e9\u20ac\U0001f600\U0010ffff")
-        bits = 8 * t.size
-        number = self.random.choice([0, 1, (1 << bits) - 1, 1 << bits - 1, self.random.getrandbits(bits)])
-        return number - (1 << bits) if t.word[0] == "s" and number >> bits - 1 else number
-
-    def of(self, t):
-        """A value."""
-        if isinstance(t, abi.Scalar):
-            return self.scalar(t)
-        if isinstance(t, abi.String):
-            return self.random.choice(STRINGS)
-        if isinstance(t, abi.List):
-            return [self.of(t.element) for _ in range(self.random.choice([0, 1, 2]))]
-        if isinstance(t, abi.Flags):
-            return self.random.getrandbits(len(t.labels))
-        if isinstance(t, abi.Record):
-            return tuple(map(self.of, t.fields))
-        case = self.random.randrange(len(t.payloads))
-        return case, t.payloads[case] and self.of(t.payloads[case])
+def random_value(source, t):
+    """A value of a type."""
+    if isinstance(t, abi.Scalar):
+        return random_scalar(source, t)
+    if isinstance(t, abi.String):
+        length = source.choice([0, 1, 2, 5, 8, 13])
+        return "".join(source.choice("abcxyz \"\\\0\u00e4\u20ac\U0001f600\n") for _ in range(length))
+    if isinstance(t, abi.List):
+        return [random_value(source, t.element) for _ in range(source.choice([0, 1, 1, 2, 3, 5]))]
+    if isinstance(t, abi.Record):
+        return tuple(random_value(source, field) for field in t.fields)
+    if isinstance(t, abi.Flags):
+        return source.getrandbits(len(t.labels))
+    case = source.randrange(len(t.payloads))
+    return case, t.payloads[case] and random_value(source, t.payloads[case])
 
 
 def shown(t, value):
@@ -225,7 +208,7 @@ class Program:
     """Writes the program, and keeps what it is to print."""
 
     def __init__(self, seed):
-        self.values, self.random = Values(seed), random.Random(seed)
+        self.random = random.Random(seed)
         self.lines, self.calls, self.checks, self.shows = ['#include "prelude.h"'], [], [], {}
 
     # ---- how values are made
@@ -315,14 +298,15 @@ class Program:
             if payload is not None:
                 part = part_of(t, made, case)
                 show = self.show(payload, part.type)
-                lines += [f"if (value.tag == {tag_of(made, case)}) {{", 'printf("(");', f"{show}(value.as.{part.label});", 'printf(")");', "}"]
+                lines += [f"if (value.tag == {tag_of(made, case)}) {{", 'printf("(");',
+                          f"{show}(value.as.{part.label});", 'printf(")");', "}"]
         return lines
 
     # ---- calls
 
     def call(self, t, made):
         """Adds a call of a function, with what it is to show."""
-        name, arguments = f"call_{len(self.calls)}", self.values.of(t.params)
+        name, arguments = f"call_{len(self.calls)}", random_value(self.random, t.params)
         body = [f"witcall_value flats[{made.count} + 1];", "memset(memory, 0, sizeof memory);", f"top = {START};"]
         given = ["flats"]
         if t.is_spilled:
@@ -336,7 +320,7 @@ class Program:
             body.append(f"uint32_t area = block({t.result.align}, {t.result.size});")
             given.append("area")
         body += [f"{made.fill}({', '.join(given)});", f"show_call(flats, {made.count});"]
-        self.checks.append((filled(t, arguments), lambda flats, data: lifted(t, flats, data), arguments))
+        self.checks.append((filled(t, arguments), t.params, t.is_spilled, arguments))
         if t.result is not None:
             body += ["{", *self.read(t, made), "}", "{", *self.answer(t, made), "}"]
         if t.params.fields:
@@ -346,7 +330,7 @@ class Program:
 
     def read(self, t, made):
         """The lines that read a result that the model put there, beside noise."""
-        value = self.values.of(t.result)
+        value = random_value(self.random, t.result)
         memory = Memory(Bump(ROOM, START), self.random.randbytes(ROOM))
         if t.has_area:
             at = memory.grant(t.result.align, t.result.size, "lower-result")
@@ -357,41 +341,44 @@ class Program:
             Way().cross(t.result, Given(value), Flat(memory, into, 0, "lower-result"))
             kind = int(t.result_kinds[0] == "i64")
             noise = 0 if kind else self.random.getrandbits(32) << 32
-            given, lines = "&back", ["witcall_value back;", f"back.kind = {kind};", f"back.bits = UINT64_C({into[0] | noise});"]
-        image = ",".join(map(str, memory.bytes[: memory.allocator.top]))
-        lines += ["{", f"static const uint8_t image[] = {{{image}}};", "memcpy(memory, image, sizeof image);", "}"]
+            given, lines = "&back", ["witcall_value back;", f"back.kind = {kind};",
+                                     f"back.bits = UINT64_C({into[0] | noise});"]
+        lines += image_of(memory)
         self.checks.append(shown(t.result, value))
         return [*lines, f"{self.show(t.result, made.result)}({made.read}({given}));", 'printf("\\n");']
 
     def receive(self, t, made, arguments):
         """The lines that read arguments in a callee where the model put them, beside noise."""
         memory = Memory(Bump(ROOM, START), self.random.randbytes(ROOM))
-        numbers, lines = lowered(t, arguments, memory), [f"witcall_value handed[{len(t.params.kinds) + 1}];"]
-        for place, (kind, number) in enumerate(zip(t.lowered[0], numbers)):
+        flats = lowered(t, arguments, memory, "lower-args")
+        lines = [f"witcall_value handed[{len(t.params.kinds) + 1}];"]
+        for place, (kind, number) in enumerate(flats):
             noise = 0 if kind == "i64" else self.random.getrandbits(32) << 32
             lines.append(f"handed[{place}].kind = {int(kind == 'i64')};")
             lines.append(f"handed[{place}].bits = UINT64_C({number | noise});")
-        image = ",".join(map(str, memory.bytes[: memory.allocator.top]))
-        lines += ["{", f"static const uint8_t image[] = {{{image}}};", "memcpy(memory, image, sizeof image);", "}"]
+        lines += image_of(memory)
         self.checks.append(shown(t.params, arguments))
         given = "handed, memory" if t.is_spilled else "handed"
         return [*lines, f"{self.show(t.params, made.parameters)}({made.receive}({given}));", 'printf("\\n");']
 
     def answer(self, t, made):
         """The lines that give a result."""
-        value, given = self.values.of(t.result), "result"
-        lines = [f"{made.result.c} result;", "witcall_value answer;", "memset(memory, 0, sizeof memory);", f"top = {START};"]
+        value, given = random_value(self.random, t.result), "result"
+        lines = [f"{made.result.c} result;", "witcall_value answer;", "memset(memory, 0, sizeof memory);",
+                 f"top = {START};"]
         if t.has_area:
-            size, align = (next(name for name in made.blocks if name.endswith(f"_AREA_{word}")) for word in ("SIZE", "ALIGN"))
+            size, align = (next(name for name in made.blocks if name.endswith(f"_AREA_{word}"))
+                           for word in ("SIZE", "ALIGN"))
             lines.append(f"uint32_t at = block({align}, {size});")
             given = "memory, at, result"
         lines += ["memset(&result, 0, sizeof result);", *self.make(t.result, made.result, value, "result")]
-        self.checks.append((answered(t, value), lambda flats, data: lifted_result(t, flats, data), value))
+        self.checks.append((answered(t, value), t.result, t.has_area, value))
         return [*lines, f"answer = {made.answer}({given});", "show_call(&answer, 1);"]
 
     def text(self):
         """The whole program."""
-        return "\n".join([*self.lines, "int main(void) {", *(f"{name}();" for name in self.calls), "return 0;", "}", ""])
+        return "\n".join([*self.lines, "int main(void) {", *(f"{name}();" for name in self.calls), "return 0;", "}",
+                          ""])
 
     def faults(self, printed):
         """What was not printed as it is to be."""
@@ -402,56 +389,45 @@ class Program:
                 if found != check:
                     yield f"reads {found}, not {check}"
             else:
-                wanted, lift, value = check
+                wanted, *lifting, value = check
                 flats, data = next(lines, "").split(), bytes.fromhex(next(lines, ""))
                 if flats != wanted:
                     yield f"core values {flats}, not {wanted}"
-                elif lift(flats, data) != value:
-                    yield f"value {lift(flats, data)}, not {value}"
+                elif (found := read_back(*lifting, flats, data)) != value:
+                    yield f"value {found}, not {value}"
 
 
-def lowered(t, arguments, memory):
-    """The numbers of the core values of arguments that the model puts into a memory."""
-    if t.is_spilled:
-        numbers = [memory.grant(t.params.align, t.params.size, "lower-args")]
-        Way().cross_fields(t.params, Given(arguments), Stored(memory, numbers[0], "lower-args"))
-    else:
-        numbers = [0] * len(t.params.kinds)
-        Way().cross_fields(t.params, Given(arguments), Flat(memory, numbers, 0, "lower-args"))
-    return numbers
+def image_of(memory):
+    """The lines that put what the model has in its memory into that of the program in C."""
+    image = ",".join(map(str, memory.bytes[: memory.allocator.top]))
+    return ["{", f"static const uint8_t image[] = {{{image}}};", "memcpy(memory, image, sizeof image);", "}"]
+
+
+def told(flats):
+    """Core values as the program in C prints them."""
+    return [f"{kind}:{number}" for kind, number in flats]
 
 
 def filled(t, arguments):
     """The core values of a call as the model makes them, whose blocks are granted in the same order."""
     memory = Memory(Bump(ROOM, START))
-    numbers = lowered(t, arguments, memory)
-    if t.has_area:
-        numbers.append(memory.grant(t.result.align, t.result.size, "lower-result"))
-    return [f"{kind}:{number}" for kind, number in zip(t.lowered[0], numbers)]
-
-
-def lifted(t, flats, data):
-    """The arguments as the model lifts them."""
-    memory, numbers = Memory(Bump(len(data)), data), [int(flat[4:]) for flat in flats]
-    if t.is_spilled:
-        return value_at(t.params, Stored(memory, numbers[0], "lift-args"))
-    return value_at(t.params, Flat(memory, numbers, 0, "lift-args"))
+    flats = lowered(t, arguments, memory, "lower-args")
+    area = [("i32", memory.grant(t.result.align, t.result.size, "lower-result"))] if t.has_area else []
+    return told([*flats, *area])
 
 
 def answered(t, value):
     """The core value of a result as the model makes it."""
     memory, numbers = Memory(Bump(ROOM, START)), [0]
     if t.has_area:
-        return [f"i32:{memory.grant(t.result.align, t.result.size, 'lower-result')}"]
+        return told([("i32", memory.grant(t.result.align, t.result.size, "lower-result"))])
     Way().cross(t.result, Given(value), Flat(memory, numbers, 0, "lower-result"))
-    return [f"{t.result_kinds[0]}:{numbers[0]}"]
+    return told([(t.result_kinds[0], numbers[0])])
 
 
-def lifted_result(t, flats, data):
-    """A result as the model lifts it."""
-    memory, numbers = Memory(Bump(len(data)), data), [int(flat[4:]) for flat in flats]
-    place = Stored(memory, numbers[0], "lift-result") if t.has_area else Flat(memory, numbers, 0, "lift-result")
-    return value_at(t.result, place)
+def read_back(t, is_stored, flats, data):
+    """The value that the model lifts of what the program in C printed: core values, and the bytes of the memory."""
+    return lifted(t, is_stored, [int(flat[4:]) for flat in flats], Memory(Bump(len(data)), data), "lift")
 
 
 # ---- one package
@@ -468,7 +444,8 @@ def run(words):
 def compile_alone(folder):
     """Compiles a header that nothing else is with, twice in a row, with its short names."""
     source = folder / "alone.h.c"
-    source.write_text('#define WIT_SHORT_NAMES\n#include "header.h"\n#include "header.h"\nint main(void) { return 0; }\n')
+    twice = '#include "header.h"\n' * 2
+    source.write_text(f"#define WIT_SHORT_NAMES\n{twice}int main(void) {{ return 0; }}\n")
     for compiler in ("gcc", "clang"):
         for dialect in DIALECTS.values():
             run([compiler, *dialect, *STRICT, "-fsyntax-only", str(source)])
@@ -489,7 +466,8 @@ def path_of(files, folder):
 
 def test_functions(header, packages):
     """Fails if the header doesn't have the functions of the packages' interfaces, each once."""
-    wanted = sorted(function.name for package in packages.packages for interface in package.interfaces for function in interface.functions)
+    wanted = sorted(function.name for package in packages.packages for interface in package.interfaces
+                    for function in interface.functions)
     found = sorted(made.name for made in header.functions)
     if found != wanted:
         raise Fault(f"functions {' '.join(found)}, not {' '.join(wanted)}")
@@ -534,7 +512,7 @@ def packages_of(count, seed, folder):
     for number, text in enumerate(COLLIDING):
         yield f"colliding {number}", written(folder, f"colliding-{number}", [text])
     for number in range(count):
-        yield f"random {seed}:{number}", written(folder, number, Packages(f"{seed}:{number}").set(number))
+        yield f"random {seed}:{number}", written(folder, number, random_set(number, f"{seed}:{number}"))
 
 
 def checked(program, folder, numbered):
@@ -549,7 +527,8 @@ def checked(program, folder, numbered):
 
 def main():
     """Checks all packages."""
-    parser = argparse.ArgumentParser(usage="tools/check_bindings.py [--program WIT-EXPLAIN] [N [SEED]]", allow_abbrev=False)
+    parser = argparse.ArgumentParser(usage="tools/check_bindings.py [--program WIT-EXPLAIN] [N [SEED]]",
+                                     allow_abbrev=False)
     parser.add_argument("--program", default=str(ROOT / "crates" / "explain" / "out" / "explain"))
     parser.add_argument("count", nargs="?", type=int, default=200)
     parser.add_argument("seed", nargs="?", default="1")
@@ -562,7 +541,8 @@ def main():
     calls = [count for count, _ in results]
     for fault in faults:
         print(fault)
-    print(f"{len(results)} packages, {sum(count > 0 for count in calls)} with calls, {sum(calls)} calls compared, {len(faults)} failed")
+    called = f"{sum(count > 0 for count in calls)} with calls, {sum(calls)} calls compared"
+    print(f"{len(results)} packages, {called}, {len(faults)} failed")
     sys.exit(1 if faults else 0)
 
 

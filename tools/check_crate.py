@@ -4,9 +4,10 @@
 usage: tools/check_crate.py NAME [FLAG..]        checks a crate, and keeps its work in crates/NAME/out/incremental
        tools/check_crate.py --build NAME..       proves libraries from nothing, as the gate does, for the crates above
 
-A library is built as its statements, in crates/NAME/out/rlib. Those that a crate depends on have to be built; a check says which are not. It
-doesn't look whether they are of the sources that are there: build a library again after its contracts changed. FLAGs are those of the checker,
-as `--only PATH`, `--allow-holes`, `--test` or `--jobs 4`. The exit status is the checker's.
+A library is built as its statements, in crates/NAME/out/rlib. Those that a crate depends on have to be built; a check
+says which are not. It doesn't look whether they are of the sources that are there: build a library again after its
+contracts changed. FLAGs are those of the checker, as `--only PATH`, `--allow-holes`, `--test` or `--jobs 4`. The exit
+status is the checker's.
 """
 import importlib.machinery
 import importlib.util

@@ -1,12 +1,14 @@
 #!/usr/bin/env python3
-"""Checks the declarations for TypeScript that `wit-explain bind ts` prints, by the compiler `tsc` (Debian's node-typescript).
+"""Checks the declarations for TypeScript that `wit-explain bind ts` prints, by the compiler `tsc` (Debian's
+node-typescript).
 
 usage: tools/check_declarations.py [--program WIT-EXPLAIN]
 
-The declarations of each file and each folder of examples/ and of tests/explain/files that has no fault are compiled with --strict, each as a
-module and as a file of declarations. tests/explain/values.ts is compiled beside those of bind/kinds.wit: it has values as bindings/js takes and
-gives them, and after `@ts-expect-error` values of other types. The program is the one that was built, crates/explain/out/explain, if no other is
-named. The exit status is 1 if the compiler refuses something.
+The declarations of each file and each folder of examples/ and of tests/explain/files that has no fault are compiled
+with --strict, each as a module and as a file of declarations. tests/explain/values.ts is compiled beside those of
+bind/kinds.wit: it has values as bindings/js takes and gives them, and after `@ts-expect-error` values of other types.
+The program is the one that was built, crates/explain/out/explain, if no other is named. The exit status is 1 if the
+compiler refuses something.
 """
 import pathlib
 import shutil

@@ -1,11 +1,13 @@
 #!/usr/bin/env python3
-"""Checks the documents that `witcall_describe` writes: of every package in examples/, of some with hard names and of random ones.
+"""Checks the documents that `witcall_describe` writes: of every package in examples/, of some with hard names and of
+random ones.
 
 usage: tools/check_document.py [--models] [N [SEED]]      N random packages or sets, 200 if it is not given
 
-Each document is that of the models (tools/models/documents.py), and follows the schema docs/package.schema.json. The schema refuses the
-document with a member left out, with one more, and with a number in the place of another value. The library is that of WITCALL_LIBRARY, or
-the released one. With --models the documents of the models alone are held against the schema, and no library is needed.
+Each document is that of the models (tools/models/documents.py), and follows the schema docs/package.schema.json. The
+schema refuses the document with a member left out, with one more, and with a number in the place of another value. The
+library is that of WITCALL_LIBRARY, or the released one. With --models the documents of the models alone are held
+against the schema, and no library is needed.
 
 It prints each package that fails, and a line with the numbers of all. The exit status is 1 if one fails.
 """
@@ -48,90 +50,70 @@ class Fault(Exception):
 # ---- the schema
 
 
+def is_of_type(value, wanted):
+    """Whether a value is of a type; a bool is no integer."""
+    return isinstance(value, TYPES[wanted]) and not (wanted == "integer" and isinstance(value, bool))
+
+
+# words that look at a value alone: whether it is as they want it, and what is told if it isn't
+PLAIN = {
+    "type": (is_of_type, "no {}"),
+    "enum": (lambda value, wanted: any(type(it) is type(value) and it == value for it in wanted), "none of {}"),
+    "const": (lambda value, wanted: value == wanted, "not {}"),
+    "pattern": (lambda value, wanted: not isinstance(value, str) or re.search(wanted, value), "not of {}"),
+    "minimum": (lambda value, wanted: not isinstance(value, int) or value >= wanted, "below {}"),
+    "minItems": (lambda value, wanted: not isinstance(value, list) or len(value) >= wanted, "fewer than {}"),
+    "maxItems": (lambda value, wanted: not isinstance(value, list) or len(value) <= wanted, "more than {}"),
+}
+
+
 class Schema:
     """As much of JSON Schema as docs/package.schema.json has."""
 
     def __init__(self, schema):
         self.schema = schema
-        self.tests = {
-            "$ref": self.test_reference, "type": self.test_type, "enum": self.test_enum, "const": self.test_const,
-            "pattern": self.test_pattern, "minimum": self.test_minimum, "minItems": self.test_least, "maxItems": self.test_most,
-            "items": self.test_items, "required": self.test_required, "properties": self.test_properties,
-            "additionalProperties": self.test_additional, "oneOf": self.test_one,
-        }
 
-    def test(self, value, path="", schema=None):
-        """Tests a value. A word of the schema that is not known here is an error."""
+    def faults(self, value, path="", schema=None):
+        """What is wrong with a value. A word of the schema that is not known here is an error."""
         schema = self.schema if schema is None else schema
         for word, wanted in schema.items():
-            if word not in WORDS:
-                self.tests[word](value, path, wanted, schema)
+            if word in PLAIN:
+                holds, told = PLAIN[word]
+                yield from [] if holds(value, wanted) else [f"{path or 'the document'}: {told.format(wanted)}"]
+            elif word == "$ref":
+                yield from self.faults(value, path, self.schema["$defs"][wanted.removeprefix("#/$defs/")])
+            elif word == "oneOf":
+                yield from self.faults_of_one(value, path, wanted)
+            elif word == "items":
+                for place, item in enumerate(value if isinstance(value, list) else []):
+                    yield from self.faults(item, f"{path}[{place}]", wanted)
+            elif word in ("required", "properties", "additionalProperties"):
+                yield from self.faults_of_members(value, path, word, schema)
+            elif word not in WORDS:
+                raise KeyError(word)
 
-    def fails(self, value):
-        """Whether a value does not follow the schema."""
-        try:
-            self.test(value)
-        except Fault:
-            return True
-        return False
+    def faults_of_members(self, value, path, word, schema):
+        """What is wrong with the members of an object, by one of the words about them."""
+        members, wanted = value if isinstance(value, dict) else {}, schema[word]
+        if word == "required" and isinstance(value, dict):
+            yield from (f"{path or 'the document'}: no {key}" for key in wanted if key not in members)
+        elif word == "properties":
+            for key in wanted:
+                yield from self.faults(members[key], f"{path}.{key}", wanted[key]) if key in members else []
+        elif word == "additionalProperties" and wanted is False:
+            more = sorted(set(members) - set(schema["properties"]))
+            yield from [f"{path or 'the document'}: also {more}"] if more else []
 
-    @staticmethod
-    def must(holds, path, what):
-        """Raises a fault, if this does not hold."""
-        if not holds:
-            raise Fault(f"{path or 'the document'}: {what}")
+    def faults_of_one(self, value, path, forms):
+        """What is wrong if a value isn't of one form alone: the first fault of each."""
+        first = [next(self.faults(value, path, schema), None) for schema in forms]
+        if first.count(None) != 1:
+            yield f"{path}: " + (" and ".join(filter(None, first)) if None not in first else "more than one form")
 
-    def test_reference(self, value, path, wanted, _):
-        self.test(value, path, self.schema["$defs"][wanted.removeprefix("#/$defs/")])
-
-    def test_type(self, value, path, wanted, _):
-        is_it = isinstance(value, TYPES[wanted]) and not (wanted == "integer" and isinstance(value, bool))
-        self.must(is_it, path, f"no {wanted}")
-
-    def test_enum(self, value, path, wanted, _):
-        self.must(any(type(it) is type(value) and it == value for it in wanted), path, f"none of {wanted}")
-
-    def test_const(self, value, path, wanted, _):
-        self.must(value == wanted, path, f"not {wanted}")
-
-    def test_pattern(self, value, path, wanted, _):
-        self.must(not isinstance(value, str) or re.search(wanted, value), path, f"not of {wanted}")
-
-    def test_minimum(self, value, path, wanted, _):
-        self.must(not isinstance(value, int) or value >= wanted, path, f"below {wanted}")
-
-    def test_least(self, value, path, wanted, _):
-        self.must(not isinstance(value, list) or len(value) >= wanted, path, f"fewer than {wanted}")
-
-    def test_most(self, value, path, wanted, _):
-        self.must(not isinstance(value, list) or len(value) <= wanted, path, f"more than {wanted}")
-
-    def test_items(self, value, path, wanted, _):
-        for place, item in enumerate(value if isinstance(value, list) else []):
-            self.test(item, f"{path}[{place}]", wanted)
-
-    def test_required(self, value, path, wanted, _):
-        for key in wanted if isinstance(value, dict) else []:
-            self.must(key in value, path, f"no {key}")
-
-    def test_properties(self, value, path, wanted, _):
-        for key, schema in wanted.items() if isinstance(value, dict) else []:
-            if key in value:
-                self.test(value[key], f"{path}.{key}", schema)
-
-    def test_additional(self, value, path, wanted, schema):
-        if wanted is False and isinstance(value, dict):
-            more = set(value) - set(schema["properties"])
-            self.must(not more, path, f"also {sorted(more)}")
-
-    def test_one(self, value, path, wanted, _):
-        faults = []
-        for schema in wanted:
-            try:
-                self.test(value, path, schema)
-            except Fault as fault:
-                faults.append(fault)
-        self.must(len(faults) == len(wanted) - 1, path, " and ".join(map(str, faults)) or "more than one form")
+    def test(self, value):
+        """Raises the first fault of a value."""
+        for fault in self.faults(value):
+            raise Fault(fault)
 
 
 # ---- documents
@@ -195,8 +177,8 @@ def check(schema, texts, with_library):
         text = described(texts)
         told = json.loads(text)
         difference = first_difference(told, wanted)
-        Schema.must(difference is None, "", difference)
-        Schema.must(text == json.dumps(told, separators=(",", ":")), "", "not compact")
+        if difference or text != json.dumps(told, separators=(",", ":")):
+            raise Fault(difference or "not compact")
     return len(wanted["rows"])
 
 
@@ -204,7 +186,8 @@ def check_schema(schema):
     """The schema refuses each change of a document that has every kind of row: how many there are."""
     changes = list(changed(document([EVERY_KIND])))
     for name, other in changes:
-        Schema.must(schema.fails(other), name, "the schema takes it")
+        if not any(schema.faults(other)):
+            raise Fault(f"{name}: the schema takes it")
     return len(changes)
 
 

@@ -1,14 +1,17 @@
 #!/usr/bin/env python3
-"""Runs wit-explain on the stored commands of tests/explain, and compares what it prints and its exit status to the letter.
+"""Runs wit-explain on the stored commands of tests/explain, and compares what it prints and its exit status to the
+letter.
 
 usage: tools/check_explain.py [--program WIT-EXPLAIN].. [--witcall WITCALL]
 
-tests/explain/runs has one run after another: a line `$ wit-explain WORDS`, what the program prints, and a line `status NUMBER`. Words are
-parted by single spaces. A run reads the files of tests/explain/files, and has no input. If the status is 2, the text is what goes to
-standard error, and nothing may go to standard output; otherwise it is the other way round. Each program named is run, by default those that the
-gate built by both compilers, both of which have to be there. Each block of `console` of the pages has to be a stored run, and
-docs/pictures/shapes.svg what the run of PICTURE prints. A run of BINARIES writes the file `out`, as `witcall` writes it on the words beside it:
-the one that the gate built, if no other is named. Both programs are in release/ too, packed. The exit status is 1 if one of them differs.
+tests/explain/runs has one run after another: a line `$ wit-explain WORDS`, what the program prints, and a line
+`status NUMBER`. Words are parted by single spaces. A run reads the files of tests/explain/files, and has no input. If
+the status is 2, the text is what goes to standard error, and nothing may go to standard output; otherwise it is the
+other way round. Each program named is run, by default those that the gate built by both compilers, both of which have
+to be there. Each block of `console` of the pages has to be a stored run, and docs/pictures/shapes.svg what the run of
+PICTURE prints. A run of BINARIES writes the file `out`, as `witcall` writes it on the words beside it: the one that the
+gate built, if no other is named. Both programs are in release/ too, packed. The exit status is 1 if one of them
+differs.
 """
 import collections
 import difflib
@@ -27,7 +30,8 @@ PICTURE = "layout --svg - shapes.wit"
 WITCALL = ROOT / "crates" / "program" / "out" / "program"
 # options by which a run may write a file: it has a copy of the files for itself
 WRITING = ("-o", "--output", "--svg")
-BUILDING = "build it by `rt ci`, or unpack release/wit-explain.gz and release/witcall.gz, and name them by --program and --witcall"
+BUILDING = ("build it by `rt ci`, or unpack release/wit-explain.gz and release/witcall.gz, and name them by --program "
+            "and --witcall")
 BINARIES = {
     "bin -o out shapes.wit": "bin shapes.wit",
     "bin --output out wit": "bin --with wit/deps/clocks/wall.wit wit/app.wit",
@@ -55,7 +59,8 @@ def copied(folder):
 def printed(program, words, folder):
     """What the program prints on these words, with its status."""
     done = subprocess.run(
-        [program, *words], cwd=folder, stdin=subprocess.DEVNULL, capture_output=True, env={"PATH": "/usr/bin:/bin", "LC_ALL": "C.UTF-8"}
+        [program, *words], cwd=folder, stdin=subprocess.DEVNULL, capture_output=True,
+        env={"PATH": "/usr/bin:/bin", "LC_ALL": "C.UTF-8"}
     )
     said, other = (done.stderr, done.stdout) if done.returncode == 2 else (done.stdout, done.stderr)
     beside = f"on the other stream: {other.decode()}" if other else ""
@@ -66,7 +71,8 @@ def has_other_binary(witcall, words, folder):
     """Whether a run of BINARIES wrote another binary than `witcall` writes. It is told."""
     if " ".join(words) not in BINARIES:
         return False
-    made = subprocess.run([witcall, *BINARIES[" ".join(words)].split(" ")], cwd=folder, capture_output=True, check=True).stdout
+    made = subprocess.run([witcall, *BINARIES[" ".join(words)].split(" ")], cwd=folder, capture_output=True,
+                          check=True).stdout
     if (folder / "out").read_bytes() == made:
         return False
     print(f"{PROMPT} {' '.join(words)}: the file is not what witcall writes")
@@ -90,9 +96,11 @@ def differing(program, witcall):
 
 
 def untrue_pages(stored):
-    """How many blocks of pages are no stored runs, and pictures not what one prints. Each is told. There has to be a block."""
+    """How many blocks of pages are no stored runs, and pictures not what one prints. Each is told. There has to be a
+    block."""
     shown = [(page, *text.split("\n", 1)) for page in pages() for _, _, text in blocks(page.read_text(), "console")]
-    found = [(page, line) for page, line, text in shown if stored.get(line.replace("'", "").removeprefix(f"{PROMPT} ")) != text]
+    found = [(page, line)
+             for page, line, text in shown if stored.get(line.replace("'", "").removeprefix(f"{PROMPT} ")) != text]
     for page, line in found:
         print(f"{place(page)}: {line}: this isn't what tests/explain/runs has")
     picture = ROOT / "docs" / "pictures" / "shapes.svg"
@@ -123,7 +131,8 @@ def main():
         sys.exit(f"tools/check_explain.py: there is no {missing[0]}: {BUILDING}")
     runs = stored_runs()
     stored = {" ".join(words): text.rpartition("status ")[0] for words, text in runs}
-    found = sum(differing(program.resolve(), given.witcall.resolve()) for program in programs) + untrue_pages(stored) + stored_twice(runs)
+    found = untrue_pages(stored) + stored_twice(runs)
+    found += sum(differing(program.resolve(), given.witcall.resolve()) for program in programs)
     if found or not runs:
         sys.exit(f"{found} runs, blocks or pictures differ, of {len(runs)} runs")
     print(f"{len(runs)} runs of wit-explain are as they are stored, of {len(programs)} builds")

@@ -3,13 +3,14 @@
 #
 # usage: tools/check_install.sh [--released | --built]
 #
-# Run by root in a git checkout, it makes a root with this machine's compilers and nothing else of it. There a user with an empty home installs
-# witcall, and builds the hosts of docs/C.md, that of examples/rust if cargo is there, and the package for Python if Debian's python3-venv,
-# python3-setuptools and python3-wheel are there. The Debian package is installed and removed in a
-# folder as the root. Without lintian the script looks itself for what lintian asks of such a package.
+# Run by root in a git checkout, it makes a root with this machine's compilers and nothing else of it. There a user with
+# an empty home installs witcall, and builds the hosts of docs/C.md, that of examples/rust if cargo is there, and the
+# package for Python if Debian's python3-venv, python3-setuptools and python3-wheel are there. The Debian package is
+# installed and removed in a folder as the root. Without lintian the script looks itself for what lintian asks of such a
+# package.
 #
-# It needs a C compiler, pkg-config and dpkg; also unshare, CMake and make if it is run by root, and otherwise fakeroot. With --built,
-# crates/explain/out/explain is to be there. Each check says `ok`; the exit status is 1 if one fails.
+# It needs a C compiler, pkg-config and dpkg; also unshare, CMake and make if it is run by root, and otherwise fakeroot.
+# With --built, crates/explain/out/explain is to be there. Each check says `ok`; the exit status is 1 if one fails.
 set -eu
 cd "$(dirname "$0")/.."
 origin=${1-}
@@ -63,7 +64,8 @@ builds() {
         '    witcall_status status = {WITCALL_REFUSED, 63, 0, 0};' \
         '    return witcall_status_line(status, 0, 0).count != 20;' '}' >"$work/host.c"
     # shellcheck disable=SC2046 # the flags are words
-    "${CC:-cc}" -o "$work/host" "$work/host.c" $(PKG_CONFIG_PATH="$1/lib/pkgconfig" pkg-config --cflags --libs witcall) &&
+    "${CC:-cc}" -o "$work/host" "$work/host.c" \
+        $(PKG_CONFIG_PATH="$1/lib/pkgconfig" pkg-config --cflags --libs witcall) &&
         "$work/host" && [ "$(PKG_CONFIG_PATH="$1/lib/pkgconfig" pkg-config --modversion witcall)" = "$version" ]
 }
 
@@ -72,7 +74,8 @@ is_shared() {
     abi=$(sed -n 's/^#define WITCALL_ABI //p' include/witcall.h)
     [ "$(readlink "$1/libwitcall.so")" = "libwitcall.so.$abi" ] || return 1
     objdump -p "$1/libwitcall.so" | grep -q "SONAME  *libwitcall.so.$abi\$" || return 1
-    sed -nE 's/^(witcall_status|void|uint32_t) (witcall_[a-z_]+)\(.*/\2/p' include/witcall.h | LC_ALL=C sort >"$work/declared"
+    sed -nE 's/^(witcall_status|void|uint32_t) (witcall_[a-z_]+)\(.*/\2/p' include/witcall.h |
+        LC_ALL=C sort >"$work/declared"
     nm -D --defined-only "$1/libwitcall.so" | sed 's/.* //' | LC_ALL=C sort | diff "$work/declared" -
 }
 
@@ -111,7 +114,8 @@ check program calls "$work/prefix/bin/witcall"
 check wit-explain explains "$work/prefix/bin/wit-explain"
 check wit-explain-man cmp packaging/wit-explain.1 "$work/prefix/share/man/man1/wit-explain.1"
 check wit-explain-zsh cmp packaging/completions/_wit-explain "$work/prefix/share/zsh/site-functions/_wit-explain"
-check wit-explain-fish cmp packaging/completions/wit-explain.fish "$work/prefix/share/fish/vendor_completions.d/wit-explain.fish"
+check wit-explain-fish cmp packaging/completions/wit-explain.fish \
+    "$work/prefix/share/fish/vendor_completions.d/wit-explain.fish"
 check library builds "$work/prefix"
 check shared-library is_shared "$work/prefix/lib"
 check shared-library-host builds_shared "$work/prefix"
@@ -260,14 +264,16 @@ has_shlibs() {
 
 # Whether the package depends on the C library that the programs and the shared library need.
 needs_libc() {
-    needed=$(objdump -T "$root/usr/bin/witcall" "$root/usr/bin/wit-explain" "$(shared_library)" | grep -o 'GLIBC_[0-9.]*' | sort -uV | tail -n 1)
+    needed=$(objdump -T "$root/usr/bin/witcall" "$root/usr/bin/wit-explain" "$(shared_library)" |
+        grep -o 'GLIBC_[0-9.]*' | sort -uV | tail -n 1)
     [ "$(dpkg-deb -f "$deb" Depends)" = "libc6 (>= ${needed#GLIBC_})" ]
 }
 
 # Whether a man page is rendered without a warning, as lintian asks man.
 is_rendered() {
     gzip -dc "$root/usr/share/man/man1/$1.gz" >"$work/$1"
-    LC_ALL=C.UTF-8 MANROFFSEQ='' MANWIDTH=80 man --warnings -E UTF-8 -l -Tutf8 -Z "$work/$1" 2>&1 >/dev/null | tee "$work/warnings"
+    LC_ALL=C.UTF-8 MANROFFSEQ='' MANWIDTH=80 man --warnings -E UTF-8 -l -Tutf8 -Z "$work/$1" 2>&1 >/dev/null |
+        tee "$work/warnings"
     [ ! -s "$work/warnings" ]
 }
 

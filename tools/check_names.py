@@ -34,7 +34,8 @@ import sys
 
 from check_pages import prose
 from repository import (
-    ROOT, SPAN, WORD, blocks, code, columns, counted, edits, finish, functions, line_at, pages, place, sources, text_rows, vectors,
+    ROOT, SPAN, WORD, blocks, code, columns, counted, edits, finish, functions, line_at, pages, place, sources,
+    text_rows, vectors,
     without_blocks
 )
 from try_edits import edited
@@ -46,11 +47,13 @@ from tools.measure.__main__ import MEASURES  # noqa: E402
 
 NAME = re.compile(r"[A-Za-z_][A-Za-z0-9_]*(::[A-Za-z_][A-Za-z0-9_]*)*")
 # functions, and clauses of their contracts
-CLAUSES = re.compile(r"((?:`[\w:]+`(?:, and | and |, )?)+)(?: \(`\w+`\))?: ([a-z_0-9]+(?:, [a-z_0-9]+)*)(?=[;|.)]| \||, part| \()")
+CLAUSES = re.compile(r"((?:`[\w:]+`(?:, and | and |, )?)+)(?: \(`\w+`\))?: ([a-z_0-9]+(?:, [a-z_0-9]+)*)"
+                     r"(?=[;|.)]| \||, part| \()")
 # a call, and a path
 CALL = re.compile(r"([A-Za-z_:]\w[\w:]*)\(.*\)")
 PATH = re.compile(r"(?:\./)?[\w.*-]+(?:/[\w.*-]+)*/?")
-FOLDERS = (".ci", "bench", "bindings", "crates", "docs", "edits", "examples", "include", "packaging", "release", "tests", "tools")
+FOLDERS = (".ci", "bench", "bindings", "crates", "docs", "edits", "examples", "include", "packaging", "release",
+           "tests", "tools")
 INNER = ("specs", "proofs", "src")
 # a name for any, and what in a block is no code
 PLACEHOLDER = re.compile(r"[A-Z]_")
@@ -74,7 +77,8 @@ COUNTS = {
 def known():
     """Every word of the sources, out of comments, and of file names."""
     files = [code(path) for path in (*sources(".rt", ".antt"), *(ROOT / "include").glob("*.h"))]
-    files += [path.read_text() for path in (ROOT / "crates").glob("rows_*/**/*") if path.suffix == ".rows" or path.name == "stdin"]
+    files += [path.read_text()
+              for path in (ROOT / "crates").glob("rows_*/**/*") if path.suffix == ".rows" or path.name == "stdin"]
     for path in (it for folder in FOLDERS for it in (ROOT / folder).rglob("*")):
         if "out" not in path.parts:
             files.append(path.name)
@@ -87,8 +91,8 @@ def known():
 
 
 def contracts():
-    """The functions of crates/ by their names: of each the names that it may be qualified by, its clauses, of which some have no name, and the
-    names of its conditions."""
+    """The functions of crates/ by their names: of each the names that it may be qualified by, its clauses, of which
+    some have no name, and the names of its conditions."""
     found, traits = {}, {}
     for path in sources(".rt"):
         for function in functions(path):
@@ -134,11 +138,13 @@ def wrong_cells(text, all_contracts, all_edits):
         if head == "clause" and set(cell) != set("-") and not NOTE.fullmatch(cell):
             yield from ((number, fault) for fault in wrong_clauses(cell, all_contracts))
         if head in ("edit", "edits"):
-            yield from ((number, f"{name} is no edit") for name in SPAN.findall(cell) if name not in {edit for _, edit in all_edits})
+            yield from ((number, f"{name} is no edit")
+                        for name in SPAN.findall(cell) if name not in {edit for _, edit in all_edits})
 
 
 def unnamed_edits(text, all_edits):
-    """The edits that docs/guarantees/edits.md doesn't name in a row of their crate, and what it names there that is none of the crate."""
+    """The edits that docs/guarantees/edits.md doesn't name in a row of their crate, and what it names there that is
+    none of the crate."""
     crate, named = "", set()
     for number, head, cell in columns(text):
         if head == "crate":
@@ -152,7 +158,8 @@ def unnamed_edits(text, all_edits):
 
 def is_told(name):
     """Whether a word in backquotes is a name rather than a value, a keyword or a text."""
-    return bool(NAME.fullmatch(name)) and ("_" in name.strip("_") or "::" in name or bool(re.search(r"[a-z][A-Z]|^[A-Z][a-z]", name)))
+    return bool(NAME.fullmatch(name)) and ("_" in name.strip("_") or "::" in name
+                                           or bool(re.search(r"[a-z][A-Z]|^[A-Z][a-z]", name)))
 
 
 def spans(text):
@@ -162,7 +169,8 @@ def spans(text):
 
 def missing_names(text, words, all_contracts):
     """The names in backquotes that aren't there, and the functions that aren't of what they are named with."""
-    of_repository = {*(it.name for it in (ROOT / "crates").iterdir()), *(owner for it in all_contracts.values() for owners, *_ in it for owner in owners)}
+    of_repository = {*(it.name for it in (ROOT / "crates").iterdir()),
+                     *(owner for it in all_contracts.values() for owners, *_ in it for owner in owners)}
     expected = {(number, it) for number, head, cell in columns(text) if head == "expected" for it in SPAN.findall(cell)}
     for number, span in spans(text):
         if (number, span) in expected:
@@ -173,7 +181,8 @@ def missing_names(text, words, all_contracts):
         if is_told(name) and not PLACEHOLDER.match(name) and any(part not in words for part in (*owners, last)):
             yield number, name
         elif is_told(name) and owners and last in all_contracts and of_repository.issuperset(owners):
-            if not any(around.issuperset(owners) for around, *_ in all_contracts[last]) and not is_exported(owners, last):
+            is_there = any(around.issuperset(owners) for around, *_ in all_contracts[last])
+            if not is_there and not is_exported(owners, last):
                 yield number, f"{last} is no function of {'::'.join(owners)}"
 
 
@@ -194,7 +203,8 @@ def missing_in_blocks(page_text, words):
 
 def missing_paths(page_text):
     """The paths in backquotes and in blocks of `sh` that aren't there."""
-    named = spans(without_blocks(page_text)) + [(number, word) for number, _, text in blocks(page_text, "sh") for word in text.split()]
+    named = spans(without_blocks(page_text)) + [(number, word) for number, _, text in blocks(page_text, "sh")
+                                                for word in text.split()]
     for number, path in named:
         pattern = path.removeprefix("./").rstrip("/")
         first, _, rest = path.removeprefix("./").partition("/")
@@ -232,7 +242,8 @@ def all_counts():
     hosts = sum("host" in row for row in rows.values())
     laws = code(ROOT / "crates/canonical_abi/src/laws.rt")
     return {
-        "calls": sum(not row.keys() & {"steps", "lift", "lower", "head_at", "head_of", "host"} for row in rows.values()),
+        "calls": sum(not row.keys() & {"steps", "lift", "lower", "head_at", "head_of", "host"}
+                     for row in rows.values()),
         "calls, values and heads": len(rows) - steps - hosts,
         "rows of a host's memory": hosts,
         "random steps": steps,
@@ -246,14 +257,16 @@ def wrong_counts():
     there = all_counts()
     for what, pattern in COUNTS.items():
         found = [(page, number) for page in pages() for number in pattern.findall(page.read_text())]
-        yield from (f"{place(page)}: {number} {what}, and there are {there[what]}" for page, number in found if counted(number) != there[what])
+        yield from (f"{place(page)}: {number} {what}, and there are {there[what]}"
+                    for page, number in found if counted(number) != there[what])
         if not found:
             yield f"no page counts {what}"
 
 
 def unnamed_scripts():
     """The scripts that nothing names."""
-    scripts = [path for folder in ("tools", "bench") for path in sorted((ROOT / folder).glob("*.*")) if path.suffix in (".py", ".sh")]
+    scripts = [path for folder in ("tools", "bench")
+               for path in sorted((ROOT / folder).glob("*.*")) if path.suffix in (".py", ".sh")]
     texts = {path: path.read_text() for path in (*pages(), *scripts, ROOT / ".ci" / "run", ROOT / "witcall")}
     for script in scripts:
         name = re.compile(rf"\b{place(script)}\b|^ *(?:import|from) (?:tools\.)?{script.stem}\b", re.M)
@@ -263,12 +276,14 @@ def unnamed_scripts():
 
 def wrong_measures():
     """What pages and the gate say of `tools.measure` and bench/run.py that these don't do, and what isn't named."""
-    parts = {"tools.measure": ("BENCHMARKS.md", [*MEASURES]), "bench/run.py": ("BENCHMARKS.md", [it.__name__ for it in benchmarks.BENCHMARKS])}
+    parts = {"tools.measure": ("BENCHMARKS.md", [*MEASURES]),
+             "bench/run.py": ("BENCHMARKS.md", [it.__name__ for it in benchmarks.BENCHMARKS])}
     for program, (own, names) in parts.items():
         for page in [*pages(), ROOT / ".ci" / "run"]:
             said = re.findall(rf"{re.escape(program)} ([a-z][a-z-]*)", page.read_text())
             yield from (f"{place(page)}: {program} has no {name}" for name in said if name not in names)
-        told = {word for span in SPAN.findall((ROOT / "docs" / own).read_text()) for word in span.removeprefix(program).split()[:1]}
+        told = {word for span in SPAN.findall((ROOT / "docs" / own).read_text())
+                for word in span.removeprefix(program).split()[:1]}
         yield from (f"docs/{own} doesn't name {name} of {program}" for name in names if name not in told)
 
 
@@ -297,7 +312,8 @@ def main():
     words, all_contracts, all_edits = known(), contracts(), {(crate, path.stem) for path, crate in edits()}
     faults = [*stale_edits(), *wrong_counts(), *unnamed_scripts(), *wrong_measures()]
     for page in pages():
-        faults += [f"{place(page)}:{number}: {fault}" for number, fault in faults_of(page, words, all_contracts, all_edits)]
+        faults += [f"{place(page)}:{number}: {fault}"
+                   for number, fault in faults_of(page, words, all_contracts, all_edits)]
     finish(faults)
 
 

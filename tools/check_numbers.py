@@ -9,13 +9,13 @@ usage: tools/check_numbers.py
   column `example` is in the input of such a row, unless it is one of OTHERWISE.
 - Blocks of bytes of docs/EXAMPLES.md and docs/FORMATS.md, the first words of their lines: these are in a stored answer.
 - docs/DEFINITIONS.md: what stands in the columns of examples is a theorem of an Examples.antt below proofs/ of the
-  section's crates, or of the crate that follows it in parentheses. What stands in the columns `tested by` and `refused by`
-  is a theorem of the crate canonical_abi, or one of its laws or must-fail edits.
+  section's crates, or of the crate that follows it in parentheses. What stands in the columns `tested by` and
+  `refused by` is a theorem of the crate canonical_abi, or one of its laws or must-fail edits.
 - docs/GATE.md: the sums of the table of seconds, and the seconds of the longest chain. `rt ci` passes each crate and
   each must-fail edit of the gate, of which there are as many as PASSED finds.
 - The numbers that each group of ALIKE finds on several pages are one.
-- The limits that LIMITS finds on pages are those of the models, and the keywords of docs/FORMATS.md too. The pages of docs/api are left out:
-  their numbers are those of sources.
+- The limits that LIMITS finds on pages are those of the models, and the keywords of docs/FORMATS.md too. The pages of
+  docs/api are left out: their numbers are those of sources.
 
 It prints each place that is wrong; the exit status is 1 then, and if nothing of a page is compared.
 """
@@ -24,7 +24,9 @@ import re
 import sys
 
 from models import opening, tokens
-from repository import ROOT, SPAN, all_crates, blocks, columns, counted, edits, is_reference, pages, place, text_rows, vectors
+from repository import (
+    ROOT, SPAN, all_crates, blocks, columns, counted, edits, is_reference, pages, place, text_rows, vectors
+)
 
 CODE = ("tests_in_code", "tests_of_formats", "tests_of_hosts")
 ROWS = ("rows_texts", "vectors", *CODE)

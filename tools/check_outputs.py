@@ -148,7 +148,8 @@ def check_shell(pages, name, text):
 
 
 def examples(text):
-    """The rows of the tables of docs/ERRORS.md that have examples: the number of each, its line of an error, and the example."""
+    """The rows of the tables of docs/ERRORS.md that have examples: the number of each, its line of an error, and the
+    example."""
     line = ""
     for number, head, cell in columns(text):
         if head == "line":
@@ -247,7 +248,8 @@ def check_json(pages, text):
     """The examples of the table of JSON in docs/FORMATS.md."""
     file = pages.folder / "example.wit"
     section = text[text.index("## JSON\n"):]
-    cells = [cell for _, head, cell in columns(section[:section.index("\n## ")]) if head == "example" and set(cell) != {"-"}]
+    cells = [cell
+             for _, head, cell in columns(section[:section.index("\n## ")]) if head == "example" and set(cell) != {"-"}]
     for cell in cells:
         found = JSON.fullmatch(cell)
         if not found:

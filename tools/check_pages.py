@@ -26,7 +26,7 @@ MOST_PAGES = {"docs": 16, "docs/guarantees": 8}
 # what a page that a script makes says in its first lines
 MADE = re.compile(r"`tools/\w+\.py`\s+makes\s+(?:it|the\s+page)\b")
 LONG = ("docs/CRATES.md", "docs/DEFINITIONS.md", "docs/EXAMPLES.md")
-TABLES = (*TOP, "docs/PROMISE.md", "docs/ERRORS.md", "docs/LIBRARY.md", "docs/INSTALL.md", "docs/PROGRAM.md")
+TABLES = (*TOP, "docs/PROMISE.md", "docs/ERRORS.md", "docs/LIBRARY.md", "docs/INSTALL.md")
 LANGUAGES = {"", "c", "console", "cpp", "js", "json", "python", "rust", "sh", "text", "wit"}
 FENCE = re.compile(r"^ *(?:```|~~~)(.*)$", re.M)
 # a link, a reference, and what an element of HTML names

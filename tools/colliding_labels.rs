@@ -1,5 +1,6 @@
-//! Prints labels of seven letters and digits whose hashes agree in 13 low bits and 3 high ones: a table with up to 8,192 groups
-//! puts them all in one chain. The hash is that of the kit's `indexmap` under its default hasher, whose seed is fixed.
+//! Prints labels of seven letters and digits whose hashes agree in 13 low bits and 3 high ones: a table with up to
+//! 8,192 groups puts them all in one chain. The hash is that of the kit's `indexmap` under its default hasher, whose
+//! seed is fixed.
 //!
 //! usage: colliding_labels COUNT
 use std::io::Write;

@@ -16,7 +16,8 @@ def main():
     uses = all_crates()
     libraries = {name for name in uses if (ROOT / "crates" / name / "src" / "lib.rt").exists()}
     # not those of tests and examples, nor the one for C
-    libraries = {name for name in libraries if not name.startswith(("example_", "row_", "vector_", "tests_", "witcall_c"))}
+    libraries = {name
+                 for name in libraries if not name.startswith(("example_", "row_", "vector_", "tests_", "witcall_c"))}
     for name in (it for it in uses if it in libraries):
         deps = (f"{sys.argv[1]}/crates/{it}" if it in libraries else it for it in uses[name])
         print(f"{sys.argv[1]}/crates/{name}: {' '.join(deps)}".rstrip())

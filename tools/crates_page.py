@@ -3,9 +3,10 @@
 
 usage: tools/crates_page.py [--check]
 
-The crates and what they depend on are those of crates.txt. What a crate holds is the head (`//!`) of its src/lib.rt or src/main.rt. The
-groups and what is proved are the lines of docs/crate-facts.txt. With --check nothing is written, and the exit status is 1 if the page is not
-current. It is 1 as well if a crate has no head or no line, if a line is of no crate, and if crates.txt and crates/ don't have the same crates.
+The crates and what they depend on are those of crates.txt. What a crate holds is the head (`//!`) of its src/lib.rt or
+src/main.rt. The groups and what is proved are the lines of docs/crate-facts.txt. With --check nothing is written, and
+the exit status is 1 if the page is not current. It is 1 as well if a crate has no head or no line, if a line is of no
+crate, and if crates.txt and crates/ don't have the same crates.
 """
 import fnmatch
 import re
@@ -50,7 +51,8 @@ def stop_on_unknown(names):
 
 
 def facts(names):
-    """The groups of docs/crate-facts.txt, each a title with the facts of its crates, and the crates that have no line."""
+    """The groups of docs/crate-facts.txt, each a title with the facts of its crates, and the crates that have no
+    line."""
     groups, missing = [], set(names)
     own = {line.partition(":")[0] for line in lines() if not line.startswith("=")}
     for line in lines():
@@ -86,7 +88,8 @@ def head(name):
 def wrapped(text, first="", rest=""):
     """Text in lines of at most 120 characters, none of which breaks within backquotes."""
     kept = re.sub(r"`[^`]*`", lambda found: found.group().replace(" ", "\0"), text)
-    return textwrap.fill(kept, WIDTH, initial_indent=first, subsequent_indent=rest, break_long_words=False, break_on_hyphens=False).replace("\0", " ")
+    return textwrap.fill(kept, WIDTH, initial_indent=first, subsequent_indent=rest, break_long_words=False,
+                         break_on_hyphens=False).replace("\0", " ")
 
 
 def laid_out(lines):
@@ -109,7 +112,8 @@ def laid_out(lines):
 def section(name, below, found):
     """What the page says of a crate."""
     names = ", ".join(f"`{it}`" for it in below)
-    parts = [f"### `{name}`", laid_out(head(name)), wrapped(f"Depends on {names}." if below else "Depends on no other crate.")]
+    parts = [f"### `{name}`", laid_out(head(name)),
+             wrapped(f"Depends on {names}." if below else "Depends on no other crate.")]
     rows = []
     for sentence, *calls in found:
         by = f" ({calls[0]})" if calls else ""

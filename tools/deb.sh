@@ -3,9 +3,9 @@
 #
 # usage: tools/deb.sh [--released | --built] [FOLDER]
 #
-# FOLDER gets witcall_VERSION-1_amd64.deb; by default it is the one where the script is called. The path is printed. The variables
-# DEBFULLNAME and DEBEMAIL name the maintainer. The package has the same bytes for the same sources and the same SOURCE_DATE_EPOCH, which is
-# the time of the last commit if it is not set. It needs dpkg-deb.
+# FOLDER gets witcall_VERSION-1_amd64.deb; by default it is the one where the script is called. The path is printed. The
+# variables DEBFULLNAME and DEBEMAIL name the maintainer. The package has the same bytes for the same sources and the
+# same SOURCE_DATE_EPOCH, which is the time of the last commit if it is not set. It needs dpkg-deb.
 set -eu
 here=$PWD
 cd "$(dirname "$0")/.."

@@ -1,12 +1,14 @@
 #!/usr/bin/env python3
-"""Makes docs/DEFINITIONS.md: the definitions that state what is promised, each with what its comment says, and how many lines one answer rests on.
+"""Makes docs/DEFINITIONS.md: the definitions that state what is promised, each with what its comment says, and how many
+lines one answer rests on.
 
 usage: tools/definitions_page.py [--check]
 
-What a file and a definition say are the comments of crates/*/specs, and what a law says the docs of crates/canonical_abi/src/laws.rt. Lines are
-counted as tools/believed.py does. docs/definition-facts.txt has the parts of the page and what the comments lack; its head says how. With --check
-nothing is written, and the exit status is 1 if the page is not current. It is 1 as well if a line is of no file, definition or law, if a crate
-with definitions is in no part, and if a crate of which lines are to be believed is in no subject, or is in two.
+What a file and a definition say are the comments of crates/*/specs, and what a law says the docs of
+crates/canonical_abi/src/laws.rt. Lines are counted as tools/believed.py does. docs/definition-facts.txt has the parts
+of the page and what the comments lack; its head says how. With --check nothing is written, and the exit status is 1 if
+the page is not current. It is 1 as well if a line is of no file, definition or law, if a crate with definitions is in
+no part, and if a crate of which lines are to be believed is in no subject, or is in two.
 """
 import collections
 import functools
@@ -32,7 +34,8 @@ MODULE = re.compile(r"^(?:pub )?mod (\w+)", re.M)
 # a section of the standard in a comment, and one that begins a comment
 SECTION = re.compile(r"(CanonicalABI|WIT|Binary)\.md,? (\"[^\"]+\"(?:(?:,| and|, and) \"[^\"]+\")*)")
 QUOTED = re.compile(r"\"[^\"]+\"")
-BEGINS = re.compile(r"^((?:and )?(?:CanonicalABI|WIT|Binary)\.md(?:(?:,| and) ?\"[^\"]+\")*(?: \([^)]*\))?(?:, and |, (?=[a-z])|: ))+")
+BEGINS = re.compile(r"^((?:and )?(?:CanonicalABI|WIT|Binary)\.md(?:(?:,| and) ?\"[^\"]+\")*(?: \([^)]*\))?"
+                    r"(?:, and |, (?=[a-z])|: ))+")
 HEAD = """\
 # Definitions
 
@@ -68,10 +71,10 @@ of the repository is proved against them.
 - Attributes and invariants of structs are not counted. A clause speaks of fields. What is true of each value besides is
   proved.
 """
-CLAUSES = """`tools/believed.py {}` prints what these two clauses alone need: {:,} lines. The others say that there is no second
-answer, why inputs are refused, and which steps a call takes."""
-SETS = """`tools/believed.py {}` prints what a set rests on that is told by names: {:,} lines. As the table is made (`{}`) it is
-{:,}."""
+CLAUSES = """`tools/believed.py {}` prints what these two clauses alone need: {:,} lines. The others say that there is no
+second answer, why inputs are refused, and which steps a call takes."""
+SETS = """`tools/believed.py {}` prints what a set rests on that is told by names: {:,} lines. As the table is made (`{}`) it
+is {:,}."""
 LAWS_HEAD = """\
 ## Laws
 
@@ -192,7 +195,8 @@ def files_of(crate):
     """The files of a crate's definitions, in the order of its Lib.antt."""
     own = [name for name in definitions() if name.startswith(f"{crate}/")]
     order = MODULE.findall((ROOT / "crates" / crate / "specs" / "Lib.antt").read_text()) if own else []
-    return sorted(own, key=lambda it: order.index(it.partition("/")[2]) if it.partition("/")[2] in order else len(order))
+    return sorted(own,
+                  key=lambda it: order.index(it.partition("/")[2]) if it.partition("/")[2] in order else len(order))
 
 
 def head(path):
@@ -224,11 +228,13 @@ def table_of_definitions(name, known):
     lost = [it for it in known if it not in order]
     if lost:
         stop(f"{name} has no definition {', '.join(lost)}")
-    rows = [row(f"`{it}`", joined(stated(path, it)[1], known[it][2]), known[it][0], known[it][1]) for it in order if it in known]
+    rows = [row(f"`{it}`", joined(stated(path, it)[1], known[it][2]), known[it][0], known[it][1])
+            for it in order if it in known]
     others = ", ".join(f"`{it}`" for it in order if it not in known and NAME.fullmatch(it))
     has_tests = any(cell for it in known.values() for cell in it[:2])
     rows = rows if has_tests else [re.sub(r"\| \| \|$", "|", it) for it in rows]
-    heads = "| definition | says | serves | tested by |\n|---|---|---|---|\n" if has_tests else "| definition | says |\n|---|---|\n"
+    tested = " serves | tested by |\n|---|---|---|---|\n" if has_tests else "\n|---|---|\n"
+    heads = f"| definition | says |{tested}"
     return heads + "\n".join(rows) + (f"\n\n{wrapped(f'Its other names: {others}.')}" if others else "")
 
 
@@ -244,8 +250,10 @@ def files_with_tables(part):
         for name in (it for it in files_of(crate) if it in part.definitions):
             more = part.files.get(name, ("", ""))
             title = f"### `{name}`" if len(part.crates) > 1 else f"### `{name.partition('/')[2]}`"
-            says = joined(head(definitions()[name]), " ".join(it for it in (more[1], f"It restates {more[0]}." if more[0] else "") if it))
-            yield f"{title}\n\n{wrapped(says.replace(chr(92), ''))}\n\n{table_of_definitions(name, part.definitions[name])}"
+            says = joined(head(definitions()[name]),
+                          " ".join(it for it in (more[1], f"It restates {more[0]}." if more[0] else "") if it))
+            table = table_of_definitions(name, part.definitions[name])
+            yield f"{title}\n\n{wrapped(says.replace(chr(92), ''))}\n\n{table}"
 
 
 def table_of_files(part):
@@ -262,7 +270,8 @@ def table_of_files(part):
 
 def text_of(part):
     """The section of a part."""
-    unknown = [it for it in (*part.files, *part.definitions) if it not in definitions() or it.partition("/")[0] not in part.crates]
+    unknown = [it for it in (*part.files, *part.definitions)
+               if it not in definitions() or it.partition("/")[0] not in part.crates]
     if unknown:
         stop(f"no files of {part.title}: {', '.join(unknown)}")
     return "\n\n".join(it for it in (f"## {part.title}", table_of_files(part), *files_with_tables(part)) if it)
@@ -274,7 +283,8 @@ def laws(facts):
     lost = set(facts.laws) - {it.name for it in found}
     if lost:
         stop(f"no laws: {', '.join(sorted(lost))}")
-    return LAWS_HEAD + "\n".join(row(f"`{it.name}`", joined(" ".join(docs(it)), facts.laws.get(it.name, ""))) for it in found)
+    return LAWS_HEAD + "\n".join(row(f"`{it.name}`", joined(" ".join(docs(it)), facts.laws.get(it.name, "")))
+                                 for it in found)
 
 
 def examples(facts):

@@ -1,20 +1,21 @@
 #!/bin/sh
-# Installs witcall: the programs witcall and wit-explain, the library for C in one archive and as a shared library, its header, and what
-# finds and documents them.
+# Installs witcall: the programs witcall and wit-explain, the library for C in one archive and as a shared library, its
+# header, and what finds and documents them.
 #
 # usage: tools/install.sh [--prefix DIR] [--libdir NAME] [--destdir DIR] [--released | --built]
 #        tools/install.sh --uninstall [--prefix DIR] [--destdir DIR]
 #
-# DIR is /usr/local if --prefix is not given, and NAME, the folder of libraries in it, is lib. With --destdir the files go below that folder,
-# for a package of a distribution.
+# DIR is /usr/local if --prefix is not given, and NAME, the folder of libraries in it, is lib. With --destdir the files
+# go below that folder, for a package of a distribution.
 #
-# What is installed comes from release/ if that was built from the sources of this checkout, and otherwise from crates/ if the program was
-# proved and built there. --released and --built ask for one of them; --released does not compare the sources. --built takes wit-explain as
-# crates/explain/out has it, or leaves it out if it is not there. It needs ar, gzip and the usual commands of a POSIX system; --built needs rt
-# too.
+# What is installed comes from release/ if that was built from the sources of this checkout, and otherwise from crates/
+# if the program was proved and built there. --released and --built ask for one of them; --released does not compare the
+# sources. --built takes wit-explain as crates/explain/out has it, or leaves it out if it is not there. It needs ar,
+# gzip and the usual commands of a POSIX system; --built needs rt too.
 #
-# PREFIX/share/doc/witcall/manifest has each file and folder that was made, and --uninstall removes these. An installation over an earlier
-# one removes that first. The exit status is 1 if something can't be done, and 2 for wrong words.
+# PREFIX/share/doc/witcall/manifest has each file and folder that was made, and --uninstall removes these. An
+# installation over an earlier one removes that first. The exit status is 1 if something can't be done, and 2 for wrong
+# words.
 set -eu
 here=$PWD
 cd "$(dirname "$0")/.."
@@ -41,7 +42,9 @@ while [ $# -gt 0 ]; do
         --destdir=*) destdir=${1#*=} ;;
         --released | --built) origin=${1#--} ;;
         --uninstall) uninstall=yes ;;
-        *) fail "usage: tools/install.sh [--prefix DIR] [--libdir NAME] [--destdir DIR] [--released | --built | --uninstall]" 2 ;;
+        *)
+            words="[--prefix DIR] [--libdir NAME] [--destdir DIR] [--released | --built | --uninstall]"
+            fail "usage: tools/install.sh $words" 2 ;;
     esac
     shift
 done
@@ -121,7 +124,7 @@ if [ -z "$origin" ]; then
     elif is_built; then
         origin=built
     else
-        fail "release/ was built from other sources, and nothing was built from these: --released installs it all the same"
+        fail "release/ was built from other sources, and nothing from these: --released installs it all the same"
     fi
 fi
 case "$origin" in
@@ -130,7 +133,8 @@ case "$origin" in
 esac
 
 # The library and the part of the kit that it calls, in one archive.
-(cd "$work" && printf '%s\n' 'create libwitcall.a' 'addlib libwitcall_c.a' 'addlib liblibc_c.a' save end | "${AR:-ar}" -M)
+(cd "$work" &&
+    printf '%s\n' 'create libwitcall.a' 'addlib libwitcall_c.a' 'addlib liblibc_c.a' save end | "${AR:-ar}" -M)
 version=$(cat VERSION)
 abi=$(sed -n 's/^#define WITCALL_ABI \([0-9]*\)$/\1/p' include/witcall.h)
 
@@ -141,7 +145,8 @@ quoted() {
 
 # Fills the places of a template.
 filled() {
-    sed "s|@PREFIX@|$(quoted "$prefix")|g; s|@LIBDIR@|$(quoted "$libdir")|g; s|@VERSION@|$version|g; s|@ABI@|$abi|g" "packaging/$1.in" >"$work/$1"
+    sed "s|@PREFIX@|$(quoted "$prefix")|g; s|@LIBDIR@|$(quoted "$libdir")|g; s|@VERSION@|$version|g; s|@ABI@|$abi|g" \
+        "packaging/$1.in" >"$work/$1"
 }
 
 filled witcall.pc
@@ -195,7 +200,8 @@ put 644 packaging/witcall.1 share/man/man1/witcall.1
 put 644 packaging/completions/witcall.bash share/bash-completion/completions/witcall
 put 644 packaging/completions/_witcall share/zsh/site-functions/_witcall
 put 644 packaging/completions/witcall.fish share/fish/vendor_completions.d/witcall.fish
-for page in README.md CHANGELOG.md CONTRIBUTING.md SECURITY.md docs/*.md docs/api/*.md docs/guarantees/*.md docs/pictures/*.svg; do
+for page in README.md CHANGELOG.md CONTRIBUTING.md SECURITY.md docs/*.md docs/api/*.md docs/guarantees/*.md \
+    docs/pictures/*.svg; do
     put 644 "$page" "share/doc/witcall/$page"
 done
 echo "$manifest" >>"$work/manifest"

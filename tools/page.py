@@ -3,9 +3,10 @@
 
 usage: tools/page.py [FILE]      FILE is bindings/js/out/page.html, if it is left out
 
-The file has the style, the scripts and the module of the release (WITCALL_MODULE, if this is set), packed by gzip, in base64. Each script becomes
-a function that returns what the script exports, after those that it imports. The scripts are written for this: an import and an export stand at
-the beginning of a line, an import names what it takes, and no two scripts import each other.
+The file has the style, the scripts and the module of the release (WITCALL_MODULE, if this is set), packed by gzip, in
+base64. Each script becomes a function that returns what the script exports, after those that it imports. The scripts
+are written for this: an import and an export stand at the beginning of a line, an import names what it takes, and no
+two scripts import each other.
 """
 import base64
 import gzip
@@ -66,7 +67,8 @@ def page():
     script = END.sub(r"<\\/", "".join(bundle.texts))
     packed = base64.b64encode(module()).decode()
     whole = (PAGE / "page.html").read_text(encoding="utf-8")
-    for place, part in (("/*style*/", (PAGE / "page.css").read_text(encoding="utf-8")), ("/*script*/", script), ("<!--module-->", packed)):
+    for place, part in (("/*style*/", (PAGE / "page.css").read_text(encoding="utf-8")), ("/*script*/", script),
+                        ("<!--module-->", packed)):
         if whole.count(place) != 1:
             sys.exit(f"tools/page.py: page.html has {place} not once")
         whole = whole.replace(place, part)

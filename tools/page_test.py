@@ -236,7 +236,8 @@ def call(browser, folder):
     same(browser.value("document.querySelectorAll('#call .byte.lit').length"), 4)
     browser.picture(folder / "page-call.png")
     fill(browser, WRONG, ANSWER)
-    same(browser.value("document.querySelector('#call .fault strong').textContent"), "error 62 not this type")
+    same(browser.value("document.querySelector('#call .fault strong').textContent"),
+         "error 62 not this type at [0].closed: a `bool` is `true` or `false`, and not `1`")
 
 
 def linked(browser, folder):

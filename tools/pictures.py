@@ -3,15 +3,17 @@
 
 usage: tools/pictures.py [--check] [--program WITCALL]
 
-- way.svg (docs/PROMISE.md): the way from a text to a call. The words are what the program prints of examples/c.wit, the stored run of
-  crates/program and the first row of crates/vectors. Each clause on an arrow has to be one of its function's contract.
+- way.svg (docs/PROMISE.md): the way from a text to a call. The words are what the program prints of examples/c.wit, the
+  stored run of crates/program and the first row of crates/vectors. Each clause on an arrow has to be one of its
+  function's contract.
 - bytes.svg (docs/LIBRARY.md): the bytes of a call with a list of records, in both memories: a row of crates/vectors.
-- halves.svg (docs/C.md): the steps of a call in halves, with the numbers of a row of crates/vectors, which examples/c/vectors.c runs through the
-  header. Each call that it names has to be one of include/witcall.h.
+- halves.svg (docs/C.md): the steps of a call in halves, with the numbers of a row of crates/vectors, which
+  examples/c/vectors.c runs through the header. Each call that it names has to be one of include/witcall.h.
 - crates.svg (docs/ARCHITECTURE.md): which crates depend on which, of crates.txt, in the groups of docs/crate-facts.txt.
 
-With --check nothing is written, and the exit status is 1 if a picture is not current, or one is there that no script makes (OTHERS are of
-tools/check_explain.py and tools/page_test.py). The program is the one that was built, crates/program/out/program, if no other is named.
+With --check nothing is written, and the exit status is 1 if a picture is not current, or one is there that no script
+makes (OTHERS are of tools/check_explain.py and tools/page_test.py). The program is the one that was built,
+crates/program/out/program, if no other is named.
 """
 import argparse
 import functools
@@ -51,7 +53,8 @@ class Picture:
 
     def text(self, x, y, words, kind="", anchor="start"):
         """Words at a place; `kind` is a class of the style below."""
-        self.add(f'<text x="{x:g}" y="{y:g}" class="{kind}" text-anchor="{anchor}" xml:space="preserve">{escape(words, quote=False)}</text>')
+        style = f'class="{kind}" text-anchor="{anchor}" xml:space="preserve"'
+        self.add(f'<text x="{x:g}" y="{y:g}" {style}>{escape(words, quote=False)}</text>')
 
     def box(self, x, y, width, height, kind="box"):
         self.add(f'<rect x="{x:g}" y="{y:g}" width="{width:g}" height="{height:g}" rx="4" class="{kind}"/>')
@@ -68,13 +71,17 @@ class Picture:
         self.add(f'<path d="M{x:g} {y:g}C{x:g} {half:g} {to_x:g} {half:g} {to_x:g} {to_y:g}" class="edge"/>')
 
     def svg(self):
-        style = "".join(f"{'@media (prefers-color-scheme:dark){' if dark else ''}{colours(dark)}{'}' if dark else ''}" for dark in (0, 1))
+        style = "".join(f"{'@media (prefers-color-scheme:dark){' if dark else ''}{colours(dark)}{'}' if dark else ''}"
+                        for dark in (0, 1))
         return "\n".join([
-            f'<svg xmlns="http://www.w3.org/2000/svg" viewBox="0 0 {WIDTH} {self.height:g}" width="{WIDTH}" height="{self.height:g}" role="img">',
+            f'<svg xmlns="http://www.w3.org/2000/svg" viewBox="0 0 {WIDTH} {self.height:g}" '
+            f'width="{WIDTH}" height="{self.height:g}" role="img">',
             f"<title>{escape(self.title)}</title>",
-            f"<style>text{{font:12px ui-monospace,Menlo,Consolas,monospace}}.name{{font-weight:bold}}.small{{font-size:11px}}"
+            f"<style>text{{font:12px ui-monospace,Menlo,Consolas,monospace}}"
+            f".name{{font-weight:bold}}.small{{font-size:11px}}"
             f".line,.edge,.frame{{fill:none}}.frame{{stroke-dasharray:4 3}}.edge{{stroke-width:.8}}{style}</style>",
-            '<defs><marker id="head" viewBox="0 0 8 8" refX="8" refY="4" markerWidth="7" markerHeight="7" orient="auto">'
+            '<defs><marker id="head" viewBox="0 0 8 8" refX="8" refY="4" markerWidth="7" markerHeight="7" '
+            'orient="auto">'
             '<path d="M0 0L8 4L0 8z" class="head"/></marker></defs>',
             f'<rect width="{WIDTH}" height="{self.height:g}" class="page"/>',
             *self.parts,
@@ -88,7 +95,8 @@ def colours(dark):
     lights = ("35%", "22%") if dark else ("70%", "90%")
     groups = "".join(f".g{number}{{fill:hsl({hue},{lights[0]},{lights[1]})}}" for number, hue in enumerate(HUES))
     return (f".page{{fill:{page}}}text,.head{{fill:{ink}}}.line,.edge,.frame,.box,rect[class^=g]{{stroke:{line}}}"
-            f".box{{fill:{'#161b22' if dark else '#f6f8fa'}}}.clause{{fill:{'#79c0ff' if dark else '#0550ae'}}}.dim{{fill:{line}}}{groups}")
+            f".box{{fill:{'#161b22' if dark else '#f6f8fa'}}}.clause{{fill:{'#79c0ff' if dark else '#0550ae'}}}"
+            f".dim{{fill:{line}}}{groups}")
 
 
 # The way from a text to a call
@@ -100,10 +108,12 @@ def all_functions():
 
 
 def clauses(function, *names):
-    """`FUNCTION: CLAUSE, CLAUSE`, of clauses that a function of this name has, or parts that the definition of the promise has."""
+    """`FUNCTION: CLAUSE, CLAUSE`, of clauses that a function of this name has, or parts that the definition of the
+    promise has."""
     there = {clause for it in all_functions() if it.name == function.split("::")[-1] for clause in it.clauses}
     if "promise" in there:
-        there.update(re.findall(r"^  pub (\w+) : ", (ROOT / "crates" / "canonical_abi" / "specs" / "Headline.antt").read_text(), re.M))
+        there.update(re.findall(r"^  pub (\w+) : ",
+                                (ROOT / "crates" / "canonical_abi" / "specs" / "Headline.antt").read_text(), re.M))
     for name in names:
         if name not in there:
             sys.exit(f"tools/pictures.py: {function} has no clause {name}")
@@ -112,11 +122,18 @@ def clauses(function, *names):
 
 def printed(program, *words):
     """The lines that the program prints on these words."""
-    return subprocess.run([program, *words], capture_output=True, check=True).stdout.decode("utf-8", "replace").splitlines()
+    return subprocess.run([program, *words], capture_output=True,
+                          check=True).stdout.decode("utf-8", "replace").splitlines()
+
+
+def told(flats):
+    """Core values."""
+    return ", ".join(f"{kind} {number}" for kind, number in flats)
 
 
 def steps(picture, x, y, width, rows):
-    """Boxes from top to bottom, each a title with lines, and the clauses on the arrow to the next one. Answers where each begins."""
+    """Boxes from top to bottom, each a title with lines, and the clauses on the arrow to the next one. Answers where
+    each begins."""
     tops = []
     for place, (title, lines, arrows) in enumerate(rows):
         height = 26 + 16 * len(lines)
@@ -137,17 +154,16 @@ def steps(picture, x, y, width, rows):
 
 def way(program):
     """The way from a text to a call."""
-    file = str(ROOT / "examples" / "c.wit")
-    given = (ROOT / "crates" / "program" / "args").read_text().splitlines()
-    run = (ROOT / "crates" / "program" / "stdout").read_text().split()
+    file, crate = str(ROOT / "examples" / "c.wit"), ROOT / "crates" / "program"
+    given, run = (crate / "args").read_text().splitlines(), (crate / "stdout").read_text().split()
     call, done = vector("scalars: a function of a number")
-    flats = lambda values: ", ".join(f"{kind} {number}" for kind, number in values)  # noqa: E731
     signature = printed(program, "layout", file)[0]
     at = signature.index(" lift ")
     binary = subprocess.run([program, "bin", file], capture_output=True, check=True).stdout
     picture = Picture(0, "The way from a text to a call, with the clause that proves each step")
     left, bottom = steps(picture, 30, 56, 340, [
-        ("FILE, a text", pathlib.Path(file).read_text().replace("; ", ";\n").splitlines()[:1] + [call["text"].partition("; ")[2]],
+        ("FILE, a text",
+         pathlib.Path(file).read_text().replace("; ", ";\n").splitlines()[:1] + [call["text"].partition("; ")[2]],
          [clauses("lex", "ok"), clauses("parse", "found", "only")]),
         ("syntax tree", [], [clauses("PackageSet::add_ast", "ok", "only")]),
         ("tables: witcall show", printed(program, "show", file), [clauses("Layouts::of", "ok")]),
@@ -161,10 +177,10 @@ def way(program):
     picture.text(72, bottom + 52, clauses("PackageSet::add_raw", "ok", "only"), "clause")
     right, end = steps(picture, 430, 56, 340, [
         ("ARGS", [given[4]], [clauses("from_json", "ok")]),
-        ("the caller passes", [flats(call["flats"])], [clauses("Session::call", "promise", "finds")]),
-        ("the callee finds, and is run once", [flats(done["body_got"])], []),
-        ("the body returns", [flats(call["answer"])], [clauses("Session::call", "promise", "lifts")]),
-        ("the caller lifts", [flats(done["outcome"]["ok"])], [clauses("to_json", "written", "read_back")]),
+        ("the caller passes", [told(call["flats"])], [clauses("Session::call", "promise", "finds")]),
+        ("the callee finds, and is run once", [told(done["body_got"])], []),
+        ("the body returns", [told(call["answer"])], [clauses("Session::call", "promise", "lifts")]),
+        ("the caller lifts", [told(done["outcome"]["ok"])], [clauses("to_json", "written", "read_back")]),
         ("printed", run, []),
     ])
     picture.arrow((370, left[3] + 30), (400, left[3] + 30), (400, right[1] + 20), (430, right[1] + 20))
@@ -221,14 +237,16 @@ def in_bytes():
     for number, (begin, end) in enumerate(record.ends):
         middle = 20 + 44 * (start + (begin + end) / 2)
         reached = 20 + 44 * (to + (begin + end) / 2)
-        label, value = record.labels[number], int.from_bytes(bytes.fromhex(call["caller"])[start + begin:start + end], "little")
+        label, value = record.labels[number], int.from_bytes(bytes.fromhex(call["caller"])[start + begin:start + end],
+                                                             "little")
         picture.arrow((middle, 140), (reached, 196))
         picture.text(middle + 8, 162, f"{label}: {record.fields[number].word}", "name")
         picture.text(middle + 8, 178, f"= {value}")
     memory(picture, 200, "", done["callee_after"], target)
     picture.text(20 + 44 * len(bytes.fromhex(call["caller"])) + 12, 162, "the callee's memory,", "name")
     picture.text(20 + 44 * len(bytes.fromhex(call["caller"])) + 12, 178, "after the call", "name")
-    picture.text(20, 272, f"the callee's allocator was asked for {size} bytes, aligned to {align}, and granted address {at}", "small")
+    asked = f"{size} bytes, aligned to {align}, and granted address {at}"
+    picture.text(20, 272, f"the callee's allocator was asked for {asked}", "small")
     picture.text(20, 292, f"the callee is passed  i32 {to}  (address)   i32 {count}  (length)", "small")
     memory(picture, 332, "the callee's memory, before the call", call["callee"], {})
     return picture.svg()
@@ -243,10 +261,9 @@ def declared(name):
     return name
 
 
-def in_halves():
-    """The steps of a call of a text that a text answers: what the library is called for, what the host does, and what crosses."""
-    call, done = vector(HALVES)
-    flats = lambda values: ", ".join(f"{kind} {number}" for kind, number in values)  # noqa: E731
+def steps_of_halves(call, done):
+    """The steps of a call of a text that a text answers. Each has its number, what the library is called for and what
+    that does, the lines of the caller and of the callee, and which way bytes go."""
     (_, start), (_, length), (_, area) = call["flats"]
     (_, at), _ = done["body_got"]
     (_, answer), = call["answer"]
@@ -254,49 +271,62 @@ def in_halves():
     back, size = (int.from_bytes(callee[answer + place:answer + place + 4], "little") for place in (0, 4))
     (asked,), (given,) = done["callee_log"], done["caller_log"]
     argument, result = caller[start:start + length].decode(), callee[back:back + size].decode()
-    after = bytes.fromhex(done["callee_after"])[at:at + length].decode(), bytes.fromhex(done["caller_after"])[given[2]:given[2] + size].decode()
-    if done["outcome"] != {"ok": []} or after != (argument, result):
+    after = [bytes.fromhex(done[side])[begin:end].decode() for side, begin, end in (
+        ("callee_after", at, at + length), ("caller_after", given[2], given[2] + size))]
+    if done["outcome"] != {"ok": []} or after != [argument, result]:
         sys.exit(f"tools/pictures.py: {HALVES} is no call that this picture shows")
     wants = lambda request: f"asks for {request[1]} bytes, aligned to {request[0]}"  # noqa: E731
     grants = lambda request: ["its allocator grants", f"{request[1]} bytes at {request[2]}"]  # noqa: E731
-    rows = [
-        ("once", declared("witcall_open") + ", " + declared("witcall_find"), call["text"].partition("{ ")[2].strip().rpartition(";")[0], [], [], 0),
-        ("1", declared("witcall_enter_requests"), wants(asked), ["passes", flats(call["flats"])], grants(asked), 1),
-        ("2", declared("witcall_enter"), f"writes {flats(done['body_got'])}", [f"at {start}:", f'"{argument}"'], [f"at {at}:", f'"{argument}"'], 1),
-        ("3", "", "", [], ["the core function gets", flats(done["body_got"]), f"and answers {flats(call['answer'])}"], 0),
-        ("4", declared("witcall_leave_requests"), wants(given), grants(given), [f"at {answer}: address {back},", f"length {size}"], -1),
+    got, answered = told(done["body_got"]), told(call["answer"])
+    return [
+        ("once", declared("witcall_open") + ", " + declared("witcall_find"),
+         call["text"].partition("{ ")[2].strip().rpartition(";")[0], [], [], 0),
+        ("1", declared("witcall_enter_requests"), wants(asked), ["passes", told(call["flats"])], grants(asked), 1),
+        ("2", declared("witcall_enter"), f"writes {got}", [f"at {start}:", f'"{argument}"'],
+         [f"at {at}:", f'"{argument}"'], 1),
+        ("3", "", "", [], ["the core function gets", got, f"and answers {answered}"], 0),
+        ("4", declared("witcall_leave_requests"), wants(given), grants(given),
+         [f"at {answer}: address {back},", f"length {size}"], -1),
         ("5", declared("witcall_leave"), "fills the block and the return area",
-         [f'at {given[2]}: "{result}"', f"return area at {area}:", f"address {given[2]}, length {size}"], [f"at {back}:", f'"{result}"'], -1),
-        ("6", "", "", [], ["post-return gets", flats(call["answer"])], 0),
+         [f'at {given[2]}: "{result}"', f"return area at {area}:", f"address {given[2]}, length {size}"],
+         [f"at {back}:", f'"{result}"'], -1),
+        ("6", "", "", [], ["post-return gets", answered], 0),
     ]
+
+
+def draw_step(picture, y, row):
+    """Draws a step, and answers where the next one begins."""
+    step, title, line, left, right, way = row
+    height = 22 + 16 * max(len(left), len(right), 1 if way or title else 0, 2 if title else 0)
+    middle = y + height / 2
+    if title:
+        picture.box(250, y, 290, height, "g0")
+        picture.text(300, middle - 4, title, "name")
+        picture.text(300, middle + 13, line, "small")
+        picture.text(275, middle + 5, step, "name", "middle")
+    for x, lines in ((20, left), (600, right)):
+        if lines:
+            picture.box(x, y, 180, height, "box" if title else "g1")
+        for number, words in enumerate(lines):
+            picture.text(x + 10, y + 23 + 16 * number, words, "small")
+    if not title:
+        picture.text(580, middle + 5, step, "name", "middle")
+    for begin, end in ((200, 250), (540, 600))[::way] if way else ():
+        picture.arrow(*((x, middle) for x in (begin, end)[::way]))
+    return y + height + 16
+
+
+def in_halves():
+    """The steps of a call of a text that a text answers: what the library is called for, what the host does, and what
+    crosses."""
     picture = Picture(0, "The steps of a call in halves")
     for x, title in ((20, "the caller"), (300, "the library"), (610, "the callee")):
         picture.text(x, 28, title, "name")
     y = 44
-    for step, title, line, left, right, way in rows:
-        height = 22 + 16 * max(len(left), len(right), 1 if way or title else 0, 2 if title else 0)
-        middle = y + height / 2
-        if title:
-            picture.box(250, y, 290, height, "g0")
-            picture.text(300, middle - 4, title, "name")
-            picture.text(300, middle + 13, line, "small")
-            picture.text(275, middle + 5, step, "name", "middle")
-        for x, width, lines in ((20, 180, left), (600, 180, right)):
-            if lines:
-                picture.box(x, y, width, height, "box" if title else "g1")
-                for number, words in enumerate(lines):
-                    picture.text(x + 10, y + 23 + 16 * number, words, "small")
-        if not title:
-            picture.text(580, middle + 5, step, "name", "middle")
-        if way > 0:
-            picture.arrow((200, middle), (250, middle))
-            picture.arrow((540, middle), (600, middle))
-        elif way < 0:
-            picture.arrow((600, middle), (540, middle))
-            picture.arrow((250, middle), (200, middle))
-        y += height + 16
-    legend = (20, "g0", "a call of the library"), (250, "g1", "code of the callee, which the host runs"), (600, "box", "memories, allocators")
-    for x, kind, words in legend:
+    for row in steps_of_halves(*vector(HALVES)):
+        y = draw_step(picture, y, row)
+    for x, kind, words in ((20, "g0", "a call of the library"), (250, "g1", "code of the callee, which the host runs"),
+                           (600, "box", "memories, allocators")):
         picture.box(x, y, 14, 12, kind)
         picture.text(x + 22, y + 10, words, "small")
     picture.height = y + 28
@@ -321,7 +351,8 @@ def bottom_up(below):
 
 
 def levels(below):
-    """The level of each crate: above all that it depends on, and as high as the crates allow that depend on it, if it has few of its own."""
+    """The level of each crate: above all that it depends on, and as high as the crates allow that depend on it, if it
+    has few of its own."""
     level = {}
     for name in below:
         level[name] = 1 + max((level[it] for it in below[name]), default=-1)
@@ -383,8 +414,10 @@ def graph():
     groups, missing = crates_page.facts(everything)
     if missing:
         sys.exit("tools/pictures.py: docs/crate-facts.txt has no line of " + ", ".join(sorted(missing)))
-    group = {name: number % len(HUES) for number, (title, found) in enumerate(groups) for name in found if title not in TESTS}
-    below = reduced(bottom_up({name: [it for it in parts if it in group] for name, parts in everything.items() if name in group}))
+    group = {name: number % len(HUES) for number, (title, found) in enumerate(groups)
+             for name in found if title not in TESTS}
+    below = reduced(bottom_up({name: [it for it in parts if it in group]
+                               for name, parts in everything.items() if name in group}))
     rows, edges = chains(below, levels(below))
     order(rows, edges)
     titles = [(number, title) for number, (title, found) in enumerate(groups) if number in group.values()]
@@ -401,7 +434,8 @@ def graph():
             x += width + space
     for upper, lower in edges:
         (x, y, _), (to_x, to_y, _) = at[upper], at[lower]
-        picture.curve((x, y + (24 if isinstance(upper, str) else 12)), (to_x, to_y + (0 if isinstance(lower, str) else 12)))
+        picture.curve((x, y + (24 if isinstance(upper, str) else 12)),
+                      (to_x, to_y + (0 if isinstance(lower, str) else 12)))
     for name, number in group.items():
         x, y, width = at[name]
         picture.box(x - width / 2, y, width, 24, f"g{number}")
@@ -418,11 +452,13 @@ def main():
     parser.add_argument("--check", action="store_true")
     parser.add_argument("--program", type=pathlib.Path, default=PROGRAM)
     given = parser.parse_args()
-    folder, stale, pictures = ROOT / "docs" / "pictures", [], {"bytes.svg": in_bytes(), "halves.svg": in_halves(), "crates.svg": graph()}
+    folder, stale, pictures = ROOT / "docs" / "pictures", [], {"bytes.svg": in_bytes(), "halves.svg": in_halves(),
+                                                               "crates.svg": graph()}
     if given.program.is_file():
         pictures["way.svg"] = way(given.program)
     else:
-        missing = f"tools/pictures.py: way.svg needs the program, and there is no {given.program}: build it, or name another by --program"
+        missing = (f"tools/pictures.py: way.svg needs the program, and there is no {given.program}: build it, or name "
+                   "another by --program")
         if given.check:
             sys.exit(missing)
         print(missing, file=sys.stderr)

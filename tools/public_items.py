@@ -8,13 +8,12 @@ begins at the left margin, and what belongs to it is four columns to the right. 
 """
 import collections
 import functools
-import pathlib
 import re
 import sys
 
-from check_conditions import code, leaves, modules, parts
+from repository import NO_CODE, ROOT
+from repository import code_alone as code
 
-ROOT = pathlib.Path(__file__).resolve().parent.parent
 USE = re.compile(r"^(pub )?use ([^;]+);", re.M)
 MODULE = re.compile(r"^(pub )?mod (\w+);", re.M)
 ITEM = re.compile(r"(pub )?(?:unsafe )?(struct|enum|trait|type|const) (?!fn\b)(\w+)")
@@ -24,9 +23,34 @@ VARIANT = re.compile(r"    ([A-Z]\w*)(.*)")
 FIELD = re.compile(r"    pub (\w+): (.*)")
 WORD = re.compile(r"[A-Za-z_]\w*(?:::\w+)*")
 GHOST = re.compile(r" *(?:pub )?ghost\b")
+CLAUSE = re.compile(r"(?:requires|ensures|ghost)\b")
 
 # the crate, the file and the line, the kind, the type that it belongs to, its name, its text, and whether it is public
 Item = collections.namedtuple("Item", "crate path line kind owner name text public")
+
+
+def parts(text):
+    """What stands between the commas of a text that are in no braces."""
+    depth, found = 0, [""]
+    for letter in text:
+        depth += {"{": 1, "}": -1}.get(letter, 0)
+        if letter == "," and not depth:
+            found.append("")
+        else:
+            found[-1] += letter
+    return [it.strip() for it in found if it.strip()]
+
+
+def leaves(tree, before=()):
+    """The paths of a `use`, each with the name that it gives what is there."""
+    path, brace, inner = tree.partition("{")
+    whole, _, alias = path.partition(" as ")
+    names = [*before, *(it.strip() for it in whole.split("::") if it.strip() not in ("", "crate", "self"))]
+    if brace:
+        for part in parts(inner.rpartition("}")[0]):
+            yield from leaves(part, names)
+    else:
+        yield names, alias.strip() or names[-1]
 
 
 def type_name(head):
@@ -38,17 +62,33 @@ def type_name(head):
     return (found[2], found[1]) if found else ("", None)
 
 
-def signature(lines, start):
-    """The text of a function's head, from its line to its clauses or its body."""
-    found, depth = [], 0
+def depth(line):
+    """How many brackets a line opens more than it closes."""
+    bare = NO_CODE.sub("", line)
+    return sum(bare.count(it) for it in "([{") - sum(bare.count(it) for it in ")]}")
+
+
+def head_and_contract(lines, start):
+    """The lines of a function's head, and those of its contract."""
+    found, begin, open_brackets = [], None, 0
     for line in lines[start:]:
-        if found and re.match(r" *(requires|ensures|where|\{)", line) and depth == 0:
+        text = line.strip()
+        if not open_brackets and text in ("{", "{}"):
             break
+        if not open_brackets and begin is None and CLAUSE.match(text):
+            begin = len(found)
         found.append(line)
-        depth += sum(line.count(it) for it in "([") - sum(line.count(it) for it in ")]")
-        if depth == 0 and re.search(r"[{;] *(//.*)?$", line):
+        open_brackets += depth(line)
+        if not open_brackets and text.endswith((";", "{}")) or begin is None and text.endswith("{"):
             break
-    return re.sub(r"\s+", " ", " ".join(found)).rstrip("{; ").strip()
+    end = len(found) if begin is None else begin
+    return found[:end], found[end:]
+
+
+def signature(lines, start):
+    """The text of a function's head, without what it asks of its types."""
+    head, _ = head_and_contract(lines, start)
+    return re.sub(r"\s+", " ", " ".join(head)).partition(" where ")[0].rstrip("{; ").strip()
 
 
 def block(lines, start):
@@ -113,7 +153,8 @@ def items(path):
 @functools.lru_cache(None)
 def files(crate):
     """The files of a crate by the names of their modules, as `asking::walk`."""
-    return modules(ROOT / "crates" / crate / "src")
+    src = ROOT / "crates" / crate / "src"
+    return {"::".join(path.relative_to(src).with_suffix("").parts): path for path in sorted(src.rglob("*.rt"))}
 
 
 @functools.lru_cache(None)

@@ -1,20 +1,20 @@
 #!/bin/sh
-# Makes release/ from the programs witcall and wit-explain and the static library for C, which it first proves and builds from the sources of
-# this checkout.
+# Makes release/ from the programs witcall and wit-explain and the static library for C, which it first proves and
+# builds from the sources of this checkout.
 #
 # usage: tools/release.sh
 #
 # release/ has
 #   witcall.gz, wit-explain.gz            the programs
 #   libwitcall_c.a.gz                     the library
-#   liblibc_c.a.gz                        the toolchain's archive that the library calls; tools/install.sh makes one archive of both
+#   liblibc_c.a.gz                        the toolchain's archive that the library calls
 #   libwitcall.so.gz                      both as a shared library, of tools/shared.sh
 #   witcall.wasm.gz                       the library as a WebAssembly module, of tools/wasm.sh
 #   libwitcall-aarch64.a.gz               the library for Linux on aarch64 with its heap, of tools/aarch64.sh
 #   SHA256SUMS                            the checksums of these seven, unpacked
-#   sources, explain-sources,             the checksums of what the first three were built from, as tools/sources.sh prints them
-#   library-sources
-#   wasm-sources, wasm-toolchain          the checksums of what the module was built from, and the versions of what built it
+#   sources, explain-sources,             the checksums of what the first three were built from, as tools/sources.sh
+#   library-sources                       prints them
+#   wasm-sources, wasm-toolchain          the checksum of what the module was built from, and the versions of what built it
 #   aarch64-sources                       the checksums of what the library for aarch64 was built from
 #   toolchain, version                    the toolchain's own name for itself; the version of VERSION
 set -eu

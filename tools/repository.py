@@ -225,25 +225,25 @@ def parser(doc):
 
 def keep_page(doc, page, made):
     """What a script of a page does: it writes the page, or checks with --check that it is the one that is made."""
-    if sys.argv[1:] == ["--check"]:
-        if not page.exists() or page.read_text() != made():
-            script = place(pathlib.Path(sys.argv[0]).resolve())
-            sys.exit(f"{script}: {place(page)} is not current: run {script}")
-    elif sys.argv[1:]:
-        sys.exit(doc)
-    else:
-        page.write_text(made())
+    keep_texts(doc, {page}, lambda: {page: made()})
 
 
 def keep_pages(doc, folder, made):
     """The same for all pages of a folder, whose texts are made by their files."""
+    keep_texts(doc, set(folder.glob("*.md")), made)
+
+
+def keep_texts(doc, pages, made):
+    """The same for pages, of which those that are not made are none."""
     if sys.argv[1:] not in ([], ["--check"]):
         sys.exit(doc)
-    texts, there = made(), {path: path.read_text() for path in folder.glob("*.md")}
-    changed = sorted(path for path in {*texts, *there} if texts.get(path) != there.get(path))
+    texts = made()
+    there = {path: path.read_text() if path.exists() else None for path in pages | set(texts)}
+    changed = sorted(path for path, text in there.items() if texts.get(path) != text)
     if sys.argv[1:] and changed:
         script = place(pathlib.Path(sys.argv[0]).resolve())
-        sys.exit(f"{script}: {', '.join(map(place, changed))} not current: run {script}")
+        are = "is" if len(changed) == 1 else "are"
+        sys.exit(f"{script}: {', '.join(map(place, changed))} {are} not current: run {script}")
     for path in changed:
         path.parent.mkdir(exist_ok=True)
         path.write_text(texts[path]) if path in texts else path.unlink()

@@ -5,8 +5,8 @@
 #        tools/shared.sh --archives         prints what it would pack there
 #        tools/shared.sh FOLDER             makes FOLDER/libwitcall.so of libwitcall_c.a and liblibc_c.a there
 #
-# The SONAME is libwitcall.so.N, for the number N of the binary interface in include/witcall.h. The toolchain's linker and
-# its C library are taken, and not the machine's: so the same archives make the same bytes everywhere.
+# The SONAME is libwitcall.so.N, for the number N of the binary interface in include/witcall.h. The toolchain's linker
+# and its C library are taken, and not the machine's: so the same archives make the same bytes everywhere.
 set -eu
 cd "$(dirname "$0")/.."
 usage='usage: tools/shared.sh --release | --archives | FOLDER'

@@ -1,6 +1,6 @@
 #!/bin/sh
-# Prints the checksum of what a crate is built from: its sources and those of the crates that it stands on, with their proofs, their lines
-# of crates.txt and HANDLES.
+# Prints the checksum of what a crate is built from: its sources and those of the crates that it stands on, with their
+# proofs, their lines of crates.txt and HANDLES.
 #
 # usage: tools/sources.sh NAME
 set -eu

@@ -3,11 +3,12 @@
 
     tools/try_edits.py [NAME ..] [--only EDIT,..]
 
-Of each crate named, or of all, the edits of crates/NAME/must-fail/ (which the gate tries too) and of edits/NAME/ are tried
-on a copy of the repository, over what the crate's checks have kept, or those edits alone. Each line has the edit, and the goal that
-the prover was left with: a clause of a contract (`returns-clause-..`), the condition of a callee, an invariant; or the goal that its
-proof by hand doesn't meet. Where an edit is let through, can't be applied or read, or is refused only since a proof names what
-is no more there, the line begins with `!` and the exit status is 1. `rt all check` beforehand saves most of the time.
+Of each crate named, or of all, the edits of crates/NAME/must-fail/ (which the gate tries too) and of edits/NAME/ are
+tried on a copy of the repository, over what the crate's checks have kept, or those edits alone. Each line has the edit,
+and the goal that the prover was left with: a clause of a contract (`returns-clause-..`), the condition of a callee, an
+invariant; or the goal that its proof by hand doesn't meet. Where an edit is let through, can't be applied or read, or
+is refused only since a proof names what is no more there, the line begins with `!` and the exit status is 1.
+`rt all check` beforehand saves most of the time.
 """
 import pathlib
 import re
@@ -31,7 +32,8 @@ def edits_of(name, only):
 
 
 def copied(room, crate, names):
-    """Copies the crates, with what was proved of them, into the room: of the crate itself all that its checks have kept."""
+    """Copies the crates, with what was proved of them, into the room: of the crate itself all that its checks have
+    kept."""
     (room / "crates").mkdir()
     (room / "crates.txt").write_text("".join(f"{line}\n" for name, line in crate_lines().items() if name in names))
     shutil.copy(ROOT / "HANDLES", room)
@@ -42,7 +44,8 @@ def copied(room, crate, names):
 
 
 def edited(edit, folder):
-    """The texts of the files that the edit changes, by their path, or None where it can't be applied or changes nothing."""
+    """The texts of the files that the edit changes, by their path, or None where it can't be applied or changes
+    nothing."""
     texts, path, old = {}, None, None
     changes = 0
     for line in edit.read_text().splitlines():

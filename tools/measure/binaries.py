@@ -70,25 +70,20 @@ def deep(items):
     return inner
 
 
-def exported(length):
-    """Exports of one type."""
-    exports = many(lambda n: extern(f"export-number{n}") + OF_TYPE, length - FRAME)
-    return padded(file([COMPONENT + b"\x00"], exports), length)
+def filled_file(item, exported=None):
+    """As many types as fit, each made of its number, or one type and as many exports of it."""
+
+    def made(length):
+        items = many(item, length - FRAME)
+        return padded(file([exported], items) if exported else file(items), length)
+
+    return made
 
 
-def recorded(length):
-    """Records of three fields, of the first of them from the second on."""
-
-    def record(place):
-        field = U8 if place == 0 else b"\x00"
-        return RECORD + vector([label(f"{text}{place}") + field for text in ("first", "second", "third")])
-
-    return padded(file(many(record, length - FRAME)), length)
-
-
-def tupled(length):
-    """Tuples of twenty members."""
-    return padded(file(many(lambda n: TUPLE + vector([U8] * 20), length - FRAME)), length)
+def record(place):
+    """A record of three fields, of the first record from the second on."""
+    field = U8 if place == 0 else b"\x00"
+    return RECORD + vector([label(f"{text}{place}") + field for text in ("first", "second", "third")])
 
 
 def full(place):
@@ -132,8 +127,8 @@ def scope(place):
 
 
 READING = {
-    "types": tupled,
-    "records": recorded,
+    "types": filled_file(lambda n: TUPLE + vector([U8] * 20)),
+    "records": filled_file(record),
     "fields": listed(RECORD, lambda n: label(f"field{n}") + U8),
     "cases": listed(VARIANT, lambda n: label(f"case{n}") + b"\x01" + U8 + b"\x00"),
     "labels": listed(ENUM, lambda n: label(f"a-longer-label{n}")),
@@ -145,7 +140,7 @@ READING = {
     "instances": declared(lambda n: bytes([IMPORT]) + extern(f"i{n}") + b"\x05\x00", EMPTY_INSTANCE),
     "aliases": one_type(deep, alias),
     "scopes": declared(scope),
-    "exports": exported,
+    "exports": filled_file(lambda n: extern(f"export-number{n}") + OF_TYPE, COMPONENT + b"\x00"),
     "customs": dropped,
     "custom": one_custom,
 }

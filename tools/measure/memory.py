@@ -6,7 +6,7 @@ import sys
 import tempfile
 import time
 
-from tools.models.cases import calls
+from tools.models import random_calls
 
 from . import binaries, texts
 from .harness import Counter, Folder, Starter, limited
@@ -98,7 +98,7 @@ def opening(given):
 
 def of_calls(given):
     """Whether 5,000 random calls through `vectors` take no more memory than the 500 longest of them."""
-    lines, found = sorted(calls.lines(5000), key=len, reverse=True), {}
+    lines, found = sorted(random_calls.lines(5000), key=len, reverse=True), {}
     with tempfile.TemporaryDirectory() as path:
         starter = Starter(Folder(path))
         for number in (500, 5000):

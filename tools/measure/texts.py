@@ -38,21 +38,6 @@ def nested(count):
     return interface("type t = tuple<" + entries + ("list<" * rest + "u8" + ">" * rest if rest else "") + ">;\n")
 
 
-def functions(count):
-    """Functions of nothing."""
-    return interface("".join(f"g{number}:func();\n" for number in range(count)))
-
-
-def named(count):
-    """Types each of which names the one before."""
-    return interface(f"type {label(0)}=u8;" + each("type {0}={1};", count, 1) + "\n")
-
-
-def reversed_types(count):
-    """Types each of which names the one behind it, so that the last is placed first."""
-    return interface(each("type {0}={2};", count - 1) + f"type {label(count - 1)}=u8;\n")
-
-
 def reversed_interfaces(count):
     """Interfaces each of which uses the one behind it. Each takes six type entries, and has two definitions."""
     last = count // 8
@@ -66,9 +51,11 @@ TABLES = {
     "results": members("result,"),
     "tuples": members("tuple<u8,u16>,"),
     "nested": nested,
-    "functions": functions,
-    "named": named,
-    "reversed": reversed_types,
+    "functions": lambda count: interface("".join(f"g{number}:func();\n" for number in range(count))),
+    # each names the one before
+    "named": lambda count: interface(f"type {label(0)}=u8;" + each("type {0}={1};", count, 1) + "\n"),
+    # each names the one behind it, so that the last is placed first
+    "reversed": lambda count: interface(each("type {0}={2};", count - 1) + f"type {label(count - 1)}=u8;\n"),
     "interfaces": reversed_interfaces,
 }
 
@@ -81,27 +68,18 @@ def chain(count):
     return "package a:b;" + each("interface {0}{{use {2}.{{t}};}}", count) + f"interface {label(count)}{{type t=u8;}}"
 
 
-def small_interfaces(count):
-    """Interfaces of one type and one function."""
-    return "package a:b;" + each("interface {0}{{type t=u8;f:func()->t;}}", count)
-
-
-def worlds(count):
-    """Worlds that import an interface and export a function."""
-    return "package a:b;interface a{type t=u8;}" + each("world {0}{{import a;export f:func();}}", count)
-
-
 def records(count):
     """Records of the type before and of a list. Every thirtieth begins anew, since types nest at most 64 deep."""
     rest = "".join(f"record {label(n)}{{a:{label(n - 1 if n % 30 else 0)},b:list<u8>}}" for n in range(1, count))
     return interface(f"type {label(0)}=u8;" + rest + "\n")
 
 
+SMALL, WORLD = "interface {0}{{type t=u8;f:func()->t;}}", "world {0}{{import a;export f:func();}}"
 # of each shape its text, and the greatest count that is tried
 MEMORY = {name: (made, 65520) for name, made in TABLES.items()} | {
     "chain of uses": (chain, 43000),
-    "small interfaces": (small_interfaces, 24000),
-    "worlds": (worlds, 24000),
+    "small interfaces": (lambda count: "package a:b;" + each(SMALL, count), 24000),
+    "worlds": (lambda count: "package a:b;interface a{type t=u8;}" + each(WORLD, count), 24000),
     "records": (records, 40000),
 }
 
@@ -172,24 +150,23 @@ def mixed():
 TYPED = "interface {0}{{type t=u8;}}\n"
 
 
-def of_interfaces(count):
-    """So many interfaces of one type each, and a use of each."""
-    return each(TYPED, count), lambda package: each(f"use {package}{{0}}.{{{{t as {{0}}}}}};\n", count)
-
-
 def of_types(count):
     """One interface of so many types, and a use of each."""
     used = "interface types{\n" + each("type {0}=u8;\n", count) + "}\n"
     return used, lambda package: each(f"use {package}types.{{{{{{0}}}}}};\n", count)
 
 
-def of_items(count):
-    """So many interfaces of one type each, and a world that has each among its imports."""
-    return each(TYPED, count), lambda package: each(f"import {package}{{0}};\n", count)
+def of_interfaces(item):
+    """So many interfaces of one type each, and an item for each."""
+    return lambda count: (each(TYPED, count), lambda package: each(item.replace("PACKAGE", package), count))
 
 
 # with the word of what uses them
-SETS = {"interfaces": (of_interfaces, "interface"), "types": (of_types, "interface"), "items": (of_items, "world")}
+SETS = {
+    "interfaces": (of_interfaces("use PACKAGE{0}.{{t as {0}}};\n"), "interface"),
+    "types": (of_types, "interface"),
+    "items": (of_interfaces("import PACKAGE{0};\n"), "world"),
+}
 
 
 def one_and_two(shape, count):
@@ -208,11 +185,6 @@ def name_of(number):
     return "p" + LETTERS[number // 8] + LETTERS[number % 8]
 
 
-def of_none(_number, _count):
-    """No uses."""
-    return ""
-
-
 def of_each(number, _count):
     """A use of a type of each earlier package."""
     return "".join(f"use a:{name_of(n)}/{label(0)}.{{t as t{name_of(n)}}};\n" for n in range(number))
@@ -223,7 +195,7 @@ def of_first(number, count):
     return each(f"use a:{name_of(0)}/{{0}}.{{{{t as {{0}}}}}};\n", count // 2) if number else ""
 
 
-FAMILIES = {"none": of_none, "one of each": of_each, "many of the first": of_first}
+FAMILIES = {"none": lambda number, count: "", "one of each": of_each, "many of the first": of_first}
 
 
 def family(uses, length, number):
@@ -254,11 +226,6 @@ def used_labels(labels):
     return f"{PACKAGE}interface d {{\n{used}\n}}\ninterface c {{\nuse d.{{{','.join(labels)}}};\n}}\n"
 
 
-def empty_interfaces(labels):
-    """Interfaces without anything."""
-    return PACKAGE + "".join(f"interface {it}{{}}" for it in labels)
-
-
 MOST_LABELS = 65533
 # with the number of labels: each text has less than 1 MiB, and each package less than 65,536 type entries
 LABELS = {
@@ -269,7 +236,7 @@ LABELS = {
     "cases": (of_labels("enum e{", "{}", "}", ","), MOST_LABELS),
     "fields": (of_labels("record r{", "{}:u8", "}", ","), MOST_LABELS),
     "uses": (used_labels, 13000),
-    "interfaces": (empty_interfaces, 32000),
+    "interfaces": (lambda labels: PACKAGE + "".join(f"interface {it}{{}}" for it in labels), 32000),
 }
 
 

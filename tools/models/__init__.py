@@ -1,5 +1,5 @@
-"""Small models of what witcall does, written from the rules alone: docs/FORMATS.md, CanonicalABI.md and Binary.md. They give the answers of stored
-runs and of rows, and nothing in them comes from the program's sources.
+"""Small models of what witcall does, written from the rules alone: docs/FORMATS.md, CanonicalABI.md and Binary.md. They
+give the answers of stored runs and of rows, and nothing in them comes from the program's sources.
 
 | module | models |
 |---|---|
@@ -16,13 +16,13 @@ runs and of rows, and nothing in them comes from the program's sources.
 | `sessions` | typed calls, and what is placed, read and released |
 | `heads` | what one value has of its own |
 | `hosts` | values in a memory that a host keeps |
-| `vectors` | which of these answers a row of `crates/vectors` |
+| `vectors` | which of these answers a row of `crates/vectors`; the program `vectors` beside them |
 | `jobs`, `layouts`, `rows`, `text_rows` | lines that ask, and lines that answer |
-| `reading_rows`, `atoms`, `memory_rows` | the same of numbers, names, command lines and memories |
-| `cases` | the lines that are asked: stored ones and random ones |
+| `atoms`, `memory_rows` | the same of numbers, names, command lines and memories |
+| `random_calls` | random calls, as rows of `crates/vectors` |
 | `stored` | the files in which these are kept |
-| `programs`, `damaged` | programs beside the models: on random calls, and on inputs that are cut or changed |
+| `damaged` | the program beside the models, on inputs that are cut or changed |
 
-One module serves all that need a rule. What finds faults is that the models and the program were written apart; two models of one
-rule would have one author and would err alike.
+One module serves all that need a rule. What finds faults is that the models and the program were written apart; two
+models of one rule would have one author and would err alike.
 """

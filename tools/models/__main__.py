@@ -1,8 +1,9 @@
 """Answers of the models.
 
-usage: python3 -m tools.models check [FILE ..]        whether the stored answers are the models': of all files, or of these
-       python3 -m tools.models write [FILE ..]        writes the stored inputs and answers anew
-       python3 -m tools.models random NAME N [SEED]   prints N random inputs: NAME is vectors, steps, requests or layouts
+usage: python3 -m tools.models check [FILE ..]        whether the stored answers are the models', of all files or of these
+       python3 -m tools.models write [FILE ..]        writes the stored answers anew
+       python3 -m tools.models random vectors N [SEED]
+                                                      prints N random calls, as rows of crates/vectors
        python3 -m tools.models answer NAME            answers the lines of standard input: NAME is vectors or rows
        python3 -m tools.models JOB FILE ..            prints what JOB (show, layout, text, bin) makes of these files
        python3 -m tools.models compare PROGRAM N [SEED]
@@ -10,20 +11,18 @@ usage: python3 -m tools.models check [FILE ..]        whether the stored answers
        python3 -m tools.models damaged PROGRAM N [SEED]
                                                       gives N cut or changed inputs of rows to the program, and compares
 
-FILE is a file that holds answers, or the folder of a crate that has such. The exit status is 1 if something differs, and 2 if the words are
-none of these.
+FILE is a file that holds answers, or the folder of a crate that has such. The exit status is 1 if something differs,
+and 2 if the words are none of these.
 """
 import pathlib
 import sys
 
-from . import damaged, programs, stored, text_rows
-from .cases import calls, layouts, requests, steps
+from . import damaged, random_calls, stored, text_rows, vectors
 from .faults import NotModelled, Refused
 from .jobs import JOBS
 from .opening import opened
 
-RANDOM = {"vectors": calls.lines, "steps": steps.lines, "requests": requests.lines, "layouts": layouts.lines}
-ANSWERS = {"rows": lambda lines: text_rows.answers(lines, pathlib.Path()), **{name: run.answers for name, run in stored.RUNS.items()}}
+ANSWERS = {"rows": lambda lines: text_rows.answers(lines, pathlib.Path()), "vectors": vectors.answers}
 
 
 def print_lines(lines):
@@ -31,11 +30,6 @@ def print_lines(lines):
     for line in lines:
         print(line)
     return True
-
-
-def random_lines(name, count, *seed):
-    """Random inputs."""
-    return print_lines(RANDOM[name](int(count), *seed))
 
 
 def answer(name):
@@ -54,14 +48,14 @@ def done(command, words):
         return stored.check(words)
     if command == "write":
         return stored.write(words)
-    if command == "random" and len(words) in (2, 3) and words[0] in RANDOM:
-        return random_lines(*words)
+    if command == "random" and len(words) in (2, 3) and words[0] == "vectors":
+        return print_lines(random_calls.lines(int(words[1]), *words[2:]))
     if command == "answer" and len(words) == 1 and words[0] in ANSWERS:
         return answer(*words)
     if command in JOBS and words:
         return job(command, words)
     if command == "compare" and len(words) in (2, 3):
-        return programs.compare(words[0], calls.lines(int(words[1]), *words[2:]))
+        return vectors.compare(words[0], random_calls.lines(int(words[1]), *words[2:]))
     if command == "damaged" and len(words) in (2, 3):
         return damaged.compare(words[0], stored.TEXT_ROWS, int(words[1]), *words[2:])
     return None

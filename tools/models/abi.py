@@ -1,7 +1,7 @@
 """The Canonical ABI's types, with their layouts, flat kinds and core signatures.
 
-Types are closed: names are unfolded, a tuple is a record without labels, and an enum, an option and a result are variants. Lists of flat kinds
-are cut after the seventeenth, which is enough to tell that they are more than sixteen.
+Types are closed: names are unfolded, a tuple is a record without labels, and an enum, an option and a result are
+variants. Lists of flat kinds are cut after the seventeenth, which is enough to tell that they are more than sixteen.
 """
 from dataclasses import dataclass
 from functools import cached_property

@@ -2,7 +2,6 @@
 import json
 
 from . import component, printing, reading, tokens
-from .faults import Refused
 
 USAGE = "usage: witcall show|bin|text|layout FILE, or call FILE IFACE FUNC ARGS REPLY"
 CALL = ("file", "interface", "function", "arguments", "reply")
@@ -77,11 +76,3 @@ COMMANDS = {
     "print": lambda text: printed(reading.read(text.encode())),
     "words": words_row,
 }
-
-
-def answer(command, rest):
-    """The answer to a command."""
-    try:
-        return COMMANDS[command](rest)
-    except Refused as refused:
-        return str(refused)

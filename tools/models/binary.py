@@ -2,10 +2,11 @@
 from dataclasses import replace
 
 from . import wit
-from .component import index_number, number
+from .component import Reader, index_number, number
 from .wit import Built, Name, PackageName, Path, Primitive
 
-OPCODES = {"bool": 0x7F, "s8": 0x7E, "u8": 0x7D, "s16": 0x7C, "u16": 0x7B, "s32": 0x7A, "u32": 0x79, "s64": 0x78, "u64": 0x77}
+OPCODES = {"bool": 0x7F, "s8": 0x7E, "u8": 0x7D, "s16": 0x7C, "u16": 0x7B, "s32": 0x7A, "u32": 0x79, "s64": 0x78,
+           "u64": 0x77}
 OPCODES.update({"char": 0x74, "string": 0x73})
 WORDS = {code: word for word, code in OPCODES.items()}
 RECORD, VARIANT, LIST, TUPLE, FLAGS, ENUM, OPTION, RESULT = 0x72, 0x71, 0x70, 0x6F, 0x6E, 0x6D, 0x6B, 0x6A
@@ -88,7 +89,8 @@ class Scope:
         if typedef.kind == "record":
             return bytes([RECORD]) + vector([label(name) + self.value_type(ty) for name, ty in typedef.members])
         if typedef.kind == "variant":
-            return bytes([VARIANT]) + vector([label(name) + self.optional(ty) + b"\x00" for name, ty in typedef.members])
+            return bytes([VARIANT]) + vector([label(name) + self.optional(ty) + b"\x00"
+                                              for name, ty in typedef.members])
         return bytes([ENUM if typedef.kind == "enum" else FLAGS]) + vector([label(name) for name, _ in typedef.members])
 
     def exports_function(self, direction, function):
@@ -127,7 +129,8 @@ class Writer:
         aliases = []
         for use in interface.uses:
             there, used = self.packages.find(package, use.path)
-            aliases.append(self.scope.takes_type(b"\x02\x03\x00", number(self.instances[there, used.name]), label(use.name)))
+            aliases.append(self.scope.takes_type(b"\x02\x03\x00", number(self.instances[there, used.name]),
+                                                 label(use.name)))
         key = package, interface.name
         self.types[key] = self.scope.takes_type(bytes([TYPE]), instance_type(interface, aliases))
         self.instances[key] = len(self.instances)
@@ -175,7 +178,8 @@ def split_name(full):
 
 
 class Again(str):
-    """A name that its scope has before, and that is another one all the same: the bytes tell them apart by their indices."""
+    """A name that its scope has before, and that is another one all the same: the bytes tell them apart by their
+    indices."""
 
     def __eq__(self, other):
         return self is other
@@ -186,42 +190,18 @@ class Again(str):
     __hash__ = object.__hash__
 
 
-class Bytes:
-    """Bytes that are read from the left."""
+class Bytes(Reader):
+    """The bytes of a component that was read before, in its shortest spelling."""
 
-    def __init__(self, data):
-        self.data, self.at = data, 0
-
-    def byte(self):
-        """The next byte."""
-        self.at += 1
-        return self.data[self.at - 1]
-
-    def bytes(self, *wanted):
+    def passes(self, *wanted):
         """Passes these bytes."""
         for byte in wanted:
             if self.byte() != byte:
                 raise ValueError(f"byte {self.at - 1} is not {byte:02x}")
 
-    def number(self):
-        """A number."""
-        byte = self.byte()
-        return byte if byte < 0x80 else byte - 0x80 + (self.number() << 7)
-
-    def label(self):
-        """A name, with its length before it."""
-        length = self.number()
-        self.at += length
-        return self.data[self.at - length : self.at].decode()
-
-    def extern(self):
-        """The name of an import or an export."""
-        self.bytes(0)
-        return self.label()
-
-    def several(self, item):
+    def listed(self, item):
         """A count, and what so many items are."""
-        return tuple(item() for _ in range(self.number()))
+        return tuple(item() for _ in range(self.u32()))
 
 
 class InstanceReader:
@@ -236,7 +216,7 @@ class InstanceReader:
         """A type inside a definition."""
         if self.data.data[self.data.at] in WORDS:
             return Primitive(WORDS[self.data.byte()])
-        return self.types[self.data.number()]
+        return self.types[self.data.u32()]
 
     def optional(self):
         """A type, or none."""
@@ -249,7 +229,7 @@ class InstanceReader:
     def case(self):
         """A label with a type or none."""
         name, payload = self.data.label(), self.optional()
-        self.data.bytes(0)
+        self.data.passes(0)
         return name, payload
 
     def plain(self):
@@ -259,14 +239,15 @@ class InstanceReader:
     def definition(self):
         """A type, or what a named type is but for its name, or a function's parameters and result."""
         code = self.data.byte()
-        named = {RECORD: ("record", self.field), VARIANT: ("variant", self.case), ENUM: ("enum", self.plain), FLAGS: ("flags", self.plain)}
+        named = {RECORD: ("record", self.field), VARIANT: ("variant", self.case), ENUM: ("enum", self.plain),
+                 FLAGS: ("flags", self.plain)}
         if code in WORDS:
             return Primitive(WORDS[code])
         if code in named:
             kind, member = named[code]
-            return kind, self.data.several(member)
+            return kind, self.data.listed(member)
         if code == TUPLE:
-            return Built("tuple", self.data.several(self.value_type))
+            return Built("tuple", self.data.listed(self.value_type))
         if code == RESULT:
             return Built("result", (self.optional(), self.optional()))
         if code == FUNCTION:
@@ -275,10 +256,10 @@ class InstanceReader:
 
     def function(self):
         """A function's parameters and result."""
-        parameters = self.data.several(self.field)
+        parameters = self.data.listed(self.field)
         if self.data.byte() == 0:
             return parameters, self.value_type()
-        self.data.bytes(0)
+        self.data.passes(0)
         return parameters, None
 
     def declaration(self):
@@ -287,20 +268,20 @@ class InstanceReader:
         if begin == TYPE:
             self.types.append(self.definition())
         elif begin == ALIAS:
-            self.data.bytes(3, 2, 1)
-            self.types.append(self.used[self.data.number()])
+            self.data.passes(3, 2, 1)
+            self.types.append(self.used[self.data.u32()])
         else:
-            self.export(self.data.extern())
+            self.named(begin, self.data.extern_name())
 
-    def export(self, name):
+    def named(self, _begin, name):
         """What is exported under this name."""
         if self.data.byte() == 1:
-            self.functions.append(wit.Function(name, *self.types[self.data.number()]))
+            self.functions.append(wit.Function(name, *self.types[self.data.u32()]))
             return
-        self.data.bytes(0)
+        self.data.passes(0)
         name = Again(name) if name in self.names else name
         self.names.add(name)
-        self.typed(name, self.types[self.data.number()])
+        self.typed(name, self.types[self.data.u32()])
         self.types.append(Name(name))
 
     def typed(self, name, ty):
@@ -315,35 +296,25 @@ class InstanceReader:
 
     def interface(self, name):
         """The interface that the declarations are."""
-        self.data.several(self.declaration)
+        self.data.listed(self.declaration)
         return wit.Interface(name, tuple(self.uses), tuple(self.typedefs), tuple(self.functions))
 
 
 class WorldReader(InstanceReader):
-    """Reads the declarations of a world's component type; `used` has the packages and names of the interfaces, by the indices of their types."""
+    """Reads the declarations of a world's component type; `used` has the packages and names of the interfaces, by the
+    indices of their types."""
 
     def __init__(self, data, used):
         super().__init__(data, used)
         self.items = []
 
-    def declaration(self):
-        """One declaration."""
-        begin = self.data.byte()
-        if begin == TYPE:
-            self.types.append(self.definition())
-        elif begin == ALIAS:
-            self.data.bytes(3, 2, 1)
-            self.types.append(self.used[self.data.number()])
-        else:
-            self.item("import" if begin == IMPORT else "export", self.data.extern())
-
-    def item(self, direction, name):
+    def named(self, begin, name):
         """An item of the world."""
         is_function = self.data.byte() == 1
-        index = self.data.number()
+        index = self.data.u32()
         function = wit.Function(name, *self.types[index]) if is_function else None
         path = None if is_function else self.path(name, self.types[index])
-        self.items.append(wit.WorldItem(direction, path, function))
+        self.items.append(wit.WorldItem("import" if begin == IMPORT else "export", path, function))
 
     def path(self, name, there):
         """The path of an interface of this full name, which is the one there."""
@@ -354,7 +325,7 @@ class WorldReader(InstanceReader):
 
     def world(self, name):
         """The world that the declarations are."""
-        self.data.several(self.declaration)
+        self.data.listed(self.declaration)
         return wit.World(name, tuple(self.items))
 
 
@@ -373,13 +344,13 @@ class PackageReader:
         """One declaration."""
         begin = self.data.byte()
         if begin == ALIAS:
-            self.data.bytes(3, 0)
-            path = Path(*self.instances[self.data.number()])
+            self.data.passes(3, 0)
+            path = Path(*self.instances[self.data.u32()])
             self.types.append(wit.Use(path, self.data.label(), None))
         elif begin == TYPE:
             self.types.append(self.definition(self.data.byte()))
         else:
-            self.named(begin, *split_name(self.data.extern()))
+            self.named(begin, *split_name(self.data.extern_name()))
 
     def definition(self, code):
         """An instance type, or a world's component type, whose name comes later."""
@@ -390,7 +361,7 @@ class PackageReader:
     def named(self, direction, package, name):
         """An import or export of an interface, or the export of a world."""
         self.data.byte()
-        index = self.data.number()
+        index = self.data.u32()
         item = self.types[index]
         if isinstance(item, wit.Interface):
             name = Again(name) if (package, name) in self.instances else name
@@ -404,7 +375,7 @@ class PackageReader:
 
     def package(self):
         """The package, and its imports: each the name of a package and an interface."""
-        self.data.several(self.declaration)
+        self.data.listed(self.declaration)
         items = tuple(item.with_paths(lambda path: path.own(self.name)) for item in self.items)
         return wit.Package(self.name, items), self.imports
 
@@ -412,7 +383,7 @@ class PackageReader:
 def read(data):
     """The package of a binary that has the layout of packages and the shortest spelling, and its imports."""
     source = Bytes(data)
-    source.bytes(*PREAMBLE, SECTION_TYPE)
-    source.number()
-    source.bytes(1, COMPONENT)
+    source.passes(*PREAMBLE, SECTION_TYPE)
+    source.u32()
+    source.passes(1, COMPONENT)
     return PackageReader(source).package()

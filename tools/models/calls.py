@@ -1,4 +1,5 @@
-"""Calls over two memories by core values, and the lines of JSON in which crates/vectors has them (docs/FORMATS.md, "Call rows")."""
+"""Calls over two memories by core values, and the lines of JSON in which crates/vectors has them (docs/FORMATS.md,
+"Call rows")."""
 import json
 
 from .crossing import Flat, Stored, Way
@@ -8,7 +9,8 @@ from .opening import opened
 
 
 class Link:
-    """A function of a callee for a caller. A core value is a pair of its kind and an unsigned number; `nodes` has those of both ways."""
+    """A function of a callee for a caller. A core value is a pair of its kind and an unsigned number; `nodes` has those
+    of both ways."""
 
     def __init__(self, function, caller, callee):
         self.function, self.caller, self.callee = function, caller, callee
@@ -35,14 +37,16 @@ class Link:
         if self.function.is_spilled:
             self.caller.test(params.align, params.size, numbers[0], "lift-args")
             at = self.callee.grant(params.align, params.size, "lower-args")
-            way.cross_fields(params, Stored(self.caller, numbers[0], "lift-args"), Stored(self.callee, at, "lower-args"))
+            way.cross_fields(params, Stored(self.caller, numbers[0], "lift-args"),
+                             Stored(self.callee, at, "lower-args"))
             return [("i32", at)]
         into = [0] * len(params.kinds)
         way.cross_fields(params, Flat(self.caller, numbers, 0, "lift-args"), Flat(self.callee, into, 0, "lower-args"))
         return list(zip(params.kinds, into))
 
     def results(self, numbers, given):
-        """The caller's core values, of those that the body answered; an area for the result is the last that was given."""
+        """The caller's core values, of those that the body answered; an area for the result is the last that was
+        given."""
         t, way = self.function.result, self.ways[1]
         if self.function.has_area:
             self.callee.test(t.align, t.size, numbers[0], "lift-result")
@@ -113,7 +117,8 @@ def of_side(call, key, side):
 
 
 def allocator_of(call, side, length):
-    """The allocator of a side: it gives the answers of a script, or grants blocks from a top on, or the lowest free ones."""
+    """The allocator of a side: it gives the answers of a script, or grants blocks from a top on, or the lowest free
+    ones."""
     script, most = of_side(call, "script", side), of_side(call, "max", side)
     if script is not None:
         return Scripted(length, script)
@@ -138,9 +143,11 @@ def package_of(call):
 
 
 def memories_told(caller, callee, are_cut):
-    """The bytes of both memories and the requests to their allocators; zeros at the end are left out if the row says lengths."""
+    """The bytes of both memories and the requests to their allocators; zeros at the end are left out if the row says
+    lengths."""
     front, behind = (bytes(memory.bytes).rstrip(b"\0") if are_cut else memory.bytes for memory in (caller, callee))
-    return {"caller_after": front.hex(), "callee_after": behind.hex(), "caller_log": caller.log, "callee_log": callee.log}
+    return {"caller_after": front.hex(), "callee_after": behind.hex(), "caller_log": caller.log,
+            "callee_log": callee.log}
 
 
 def outcome_of(link, flats, body):

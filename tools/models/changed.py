@@ -3,16 +3,33 @@
 Answers are counted: those of no error, and those of each error by its number.
 """
 import collections
+import concurrent.futures
 import functools
+import os
 
 from . import component
 from .faults import Refused
 from .jobs import JOBS
 from .opening import begun, opened_behind
-from .parallel import each
 
 # the bytes that tell a binary from a text
 MARK_BYTES = 4
+# fewer inputs are answered by this process
+FEW = 48
+
+
+@functools.cache
+def pool():
+    """The processes that answer."""
+    return concurrent.futures.ProcessPoolExecutor(os.cpu_count())
+
+
+def each(answer, numbers):
+    """The answers to numbers, in their order. The function and its answers have to be such as can be sent to a
+    process."""
+    if len(numbers) < FEW:
+        return map(answer, numbers)
+    return pool().map(answer, numbers, chunksize=8)
 
 
 @functools.lru_cache(maxsize=1)
@@ -75,7 +92,8 @@ def cuts(inputs):
 def fronts(inputs):
     """How often each answer comes of the fronts of the last input, and what the whole answers."""
     lines = front_lines(inputs)
-    return f"{len(lines)} fronts: {counts_of(map(number_of, lines), 'opened')}; the whole: {line_of(inputs[:-1], inputs[-1])}"
+    counts = counts_of(map(number_of, lines), "opened")
+    return f"{len(lines)} fronts: {counts}; the whole: {line_of(inputs[:-1], inputs[-1])}"
 
 
 def cut_line(length):
@@ -94,10 +112,12 @@ def told_as_cut(lines):
 
 
 def binary_fronts(inputs):
-    """How many fronts of a binary are told as cut, decoded and opened, and how often each answer comes of those that are opened."""
+    """How many fronts of a binary are told as cut, decoded and opened, and how often each answer comes of those that
+    are opened."""
     lines = front_lines(inputs)
     pairs = zip(decoded_fronts(inputs[-1]), lines)
-    both = [decoded if place < MARK_BYTES or decoded == line else "another" for place, (decoded, line) in enumerate(pairs)]
+    both = [decoded if place < MARK_BYTES or decoded == line else "another"
+            for place, (decoded, line) in enumerate(pairs)]
     return f"{len(lines)} fronts, {told_as_cut(both)} told as cut: {counts_of(map(number_of, lines), 'opened')}"
 
 
@@ -110,7 +130,8 @@ def changed(data, place):
 
 
 def kept_number(earlier, data):
-    """The number of the error that a set is refused with, or 0 for a package, which has to be written and opened as itself."""
+    """The number of the error that a set is refused with, or 0 for a package, which has to be written and opened as
+    itself."""
     try:
         written = JOBS["bin"](behind(earlier, data))
     except Refused as refused:
@@ -131,7 +152,8 @@ def decoded_at(data, place):
 
 
 def changes(inputs):
-    """What the fronts of a binary answer, and how often each answer comes of its changes behind the first four bytes."""
+    """What the fronts of a binary answer, and how often each answer comes of its changes behind the first four
+    bytes."""
     *earlier, data = inputs
     places = range(MARK_BYTES, len(data))
     counts = sum(each(functools.partial(numbers_at, earlier, data), places), collections.Counter())

@@ -1,4 +1,5 @@
-"""Component type binaries, as docs/FORMATS.md has them ("Component type binary"): what reading one answers, with each fault at its place."""
+"""Component type binaries, as docs/FORMATS.md has them ("Component type binary"): what reading one answers, with each
+fault at its place."""
 import re
 
 from .faults import Refused
@@ -6,6 +7,8 @@ from .faults import Refused
 MOST_BYTES, MOST_CASES, MOST_LABELS, MOST_NESTED, MOST_ENTRIES = 1_048_576, 100_000, 32, 4, 65_535
 PREAMBLE = b"\0asm\x0d\0\1\0"
 PRIMITIVES = (0x7F, 0x7E, 0x7D, 0x7C, 0x7B, 0x7A, 0x79, 0x78, 0x77, 0x74, 0x73)
+# the types of components and of instances
+SCOPES = (0x41, 0x42)
 UNSUPPORTED = {0x76: "float", 0x75: "float", 0x69: "resource", 0x68: "resource"}
 WORDS = r"([a-z][a-z0-9]*|[A-Z][A-Z0-9]*)"
 LABEL = re.compile(rf"{WORDS}(-{WORDS})*")
@@ -61,13 +64,26 @@ class Reader:
         # the same component in its shortest spelling, without custom sections
         self.out = bytearray()
         self.scopes = [Scope(True)]
+        # what stands behind the byte that begins a type
+        self.bodies = {
+            0x72: lambda: self.several(self.count(1), self.label, self.valtype),
+            0x71: lambda: self.several(self.count(1, MOST_CASES), self.label, self.optional, lambda: self.one_of(0)),
+            0x70: self.valtype,
+            0x6F: lambda: self.several(self.count(1), self.valtype),
+            0x6E: lambda: self.several(self.count(1, MOST_LABELS), self.label),
+            0x6D: lambda: self.several(self.count(1, MOST_CASES), self.label),
+            0x6B: self.valtype,
+            0x6A: lambda: self.several(2, self.optional),
+            0x40: self.function,
+        }
 
     def fault(self, words, at):
         """Refuses."""
         raise Refused(f"{words} at {at}")
 
     def missing(self):
-        """Refuses since no byte is left. Behind a section's end it is missing there, if the input has all of the section."""
+        """Refuses since no byte is left. Behind a section's end it is missing there, if the input has all of the
+        section."""
         if self.end is not None and self.end <= len(self.data):
             self.fault("18 size mismatch", self.end)
         self.fault("11 truncated", len(self.data))
@@ -139,22 +155,23 @@ class Reader:
     def name(self, is_right):
         """A name that is right."""
         start, length = self.at, self.u32()
-        text = self.bytes(length)
+        data = self.bytes(length)
         try:
-            right = is_right(text.decode())
+            text = data.decode()
         except UnicodeDecodeError:
-            right = False
-        if not right:
+            text = None
+        if text is None or not is_right(text):
             self.fault("22 bad name", start)
+        return text
 
     def label(self):
         """A label."""
-        self.name(is_label)
+        return self.name(is_label)
 
     def extern_name(self):
         """The name of an import or an export."""
         self.one_of(0)
-        self.name(lambda text: is_label(text) or is_full_name(text))
+        return self.name(lambda text: is_label(text) or is_full_name(text))
 
     def index(self, number, of, at):
         """Refuses an index that a space doesn't have."""
@@ -191,40 +208,18 @@ class Reader:
             self.fault("17 limit", at)
         return count
 
-    def fields(self, least):
-        """Labels with types."""
-        for _ in range(self.count(least)):
-            self.label()
-            self.valtype()
-
-    def cases(self):
-        """The cases of a variant."""
-        for _ in range(self.count(1, MOST_CASES)):
-            self.label()
-            self.optional()
-            self.one_of(0)
-
-    def labels(self, most):
-        """Labels alone."""
-        for _ in range(self.count(1, most)):
-            self.label()
+    def several(self, count, *parts):
+        """So many items of these parts."""
+        for _ in range(count):
+            for part in parts:
+                part()
 
     def function(self):
         """The parameters and the result of a function."""
-        self.fields(0)
+        self.several(self.count(0), self.label, self.valtype)
         if self.one_of(0, 1):
             self.one_of(0)
         else:
-            self.valtype()
-
-    def results(self):
-        """The payloads of a result."""
-        self.optional()
-        self.optional()
-
-    def tuple(self):
-        """The types of a tuple."""
-        for _ in range(self.count(1)):
             self.valtype()
 
     def entry(self, at):
@@ -238,14 +233,13 @@ class Reader:
         at, byte = self.at, self.byte()
         if byte in UNSUPPORTED:
             self.fault(f"14 unsupported {UNSUPPORTED[byte]}", at)
-        bodies = {0x72: lambda: self.fields(1), 0x71: self.cases, 0x70: self.valtype, 0x6F: self.tuple, 0x6E: lambda: self.labels(MOST_LABELS)}
-        bodies |= {0x6D: lambda: self.labels(MOST_CASES), 0x6B: self.valtype, 0x6A: self.results, 0x40: self.function}
-        bodies |= {0x41: lambda: self.scope(at, True), 0x42: lambda: self.scope(at, False)}
-        if byte not in bodies and byte not in PRIMITIVES:
+        if byte not in self.bodies and byte not in (*SCOPES, *PRIMITIVES):
             self.unknown(at)
         self.entry(at)
-        if byte in bodies:
-            bodies[byte]()
+        if byte in SCOPES:
+            self.scope(at, byte == SCOPES[0])
+        elif byte in self.bodies:
+            self.bodies[byte]()
         self.scopes[-1].types += 1
 
     def scope(self, at, is_component):
@@ -370,27 +364,18 @@ def answer(data):
 # ---- rows
 
 
-def decode_row(digits):
-    """What decoding answers."""
-    return answer(bytes.fromhex(digits))
-
-
-def encode_row(digits):
-    """The bytes of the component, behind two that are there before."""
-    return "aabb" + canonical(bytes.fromhex(digits)).hex()
-
-
 def failing_row(arguments):
     """What decoding answers if the input fails behind so many bytes."""
     length, digits = arguments.split(" ")
-    return f"error 20 read at {length}" if int(length) <= len(digits) // 2 else decode_row(digits)
-
-
-def endless_row(_):
-    """What decoding answers of zeros without an end."""
-    return answer(bytes(MOST_BYTES + 1))
+    return f"error 20 read at {length}" if int(length) <= len(digits) // 2 else answer(bytes.fromhex(digits))
 
 
 COMMANDS = {
-    "decode": decode_row, "drip": decode_row, "encode": encode_row, "failing": failing_row, "endless": endless_row,
+    "decode": lambda digits: answer(bytes.fromhex(digits)),
+    "drip": lambda digits: answer(bytes.fromhex(digits)),
+    # behind two bytes that are there before
+    "encode": lambda digits: "aabb" + canonical(bytes.fromhex(digits)).hex(),
+    "failing": failing_row,
+    # zeros without an end
+    "endless": lambda _: answer(bytes(MOST_BYTES + 1)),
 }

@@ -1,7 +1,8 @@
-"""Values from one place to another, node by node, outer before inner: a place is a memory's, a list of flat values' or a value's.
+"""Values from one place to another, node by node, outer before inner: a place is a memory's, a list of flat values' or
+a value's.
 
-Between places a number is its bits, unsigned, in as many bytes as its type has. A value is a bool, a number, a text (of a char or a string), a
-list, a tuple of fields, the bits of flags, or the number of a case with a payload or None.
+Between places a number is its bits, unsigned, in as many bytes as its type has. A value is a bool, a number, a text (of
+a char or a string), a list, a tuple of fields, the bits of flags, or the number of a case with a payload or None.
 """
 from .abi import Flags, List, Record, Scalar, String, Variant
 from .faults import Trap
@@ -63,7 +64,8 @@ class Place:
         return self.stored(t, at, count)
 
     def block(self, align, size):
-        """The address of a block for what is put here. For a typed value none of more bytes than the limit is asked for."""
+        """The address of a block for what is put here. For a typed value none of more bytes than the limit is asked
+        for."""
         if self.step in TYPED and size > MOST_BLOCK:
             raise Trap("K4 bounds", self.step)
         return self.memory.grant(align, size, self.step)
@@ -268,3 +270,26 @@ def value_at(t, place):
     made = Made()
     Way().cross(t, place, made)
     return made.value()
+
+
+# ---- what a function takes and gives, as core values beside a memory
+
+
+def lowered(function, arguments, memory, step):
+    """The core values of arguments that are put there."""
+    params = function.params
+    if function.is_spilled:
+        at = memory.grant(params.align, params.size, step)
+        Way().cross(params, Given(arguments), Stored(memory, at, step))
+        return [("i32", at)]
+    flats = [0] * len(params.kinds)
+    Way().cross_fields(params, Given(arguments), Flat(memory, flats, 0, step))
+    return list(zip(params.kinds, flats))
+
+
+def lifted(t, is_stored, numbers, memory, step):
+    """The value of this type that core values denote: one that is stored in the memory at the first of them, or a flat
+    one."""
+    if is_stored:
+        memory.test(t.align, t.size, numbers[0], step)
+    return value_at(t, Stored(memory, numbers[0], step) if is_stored else Flat(memory, numbers, 0, step))

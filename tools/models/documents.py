@@ -1,4 +1,5 @@
-"""A set of packages as one document (docs/package.schema.json): packages, interfaces, worlds and the rows of the table."""
+"""A set of packages as one document (docs/package.schema.json): packages, interfaces, worlds and the rows of the
+table."""
 from . import abi
 from .opening import opened
 from .wit import Built, Primitive

@@ -1,4 +1,5 @@
-"""Heads: what one value has of its own, without the values in it. Rows of crates/vectors read a head and write it (docs/FORMATS.md, "Rows of heads")."""
+"""Heads: what one value has of its own, without the values in it. Rows of crates/vectors read a head and write it
+(docs/FORMATS.md, "Rows of heads")."""
 from .abi import Flags, List, Record, Scalar, String, Variant
 from .calls import guests_of, memories_told, package_of
 from .crossing import SIGNED, Flat, Stored
@@ -15,7 +16,8 @@ def flats_of(t):
 
 
 def read(t, place):
-    """The head of the value at a place: an address and a count, the number of a case, or a number's bits. That of a record is None."""
+    """The head of the value at a place: an address and a count, the number of a case, or a number's bits. That of a
+    record is None."""
     if isinstance(t, Record):
         return None
     if isinstance(t, Variant):

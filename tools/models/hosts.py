@@ -1,42 +1,15 @@
-"""Values in a memory that a host keeps: the blocks that they ask for, how they are put there, and how they are read. Rows of crates/vectors say such
-steps (docs/FORMATS.md, "Rows of a host's memory")."""
+"""Values in a memory that a host keeps: the blocks that they ask for, how they are put there, and how they are read.
+Rows of crates/vectors say such steps (docs/FORMATS.md, "Rows of a host's memory")."""
 from . import json_values
 from .calls import guests_of, line_of, numbers_of, package_of
-from .crossing import Flat, Given, Stored, Way, value_at
+from .crossing import Given, Stored, Way, lifted, lowered
 from .faults import Refused, Trap
-from .memory import Bump, Memory
-from .sessions import Session, written
+from .memory import Bump, Lent, Memory, can_be_lent
+from .sessions import written
 
 # the most core values that a core function takes, and what a place for one has before any is put there
 MOST_VALUES = 17
 UNSET = ("i64", (1 << 64) - 1)
-
-
-class Lent:
-    """Gives blocks that were granted before, in turn: the next one if it has the alignment and the size that are asked for."""
-
-    def __init__(self, length, blocks):
-        self.length, self.blocks, self.given = length, blocks, 0
-
-    def alloc(self, align, size):
-        """The address of the next block, or None."""
-        left = self.blocks[self.given :]
-        if not left or left[0][:2] != [align, size]:
-            return None
-        self.given += 1
-        return left[0][2]
-
-
-def are_apart(one, other):
-    """Whether no byte is in both blocks."""
-    (_, size, at), (_, length, start) = one, other
-    return not size or not length or at + size <= start or start + length <= at
-
-
-def can_be_lent(blocks, length):
-    """Whether blocks are aligned, inside a memory of so many bytes, and apart."""
-    placed = all(align in (1, 2, 4, 8) and at % align == 0 and at + size <= length for align, size, at in blocks)
-    return placed and all(are_apart(block, other) for place, block in enumerate(blocks) for other in blocks[:place])
 
 
 def boundless():
@@ -47,7 +20,7 @@ def boundless():
 def argument_requests(function, values):
     """The alignments and sizes that arguments ask for, as they are found where each is granted."""
     memory = boundless()
-    Session(memory, None, None).lowered(function, values)
+    lowered(function, values, memory, "place")
     return [request[:2] for request in memory.log]
 
 
@@ -62,7 +35,7 @@ def result_requests(t, value, step="place"):
 def lowered_into(memory, function, values):
     """The core values of arguments that are put into the blocks of a memory that is lent."""
     try:
-        return Session(memory, None, None).lowered(function, values)
+        return lowered(function, values, memory, "place")
     except Trap as trap:
         given, blocks = memory.allocator.given, memory.allocator.blocks
         if trap.args[0] == "K6 full" and given < len(blocks):
@@ -75,11 +48,7 @@ def read(function, answer, memory, limit):
     numbers, result = numbers_of(answer, function.lifted[1], "lift-result"), function.result
     if result is None:
         return None
-    place = Flat(memory, numbers, 0, "lift-result")
-    if function.has_area:
-        memory.test(result.align, result.size, numbers[0], "lift-result")
-        place = Stored(memory, numbers[0], "lift-result")
-    value = value_at(result, place)
+    value = lifted(result, function.has_area, numbers, memory, "lift-result")
     if limit is not None and sum(size for _, size in result_requests(result, value, "lift-result")) > limit:
         raise Refused("76 above the limit")
     return value
@@ -127,7 +96,7 @@ class Host:
             values = self.values(arguments)
             if room < MOST_VALUES:
                 raise Refused(f"71 no room for {MOST_VALUES}")
-            if not can_be_lent(blocks, len(self.bytes)):
+            if not can_be_lent(len(self.bytes), blocks):
                 raise Refused("72 bad block")
             handed.extend(lowered_into(memory, self.function, values))
             return {"filled": len(handed)}

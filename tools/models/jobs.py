@@ -42,7 +42,8 @@ def layout(packages):
             lines.append(f"type {where} {name} size {closed.size} align {closed.align}")
         for function in interface.functions:
             closed = packages.closed_function(package, interface, function)
-            lines.append(f"func {where} {function.name} lift {signature(closed.lifted)} lower {signature(closed.lowered)}")
+            core = f"lift {signature(closed.lifted)} lower {signature(closed.lowered)}"
+            lines.append(f"func {where} {function.name} {core}")
     return lines
 
 

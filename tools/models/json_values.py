@@ -65,7 +65,8 @@ def plain(tree):
 def parsed(text):
     """The JSON value of a text."""
     try:
-        tree = json.loads(text, parse_int=whole, parse_float=fraction, parse_constant=bad_constant, object_pairs_hook=Pairs)
+        tree = json.loads(text, parse_int=whole, parse_float=fraction, parse_constant=bad_constant,
+                          object_pairs_hook=Pairs)
     except (ValueError, RecursionError):
         raise Refused(BAD_JSON) from None
     test_tree(tree)

@@ -1,4 +1,5 @@
-"""The layout rows of docs/FORMATS.md: what each definition of a package's table takes in memory and as flat values, and the work of the table."""
+"""The layout rows of docs/FORMATS.md: what each definition of a package's table takes in memory and as flat values, and
+the work of the table."""
 from . import abi
 from .jobs import signature
 from .opening import opened

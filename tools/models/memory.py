@@ -1,4 +1,6 @@
-"""Memories with their allocators: `Bump`, `FirstFit` and `Scripted`."""
+"""Memories with their allocators: `Bump`, `FirstFit`, `Scripted` and `Lent`."""
+import itertools
+
 from .abi import up
 from .faults import Trap
 
@@ -42,11 +44,43 @@ class Scripted:
         return next(self.answers, None)
 
 
+class Lent:
+    """Gives blocks that were granted before, in turn: the next one if it has the alignment and the size that are asked
+    for."""
+
+    def __init__(self, length, blocks):
+        self.length, self.blocks, self.given = length, blocks, 0
+
+    def free(self, _at, _size):
+        """Takes nothing back."""
+        return False
+
+    def alloc(self, align, size):
+        """The address of the next block, or None."""
+        left = self.blocks[self.given :]
+        if not left or left[0][:2] != [align, size]:
+            return None
+        self.given += 1
+        return left[0][2]
+
+
+def are_apart(one, other):
+    """Whether no byte is in both blocks, each an alignment, a size and an address."""
+    (_, size, at), (_, length, start) = one, other
+    return not size or not length or at + size <= start or start + length <= at
+
+
+def can_be_lent(length, blocks, place=(1, 0, 0)):
+    """Whether blocks are aligned, inside a memory of so many bytes, and meet neither one another nor a place."""
+    placed = all(align in (1, 2, 4, 8) and at % align == 0 and at + size <= length for align, size, at in blocks)
+    return length < 1 << 32 and placed and all(are_apart(*pair) for pair in itertools.combinations([place, *blocks], 2))
+
+
 class FirstFit:
     """Grants the lowest free block, and takes blocks back. It has a flag for each byte, which says whether it is live.
 
-    Blocks begin at multiples of 8 and take such many bytes; what is behind the last multiple of 8 is never used. It may grow by pages up to
-    `most`, where it has one.
+    Blocks begin at multiples of 8 and take such many bytes; what is behind the last multiple of 8 is never used. It may
+    grow by pages up to `most`, where it has one.
     """
 
     def __init__(self, length, most=None):
@@ -73,7 +107,8 @@ class FirstFit:
         return None
 
     def grown(self, size):
-        """The place of a block at the end, once there are as many pages as it takes; None where these would be too many."""
+        """The place of a block at the end, once there are as many pages as it takes; None where these would be too
+        many."""
         at = up(self.live.rfind(1) + 1, 8)
         length = up(at + size, PAGE)
         if self.most is None or length > self.most:

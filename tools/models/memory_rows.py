@@ -1,6 +1,6 @@
 """Rows of memories and of numbers with a tree of their maxima (docs/FORMATS.md, "Reading rows")."""
 from .faults import Refused
-from .memory import PAGE, Bump, FirstFit
+from .memory import PAGE, Bump, FirstFit, Lent, Scripted, can_be_lent
 
 MOST = 256 * PAGE
 
@@ -10,12 +10,17 @@ def numbers(words):
     return [int(word) for word in words.split()]
 
 
+def test_limit(length):
+    """Refuses a memory that is too long."""
+    if length > MOST:
+        raise Refused("53 memory limit")
+
+
 def made(kind, length, most=None):
     """A memory of a length, which grows if it has a most length."""
     if most is not None and (length % PAGE or most % PAGE or length > most):
         raise Refused("55 bad pages")
-    if max(length, most or 0) > MOST:
-        raise Refused("53 memory limit")
+    test_limit(max(length, most or 0))
     return kind(length, most=most)
 
 
@@ -42,36 +47,10 @@ def memory_row(kind, arguments):
     return in_turn(lambda words: request(memory, words), requests)
 
 
-class Lent:
-    """An array of bytes with blocks, each an alignment, a size and an address, which are handed out in turn to who asks for just them."""
-
-    def __init__(self, length, blocks):
-        self.length, self.blocks = length, blocks
-
-    def alloc(self, align, size):
-        """The address of the next block, or None."""
-        if not self.blocks or self.blocks[0][:2] != [align, size]:
-            return None
-        return self.blocks.pop(0)[2]
-
-    def free(self, _at, _size):
-        """Takes nothing back."""
-        return False
-
-
-def can_lend(length, place, blocks):
-    """Whether blocks are aligned, inside, and meet neither one another nor a place."""
-    if length >= 1 << 32 or any(align not in (1, 2, 4, 8) or at % align or at + size > length for align, size, at in blocks):
-        return False
-    ranges = [range(at, at + size) for _, size, at in (place, *blocks)]
-    taken = [byte for it in ranges for byte in it]
-    return len(taken) == len(set(taken))
-
-
 def lend_row(arguments):
     """Whether blocks can be lent beside the place that comes before them."""
     length, place, *blocks = arguments.split(", ")
-    return str(can_lend(int(length), numbers(place), [numbers(it) for it in blocks])).lower()
+    return str(can_be_lent(int(length), [numbers(it) for it in blocks], numbers(place))).lower()
 
 
 def lent_row(arguments):
@@ -82,27 +61,11 @@ def lent_row(arguments):
     return in_turn(lambda words: request(lent, words), requests)
 
 
-class Scripted:
-    """A memory of zeros whose allocator gives its answers in turn, whatever it is asked, and then refuses."""
-
-    def __init__(self, length, answers):
-        if length > MOST:
-            raise Refused("53 memory limit")
-        self.length, self.answers = length, answers
-
-    def alloc(self, _align, _size):
-        """The next answer, an address or None."""
-        return self.answers.pop(0) if self.answers else None
-
-    def free(self, _at, _size):
-        """Takes nothing back."""
-        return False
-
-
 def scripted_row(arguments):
     """What a memory with a script answers."""
     memory, requests = arguments.split("; ")
     length, answers = memory.split(", ")
+    test_limit(int(length))
     scripted = Scripted(int(length), [None if word == "full" else int(word) for word in answers.split()])
     return in_turn(lambda words: request(scripted, words), requests)
 
@@ -132,7 +95,7 @@ def tree_row(arguments):
     return in_turn(lambda words: tree_request(row, words), requests)
 
 
-ANSWERS = {
+COMMANDS = {
     "first-fit": lambda arguments: memory_row(FirstFit, arguments),
     "bump": lambda arguments: memory_row(Bump, arguments),
     "can-lend": lend_row,
@@ -140,14 +103,3 @@ ANSWERS = {
     "scripted": scripted_row,
     "maxima": tree_row,
 }
-
-
-def answer(command, arguments):
-    """The answer to a command, or the line of a refusal."""
-    try:
-        return ANSWERS[command](arguments)
-    except Refused as refused:
-        return str(refused)
-
-
-COMMANDS = {command: lambda arguments, command=command: answer(command, arguments) for command in ANSWERS}

@@ -85,7 +85,8 @@ def source_order(package):
 
 
 def unknown_names(package, names_of):
-    """The names that aren't there, in source order. `names_of` has the set of the types of a path's interface, or None."""
+    """The names that aren't there, in source order. `names_of` has the set of the types of a path's interface, or
+    None."""
     for item in package.items:
         is_interface = isinstance(item, Interface)
         own = set(owner_names(item)) if is_interface else set()

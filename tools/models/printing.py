@@ -41,12 +41,14 @@ def member_text(kind, label, ty):
 def function_text(function):
     """A function."""
     listed = ", ".join(member_text("record", *parameter) for parameter in function.parameters)
-    return f"{plain(function.name)}: func({listed})" + (f" -> {type_text(function.result)};" if function.result else ";")
+    return f"{plain(function.name)}: func({listed})" + (f" -> {type_text(function.result)};" if function.result
+                                                        else ";")
 
 
 def use_text(use):
     """A used name."""
-    return f"use {path_text(use.path)}.{{{plain(use.name)}{'' if use.name == use.local else ' as ' + plain(use.local)}}};"
+    local = "" if use.name == use.local else f" as {plain(use.local)}"
+    return f"use {path_text(use.path)}.{{{plain(use.name)}{local}}};"
 
 
 def typedef_lines(typedef):
@@ -65,13 +67,15 @@ def interface_lines(interface):
 
 def world_lines(world):
     """The lines of a world's items."""
-    return [f"{it.direction} " + (function_text(it.function) if it.function else path_text(it.path) + ";") for it in world.items]
+    return [f"{it.direction} " + (function_text(it.function) if it.function else path_text(it.path) + ";")
+            for it in world.items]
 
 
 def text_lines(package):
     """The lines of a package, whose interfaces and types stand in package order."""
     lines = [f"package {package_text(package.name)};"]
     for item in package.items:
-        word, items = ("interface", interface_lines(item)) if isinstance(item, Interface) else ("world", world_lines(item))
+        word, items = ("interface",
+                       interface_lines(item)) if isinstance(item, Interface) else ("world", world_lines(item))
         lines += ["", f"{word} {plain(item.name)} {{", *(f"  {line}" for line in items), "}"]
     return lines

@@ -1,4 +1,5 @@
-"""Rows whose input is one text (docs/FORMATS.md, "Layout rows" and "JSON rows"): layouts, JSON values, and calls with JSON."""
+"""Rows whose input is one text (docs/FORMATS.md, "Layout rows" and "JSON rows"): layouts, JSON values, and calls with
+JSON."""
 import re
 
 from . import json_values, layouts, sessions

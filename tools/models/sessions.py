@@ -1,9 +1,10 @@
-"""Sessions: typed values placed, read, released and passed by calls, and the rows of crates/vectors that are lists of such steps."""
+"""Sessions: typed values placed, read, released and passed by calls, and the rows of crates/vectors that are lists of
+such steps."""
 import json
 
 from . import calls, json_values
 from .calls import Acting, Link, guests_of, line_of, memories_told, package_of
-from .crossing import Flat, Given, Stored, Way, value_at
+from .crossing import Flat, Given, Stored, Way, lifted, lowered, value_at
 from .faults import Stopped, Trap
 from .memory import PAGE, FirstFit, Memory
 
@@ -32,31 +33,21 @@ class Session:
 
     def call(self, function, arguments):
         """The value of the result, or None."""
-        flats, result = self.lowered(function, arguments), function.result
+        flats, result = lowered(function, arguments, self.caller, "place"), function.result
         if function.has_area:
             flats.append(("i32", self.caller.grant(result.align, result.size, "place")))
         back = Link(function, self.caller, self.callee).call(flats, self.body)
         if result is None:
             return None
-        if function.has_area:
-            return self.read(result, flats[-1][1])
-        return value_at(result, Flat(self.caller, [number for _, number in back], 0, "take"))
-
-    def lowered(self, function, arguments):
-        """The caller's core values of arguments."""
-        params = function.params
-        if function.is_spilled:
-            return [("i32", self.place(params, arguments))]
-        flats = [0] * len(params.kinds)
-        Way().cross_fields(params, Given(arguments), Flat(self.caller, flats, 0, "place"))
-        return list(zip(params.kinds, flats))
+        numbers = [number for _, number in flats[-1:] if function.has_area] or [number for _, number in back]
+        return lifted(result, function.has_area, numbers, self.caller, "take")
 
 
 class Echo:
     """A body that answers what it is given.
 
-    It answers one core value as it is; two, which are an address and a length, in a block that it asks for; more not at all. Its post-return
-    stops at an answer that is 8 past a multiple of 16.
+    It answers one core value as it is; two, which are an address and a length, in a block that it asks for; more not at
+    all. Its post-return stops at an answer that is 8 past a multiple of 16.
     """
 
     def call(self, memory, flats):
@@ -103,7 +94,8 @@ class Reply:
 
 
 def called(function, arguments, reply):
-    """What the program prints for a call with this JSON, without its newline: the result, or nothing where there is none."""
+    """What the program prints for a call with this JSON, without its newline: the result, or nothing where there is
+    none."""
     body = Reply(function, json_values.reply(function, reply))
     values = json_values.arguments(function, arguments)
     caller, callee = (Memory(FirstFit(PAGE, MOST_MEMORY)) for _ in range(2))
@@ -115,7 +107,8 @@ def called(function, arguments, reply):
 
 
 class Steps:
-    """The steps of a row over its package and its memories. `held` has for each step so far the type and the address of what it placed, or None."""
+    """The steps of a row over its package and its memories. `held` has for each step so far the type and the address of
+    what it placed, or None."""
 
     def __init__(self, row):
         self.row, self.package = row, package_of(row)
@@ -163,7 +156,8 @@ class Steps:
     def call(self, name, json_values_given):
         """Calls a function."""
         function = self.function(name)
-        given = tuple(json_values.read(t, line_of(value)) for t, value in zip(function.params.fields, json_values_given))
+        given = tuple(json_values.read(t, line_of(value))
+                      for t, value in zip(function.params.fields, json_values_given))
         result = self.session.call(function, given)
         return "done" if function.result is None else {"answered": written(function.result, result)}
 

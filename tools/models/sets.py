@@ -1,4 +1,5 @@
-"""Sets of packages, each of which uses only interfaces of those before it: their order, their interfaces, and their types, closed."""
+"""Sets of packages, each of which uses only interfaces of those before it: their order, their interfaces, and their
+types, closed."""
 from dataclasses import replace
 
 from . import abi
@@ -97,7 +98,8 @@ class Set:
         for number, package in enumerate(self.packages):
             for interface in package.interfaces:
                 if package.name.full(interface.name) == full_name:
-                    return {function.name: self.closed_function(number, interface, function) for function in interface.functions}
+                    return {function.name: self.closed_function(number, interface, function)
+                            for function in interface.functions}
         return {}
 
     def function(self, full_name, name):
@@ -120,7 +122,8 @@ class Set:
             return abi.List(parts[0])
         if ty.word == "tuple":
             return abi.Record(parts)
-        return abi.Variant((None, *parts), ("none", "some")) if ty.word == "option" else abi.Variant(parts, ("ok", "error"))
+        return abi.Variant((None, *parts),
+                           ("none", "some")) if ty.word == "option" else abi.Variant(parts, ("ok", "error"))
 
     def closed_name(self, package, interface, name):
         """A named type of an interface, closed; the same object each time."""

@@ -1,4 +1,5 @@
-"""The table of a package: its definitions in order, with those of types without a name, and the work of laying it out."""
+"""The table of a package: its definitions in order, with those of types without a name, and the work of laying it
+out."""
 from dataclasses import dataclass
 
 from . import abi, wit
@@ -8,10 +9,11 @@ from .wit import Built, Name
 
 @dataclass(frozen=True)
 class Definition:
-    """A row of a package's table: the name of its interface or world and its own, both None of a type without a name; and what it is.
+    """A row of a package's table: the name of its interface or world and its own, both None of a type without a name;
+    and what it is.
 
-    `closed` is a closed type, or a function of closed types; `members` counts the types that stand directly in it, and `entries` the type
-    indices that it takes in a binary.
+    `closed` is a closed type, or a function of closed types; `members` counts the types that stand directly in it, and
+    `entries` the type indices that it takes in a binary.
     """
 
     owner: object
@@ -112,7 +114,8 @@ class Rows:
 
     def named(self, name, **counts):
         """The row of a named type."""
-        return Definition(self.interface.name, name, self.packages.closed_name(self.package, self.interface, name), **counts)
+        return Definition(self.interface.name, name, self.packages.closed_name(self.package, self.interface, name),
+                          **counts)
 
     def typedef(self, typedef):
         """The row of a type, and those of the types in it."""

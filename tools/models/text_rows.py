@@ -1,10 +1,11 @@
-"""Text rows, which are of texts, binaries and sets of packages (docs/FORMATS.md, "Text rows").
+"""Rows of texts, binaries and sets of packages, and of what is read alone (docs/FORMATS.md, "Text rows", "Reading
+rows").
 
 NOT_COMPUTED has the rows that keep their answer.
 """
 import re
 
-from . import changed, reading, rows, sessions
+from . import atoms, changed, component, memory_rows, reading, rows, sessions
 from .faults import Refused, Trap
 from .jobs import JOBS
 from .opening import opened
@@ -12,6 +13,8 @@ from .tables import function_number, set_rows, work
 
 TOKEN = re.compile(r'"([^"]*)"|([^\s",]+)|(,)')
 STATUS = {Trap: " (3)"}
+# the commands whose answer is one line, of what stands behind them
+ALONE = {**atoms.COMMANDS, **component.COMMANDS, **changed.COMMANDS, **memory_rows.COMMANDS}
 CHANGED = {"fronts": changed.fronts, "changes": changed.changes}
 # opening a package of so many bytes again takes minutes
 NOT_COMPUTED = ("entries-65535-again",)
@@ -125,13 +128,15 @@ def answer_to(command, inputs):
 
 def answer(kept, asked):
     """The lines of the answer to a row, and whether they are one line by its command."""
-    command, rest = asked.split(" ", 1)
+    command, _, rest = asked.partition(" ")
     if command in rows.COMMANDS:
         return [rows.answer(command, rest)], True
     words = []
     if command in NAMING:
         *words, rest = rest.split(" ", NAMING[command])
     try:
+        if command in ALONE:
+            return [ALONE[command](rest)], True
         if command in ("streamed", "short-call"):
             return [stream_answer(kept, command, rest)], True
         inputs = kept.of(rest)
@@ -176,11 +181,6 @@ def known(kept, row):
     if name in NOT_COMPUTED:
         return row
     return spelled(front, *answer(kept, asked))
-
-
-def not_computed(lines):
-    """The names of the rows that keep their answer."""
-    return [name for name in (line.split(": ", 1)[0] for line in lines if is_row(line)) if name in NOT_COMPUTED]
 
 
 def answers(lines, folder):

@@ -28,7 +28,8 @@ class Built:
 
 @dataclass(frozen=True)
 class TypeDef:
-    """A named type: an `alias` of `target`, or a `record`, `variant`, `enum` or `flags` of members, each a label and a type or None."""
+    """A named type: an `alias` of `target`, or a `record`, `variant`, `enum` or `flags` of members, each a label and a
+    type or None."""
 
     name: str
     kind: str

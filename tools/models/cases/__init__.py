@@ -1,1 +1,0 @@
-"""The lines that the models are asked: stored ones and random ones."""
