@@ -26,9 +26,9 @@ DECODED = FOLDER / "decoded"
 BUILT = [ROOT / "crates" / "explain" / "out" / name for name in ("explain", "explain.by-rattle")]
 
 
-def run(program, words):
-    """What the program prints on these words, and its status."""
-    done = subprocess.run([program, *words], stdin=subprocess.DEVNULL, capture_output=True)
+def run(program, words, given=b""):
+    """What the program prints on these words and this input, and its status."""
+    done = subprocess.run([program, *words], input=given, capture_output=True)
     return (done.stdout + done.stderr).decode(), done.returncode
 
 
@@ -76,9 +76,12 @@ def fault_of_decode(program, stored, room):
 
 
 def fault_of_text(program, stored, room):
-    """What is wrong with what the program prints of a binary of the folder `decoded`, or nothing."""
-    said, status = run(program, ["decode", stored.with_suffix(".wasm")])
+    """What is wrong with what the program prints of a binary of the folder `decoded`, as a file and as its input, or nothing."""
+    binary = stored.with_suffix(".wasm")
+    said, status = run(program, ["decode", binary])
     wanted = stored.read_text()
+    if run(program, ["decode", "-"], binary.read_bytes()) != (said.replace(str(binary), "-"), status):
+        return "another answer from standard input"
     if stored.suffix == ".txt":
         return None if status == 1 and said.endswith(wanted) else f"status {status}, where it has to be refused: {said}"
     return None if status == 0 and said == wanted else f"status {status}: {said}"

@@ -2,23 +2,18 @@
 //! them followed.
 //!
 //! `decode` reads a package as `wasm-tools component wit --wasm` writes it, a world as wit-bindgen puts it into a
-//! module's section `component-type`, or a module with such a section. docs/FORMATS.md has both formats. Types are kept
-//! once each, however often they are named, so that what is read is no larger than the bytes by more than a factor.
-//! The crate stands on `atoms`, `ctype_format` and `tables`.
+//! module's section `component-type`, or a module with such a section. docs/FORMATS.md has both formats. `specs/` has
+//! the grammar of Binary.md for the declarations and sections that these tools write, with each index followed and the
+//! place of each fault: what `decode` answers is what it reads of the bytes. Bytes and types are those of
+//! `component_structure`, and on `ctype_format` it stands for opcodes.
 #![tactic(auto)]
 
 mod declarations;
-mod error;
 mod file;
-mod names;
-mod reader;
-mod structure;
-mod types;
 
-pub use error::{DecodeError, Fault, Feature};
-pub use file::decode;
-pub use structure::{
-    Case, Definition, DefinitionId, Docs, Entry, Exported, Extern, Field, Function, FunctionId,
-    Instance, InstanceId, Kind, Named, NamedId, Scope, ScopeId, Structure, Used, UsedId, ValType,
-    What,
+pub use component_structure::{
+    Case, DecodeError, Definition, DefinitionId, Docs, Entry, Exported, Extern, Fault, Feature,
+    Field, Function, FunctionId, Instance, InstanceId, Kind, Named, NamedId, Scope, ScopeId,
+    Structure, Used, UsedId, ValType, What,
 };
+pub use file::decode;

@@ -265,8 +265,8 @@ impl<'a> Exports<'a> {
     }
 }
 
-/// The packages of a file: that of what it exports, and those that this uses, of which it has what is used. A file that
-/// says that it encodes a world exports one world.
+/// The packages of a file: that of what it exports, and those that this uses, of which it has what is used. There are
+/// none if it exports nothing. A file that says that it encodes a world exports one world at most.
 pub fn packages_of(alloc: Global, structure: &Structure) -> Result<Vec<PackageText>, DecodeError> {
     let mut exports = Exports {
         alloc,
@@ -285,7 +285,7 @@ pub fn packages_of(alloc: Global, structure: &Structure) -> Result<Vec<PackageTe
         exports.read(exported)?;
     }
     let Some(own) = exports.own else {
-        return Err(DecodeError::At(Fault::NoExport, 0));
+        return Ok(Vec::new(alloc));
     };
     if exports.has_interface {
         exports.packages.check_exported(own)?;

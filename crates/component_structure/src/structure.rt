@@ -1,4 +1,9 @@
 //! What component types are, each index of them followed.
+ghost use Rattle.std.specs.Prelude.{◌≡◌, not, IfOk, OnOk};
+ghost use Rattle.tables.specs.declared.tables.Direction.TheVariants.{Export};
+ghost use Rattle.component_structure.specs.Names.{has_name};
+ghost use Rattle.component_structure.specs.Parts.{scope_view, structure_view};
+ghost use Rattle.component_structure.specs.Parts.{new_scope, no_parts, names_of, with_noted, with_exported};
 
 use crate::names::Names;
 use atoms::Label;
@@ -155,7 +160,9 @@ pub struct Scope {
 
 impl Scope {
     /// Nothing.
-    pub(crate) fn new(alloc: Global, number: usize) -> Scope {
+    pub fn new(alloc: Global, number: usize) -> Scope
+        ensures { scope_view result ≡ new_scope number }
+    {
         Scope {
             number,
             types: Vec::new(alloc),
@@ -168,15 +175,24 @@ impl Scope {
     }
 
     /// Notes the name of an import or an export. False if it has one that differs in case at most.
-    pub(crate) fn note_name(
-        &mut self,
-        direction: Direction,
-        name: &str,
-    ) -> Result<bool, AllocError> {
+    pub fn note_name(&mut self, direction: Direction, name: &str) -> Result<bool, AllocError>
+        ensures new { IfOk result (λ new. new ≡ not (has_name (names_of direction (scope_view self.old)) name.now)) }
+        ensures names { IfOk result (λ _. scope_view self.new
+            ≡ with_noted direction (scope_view self.old) name.now) }
+    {
         match direction {
             Direction::Import => self.imported_names.add(name),
             Direction::Export => self.exported_names.add(name),
         }
+    }
+
+    /// Notes that it exports a type under a name.
+    pub fn export_type(&mut self, alloc: Global, name: &str, id: NamedId) -> Result<(), AllocError>
+        ensures { OnOk result (scope_view self.new ≡ with_exported Export (scope_view self.old) name.now id) }
+    {
+        let text = String::from_str(alloc, name)?;
+        self.exported_types.insert(text, id)?;
+        Ok(())
     }
 }
 
@@ -215,7 +231,9 @@ pub struct Structure {
 
 impl Structure {
     /// Nothing.
-    pub(crate) fn new(alloc: Global) -> Structure {
+    pub fn new(alloc: Global) -> Structure
+        ensures { structure_view result ≡ no_parts }
+    {
         Structure {
             scopes: Vec::new(alloc),
             definitions: Vec::new(alloc),

@@ -1,4 +1,6 @@
 //! Why bytes are not decoded, and where.
+ghost use Rattle.std.specs.Prelude.{◌≡◌};
+ghost use Rattle.component_structure.specs.declared.error.DecodeError.TheVariants.{NoMemory};
 
 use std::alloc::{AllocError, AllocFailed};
 use std::fmt;
@@ -62,6 +64,8 @@ impl fmt::Display for Feature {
 pub enum Fault {
     /// The bytes begin as no component and no core module does.
     NotComponent,
+    /// The bytes do not begin as a core module does.
+    NotModule,
     Truncated,
     /// A number of too many bytes or bits.
     Overlong,
@@ -80,6 +84,10 @@ pub enum Fault {
     Limit,
     /// A section ends elsewhere than its size says.
     SizeMismatch,
+    /// A section of a core module that is there already, or that has to come before the one in front of it.
+    SectionOrder,
+    /// A core type of structs or arrays, or one in a group.
+    NotFunction,
     /// An index that its space does not have.
     BadIndex,
     /// An alias of a type that the instance does not export.
@@ -92,6 +100,8 @@ pub enum Fault {
     /// The section of a module does not say that it encodes a world.
     NoEncoding,
     BadDocs,
+    /// A field of the section `producers` is none of `language`, `processed-by` and `sdk`, or is there twice.
+    BadProducers,
     /// Nothing is exported, so it is no package.
     NoExport,
     /// Another count of exports than one.
@@ -106,7 +116,7 @@ pub enum Fault {
     Unnamed,
     /// A type of another interface without a `use`.
     NotUsed,
-    /// An import uses a type of an export, or an export one of an import that is exported too.
+    /// An import uses a type of an export.
     OtherSide,
     TwoForms,
     /// An interface of the package is imported and not exported.
@@ -117,6 +127,7 @@ impl fmt::Display for Fault {
     fn fmt<W: fmt::Write>(&self, f: &mut fmt::Formatter<W>) -> fmt::Result {
         let words = match self {
             Fault::NotComponent => "neither a component nor a core module",
+            Fault::NotModule => "no core module",
             Fault::Truncated => "the bytes end too early",
             Fault::Overlong => "a number is too long",
             Fault::UnknownByte(byte) => return write!(f, "byte {byte:02x} is not known here"),
@@ -128,6 +139,8 @@ impl fmt::Display for Fault {
             Fault::EmptyType => "a type has no members",
             Fault::Limit => "a limit is passed",
             Fault::SizeMismatch => "a section ends elsewhere than its size says",
+            Fault::SectionOrder => "a section is there twice, or too late",
+            Fault::NotFunction => "a type that is no function's is not supported",
             Fault::BadIndex => "there is nothing with this index",
             Fault::NoSuchType => "the instance exports no type of this name",
             Fault::WrongSort => "the index is of another sort of type",
@@ -135,6 +148,9 @@ impl fmt::Display for Fault {
             Fault::SeveralSections => "the module has several sections `component-type`",
             Fault::NoEncoding => "the section has no section `wit-component-encoding`",
             Fault::BadDocs => "the section `package-docs` cannot be read",
+            Fault::BadProducers => {
+                "the section `producers` has a field that is not known, or one twice"
+            }
             Fault::NoExport => "nothing is exported: this is no package",
             Fault::NotOneExport => "there is not exactly one export",
             Fault::NotFullName => "an interface or a world has no full name",
@@ -163,12 +179,16 @@ pub enum DecodeError {
 }
 
 impl From<AllocError> for DecodeError {
+    ghost from_gives = { λ _ e. e ≡ NoMemory };
+
     fn from(_error: AllocError) -> DecodeError {
         DecodeError::NoMemory
     }
 }
 
 impl<T: Drop> From<AllocFailed<T>> for DecodeError {
+    ghost from_gives = { λ _ e. e ≡ NoMemory };
+
     fn from(_error: AllocFailed<T>) -> DecodeError {
         DecodeError::NoMemory
     }

@@ -1,0 +1,10 @@
+use Rattle.std.proofs.Common.{◌≡◌, ◌-◌}
+use Rattle.component_decoding.specs.File.{export, file_view}
+use Rattle.component_decoding.proofs.file.File.exports.Given as goal
+use Rattle.component_structure.specs.Bytes.{repeat}
+
+abbrev pub invariant-loop : goal.invariant-loop
+invariant-loop l = record {
+  whole : l.reader.end ≡ l.initial.reader.end;
+  so_far : (repeat (l.count - l.counter) (export l.initial.reader.end) (file_view l.self)).read l.reader.rest.now ≡ (repeat l.count (export l.initial.reader.end) (file_view l.initial.self)).read l.initial.reader.rest.now;
+}

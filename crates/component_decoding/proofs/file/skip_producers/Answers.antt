@@ -1,0 +1,19 @@
+use Rattle.std.proofs.Common.{◌∙◌}
+use Rattle.std.proofs.lemmas.Result.{err_from_is_err_and}
+use Rattle.component_decoding.specs.File.{producer}
+use Rattle.component_structure.proofs.Loops.{goes_on, ends, is_done}
+use Rattle.component_decoding.proofs.file.skip_producers.Goals as goal
+
+pub returns-in_err-skip_producer-clause-reads : goal.returns-in_err-skip_producer-clause-reads
+returns-in_err-skip_producer-clause-reads c =
+    let p = err_from_is_err_and c.from_residual.result c.from_residual.ensures.1 in
+    rw (p.1, p.2) (ends (producer c.args.reader.now.end) c.in_err-skip_producer.field-0.0 c.args.count c.loop.counter c.loop.fields c.loop.reader.rest.now _ c.loop-test.true (rw c.loop.invariant.whole at c.in_err-skip_producer.ensures.reads) c.loop.invariant.so_far)
+
+pub loop-preserved : goal.loop-preserved
+loop-preserved c = record {
+  whole = c.in_ok-skip_producer.ensures.whole ∙ c.loop.invariant.whole;
+  so_far = goes_on (producer c.args.reader.now.end) c.args.count c.loop.counter c.loop.fields c.loop.reader.rest.now (c.skip_producer.new.fields, c.skip_producer.new.reader.rest.now) _ c.loop-test.true (rw c.loop.invariant.whole at c.in_ok-skip_producer.ensures.reads) c.loop.invariant.so_far;
+}
+
+pub returns-clause-reads : goal.returns-clause-reads
+returns-clause-reads c = is_done (producer c.args.reader.now.end) c.args.count c.loop.counter c.loop.fields c.loop.reader.rest.now _ c.loop-test.false c.loop.invariant.so_far
