@@ -159,8 +159,8 @@ impl<'a> Order<'a> {
         self.enter(used, self.reason_behind(visit.reason, used))
     }
 
-    /// Visits an interface, behind those that it uses. An interface is entered once at most for each of two reasons, and
-    /// then each of its uses is passed once, and it is left.
+    /// Visits an interface, behind those that it uses. An interface is entered once at most for each of two reasons,
+    /// and then each of its uses is passed once, and it is left.
     fn visit(&mut self, interface: InterfaceId, reason: Reason) -> Result<(), EncodeError> {
         let resolve = self.resolve;
         let uses = resolve.definitions.len();

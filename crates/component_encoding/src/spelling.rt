@@ -1,4 +1,7 @@
 //! Numbers, names and custom sections. (Binary.md)
+ghost use Rattle.std.specs.Prelude.{◌≡◌, ◌++◌, ℕ, List, IfOk, OnOk, slice_get};
+ghost use Rattle.tables.specs.Names.{full_name_in};
+ghost use Rattle.ctype_format.specs.Writing.{section_bytes};
 
 use atoms::{Label, write_s33, write_u32};
 use ctype_format::put_section;
@@ -45,13 +48,15 @@ pub fn put_extern_name(out: &mut Vec<u8>, text: &[u8]) -> Result<(), AllocError>
     put_name(out, text)
 }
 
-/// Appends a custom section of this name.
+/// Appends a custom section of this name, which tools alone read.
 pub fn put_custom(
     alloc: Global,
     out: &mut Vec<u8>,
     name: &[u8],
     data: &[u8],
-) -> Result<(), AllocError> {
+) -> Result<(), AllocError>
+    ensures { OnOk result ((content : List ℕ) × (out.new.items ≡ out.old.items ++ section_bytes 0 content)) }
+{
     let mut content = Vec::new(alloc);
     put_name(&mut content, name)?;
     content.extend_from_slice(data)?;
@@ -64,7 +69,9 @@ pub fn full_name(
     resolve: &Resolve,
     package: PackageId,
     name: &Label,
-) -> Result<Name, AllocError> {
+) -> Result<Name, AllocError>
+    ensures { IfOk result (λ n. n ≡ full_name_in (slice_get resolve.now.packages «package».0) name.now) }
+{
     match resolve.packages.as_slice().get(package.0 as usize) {
         Some(package) => package.full_name(alloc, name),
         None => Name::of(alloc, name),

@@ -1,0 +1,4 @@
+pub mod ListsInStep
+pub mod Members
+pub mod Sets
+pub mod Items
