@@ -1,5 +1,5 @@
 -- The parts of a call, put together from how its ways ended.
-use Rattle.std.proofs.Common.{◌≡◌, ◌^◌, ◌<◌, ◌≤◌, inl, inr, ℕ, Bool, true, false, if◌then◌else◌, List, [], ◌∷◌, ◌++◌, length, map, take, Option, Some, None, Result, Ok, Err, refl, sym, ap, ◌∙◌, arith}
+use Rattle.std.proofs.Common.{◌≡◌, ◌^◌, ◌<◌, ◌≤◌, inl, inr, ℕ, Bool, true, false, if◌then◌else◌, List, [], ◌∷◌, ◌++◌, length, map, take, Option, Some, None, Result, Ok, Err, OnOk, IfErr, refl, sym, ap, ◌∙◌, arith}
 use Rattle.std.proofs.Math.Seq.{take-append_seam, take-length}
 use Rattle.std.proofs.lemmas.Bool.{leb-true}
 use Rattle.std.proofs.lemmas.List.{length-map, take-map}
@@ -161,6 +161,16 @@ pub return-fails : (allocates : Allocation) (f : FunctionType) (flats : List Fla
     → LeaveFails allocates f flats m answer old fault new c → ReturnFails allocates f flats m answer old fault new c
 return-fails allocates f flats m answer old fault new c kinds (inl (others, is, same, none)) = absurd (others kinds)
 return-fails allocates f flats m answer old fault new c kinds (inr (own, fails)) = fails
+
+-- and the other way round
+pub leave-fails : (allocates : Allocation) (f : FunctionType) (flats : List Flat) (m : List ℕ) (answer : List Flat) (old new : Memory) (c : ℕ) → KindsFit f flats
+    → {A : Type 0} (r : Result A Fault) → IfErr r (λ fault. ReturnFails allocates f flats m answer old fault new c) → IfErr r (λ fault. LeaveFails allocates f flats m answer old fault new c)
+leave-fails allocates f flats m answer old new c kinds (Ok _) fails = tt
+leave-fails allocates f flats m answer old new c kinds (Err fault) fails = inr (kinds, fails)
+
+pub ok-anyway : {A : Type 0} (r : Result A Fault) (P : Type 0) → P → OnOk r P
+ok-anyway (Ok _) P h = h
+ok-anyway (Err _) P h = tt
 
 -- at most one core value is given back
 pub returned-few : (allocates : Allocation) (f : FunctionType) (flats : List Flat) (m : List ℕ) (answer : List Flat) (old : Memory) (given : List Flat) (new : Memory) (c : ℕ)

@@ -22,7 +22,7 @@ use Rattle.tables.specs.declared.tables.Resolve.{Resolve}
 use Rattle.tables.specs.declared.tables.ValType.{ValType}
 use Rattle.values.specs.Members.{fields_of_types, AreAllInside}
 use Rattle.values.specs.Types.{IsInside}
-use Rattle.adapter.specs.Plain.{IsOwn, IsOwnOf, AreOwn, PassAsTheyAre}
+use Rattle.adapter.specs.Plain.{IsOwn, IsOwnOf, AreOwn, PassAsTheyAre, ArePlainArguments}
 
 -- one more
 pub own-more : (r : Resolve) (i : ℕ) (types : List ValType) (flats : List Flat) (e : ValType) (d : Flat) → i < length types → i < length flats → AreOwn (fields_of_types r (take i types)) (take i flats)
@@ -97,34 +97,54 @@ own-fit ts flats limit own few =
     let count : length flats ≡ length (field_kinds ts) = sym (length-map flats kind_of) ∙ ap length (own-kinds ts flats own) in
     le-leb (length (field_kinds ts)) limit (omega (arith, few, count))
 
-own-passed : (ts : Fields) (flats : List Flat) (limit : ℕ) → AreOwn ts flats → length flats ≤ limit → map kind_of flats ≡ passed_kinds limit ts
+pub own-passed : (ts : Fields) (flats : List Flat) (limit : ℕ) → AreOwn ts flats → length flats ≤ limit → map kind_of flats ≡ passed_kinds limit ts
 own-passed ts flats limit own few = rw (own-fit ts flats limit own few) (own-kinds ts flats own)
 
 -- they are of the function's kinds
 pub plain-kinds : (f : FunctionType) (flats : List Flat) → PassAsTheyAre f flats → KindsFit f flats
 plain-kinds f flats (goes, few, own) = rw goes (own-passed f.params flats max_flat_params own few)
 
-pub plain-entered : (allocates : Allocation) (f : FunctionType) (flats : List Flat) (m : List ℕ) (callee : Memory) (c : ℕ) → PassAsTheyAre f flats → c ≡ length flats → IsLimited callee
-    → HasEntered allocates f flats m callee flats callee c
-plain-entered allocates f flats m callee c (goes, few, own) counted small =
-    let fits = own-fit f.params flats max_flat_params own few in
+-- all of them are arguments
+pub all-arguments : (f : FunctionType) (flats : List Flat) → PassAsTheyAre f flats → ArePlainArguments f flats flats
+all-arguments f flats (goes, few, own) =
     let passed = own-passed f.params flats max_flat_params own few in
     let count : length (passed_kinds max_flat_params f.params) ≡ length flats = sym (ap length passed) ∙ length-map flats kind_of in
-    let whole : argument_flats f flats ≡ flats = ap (λ n. take n flats) count ∙ take-length flats in
-    let (vs, lifts, lowers) = own-cross f.params flats own m in (
+    (plain-kinds f flats (goes, few, own), sym (ap (λ n. take n flats) count ∙ take-length flats), few, own)
+
+-- those in front are
+pub front-arguments : (f : FunctionType) (flats arguments : List Flat) (count : ℕ) → KindsFit f flats → arguments ≡ take count flats → length arguments ≡ count → count ≤ 16 → AreOwn f.params arguments
+    → ArePlainArguments f flats arguments
+front-arguments f flats arguments count kinds is counted small own =
+    let few : length arguments ≤ 16 = omega (arith, counted, small) in
+    let passed = own-passed f.params arguments max_flat_params own few in
+    let same : length (passed_kinds max_flat_params f.params) ≡ count = sym (ap length passed) ∙ length-map arguments kind_of ∙ counted in
+    (kinds, is ∙ sym (ap (λ n. take n flats) same), few, own)
+
+pub arguments-entered : (allocates : Allocation) (f : FunctionType) (flats arguments : List Flat) (m : List ℕ) (callee : Memory) (c : ℕ) → ArePlainArguments f flats arguments → c ≡ length arguments
+    → IsLimited callee → HasEntered allocates f flats m callee arguments callee c
+arguments-entered allocates f flats arguments m callee c (kinds, is, few, own) counted small =
+    let fits = own-fit f.params arguments max_flat_params own few in
+    let passed = own-passed f.params arguments max_flat_params own few in
+    let whole : argument_flats f flats ≡ arguments = sym is in
+    let (vs, lifts, lowers) = own-cross f.params arguments own m in (
       vs,
-      only-nodes flats,
+      only-nodes arguments,
       record {
-        kinds = plain-kinds f flats (goes, few, own);
+        kinds = kinds;
         denoted = rw whole (passed, inl (fits, lifts));
         passes = inl (fits, lowers);
-        leads = nodes-lead allocates callee flats;
+        leads = nodes-lead allocates callee arguments;
         small = small;
         same_caller = refl;
         same_body = refl;
       },
-      omega (arith, counted, count-nodes flats, few),
+      omega (arith, counted, count-nodes arguments, few),
     )
+
+pub plain-entered : (allocates : Allocation) (f : FunctionType) (flats : List Flat) (m : List ℕ) (callee : Memory) (c : ℕ) → PassAsTheyAre f flats → c ≡ length flats → IsLimited callee
+    → HasEntered allocates f flats m callee flats callee c
+plain-entered allocates f flats m callee c plain counted small =
+    arguments-entered allocates f flats flats m callee c (all-arguments f flats plain) counted small
 
 pub plain-returned : (allocates : Allocation) (f : FunctionType) (flats answer : List Flat) (m : List ℕ) (caller : Memory) (c : ℕ) → AreOwn (result_fields f.result) answer → length answer ≤ 1 → c ≡ length answer → IsLimited caller
     → HasReturned allocates f flats m answer caller answer caller c

@@ -5,6 +5,7 @@ use Rattle.canonical_abi.specs.Values.{Value, HasPrimType}
 use Rattle.canonical_abi.specs.Layout.{prim_kind, fits_flat, max_flat_results}
 use Rattle.canonical_abi.specs.Lowering.{core_of}
 use Rattle.canonical_abi.specs.Memory.{PrimIs}
+use Rattle.canonical_abi.specs.Call.{KindsFit, argument_flats}
 use Rattle.canonical_abi.specs.Reading.{number_of, flat_bits}
 use Rattle.canonical_abi.specs.declared.flat.Flat.{Flat}
 
@@ -27,3 +28,7 @@ AreOwn (field t ts) (f ∷ fs) = IsOwnOf t f × AreOwn ts fs
 -- the core values of a call cross as they are: its result goes flat, it has at most 16, and each is its value's own
 abbrev pub PassAsTheyAre : FunctionType → List Flat → Type 0
 PassAsTheyAre f flats = (fits_flat max_flat_results (result_fields f.result) ≡ true) × (length flats ≤ 16) × AreOwn f.params flats
+
+-- a call's core values are of its function's kinds, and these are the ones that carry its arguments, at most 16, each its value's own
+abbrev pub ArePlainArguments : FunctionType → List Flat → List Flat → Type 0
+ArePlainArguments f flats arguments = KindsFit f flats × (arguments ≡ argument_flats f flats) × (length arguments ≤ 16) × AreOwn f.params arguments

@@ -22,6 +22,6 @@ pub use body::{Body, BoxedBody, Export, Stopped};
 pub use canonical_abi::{CoreKind, Fault, Flat, Step, Trap, TrapKind};
 pub use invocation::Invocation;
 pub use link::Link;
-pub use plain::{are_plain, is_plain_answer};
+pub use plain::{are_plain, is_own_of, is_plain_answer, is_plain_result};
 pub use requests::Unasked;
 pub use signature::{parameter_types, result_type};

@@ -1,5 +1,5 @@
 //! The call itself.
-ghost use Rattle.std.specs.Prelude.{◌≡◌, ◌≢◌, ◌+◌, ◌*◌, ◌≤◌, Err, Some, length, IfOk, OnOk, IfErr};
+ghost use Rattle.std.specs.Prelude.{◌≡◌, ◌≢◌, ◌+◌, ◌*◌, ◌≤◌, [], Err, Some, length, IfOk, OnOk, IfErr};
 ghost use Rattle.adapter.specs.Asking.{IsToldAhead};
 ghost use Rattle.canonical_abi.specs.Call.{Calls, Ways, exact, AllowsSameRuns, AllowsSamePosts, KindsFit};
 ghost use Rattle.canonical_abi.specs.Few.{AreFewNodes};
@@ -17,14 +17,13 @@ ghost use Rattle.adapter.specs.Asked.{IsUnasked};
 ghost use Rattle.adapter.specs.Carrying.{listed_answer};
 ghost use Rattle.adapter.specs.Leaving.{LeaveFails};
 ghost use Rattle.adapter.specs.Linked.{TellsNodes};
-ghost use Rattle.adapter.specs.Plain.{PassAsTheyAre};
 
 use crate::arguments::pass_arguments;
 use crate::asking::Request;
 use crate::body::Body;
 use crate::fault::trap;
 use crate::invocation::Invocation;
-use crate::plain::{are_plain, is_plain_answer};
+use crate::plain::{is_plain_answer, plain_arguments, put};
 use crate::requests::{Unasked, ask_answer, ask_arguments};
 use crate::results::pass_answer;
 use canonical_abi::{Fault, Flat, Guest, Step, TrapKind};
@@ -111,6 +110,43 @@ impl<'a> Link<'a> {
         self.there = 0;
         self.back = 0;
         handed.clear();
+        let Some(arguments) = plain_arguments(
+            &Types::new(self.resolve, self.layouts),
+            call.func,
+            call.flats,
+        ) else {
+            return self.enter_walked(call, caller, callee, handed);
+        };
+        put(arguments, handed);
+        self.there = handed.len() as u64;
+        // A memory's length is a number of 32 bits.
+        let _len = callee.len();
+        Ok(())
+    }
+
+    /// The same for core values that are walked over; `handed` was empty.
+    fn enter_walked<C: Guest, E: Guest>(
+        &mut self,
+        call: &Invocation,
+        caller: &C,
+        callee: &mut E,
+        handed: &mut Flats,
+    ) -> Result<(), Fault>
+        requires function { IsFunction self.old.resolve call.now.func }
+        requires empty { handed.old.items ≡ [] }
+        ensures entered { OnOk result (HasEntered E.allocates (function_type self.old.resolve call.now.func)
+            call.now.flats.now (C.memory caller.now).bytes
+            (E.memory callee.old) handed.new.items (E.memory callee.new) self.new.there) }
+        ensures fault { IfErr result (λ fault. EntryFails E.allocates (function_type self.old.resolve call.now.func)
+            call.now.flats.now (C.memory caller.now).bytes
+            (E.memory callee.old) fault (E.memory callee.new) self.new.there) }
+        ensures no_memory { result ≢ Err Fault.NoMemory }
+        ensures back { self.new.back ≡ 0 }
+        ensures same_package { self.new.resolve ≡ self.old.resolve }
+        ensures same_layouts { self.new.layouts ≡ self.old.layouts }
+    {
+        self.there = 0;
+        self.back = 0;
         // A memory's length is a number of 32 bits.
         let _len = caller.len();
         let walk = Walk {
@@ -211,6 +247,46 @@ impl<'a> Link<'a> {
     {
         self.back = 0;
         back.clear();
+        let types = &Types::new(self.resolve, self.layouts);
+        if !types.layouts().takes(call.func, call.flats) {
+            return Err(trap(TrapKind::CoreSignature, Step::LowerResult));
+        }
+        if !is_plain_answer(types, call.func, answer) {
+            return self.leave_walked(call, answer, caller, callee, back);
+        }
+        put(answer, back);
+        self.back = back.len() as u64;
+        // A memory's length is a number of 32 bits.
+        let _len = caller.len();
+        Ok(())
+    }
+
+    /// The second half of a call whose core values have the kinds of its function, for an answer that is walked over;
+    /// `back` was empty.
+    fn leave_walked<C: Guest, E: Guest>(
+        &mut self,
+        call: &Invocation,
+        answer: &[Flat],
+        caller: &mut C,
+        callee: &E,
+        back: &mut Flats,
+    ) -> Result<(), Fault>
+        requires function { IsFunction self.old.resolve call.now.func }
+        requires kinds { KindsFit (function_type self.old.resolve call.now.func) call.now.flats.now }
+        requires empty { back.old.items ≡ [] }
+        ensures returned { OnOk result (HasReturned C.allocates (function_type self.old.resolve call.now.func)
+            call.now.flats.now (E.memory callee.now).bytes answer.now
+            (C.memory caller.old) back.new.items (C.memory caller.new) self.new.back) }
+        ensures fault { IfErr result (λ fault. ReturnFails C.allocates (function_type self.old.resolve call.now.func)
+            call.now.flats.now (E.memory callee.now).bytes answer.now
+            (C.memory caller.old) fault (C.memory caller.new) self.new.back) }
+        ensures no_memory { result ≢ Err Fault.NoMemory }
+        ensures no_shorter { OnOk result (length (C.memory caller.old).bytes ≤ length (C.memory caller.new).bytes) }
+        ensures there { self.new.there ≡ self.old.there }
+        ensures same_package { self.new.resolve ≡ self.old.resolve }
+        ensures same_layouts { self.new.layouts ≡ self.old.layouts }
+    {
+        self.back = 0;
         // A memory's length is a number of 32 bits.
         let _len = callee.len();
         let walk = Walk {
@@ -286,8 +362,8 @@ impl<'a> Link<'a> {
         Ok(given)
     }
 
-    /// The first half of a call and the body's run: what the body answered. Core values that cross as they are go to
-    /// the body as they are.
+    /// The first half of a call and the body's run: what the body answered. Arguments that cross as they are go to the
+    /// body as they are.
     #[inline(always)]
     fn run<C: Guest, E: Guest, B: Body<E>>(
         &mut self,
@@ -333,68 +409,18 @@ impl<'a> Link<'a> {
         ensures same_package { self.new.resolve ≡ self.old.resolve }
         ensures same_layouts { self.new.layouts ≡ self.old.layouts }
     {
-        if are_plain(
+        let Some(arguments) = plain_arguments(
             &Types::new(self.resolve, self.layouts),
             call.func,
             call.flats,
-        ) {
-            return self.run_plain(call, caller, callee, body);
-        }
-        self.run_walked(call, caller, callee, body)
-    }
-
-    /// The same for core values that cross as they are.
-    #[inline(always)]
-    fn run_plain<C: Guest, E: Guest, B: Body<E>>(
-        &mut self,
-        call: &Invocation,
-        _caller: &C,
-        callee: &mut E,
-        body: &mut B,
-    ) -> Result<FlatResults, Fault>
-        requires function { IsFunction self.old.resolve call.now.func }
-        requires plain { PassAsTheyAre (function_type self.old.resolve call.now.func) call.now.flats.now }
-        ensures ran { IfOk result (λ answer. RunsBetween
-            (record {
-              caller_allocates = C.allocates;
-              callee_allocates = E.allocates;
-              runs = B.runs body.old;
-              posts = B.posts body.old;
-            })
-            (function_type self.old.resolve call.now.func)
-            call.now.flats.now
-            (as_world (C.memory _caller.now) (E.memory callee.old) (B.state body.old))
-            self.new.there
-            (Some answer.items)
-            (E.memory callee.new)
-            (B.state body.new)) }
-        ensures fault { IfErr result (λ fault. CallsInHalves
-            (record {
-              caller_allocates = C.allocates;
-              callee_allocates = E.allocates;
-              runs = B.runs body.old;
-              posts = B.posts body.old;
-            })
-            (function_type self.old.resolve call.now.func)
-            call.now.flats.now
-            (as_world (C.memory _caller.now) (E.memory callee.old) (B.state body.old))
-            (C.memory _caller.now)
-            (Err fault)
-            self.new.there
-            0
-            (as_world (C.memory _caller.now) (E.memory callee.new) (B.state body.new))) }
-        ensures back { self.new.back ≡ 0 }
-        ensures same_runs { AllowsSameRuns (B.runs body.old) (B.runs body.new) }
-        ensures same_posts { AllowsSamePosts (B.posts body.old) (B.posts body.new) }
-        ensures no_memory { result ≢ Err Fault.NoMemory }
-        ensures same_package { self.new.resolve ≡ self.old.resolve }
-        ensures same_layouts { self.new.layouts ≡ self.old.layouts }
-    {
-        self.there = call.flats.len() as u64;
+        ) else {
+            return self.run_walked(call, caller, callee, body);
+        };
+        self.there = arguments.len() as u64;
         self.back = 0;
         // A memory's length is a number of 32 bits.
         let _len = callee.len();
-        let Ok(answer) = body.call(callee, call.flats) else {
+        let Ok(answer) = body.call(callee, arguments) else {
             return Err(trap(TrapKind::Body, Step::Body));
         };
         Ok(answer)
@@ -446,7 +472,7 @@ impl<'a> Link<'a> {
         ensures same_layouts { self.new.layouts ≡ self.old.layouts }
     {
         let mut given = Flats::new();
-        self.enter(call, caller, callee, &mut given)?;
+        self.enter_walked(call, caller, callee, &mut given)?;
         match body.call(callee, given.as_slice()) {
             Ok(answer) => Ok(answer),
             Err(_) => Err(trap(TrapKind::Body, Step::Body)),
@@ -510,7 +536,7 @@ impl<'a> Link<'a> {
         ensures same_layouts { self.new.layouts ≡ self.old.layouts }
     {
         let mut back = Flats::new();
-        self.leave(call, answer, caller, callee, &mut back)?;
+        self.leave_walked(call, answer, caller, callee, &mut back)?;
         Ok(flat_results(back.as_slice()))
     }
 }

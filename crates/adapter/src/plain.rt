@@ -1,16 +1,16 @@
 //! Core values that cross as they are: those of functions of numbers, bools and characters, where each is the very one
 //! that carries its value.
-ghost use Rattle.std.specs.Prelude.{◌≡◌, ◌≤◌, true, length, map, IsTrue, IfSome};
+ghost use Rattle.std.specs.Prelude.{◌≡◌, ◌≤◌, [], true, length, map, IsTrue, IfSome};
 ghost use Rattle.canonical_abi.specs.Types.{prim_type, result_fields};
 ghost use Rattle.canonical_abi.specs.Layout.{fits_flat, max_flat_results};
 ghost use Rattle.tables.specs.Closed.{closed_type, function_type, prim_of, IsFunction};
 ghost use Rattle.values.specs.Members.{fields_of_types, AreAllInside};
 ghost use Rattle.values.specs.Types.{IsInside};
-ghost use Rattle.adapter.specs.Plain.{IsOwn, IsOwnOf, AreOwn, PassAsTheyAre};
+ghost use Rattle.adapter.specs.Plain.{IsOwn, IsOwnOf, AreOwn, PassAsTheyAre, ArePlainArguments};
 
 use canonical_abi::Flat;
 use layout::Shape;
-use lift_lower::{Types, lift_scalar, lower_scalar};
+use lift_lower::{Flats, Types, lift_scalar, lower_scalar};
 use tables::{FunctionId, Parameter, Primitive, ValType};
 
 /// Whether a core value is the very one that carries the value that it denotes.
@@ -50,7 +50,7 @@ fn primitive_of(types: &Types, ty: ValType) -> Option<Primitive>
 
 /// Whether the type is a primitive, and the core value the very one that carries its value.
 #[inline(always)]
-fn is_own_of(types: &Types, ty: ValType, flat: Flat) -> bool
+pub fn is_own_of(types: &Types, ty: ValType, flat: Flat) -> bool
     requires { IsInside types.now ty }
     ensures { IsTrue result → IsOwnOf (closed_type types.now ty) flat }
 {
@@ -79,7 +79,7 @@ fn are_own(types: &Types, params: &[Parameter], flats: &[Flat]) -> bool
 
 /// Whether a result goes flat without being looked at: there is none, or it is a primitive.
 #[inline(always)]
-fn is_plain_result(types: &Types, func: FunctionId) -> bool
+pub fn is_plain_result(types: &Types, func: FunctionId) -> bool
     requires { IsFunction types.now func }
     ensures { IsTrue result → fits_flat max_flat_results (result_fields (function_type types.now func).result) ≡ true }
 {
@@ -106,6 +106,54 @@ pub fn are_plain(types: &Types, func: FunctionId, flats: &[Flat]) -> bool
         types.resolve().signature(func).params.as_slice(),
         flats,
     )
+}
+
+/// The core values in front of the return area's address, where a call's are those of the function's signature and
+/// these cross as they are.
+fn plain_front<'a>(types: &Types, func: FunctionId, flats: &'a [Flat]) -> Option<&'a [Flat]>
+    requires { IsFunction types.now func }
+    ensures { IfSome result (λ arguments. ArePlainArguments (function_type types.now func) flats.now arguments.now) }
+{
+    let params = types.resolve().signature(func).params.as_slice();
+    if params.len() > 16 || flats.len() < params.len() {
+        return None;
+    }
+    let arguments = &flats[..params.len()];
+    if are_own(types, params, arguments) && types.layouts().takes(func, flats) {
+        return Some(arguments);
+    }
+    None
+}
+
+/// The core values that carry a call's arguments, where the call's are those of the function's signature and these
+/// cross as they are.
+#[inline(always)]
+pub(crate) fn plain_arguments<'a>(
+    types: &Types,
+    func: FunctionId,
+    flats: &'a [Flat],
+) -> Option<&'a [Flat]>
+    requires { IsFunction types.now func }
+    ensures { IfSome result (λ arguments. ArePlainArguments (function_type types.now func) flats.now arguments.now) }
+{
+    if are_plain(types, func, flats) {
+        return Some(flats);
+    }
+    if is_plain_result(types, func) {
+        return None;
+    }
+    plain_front(types, func, flats)
+}
+
+/// Puts core values into a list that was empty.
+pub(crate) fn put(flats: &[Flat], list: &mut Flats)
+    requires empty { list.old.items ≡ [] }
+    requires few { length flats.now ≤ 16 }
+    ensures { list.new.items ≡ flats.now }
+{
+    for flat in flats {
+        list.push(*flat);
+    }
 }
 
 /// Whether what a core function answered is of its signature, and crosses as it is.

@@ -2,10 +2,9 @@
 ghost use Rattle.std.specs.Prelude.{◌≡◌, ◌^◌, ◌<◌, ◌≤◌, [], length, map, OnOk, IfErr};
 ghost use Rattle.canonical_abi.specs.Reading.{low_bits, number_of};
 ghost use Rattle.canonical_abi.specs.Call.{KindsFit};
-ghost use Rattle.canonical_abi.specs.Halves.{HasReturned};
+ghost use Rattle.canonical_abi.specs.Halves.{HasReturned, ReturnFails};
 ghost use Rattle.layout.specs.Layout.{AreWithin};
 ghost use Rattle.tables.specs.Closed.{IsFunction, function_type};
-ghost use Rattle.adapter.specs.Leaving.{LeaveFails};
 
 use crate::fault::{fault_of, trap};
 use crate::invocation::Invocation;
@@ -15,7 +14,7 @@ use lift_lower::{Flats, are_kinds, low_word};
 
 /// Puts the body's answer, as the walk's source holds it, into the caller: the flat values that carry it there into
 /// `back`, which was empty, and in `nodes` how many nodes were visited, those up to the fault if there was
-/// one. The kinds of the caller's flat values come first, and then those of the answer. Takes no memory of the host.
+/// one. The kinds of the answer come first. Takes no memory of the host.
 pub(crate) fn pass_answer<C: Guest>(
     walk: &Walk,
     call: &Invocation,
@@ -29,19 +28,16 @@ pub(crate) fn pass_answer<C: Guest>(
     requires short { length walk.now.source.now < 2 ^ 32 }
     requires empty { back.old.items ≡ [] }
     requires fresh { nodes.old ≡ 0 }
+    requires kinds { KindsFit (function_type walk.now.types.now call.now.func) call.now.flats.now }
     ensures returned { OnOk result (HasReturned C.allocates (function_type walk.now.types.now call.now.func)
         call.now.flats.now walk.now.source.now answer.now
         (C.memory caller.old) back.new.items (C.memory caller.new) nodes.new) }
-    ensures kinds { OnOk result (KindsFit (function_type walk.now.types.now call.now.func) call.now.flats.now) }
-    ensures fault { IfErr result (λ fault. LeaveFails C.allocates (function_type walk.now.types.now call.now.func)
+    ensures fault { IfErr result (λ fault. ReturnFails C.allocates (function_type walk.now.types.now call.now.func)
         call.now.flats.now walk.now.source.now answer.now
         (C.memory caller.old) fault (C.memory caller.new) nodes.new) }
     ensures no_shorter { OnOk result (length (C.memory caller.old).bytes ≤ length (C.memory caller.new).bytes) }
 {
     let layouts = walk.types.layouts();
-    if !layouts.takes(call.func, call.flats) {
-        return Err(trap(TrapKind::CoreSignature, Step::LowerResult));
-    }
     if !are_kinds(layouts.lifted_result(call.func).as_slice(), answer) {
         return Err(trap(TrapKind::CoreSignature, Step::LiftResult));
     }

@@ -1,5 +1,5 @@
 //! The two halves of a call with core values in arrays.
-ghost use Rattle.std.specs.Prelude.{◌≡◌, ◌⊎◌, ◌≤◌, ◌<◌, List, [], IfOk, IfErr, OnOk, length, map};
+ghost use Rattle.std.specs.Prelude.{◌≡◌, ◌⊎◌, ◌≤◌, ◌<◌, List, [], IfOk, IfErr, OnOk, IsTrue, length, map};
 ghost use Rattle.layout.specs.Layout.{AreWithin};
 ghost use Rattle.tables.specs.Closed.{IsFunction, function_type};
 ghost use Rattle.tables.specs.declared.tables.FunctionId.{FunctionId};
@@ -15,8 +15,9 @@ ghost use Rattle.host_calls.specs.Calling.{LeaveDone, EnterAsks, LeaveAsks};
 use crate::error::CallError;
 use crate::half::{Half, NOWHERE};
 use crate::half_error::HalfError;
-use crate::value::{MAX_VALUES, Value, put_flats, tell};
-use adapter::{Link, Request, Unasked, are_plain, is_plain_answer};
+use crate::plain::{are_plain, is_plain_answer};
+use crate::value::{MAX_VALUES, Value, put_flats, tell, tell_values};
+use adapter::{Link, Request, Unasked};
 use arrayvec::ArrayVec;
 use canonical_abi::{Fault, Flat, Step, Trap, TrapKind};
 use lift_lower::{Flats, Types, are_kinds};
@@ -125,29 +126,29 @@ pub fn room_in(values: &[Value]) -> Result<(), CallError>
 }
 
 impl Half<'_> {
-    /// The first half of a call, of flat values that cross as they are: nothing is asked for.
+    /// The first half of a call, of core values that cross as they are, where no block was granted.
     fn enter_plain(
         &self,
-        flats: &[Flat],
+        flats: &[Value],
         caller: &mut [u8],
         callee: &mut [u8],
         handed: &mut [Value],
     ) -> Result<usize, CallError>
-        requires plain { PassAsTheyAre (function_type self.now.types.now self.now.func) flats.now }
-        requires kinds { KindsFit (function_type self.now.types.now self.now.func) flats.now }
+        requires plain { PassAsTheyAre (function_type self.now.types.now self.now.func) (map flat_of flats.now) }
+        requires kinds { KindsFit (function_type self.now.types.now self.now.func) (map flat_of flats.now) }
+        requires none { self.now.blocks.now ≡ [] }
         requires room { 17 ≤ length handed.old }
-        ensures done { (values : List Value) → flats.now ≡ map flat_of values
-            → EnterDone (function_type self.now.types.now self.now.func) values caller.old callee.old
+        ensures done { EnterDone (function_type self.now.types.now self.now.func) flats.now caller.old callee.old
             self.now.blocks.now handed.old result callee.new handed.new }
         ensures same_caller { caller.new ≡ caller.old }
     {
         if u32::try_from(caller.len()).is_err() {
             return Err(CallError::BadBlock);
         }
-        if !can_lend(self.alloc, callee.len(), &NOWHERE, self.blocks)? {
+        if u32::try_from(callee.len()).is_err() {
             return Err(CallError::BadBlock);
         }
-        tell(flats, handed);
+        tell_values(flats, handed);
         Ok(flats.len())
     }
 
@@ -167,9 +168,6 @@ impl Half<'_> {
             self.now.blocks.now handed.old result callee.new handed.new }
         ensures same_caller { caller.new ≡ caller.old }
     {
-        if are_plain(self.types, self.func, flats) {
-            return self.enter_plain(flats, caller, callee, handed);
-        }
         fit(self.types, self.func, flats, Step::LiftArgs)?;
         if u32::try_from(caller.len()).is_err() {
             return Err(CallError::BadBlock);
@@ -208,6 +206,9 @@ impl Half<'_> {
         ensures same_caller { caller.new ≡ caller.old }
     {
         room_in(handed)?;
+        if self.blocks.is_empty() && are_plain(self.types, self.func, flats) {
+            return self.enter_plain(flats, caller, callee, handed);
+        }
         let mut few = Few::new();
         if put_flats(flats, &mut few) {
             return self.enter_values(few.as_slice(), caller, callee, handed);
@@ -217,33 +218,44 @@ impl Half<'_> {
         self.enter_values(values.as_slice(), caller, callee, handed)
     }
 
-    /// The second half, of an answer that crosses as it is: nothing is asked for.
+    /// Whether an answer crosses as it is, and no block was granted.
+    fn is_unasked(&self, answer: &[Value]) -> bool
+        requires function { IsFunction self.now.types.now self.now.func }
+        ensures own { IsTrue result → AreOwn (result_fields (function_type self.now.types.now self.now.func).result)
+            (map flat_of answer.now) }
+        ensures few { IsTrue result → length answer.now ≤ 1 }
+        ensures none { IsTrue result → self.now.blocks.now ≡ [] }
+    {
+        self.blocks.is_empty() && is_plain_answer(self.types, self.func, answer)
+    }
+
+    /// The second half, of such an answer.
     fn leave_plain(
         &self,
-        flats: &[Flat],
-        answer: &[Flat],
+        answer: &[Value],
         callee: &mut [u8],
         caller: &mut [u8],
         back: &mut [Value],
     ) -> Result<usize, CallError>
-        requires within { ∥ AreWithin self.now.types.now ∥₁ }
-        requires function { IsFunction self.now.types.now self.now.func }
         requires room { 17 ≤ length back.old }
-        requires kinds { KindsFit (function_type self.now.types.now self.now.func) flats.now }
-        requires own { AreOwn (result_fields (function_type self.now.types.now self.now.func).result) answer.now }
+        requires none { self.now.blocks.now ≡ [] }
+        requires own { AreOwn (result_fields (function_type self.now.types.now self.now.func).result)
+            (map flat_of answer.now) }
+        requires fits { AnswerFits (function_type self.now.types.now self.now.func) (map flat_of answer.now) }
         requires few { length answer.now ≤ 1 }
-        ensures done { (values answers : List Value) → flats.now ≡ map flat_of values → answer.now ≡ map flat_of answers
-            → LeaveDone (function_type self.now.types.now self.now.func) values callee.old answers caller.old
+        ensures done { (values : List Value)
+            → KindsFit (function_type self.now.types.now self.now.func) (map flat_of values)
+            → LeaveDone (function_type self.now.types.now self.now.func) values callee.old answer.now caller.old
             self.now.blocks.now back.old result caller.new back.new }
         ensures same_callee { callee.new ≡ callee.old }
     {
         if u32::try_from(callee.len()).is_err() {
             return Err(CallError::BadBlock);
         }
-        if !self.can_return(flats, caller.len())? {
+        if u32::try_from(caller.len()).is_err() {
             return Err(CallError::BadBlock);
         }
-        tell(answer, back);
+        tell_values(answer, back);
         Ok(answer.len())
     }
 
@@ -301,13 +313,12 @@ impl Half<'_> {
         ensures same_callee { callee.new ≡ callee.old }
     {
         fit(self.types, self.func, flats, Step::LowerResult)?;
+        if self.is_unasked(answer) {
+            return self.leave_plain(answer, callee, caller, back);
+        }
         let mut few = Few::new();
         if put_flats(answer, &mut few) {
-            let answer = few.as_slice();
-            if is_plain_answer(self.types, self.func, answer) {
-                return self.leave_plain(flats, answer, callee, caller, back);
-            }
-            return self.leave_values(flats, answer, callee, caller, back);
+            return self.leave_values(flats, few.as_slice(), callee, caller, back);
         }
         let mut answers = Flats::new();
         put_values(answer, &mut answers, Step::LiftResult)?;
@@ -334,6 +345,9 @@ impl Half<'_> {
         ensures same_callee { callee.new ≡ callee.old }
     {
         room_in(back)?;
+        if are_plain(self.types, self.func, flats) && self.is_unasked(answer) {
+            return self.leave_plain(answer, callee, caller, back);
+        }
         let mut few = Few::new();
         if put_flats(flats, &mut few) {
             return self.leave_answer(few.as_slice(), answer, callee, caller, back);

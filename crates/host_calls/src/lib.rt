@@ -16,6 +16,7 @@ mod half;
 mod half_error;
 pub mod host_lists;
 mod parts;
+mod plain;
 mod signature;
 mod status;
 mod value;

@@ -68,3 +68,15 @@ pub fn tell(flats: &[Flat], out: &mut [Value])
         out[place] = Value::of(*flat);
     }
 }
+
+/// Tells these core values at the front of an array that has room for them, each as the library tells it; what stands
+/// behind them is left.
+pub(crate) fn tell_values(values: &[Value], out: &mut [Value])
+    requires { length values.now ≤ length out.old }
+    ensures told { HoldsFlats out.new (map flat_of values.now) }
+    ensures rest { drop (length values.now) out.new ≡ drop (length values.now) out.old }
+{
+    for (place, value) in values.iter().enumerate() {
+        out[place] = Value::of(value.flat());
+    }
+}

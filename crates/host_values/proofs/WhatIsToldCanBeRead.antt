@@ -25,7 +25,7 @@ use Rattle.host_values.specs.Reading.{IsResultFault, ResultIsNotRead}
 ok-err : {A : Type 0} {x : A} {k : TrapKind} → ◌≡◌ {A = Result A TrapKind} (Ok x) (Err k) → ⊥
 ok-err e = cc
 
-not-both : (limit : ℕ) (ts : Fields) (m : List ℕ) (flats : List Flat) (vs : List Value) (k : TrapKind) → Denotes limit ts m flats vs → DenotesFault limit ts m flats k → ⊥
+pub not-both : (limit : ℕ) (ts : Fields) (m : List ℕ) (flats : List Flat) (vs : List Value) (k : TrapKind) → Denotes limit ts m flats vs → DenotesFault limit ts m flats k → ⊥
 not-both limit ts m flats vs k h d =
     let t = denoting-tells limit ts m flats in
     ok-err (sym (t.ok_only vs h) ∙ t.err_only k d)

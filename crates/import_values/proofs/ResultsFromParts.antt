@@ -25,10 +25,6 @@ fits-more n few many =
     let le : n ≤ max_flat_results = leb-true n max_flat_results few in
     false≢true (sym many ∙ le-leb n max_flat_params (omega (arith, le)))
 
--- a function without a result
-pub none-answered : (allocates : Allocation) (area : ℕ) (old : Memory) → IsAnswered allocates no_field area [] old [] old
-none-answered allocates area old = (inl refl, [], inl (refl, (refl, refl, refl)), tt, refl)
-
 module _ (allocates : Allocation) (t : ClosedType) (area : ℕ) (old : Memory) where
   module _ (fits : fits_flat max_flat_results (field t no_field) ≡ true) (vs : List Value) where
     pub flat-answered : (given : List Flat) (new : Memory) → AreLowered allocates (field t no_field) vs old given new → IsAnswered allocates (field t no_field) area vs old given new

@@ -23,8 +23,8 @@ impl ImportCall<'_> {
     /// for 17 whatever the function. Answers how many they are. There is one value, or none if the function has no
     /// result. The blocks are those that `result_requests` tells.
     ///
-    /// 71 if there is no room; K8 in `lift-args` if the core values of the call are of another number or kind; 72 if the
-    /// blocks can't be handed out, or one meets the return area; 66 if no memory is left to test them; K3 or K4 in
+    /// 71 if there is no room; K8 in `lift-args` if the core values of the call are of another number or kind; 72 if
+    /// the blocks can't be handed out, or one meets the return area; 66 if no memory is left to test them; K3 or K4 in
     /// `place` if the return area is no place for the result, and then nothing was written; 73 if a block has another
     /// size or alignment than was asked for, and the blocks before it were written to; K6 in `place` if there are too
     /// few.

@@ -2,8 +2,8 @@
 //! and its result is put there.
 //!
 //! An `ImportCall` has the core values that the guest passed. Its result goes flat, or into the return area, whose
-//! address is the last of them. Stands on `host_values` (what is read), `host_calls` (core values in arrays, errors) and
-//! `lift_lower` (lifting and lowering).
+//! address is the last of them. Stands on `host_values` (what is read), `host_calls` (core values in arrays, errors)
+//! and `lift_lower` (lifting and lowering).
 #![tactic(auto)]
 
 mod answering;

@@ -1,16 +1,12 @@
-use Rattle.std.proofs.Common.{refl, ◌≡◌, ◌≤◌, inr, sym, ap, ◌∙◌, subst, arith, rules}
+use Rattle.std.proofs.Common.{refl, ◌≡◌, ◌≤◌, sym, ap, ◌∙◌, subst, arith}
 use Rattle.canonical_abi.specs.Types.{record_type, result_fields}
 use Rattle.canonical_abi.specs.Layout.{lifted_signature, size}
-use Rattle.canonical_abi.specs.Call.{KindsFit}
 use Rattle.tables.specs.Closed.{function_type}
 use Rattle.values.specs.Members.{fields_of_types, AreAllInside}
 use Rattle.adapter.proofs.ParametersAsTableTypes.{same_types}
 use Rattle.adapter.proofs.FunctionsInLayouts.{function-stands, result-known, result-inside, result-is, result-fields, all-inside, result-small}
 use Rattle.adapter.proofs.CallFromItsWays.{area-is, EndsResult, result-ends}
 use Rattle.adapter.proofs.results.pass_answer.Goals as goal
-
-pub takes-requires : goal.takes-requires
-takes-requires g c = function-stands c.args.walk.now.types.now c.layouts-layouts.result.now c.args.call.now.func c.layouts-layouts.ensures c.requires.function
 
 pub lifted_result-requires : goal.lifted_result-requires
 lifted_result-requires g c = function-stands c.args.walk.now.types.now c.layouts-layouts.result.now c.args.call.now.func c.layouts-layouts.ensures c.requires.function
@@ -64,5 +60,4 @@ returns-in-Err-clause-fault g c =
     let area = area-is f flats c.area_in.result c.lifted_count.result (lifted_signature f) c.area_in.ensures (c.lifted_count.ensures r c.layouts-layouts.ensures c.requires.function) refl in
     let ends = rw (own, area) at c.cross_result-crossed.ensures in
     let told = result-ends CA f flats caller m c.args.answer.now _ c.cross_result-crossed.result caller' _ c.cross_result-crossed.new.out.items c.requires.fresh (omega arith) (omega arith) ends in
-    let kinds : KindsFit f flats = search rules in
-    inr (kinds, rw c.fault_of.ensures (subst (EndsResult CA f flats caller m c.args.answer.now caller' c.cross_result-crossed.new.nodes c.cross_result-crossed.new.out.items) c.in-Err.is told))
+    rw c.fault_of.ensures (subst (EndsResult CA f flats caller m c.args.answer.now caller' c.cross_result-crossed.new.nodes c.cross_result-crossed.new.out.items) c.in-Err.is told)

@@ -1,7 +1,6 @@
 -- What is said of the flat values is said of the core values that they are.
 use Rattle.std.proofs.Common.{◌≡◌, ◌<◌, ℕ, true, length, refl, sym, ◌∙◌, subst, rules}
 use Rattle.canonical_abi.specs.Call.{KindsFit}
-use Rattle.adapter.proofs.PlainValuesCrossAsTheyAre.{plain-kinds}
 use Rattle.host_calls.specs.Halves.{EntryOfLentFails}
 use Rattle.memory.specs.Blocks.{can_lend}
 use Rattle.tables.specs.Closed.{function_type}
@@ -22,8 +21,3 @@ returns-in-Err-clause-done c values is =
           (enter-refuses f values c.args.caller.now c.args.callee.now blocks c.args.handed.now c.enter_flats.new.callee c.in-Err.error ((c.requires.room, kinds), (short, can)) failed),
       refl,
     )
-
-pub enter_plain-requires-clause-kinds : goal.enter_plain-requires-clause-kinds
-enter_plain-requires-clause-kinds c =
-    let f = function_type c.args.self.now.types.now c.args.self.now.func in
-    plain-kinds f c.args.flats.now (c.are_plain.ensures c.if-are_plain.true)
