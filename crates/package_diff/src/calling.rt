@@ -1,11 +1,13 @@
 //! The core signatures of functions, and whether two functions are called alike.
-ghost use Rattle.std.specs.Prelude.{◌≡◌, IfSome, IsTrue};
+ghost use Rattle.std.specs.Prelude.{◌≡◌, IfOk, IfSome, IsTrue, ◌↔◌};
 ghost use Rattle.canonical_abi.specs.Layout.{lifted_signature, lowered_signature};
 ghost use Rattle.layout.specs.Layout.{core_signature_of, layouts_of};
-ghost use Rattle.package_diff.specs.Calls.{AreCalledAlike};
+ghost use Rattle.package_diff.specs.Calls.{AreCalledAlike, HaveSameSignatures};
+ghost use Rattle.package_diff.specs.Shapes.{AreRowsOf};
 ghost use Rattle.tables.specs.Closed.{function_type};
 
-use canonical_abi::CoreKind;
+use crate::shapes::{RowShape, Shapes};
+use atoms::KeyedState;
 use layout::{CoreSignature, Layouts};
 use layout_picture::push_signature;
 use std::alloc::{AllocError, Global};
@@ -17,6 +19,18 @@ pub struct Side<'a> {
     pub(crate) table: &'a Resolve,
     layouts: &'a Layouts,
     ghost laid_out: { layouts.now ≡ layouts_of table.now },
+}
+
+/// The old table and the new one, with the shapes of their rows.
+#[derive(Drop)]
+pub struct Versions<'a> {
+    pub(crate) old: Side<'a>,
+    pub(crate) new: Side<'a>,
+    shapes: Shapes,
+    pub(crate) old_rows: Vec<RowShape>,
+    pub(crate) new_rows: Vec<RowShape>,
+    ghost old_stands: { ∥ AreRowsOf shapes.known.keys old.table.now old_rows.items ∥₁ },
+    ghost new_stands: { ∥ AreRowsOf shapes.known.keys new.table.now new_rows.items ∥₁ },
 }
 
 /// The core signatures of a function: of the callee's function, and of the caller's import.
@@ -52,55 +66,67 @@ impl<'a> Side<'a> {
     }
 }
 
-fn is_alike(kind: Option<CoreKind>, other: Option<CoreKind>) -> bool
-    ensures { IsTrue result → kind ≡ other }
+/// Whether two rows stand for the same closed types.
+fn have_same_shapes(row: RowShape, other: RowShape) -> bool
+    ensures { IsTrue result ↔ (row.number ≡ other.number) × (row.result ≡ other.result) }
 {
-    match (kind, other) {
-        (Some(kind), Some(other)) => kind == other,
-        (None, None) => true,
-        _ => false,
-    }
+    row.number == other.number && row.result == other.result
 }
 
-fn are_alike(kinds: &[CoreKind], others: &[CoreKind]) -> bool
-    ensures { IsTrue result → kinds.now ≡ others.now }
-{
-    if kinds.len() != others.len() {
-        return false;
+impl<'a> Versions<'a> {
+    /// Two tables. Their shapes are looked up by hashers with this key.
+    pub fn of(
+        alloc: Global,
+        keyed: KeyedState,
+        old: Side<'a>,
+        new: Side<'a>,
+    ) -> Result<Versions<'a>, AllocError>
+        ensures old { IfOk result (λ v. v.old.table.now ≡ old.entry.table.now) }
+        ensures new { IfOk result (λ v. v.new.table.now ≡ new.entry.table.now) }
+    {
+        let mut shapes = Shapes::new(alloc, keyed);
+        let old_rows = shapes.rows_of(old.table)?;
+        let new_rows = shapes.rows_of(new.table)?;
+        Ok(Versions {
+            old,
+            new,
+            shapes,
+            old_rows,
+            new_rows,
+        })
     }
-    for (i, kind) in kinds.iter().enumerate() {
-        if others[i] != *kind {
+
+    /// Whether a host that calls a function of the old table can call one of the new table as it did.
+    pub(crate) fn are_called_alike(&self, function: FunctionId, other: FunctionId) -> bool
+        ensures alike { IsTrue result ↔ AreCalledAlike self.now.old.table.now function self.now.new.table.now other }
+        ensures signatures { IsTrue result
+            → HaveSameSignatures self.now.old.table.now function self.now.new.table.now other }
+    {
+        if !self.old.table.is_function(function) || !self.new.table.is_function(other) {
             return false;
         }
+        let row = self.old_rows[function.0 as usize];
+        let other_row = self.new_rows[other.0 as usize];
+        have_same_shapes(row, other_row)
     }
-    true
 }
 
 /// Whether two core signatures are the same.
 fn are_same(one: &CoreSignature, other: &CoreSignature) -> bool
-    ensures { IsTrue result → core_signature_of one.now ≡ core_signature_of other.now }
+    ensures { IsTrue result ↔ core_signature_of one.now ≡ core_signature_of other.now }
 {
-    is_alike(one.result, other.result) && are_alike(one.params.as_slice(), other.params.as_slice())
-}
-
-/// Whether a function of one table and one of another have the same core signatures.
-pub(crate) fn are_called_alike(
-    old: Side<'_>,
-    function: FunctionId,
-    new: Side<'_>,
-    other: FunctionId,
-) -> bool
-    ensures { IsTrue result → AreCalledAlike old.entry.table.now function new.entry.table.now other }
-{
-    match (old.signatures(function), new.signatures(other)) {
-        (Some(was), Some(is)) => {
-            are_same(&was.lifted, &is.lifted) && are_same(&was.lowered, &is.lowered)
-        }
-        _ => false,
-    }
+    one.result == other.result && one.params.as_slice() == other.params.as_slice()
 }
 
 impl Signatures {
+    /// Whether another function has the same ones.
+    pub(crate) fn are_those_of(&self, other: &Signatures) -> bool
+        ensures { IsTrue result ↔ (core_signature_of self.now.lifted ≡ core_signature_of other.now.lifted)
+            × (core_signature_of self.now.lowered ≡ core_signature_of other.now.lowered) }
+    {
+        are_same(&self.lifted, &other.lifted) && are_same(&self.lowered, &other.lowered)
+    }
+
     /// Both, as `(i32) -> () of the callee and (i32) -> () of the caller`.
     pub(crate) fn words(&self, alloc: Global) -> Result<String, AllocError> {
         let mut words = String::new(alloc);

@@ -1,8 +1,10 @@
 //! What changed, item by item.
+ghost use Rattle.std.specs.Prelude.{◌≡◌, ◌↔◌, ◌+◌, ◌++◌, min, if◌then◌else◌, string_bytes, true, IfOk, OnOk, IsTrue};
+ghost use Rattle.std.specs.Option.{ForSome};
+ghost use Rattle.package_diff.specs.Calls.{AreCalledAlike, verdict};
 
-use crate::calling::{Side, are_called_alike};
+use crate::calling::{Side, Versions};
 use crate::items::{Crossing, Item, Items};
-use crate::shapes::Shapes;
 use atoms::{KeyedState, NameKey};
 use indexmap::IndexMap;
 use std::alloc::{AllocError, Global};
@@ -43,22 +45,38 @@ fn keyed_by(old: &Resolve, new: &Resolve) -> KeyedState {
     key.state()
 }
 
+/// Whether a host that was built for the old package can call a function, in words.
+fn verdict_words(can: bool) -> &'static str
+    ensures { result.now ≡ verdict can }
+{
+    if can {
+        "    a host built for the old package can call it\n"
+    } else {
+        "    a host built for the old package can't call it\n"
+    }
+}
+
 /// The changes between two packages while they are compared.
 #[derive(Drop)]
 struct Comparison<'a> {
     alloc: Global,
-    old: Side<'a>,
-    new: Side<'a>,
+    versions: &'a Versions<'a>,
     changes: Changes,
 }
 
 impl Comparison<'_> {
-    /// Says which core signatures a function had and has.
-    fn push_signatures(&mut self, old: FunctionId, new: FunctionId) -> Result<(), AllocError> {
-        let (was, is) = (self.old.signatures(old), self.new.signatures(new));
+    /// Says which core signatures a function had and has, if they differ.
+    fn push_signatures(&mut self, old: FunctionId, new: FunctionId) -> Result<(), AllocError>
+        ensures { OnOk result (self.new.changes.lost ≡ self.old.changes.lost) }
+    {
+        let was = self.versions.old.signatures(old);
+        let is = self.versions.new.signatures(new);
         let (Some(was), Some(is)) = (was, is) else {
             return Ok(());
         };
+        if was.are_those_of(&is) {
+            return Ok(());
+        }
         let (was, is) = (was.words(self.alloc)?, is.words(self.alloc)?);
         let text = &mut self.changes.text;
         writeln!(text, "    its core signatures were {}", was.as_str())?;
@@ -66,20 +84,37 @@ impl Comparison<'_> {
         Ok(())
     }
 
-    /// Says of a function whether a host that was built for the old package can call it.
-    fn push_call(&mut self, item: &Item, other: &Item) -> Result<(), AllocError> {
+    /// Says of a function whether a host that was built for the old package can call it. If not, it counts as lost.
+    fn push_verdict(&mut self, old: FunctionId, new: FunctionId) -> Result<bool, AllocError>
+        ensures alike { IfOk result (λ can. IsTrue can ↔ AreCalledAlike self.old.versions.now.old.table.now old
+            self.old.versions.now.new.table.now new) }
+        ensures text { IfOk result (λ can. string_bytes self.new.changes.text
+            ≡ string_bytes self.old.changes.text ++ verdict can) }
+        ensures lost { IfOk result (λ can. self.new.changes.lost
+            ≡ (if can then self.old.changes.lost else min usize.MAX (self.old.changes.lost + 1))) }
+    {
+        let can = self.versions.are_called_alike(old, new);
+        if !can {
+            self.changes.lost = self.changes.lost.saturating_add(1);
+        }
+        self.changes.text.push_str(verdict_words(can))?;
+        Ok(can)
+    }
+
+    /// Says of a function whether a host that was built for the old package can call it, and if not, how it changed.
+    fn push_call(&mut self, item: &Item, other: &Item) -> Result<(), AllocError>
+        ensures kept { OnOk result (ForSome item.now.function (λ f. ForSome other.now.function (λ g.
+            AreCalledAlike self.old.versions.now.old.table.now f self.old.versions.now.new.table.now g
+            → (string_bytes self.new.changes.text ≡ string_bytes self.old.changes.text ++ verdict true)
+            × (self.new.changes.lost ≡ self.old.changes.lost)))) }
+        ensures lost { OnOk result (ForSome item.now.function (λ f. ForSome other.now.function (λ g.
+            ¬ AreCalledAlike self.old.versions.now.old.table.now f self.old.versions.now.new.table.now g
+            → self.new.changes.lost ≡ min usize.MAX (self.old.changes.lost + 1)))) }
+    {
         let (Some(old), Some(new)) = (item.function, other.function) else {
             return Ok(());
         };
-        let is_alike = are_called_alike(self.old, old, self.new, new);
-        if is_alike && item.crossing == other.crossing {
-            let text = &mut self.changes.text;
-            return text.push_str("    a host built for the old package can call it\n");
-        }
-        self.changes.lost = self.changes.lost.saturating_add(1);
-        let text = &mut self.changes.text;
-        text.push_str("    a host built for the old package can't call it\n")?;
-        if is_alike {
+        if self.push_verdict(old, new)? {
             return Ok(());
         }
         self.push_signatures(old, new)
@@ -156,13 +191,12 @@ impl Comparison<'_> {
 /// What changed from the last package of one table to that of another one.
 pub fn changes_of(alloc: Global, old: Side<'_>, new: Side<'_>) -> Result<Changes, AllocError> {
     let keyed = keyed_by(old.table, new.table);
-    let mut shapes = Shapes::new(alloc, keyed);
-    let items = Items::of(alloc, old.table, &mut shapes)?;
-    let others = Items::of(alloc, new.table, &mut shapes)?;
+    let versions = Versions::of(alloc, keyed, old, new)?;
+    let items = Items::of(alloc, old.table, versions.old_rows.as_slice())?;
+    let others = Items::of(alloc, new.table, versions.new_rows.as_slice())?;
     let mut comparison = Comparison {
         alloc,
-        old,
-        new,
+        versions: &versions,
         changes: Changes {
             text: String::new(alloc),
             functions: 0,

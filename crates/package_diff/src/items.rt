@@ -1,6 +1,6 @@
 //! The items of a package, each under the words that name it.
 
-use crate::shapes::{FunctionShape, Shapes};
+use crate::shapes::RowShape;
 use crate::words::{function_words, type_words};
 use atoms::Label;
 use std::alloc::{AllocError, Global};
@@ -14,7 +14,7 @@ use tables::{
 pub enum Crossing {
     /// The number of a type's shape.
     Type(usize),
-    Function(FunctionShape),
+    Function(RowShape),
     /// An interface of a world.
     Nothing,
 }
@@ -22,7 +22,8 @@ pub enum Crossing {
 /// An item of an interface or a world.
 #[derive(Debug, Drop)]
 pub struct Item {
-    /// Its interface or world without the version, and its label: `demo:shop/desk order`. Of a world also its direction.
+    /// Its interface or world without the version, and its label: `demo:shop/desk order`. Of a world also its
+    /// direction.
     pub name: String,
     /// What it is, as WIT spells it.
     pub words: String,
@@ -37,7 +38,7 @@ pub struct Items<'a> {
     alloc: Global,
     pub table: &'a Resolve,
     /// The shapes of the rows.
-    rows: Vec<usize>,
+    rows: &'a [RowShape],
     pub list: Vec<Item>,
 }
 
@@ -49,20 +50,20 @@ fn direction_word(direction: Direction) -> &'static str {
 }
 
 impl<'a> Items<'a> {
-    /// The items of the last package.
+    /// The items of the last package of a table with these rows.
     pub fn of(
         alloc: Global,
         table: &'a Resolve,
-        shapes: &mut Shapes,
+        rows: &'a [RowShape],
     ) -> Result<Items<'a>, AllocError> {
         let mut items = Items {
             alloc,
             table,
-            rows: shapes.rows_of(table)?,
+            rows,
             list: Vec::new(alloc),
         };
-        items.push_interfaces(shapes)?;
-        items.push_worlds(shapes)?;
+        items.push_interfaces()?;
+        items.push_worlds()?;
         Ok(items)
     }
 
@@ -83,20 +84,16 @@ impl<'a> Items<'a> {
         }
     }
 
-    fn push_interfaces(&mut self, shapes: &mut Shapes) -> Result<(), AllocError> {
+    fn push_interfaces(&mut self) -> Result<(), AllocError> {
         for interface in self.table.interfaces.as_slice() {
             if self.is_own(interface.package) {
-                self.push_interface(shapes, interface)?;
+                self.push_interface(interface)?;
             }
         }
         Ok(())
     }
 
-    fn push_interface(
-        &mut self,
-        shapes: &mut Shapes,
-        interface: &Interface,
-    ) -> Result<(), AllocError> {
+    fn push_interface(&mut self, interface: &Interface) -> Result<(), AllocError> {
         let owner = self.plain_name(interface.package, &interface.name)?;
         for id in interface.uses.as_slice() {
             self.push_type(owner.as_str(), *id)?;
@@ -105,7 +102,7 @@ impl<'a> Items<'a> {
             self.push_type(owner.as_str(), *id)?;
         }
         for id in interface.functions.as_slice() {
-            self.push_function(shapes, owner.as_str(), *id)?;
+            self.push_function(owner.as_str(), *id)?;
         }
         Ok(())
     }
@@ -123,56 +120,47 @@ impl<'a> Items<'a> {
         self.list.push(Item {
             name: format!(in self.alloc; "{owner} {label}")?,
             words: type_words(self.alloc, self.table, &definition.kind)?,
-            crossing: Crossing::Type(*shape),
+            crossing: Crossing::Type(shape.number),
             function: None,
         })?;
         Ok(())
     }
 
-    fn push_function(
-        &mut self,
-        shapes: &mut Shapes,
-        owner: &str,
-        id: FunctionId,
-    ) -> Result<(), AllocError> {
-        let found = self.table.definitions.as_slice().get(id.0 as usize);
-        let Some(Definition::Function(function)) = found else {
+    fn push_function(&mut self, owner: &str, id: FunctionId) -> Result<(), AllocError> {
+        let place = id.0 as usize;
+        let found = self.table.definitions.as_slice().get(place);
+        let (Some(Definition::Function(function)), Some(shape)) = (found, self.rows.get(place))
+        else {
             return Ok(());
         };
         let label = function.name.as_str();
-        let shape = shapes.of_function(self.rows.as_slice(), function)?;
         self.list.push(Item {
             name: format!(in self.alloc; "{owner} {label}")?,
             words: function_words(self.alloc, self.table, function)?,
-            crossing: Crossing::Function(shape),
+            crossing: Crossing::Function(*shape),
             function: Some(id),
         })?;
         Ok(())
     }
 
-    fn push_worlds(&mut self, shapes: &mut Shapes) -> Result<(), AllocError> {
+    fn push_worlds(&mut self) -> Result<(), AllocError> {
         for world in self.table.worlds.as_slice() {
             if self.is_own(world.package) {
                 let owner = self.plain_name(world.package, &world.name)?;
                 for item in world.items.as_slice() {
-                    self.push_world_item(shapes, owner.as_str(), *item)?;
+                    self.push_world_item(owner.as_str(), *item)?;
                 }
             }
         }
         Ok(())
     }
 
-    fn push_world_item(
-        &mut self,
-        shapes: &mut Shapes,
-        world: &str,
-        item: WorldItem,
-    ) -> Result<(), AllocError> {
+    fn push_world_item(&mut self, world: &str, item: WorldItem) -> Result<(), AllocError> {
         let direction = direction_word(item.direction);
         match item.kind {
             WorldItemKind::Function(id) => {
                 let owner = format!(in self.alloc; "{world} {direction}")?;
-                self.push_function(shapes, owner.as_str(), id)
+                self.push_function(owner.as_str(), id)
             }
             WorldItemKind::Interface(id) => {
                 let Some(interface) = self.table.interfaces.as_slice().get(id.0 as usize) else {

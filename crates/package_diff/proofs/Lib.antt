@@ -1,0 +1,5 @@
+mod CallsToldByShapes
+mod ClosedTypesAreASet
+mod NumbersStandForTypes
+mod ShapesCompared
+mod SignaturesCompared
