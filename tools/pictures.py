@@ -11,12 +11,14 @@ usage: tools/pictures.py [--check] [--program WITCALL]
   examples/c/vectors.c runs through the header. Each call that it names has to be one of include/witcall.h.
 - crates.svg (docs/ARCHITECTURE.md): which crates depend on which, of crates.txt, in the groups of docs/crate-facts.txt.
 
-With --check nothing is written, and the exit status is 1 if a picture is not current, or one is there that no script
+If two boxes or two texts of a picture overlap, or one is not all in it, none is written and the exit status is 1. With
+--check nothing is written, and the exit status is 1 also if a picture is not current, or one is there that no script
 makes (OTHERS are of tools/check_explain.py and tools/page_test.py). The program is the one that was built,
 crates/program/out/program, if no other is named.
 """
 import argparse
 import functools
+import itertools
 import json
 import pathlib
 import re
@@ -36,6 +38,8 @@ WIDTH = 800
 PLAIN = (("#ffffff", "#57606a", "#1f2328"), ("#0d1117", "#8b949e", "#e6edf3"))
 HUES = (210, 130, 30, 280, 60, 330, 175, 0, 245, 95, 15, 300)
 # groups of docs/crate-facts.txt that the picture of crates leaves out, since nothing depends on them
+# pixels of the texts of a class, if not 12
+SIZES = {"small": 11, "crate": 10}
 TESTS = ("Programs that answer rows", "Tests")
 OTHERS = {"shapes.svg", "page.png", "page-call.png", "page-dark.png", "page-fault.png"}
 ROW = "lists: padding of the target stays too"
@@ -47,6 +51,7 @@ class Picture:
 
     def __init__(self, height, title):
         self.height, self.title, self.parts = height, title, []
+        self.boxes, self.texts = [], []
 
     def add(self, part):
         self.parts.append(part)
@@ -54,9 +59,14 @@ class Picture:
     def text(self, x, y, words, kind="", anchor="start"):
         """Words at a place; `kind` is a class of the style below."""
         style = f'class="{kind}" text-anchor="{anchor}" xml:space="preserve"'
+        size = next((it for name, it in SIZES.items() if name in kind.split()), 12)
+        begin = x - len(words) * size * 0.6 * {"start": 0, "middle": 0.5, "end": 1}[anchor]
+        self.texts.append((begin, y - size * 0.8, begin + len(words) * size * 0.6, y + size * 0.2, words))
         self.add(f'<text x="{x:g}" y="{y:g}" {style}>{escape(words, quote=False)}</text>')
 
     def box(self, x, y, width, height, kind="box"):
+        if kind != "frame":
+            self.boxes.append((x, y, x + width, y + height, kind))
         self.add(f'<rect x="{x:g}" y="{y:g}" width="{width:g}" height="{height:g}" rx="4" class="{kind}"/>')
 
     def arrow(self, *points):
@@ -70,7 +80,19 @@ class Picture:
         half = (y + to_y) / 2
         self.add(f'<path d="M{x:g} {y:g}C{x:g} {half:g} {to_x:g} {half:g} {to_x:g} {to_y:g}" class="edge"/>')
 
+    def refuse_overlaps(self):
+        """Ends the program if two boxes or two texts overlap, or one is not all in the picture."""
+        for parts in (self.boxes, self.texts):
+            pairs = [(one, other) for one, other in itertools.combinations(parts, 2)
+                     if all(one[it] < other[it + 2] - 0.01 and other[it] < one[it + 2] - 0.01 for it in (0, 1))]
+            pairs += [(it, "the edge") for it in parts
+                      if it[0] < 0 or it[1] < 0 or it[2] > WIDTH or it[3] > self.height]
+            if pairs:
+                told = "; ".join(f"{one} and {other}" for one, other in pairs[:4])
+                sys.exit(f"tools/pictures.py: {self.title}: these overlap: {told}")
+
     def svg(self):
+        self.refuse_overlaps()
         style = "".join(f"{'@media (prefers-color-scheme:dark){' if dark else ''}{colours(dark)}{'}' if dark else ''}"
                         for dark in (0, 1))
         return "\n".join([
@@ -408,6 +430,55 @@ def order(rows, edges):
     return rows
 
 
+def width_in_row(it):
+    """The pixels of a crate in its row, or of a place on a long edge."""
+    return 6.2 * len(it) + 12 if isinstance(it, str) else 10
+
+
+def is_full(row):
+    """Whether a row has no room for all beside each other."""
+    return sum(map(width_in_row, row)) + 6 * (len(row) + 1) > WIDTH - 20
+
+
+def heights(rows):
+    """Where each row begins, from the lowest on, and where the picture of them ends. A full row takes two lines."""
+    bottom, tops = 20, []
+    for row in reversed(rows):
+        tops.insert(0, bottom)
+        bottom += 96 if is_full(row) else 62
+    return tops, bottom
+
+
+def placed_in(row, top):
+    """The middle, the top and the width of each place of a row. Those of a full row are nearer to each other, and
+    stand in two lines in turn."""
+    full, widths = is_full(row), [width_in_row(it) for it in row]
+    space = 0 if full else (WIDTH - 20 - sum(widths)) / (len(row) + 1)
+    scale = min(1, (WIDTH - 20) / sum(widths))
+    x, found, line = 10 + space, {}, 0
+    for it, width in zip(row, widths):
+        middle = min(max(x + width * scale / 2, 4 + width / 2), WIDTH - 4 - width / 2)
+        found[it] = (middle, top + (34 * line if full else 0), width)
+        line = 1 - line if isinstance(it, str) else line
+        x += width * scale + space
+    return apart(found) if full else found
+
+
+def apart(places):
+    """The same places, with the crates of each line moved apart where they would overlap: to the right, and then to the
+    left, as far as the picture's edge asks."""
+    for line in {y for _, y, _ in places.values()}:
+        names = [it for it, (_, y, _) in places.items() if y == line and isinstance(it, str)]
+        for side, row in ((1, names), (-1, names[::-1])):
+            edge = 4 if side > 0 else WIDTH - 4
+            for it in row:
+                x, y, width = places[it]
+                x = max(x, edge + width / 2) if side > 0 else min(x, edge - width / 2)
+                places[it] = (x, y, width)
+                edge = x + side * (width / 2 + 4)
+    return places
+
+
 def graph():
     """Which crates depend on which."""
     everything = all_crates()
@@ -421,17 +492,10 @@ def graph():
     rows, edges = chains(below, levels(below))
     order(rows, edges)
     titles = [(number, title) for number, (title, found) in enumerate(groups) if number in group.values()]
-    top, gap = 20, 62
+    tops, bottom = heights(rows)
     lines = -(-len(titles) // 2)
-    picture = Picture(top + gap * len(rows) + 18 * lines, "Which crates depend on which")
-    at = {}
-    for height, row in enumerate(rows):
-        widths = [6.2 * len(it) + 12 if isinstance(it, str) else 10 for it in row]
-        space = (WIDTH - 20 - sum(widths)) / (len(row) + 1)
-        x, y = 10 + space, top + gap * (len(rows) - 1 - height)
-        for it, width in zip(row, widths):
-            at[it] = (x + width / 2, y, width)
-            x += width + space
+    picture = Picture(bottom + 18 * lines, "Which crates depend on which")
+    at = {it: place for row, top in zip(rows, tops) for it, place in placed_in(row, top).items()}
     for upper, lower in edges:
         (x, y, _), (to_x, to_y, _) = at[upper], at[lower]
         picture.curve((x, y + (24 if isinstance(upper, str) else 12)),
@@ -441,7 +505,7 @@ def graph():
         picture.box(x - width / 2, y, width, 24, f"g{number}")
         picture.text(x, y + 16, name, "crate", "middle")
     for line, (number, title) in enumerate(titles):
-        x, y = 20 + 380 * (line // lines), top + gap * len(rows) - 10 + 18 * (line % lines)
+        x, y = 20 + 380 * (line // lines), bottom - 10 + 18 * (line % lines)
         picture.box(x, y, 14, 12, f"g{number}")
         picture.text(x + 22, y + 10, title, "small")
     return picture.svg().replace(".small{", ".crate{font-size:10px}.small{", 1)

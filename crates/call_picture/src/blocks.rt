@@ -2,6 +2,7 @@
 
 use crate::noted::Request;
 use crate::place::{Block, Content, Place};
+use crate::sketch::{Level, Start};
 use crate::viewer::Viewer;
 use std::alloc::AllocError;
 
@@ -12,6 +13,8 @@ pub struct Way<'a> {
     pub path: &'static str,
     /// Whether they are in a block of their own. If not, core values carry them.
     pub has_block: bool,
+    /// Where the pointer to this block is drawn, if it is.
+    pub start: Option<Start>,
     /// Whether all of them are in the memory.
     pub is_whole: bool,
 }
@@ -32,23 +35,22 @@ impl<'a> Viewer<'a> {
         let alloc = self.page.alloc;
         let (size, align) = (request.size, request.align);
         let (purpose, path) = (purpose(block.content), block.path.as_str());
-        let line = match request.at {
-            Some(at) => {
-                format!(in alloc; "    block at {at}: size {size}, align {align}, {purpose}{path}")?
-            }
-            None => {
-                format!(in alloc; "    no block: size {size}, align {align}, {purpose}{path}")?
-            }
+        let (words, start) = match request.at {
+            Some(at) if size > 0 => (format!(in alloc; "block at {at}")?, block.start),
+            Some(at) => (format!(in alloc; "block at {at}")?, None),
+            None => (String::from_str(alloc, "no block")?, None),
         };
-        self.page.push_line(line.as_str())
+        let words = words.as_str();
+        let heading = format!(in alloc; "{words}: size {size}, align {align}, {purpose}{path}")?;
+        self.page.push_block(heading.as_str(), start)
     }
 
     /// Says how many blocks were left out since the last one that is shown, if there are some.
     fn end_hidden(&mut self) -> Result<(), AllocError> {
         let count = self.hidden;
         if count > 0 {
-            let line = format!(in self.page.alloc; "    .. {count} more blocks")?;
-            self.page.push_line(line.as_str())?;
+            let line = format!(in self.page.alloc; ".. {count} more blocks")?;
+            self.page.push_line(Level::Inner, line.as_str())?;
             self.hidden = 0;
         }
         Ok(())
@@ -93,10 +95,16 @@ impl<'a> Viewer<'a> {
             next.push(Block {
                 content: way.content,
                 path,
+                start: way.start,
                 is_shown: true,
             })?;
         } else {
-            self.show_content(way.content, Place::Elsewhere, 0, path)?;
+            let place = if way.is_whole {
+                Place::Core(0)
+            } else {
+                Place::Elsewhere
+            };
+            self.show_content(way.content, place, 0, path)?;
             self.move_found(&mut next)?;
         }
         Ok(next)

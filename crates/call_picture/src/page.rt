@@ -1,7 +1,12 @@
 //! The lines of a picture.
 
+use crate::core_values::push_flats;
+use crate::sketch::{Level, Sketch, Start};
+use canonical_abi::Flat;
+use layout_picture::Form;
 use std::alloc::{AllocError, Global};
 use std::fmt::Write;
+use svg_drawing::Fill;
 
 /// The most lines that are shown. What comes after them is left out.
 const MAX_LINES: usize = 4_000;
@@ -9,11 +14,13 @@ const MAX_LINES: usize = 4_000;
 /// The most bytes of a line.
 pub const LINE: usize = 16;
 
-/// Lines of text.
-#[derive(Debug, Drop)]
+/// Lines of text, or the same as a drawing.
+#[derive(Drop)]
 pub struct Page {
     pub alloc: Global,
-    pub text: String,
+    form: Form,
+    text: String,
+    sketch: Sketch,
     lines: usize,
 }
 
@@ -30,37 +37,109 @@ fn hex_of(alloc: Global, bytes: &[u8]) -> Result<String, AllocError> {
 }
 
 impl Page {
-    /// A page that begins with this text.
-    pub fn new(alloc: Global, text: String) -> Page {
+    /// An empty page.
+    pub fn new(alloc: Global, form: Form) -> Page {
         Page {
             alloc,
-            text,
+            form,
+            text: String::new(alloc),
+            sketch: Sketch::new(alloc),
             lines: 0,
         }
     }
 
-    /// Adds a line, unless there are too many.
-    pub fn push_line(&mut self, line: &str) -> Result<(), AllocError> {
-        if self.lines < MAX_LINES {
-            writeln!(self.text, "{line}")?;
-        } else if self.lines == MAX_LINES {
-            writeln!(self.text, "    .. more lines")?;
+    /// Counts a line. False if there are too many already.
+    fn takes_line(&mut self) -> Result<bool, AllocError> {
+        let count = self.lines;
+        self.lines = count.saturating_add(1);
+        if count == MAX_LINES {
+            self.add(Level::Inner, ".. more lines")?;
         }
-        self.lines = self.lines.saturating_add(1);
+        Ok(count < MAX_LINES)
+    }
+
+    /// Adds a line of text at a level from the left, however many there are.
+    pub fn add(&mut self, level: Level, line: &str) -> Result<(), AllocError> {
+        match (self.form, level) {
+            (Form::Svg, _) => self.sketch.push_text(level, line)?,
+            (Form::Boxes, Level::Outer) => writeln!(self.text, "{line}")?,
+            (Form::Boxes, Level::Inner) => writeln!(self.text, "    {line}")?,
+            (Form::Boxes, Level::Bytes) => writeln!(self.text, "          {line}")?,
+        }
         Ok(())
     }
 
+    /// Adds a line of text, unless there are too many.
+    pub fn push_line(&mut self, level: Level, line: &str) -> Result<(), AllocError> {
+        if self.takes_line()? {
+            self.add(level, line)?;
+        }
+        Ok(())
+    }
+
+    /// Adds the heading of a side.
+    pub fn push_side(&mut self, heading: &str) -> Result<(), AllocError> {
+        match self.form {
+            Form::Svg => self.sketch.push_heading(heading),
+            Form::Boxes => self.push_line(Level::Outer, heading),
+        }
+    }
+
+    /// Adds core values after a word for them. Returns where each of them is drawn.
+    pub fn push_values(&mut self, word: &str, flats: &[Flat]) -> Result<Vec<Start>, AllocError> {
+        if matches!(self.form, Form::Svg) && !flats.is_empty() {
+            return self.sketch.push_values(word, flats);
+        }
+        let mut line = format!(in self.alloc; "{word}: ")?;
+        if flats.is_empty() {
+            line.push_str("nothing")?;
+        }
+        push_flats(&mut line, flats)?;
+        self.push_line(Level::Inner, line.as_str())?;
+        Ok(Vec::new(self.alloc))
+    }
+
+    /// Adds the heading of a block, and an arrow from its pointer if it is drawn.
+    pub fn push_block(&mut self, heading: &str, start: Option<Start>) -> Result<(), AllocError> {
+        if !self.takes_line()? {
+            return Ok(());
+        }
+        match self.form {
+            Form::Svg => self.sketch.push_block(heading, start),
+            Form::Boxes => self.add(Level::Inner, heading),
+        }
+    }
+
+    /// Where the line is that was added last. None if it is not drawn.
+    pub fn last(&self) -> Option<Start> {
+        if self.lines > MAX_LINES {
+            return None;
+        }
+        Some(self.sketch.last())
+    }
+
     /// Adds a line of bytes: the address of the first, at most sixteen, and what they are.
-    pub fn push_bytes(&mut self, at: u32, bytes: &[u8], note: &str) -> Result<(), AllocError> {
-        let alloc = self.alloc;
-        let hex = hex_of(alloc, bytes)?;
+    pub fn push_bytes(
+        &mut self,
+        at: u32,
+        bytes: &[u8],
+        fill: Fill,
+        note: &str,
+    ) -> Result<(), AllocError> {
+        if !self.takes_line()? {
+            return Ok(());
+        }
+        if matches!(self.form, Form::Svg) {
+            return self.sketch.push_bytes(at, bytes, fill, note);
+        }
+        let hex = hex_of(self.alloc, bytes)?;
         let hex = hex.as_str();
-        let line = if bytes.len() * 2 > LINE {
-            format!(in alloc; "{at:>8}  {hex:<47}  {note}")?
+        if bytes.len() * 2 > LINE {
+            writeln!(self.text, "{at:>8}  {hex:<47}  {note}")?;
         } else {
-            format!(in alloc; "{at:>8}  {hex:<23}  {note}")?
-        };
-        self.push_line(line.as_str())
+            writeln!(self.text, "{at:>8}  {hex:<23}  {note}")?;
+        }
+        Ok(())
     }
 
     /// Says that so many bytes are left out, if there are some.
@@ -68,7 +147,16 @@ impl Page {
         if bytes == 0 {
             return Ok(());
         }
-        let line = format!(in self.alloc; "          .. {bytes} more bytes")?;
-        self.push_line(line.as_str())
+        let line = format!(in self.alloc; ".. {bytes} more bytes")?;
+        self.push_line(Level::Bytes, line.as_str())
+    }
+
+    /// The page as a text.
+    pub fn finish(self) -> Result<String, AllocError> {
+        let (text, sketch) = (self.text, self.sketch);
+        match self.form {
+            Form::Boxes => Ok(text),
+            Form::Svg => sketch.finish(),
+        }
     }
 }

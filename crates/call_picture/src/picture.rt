@@ -11,17 +11,17 @@ use crate::course::Course;
 use crate::noted::Noted;
 use crate::page::Page;
 use crate::place::Content;
+use crate::sketch::{Level, Start};
 use crate::viewer::Viewer;
-use crate::words::push_flats;
 use canonical_abi::{Fault, Flat, Guest};
 use layout::Kinds;
 use layout_picture::{Form, Sheet, TypeLayout};
 use lift_lower::Val;
+use package_picture::draw_function;
 use std::alloc::AllocError;
-use std::fmt::Write;
 use tables::{TypeId, ValType};
 
-/// What a call did, in words.
+/// What a call did.
 #[derive(Debug, Drop)]
 pub struct Picture {
     pub text: String,
@@ -32,6 +32,7 @@ pub struct Picture {
 /// What is shown of one side.
 #[derive(Clone, Copy)]
 struct Side<'a> {
+    is_caller: bool,
     /// Its heading, and the words before its core values.
     words: [&'static str; 3],
     memory: &'a Noted,
@@ -44,7 +45,8 @@ struct Side<'a> {
 impl<'a> Side<'a> {
     fn caller(course: &'a Course, arguments: &'a [Val], answer: &'a [Val]) -> Side<'a> {
         Side {
-            words: ["the caller", "    passes: ", "    gets back: "],
+            is_caller: true,
+            words: ["the caller", "passes", "gets back"],
             memory: &course.caller,
             arguments,
             answer,
@@ -55,7 +57,8 @@ impl<'a> Side<'a> {
 
     fn callee(course: &'a Course, arguments: &'a [Val], answer: &'a [Val]) -> Side<'a> {
         Side {
-            words: ["the callee", "    is given: ", "    returns: "],
+            is_caller: false,
+            words: ["the callee", "is given", "returns"],
             memory: &course.callee,
             arguments,
             answer,
@@ -65,21 +68,25 @@ impl<'a> Side<'a> {
     }
 }
 
-/// Adds core values, if the call came to them.
+/// Adds core values, if the call came to them. Returns where each of them is drawn.
 fn push_values(
     page: &mut Page,
-    words: &'static str,
+    word: &'static str,
     flats: &Option<Vec<Flat>>,
-) -> Result<(), AllocError> {
-    let Some(flats) = flats else {
-        return Ok(());
-    };
-    let mut line = String::from_str(page.alloc, words)?;
-    if flats.is_empty() {
-        line.push_str("nothing")?;
+) -> Result<Vec<Start>, AllocError> {
+    match flats {
+        Some(flats) => page.push_values(word, flats.as_slice()),
+        None => Ok(Vec::new(page.alloc)),
     }
-    push_flats(&mut line, flats.as_slice())?;
-    page.push_line(line.as_str())
+}
+
+/// Where the pointers to the blocks of a side are drawn that core values have.
+#[derive(Drop)]
+struct Starts {
+    /// Of the core values that are passed.
+    given: Vec<Start>,
+    /// Of the return area.
+    area: Option<Start>,
 }
 
 impl Call<'_> {
@@ -88,7 +95,7 @@ impl Call<'_> {
     }
 
     /// The arguments on their way. They are in a block of their own if more than sixteen core values would carry them.
-    fn arguments_way<'a>(&self, arguments: &'a [Val], is_whole: bool) -> Way<'a> {
+    fn arguments_way<'a>(&self, side: &Side<'a>, starts: &Starts) -> Way<'a> {
         // A function's row is the record of its parameters.
         let row = ValType::Id(TypeId(self.func.0));
         let has_block = match self.type_layout(row) {
@@ -96,18 +103,19 @@ impl Call<'_> {
             None => false,
         };
         Way {
-            content: Content::Fields(arguments, row),
+            content: Content::Fields(side.arguments, row),
             path: "",
             has_block,
-            is_whole,
+            start: starts.given.first().copied(),
+            is_whole: side.given.is_some(),
         }
     }
 
     /// The result on its way. It is in a block of its own if more than one core value would carry it. None if there is
     /// no result.
-    fn answer_way<'a>(&self, answer: &'a [Val], is_whole: bool) -> Option<Way<'a>> {
+    fn answer_way<'a>(&self, side: &Side<'a>, starts: &Starts) -> Option<Way<'a>> {
         let ty = *self.results.first()?;
-        let value = answer.first()?;
+        let value = side.answer.first()?;
         let has_block = match self.type_layout(ty)?.flat() {
             Kinds::Flat(kinds) => kinds.len() > 1,
             Kinds::Spilled => true,
@@ -116,12 +124,18 @@ impl Call<'_> {
             content: Content::Value(value, ty),
             path: "result",
             has_block,
-            is_whole,
+            start: starts.area,
+            is_whole: side.answered.is_some(),
         })
     }
 
     /// Adds the blocks of one side to a page.
-    fn draw_blocks(&self, page: Page, side: &Side<'_>) -> Result<Page, AllocError> {
+    fn draw_blocks(
+        &self,
+        page: Page,
+        side: &Side<'_>,
+        starts: &Starts,
+    ) -> Result<Page, AllocError> {
         let alloc = self.alloc;
         let requests = side.memory.requests()?;
         let mut viewer = Viewer {
@@ -131,11 +145,13 @@ impl Call<'_> {
             memory: side.memory.bytes(),
             parts: Vec::new(alloc),
             found: Vec::new(alloc),
+            starts: starts.given.as_slice(),
+            values: 0,
             hidden: 0,
         };
-        let way = self.arguments_way(side.arguments, side.given.is_some());
+        let way = self.arguments_way(side, starts);
         let count = viewer.show_way(&way, requests)?;
-        if let Some(way) = self.answer_way(side.answer, side.answered.is_some()) {
+        if let Some(way) = self.answer_way(side, starts) {
             viewer.show_way(&way, requests.get(count..).unwrap_or(&[]))?;
         }
         Ok(viewer.page)
@@ -145,42 +161,51 @@ impl Call<'_> {
     fn draw_side(&self, page: Page, side: &Side<'_>) -> Result<Page, AllocError> {
         let mut page = page;
         let [heading, given, answered] = side.words;
-        page.push_line(heading)?;
-        push_values(&mut page, given, side.given)?;
-        push_values(&mut page, answered, side.answered)?;
-        self.draw_blocks(page, side)
+        page.push_side(heading)?;
+        let given = push_values(&mut page, given, side.given)?;
+        let answered = push_values(&mut page, answered, side.answered)?;
+        let area = if side.is_caller {
+            given.last().copied()
+        } else {
+            answered.first().copied()
+        };
+        self.draw_blocks(page, side, &Starts { given, area })
     }
 
-    /// The function and its core signatures.
-    fn heading(&self, interface: &str) -> Result<Page, AllocError> {
+    /// A page that begins with the function and its core signatures.
+    fn heading(&self, interface: &str, form: Form) -> Result<Page, AllocError> {
         let mut sheet = Sheet::new(self.alloc, Form::Boxes);
-        sheet.draw_function(self.resolve, self.layouts, interface, self.func)?;
-        Ok(Page::new(self.alloc, sheet.finish()?))
+        let tables = (self.resolve, self.layouts);
+        draw_function(&mut sheet, tables, interface, self.func)?;
+        let mut page = Page::new(self.alloc, form);
+        for (index, line) in sheet.finish()?.as_str().lines().enumerate() {
+            if index == 0 {
+                page.push_side(line)?;
+            } else {
+                page.push_line(Level::Inner, line.trim_start())?;
+            }
+        }
+        Ok(page)
     }
 
-    /// Adds how the call ended.
-    fn push_outcome(
-        &self,
-        text: &mut String,
-        outcome: &Result<Option<Val>, Fault>,
-    ) -> Result<(), AllocError> {
+    /// How the call ended.
+    fn outcome_line(&self, outcome: &Result<Option<Val>, Fault>) -> Result<String, AllocError> {
         match outcome {
             Ok(Some(value)) => {
                 let json = self.json_text(value)?;
-                writeln!(text, "answer: {}", json.as_str())?;
+                format!(in self.alloc; "answer: {}", json.as_str())
             }
-            Ok(None) => text.push_str("answer: nothing\n")?,
-            Err(Fault::NoMemory) => return Err(AllocError),
-            Err(Fault::Trap(trap)) => writeln!(text, "{trap}")?,
+            Ok(None) => String::from_str(self.alloc, "answer: nothing"),
+            Err(Fault::NoMemory) => Err(AllocError),
+            Err(Fault::Trap(trap)) => format!(in self.alloc; "{trap}"),
         }
-        Ok(())
     }
 
-    /// Makes the call over two fresh memories, and says what it did. The interface is that of the function, by its full
-    /// name.
+    /// Makes the call over two fresh memories, and shows what it did, in this form. The interface is that of the
+    /// function, by its full name.
     pub fn picture(
         &self,
-        interface: &str,
+        title: (&str, Form),
         arguments: &[Val],
         answer: &[Val],
     ) -> Result<Picture, AllocError>
@@ -189,22 +214,20 @@ impl Call<'_> {
         requires answer { HaveTypes (map value_of answer.now)
             (fields_of_types self.now.resolve.now self.now.results.items) }
     {
+        let (interface, form) = title;
         let mut course = Course::new(self.alloc)?;
         let outcome = self.make(&mut course, arguments, answer);
-        let page = self.heading(interface)?;
+        let page = self.heading(interface, form)?;
         let caller = Side::caller(&course, arguments, answer);
         let page = self.draw_side(page, &caller)?;
         let callee = Side::callee(&course, arguments, answer);
-        let page = self.draw_side(page, &callee)?;
-        let mut text = page.text;
+        let mut page = self.draw_side(page, &callee)?;
         let (there, back) = (course.nodes_there, course.nodes_back);
-        writeln!(
-            text,
-            "nodes: {there} of the arguments, {back} of the result"
-        )?;
-        self.push_outcome(&mut text, &outcome)?;
+        let line = format!(in self.alloc; "nodes: {there} of the arguments, {back} of the result")?;
+        page.add(Level::Outer, line.as_str())?;
+        page.add(Level::Outer, self.outcome_line(&outcome)?.as_str())?;
         Ok(Picture {
-            text,
+            text: page.finish()?,
             is_answered: outcome.is_ok(),
         })
     }

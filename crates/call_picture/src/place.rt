@@ -1,5 +1,6 @@
 //! Where a value is, and what is still to be shown of it.
 
+use crate::sketch::Start;
 use lift_lower::Val;
 use tables::ValType;
 
@@ -8,14 +9,16 @@ use tables::ValType;
 pub enum Place {
     /// In memory, from this address on.
     At(u32),
-    /// In core values, or not whole in memory. The blocks below it are shown.
+    /// In core values, from the one of this number on.
+    Core(usize),
+    /// Not whole in memory. The blocks below it are shown.
     Elsewhere,
     /// It is left out, with the blocks below it.
     Hidden,
 }
 
 impl Place {
-    /// The place so many bytes after it.
+    /// The place so many bytes after it, if it is in memory.
     pub fn plus(self, offset: u32) -> Place {
         match self {
             Place::At(at) => Place::At(at.saturating_add(offset)),
@@ -40,7 +43,7 @@ pub struct Members<'a> {
     pub values: &'a [Val],
     /// The type of the record, or of an element.
     pub ty: ValType,
-    /// The place of the record, or of the next element.
+    /// The place of the record or of the next element. In core values, that of the next field.
     pub place: Place,
     /// The name of the whole.
     pub path: String,
@@ -76,5 +79,7 @@ pub struct Block<'a> {
     pub content: Content<'a>,
     /// The name of the value.
     pub path: String,
+    /// Where its pointer is drawn, if it is.
+    pub start: Option<Start>,
     pub is_shown: bool,
 }

@@ -4,11 +4,13 @@ ghost use Rattle.layout.specs.Layout.{layouts_of};
 
 use crate::page::{LINE, Page};
 use crate::place::{Block, Content, Members, Part, Place, Spot};
+use crate::sketch::Start;
 use crate::words::{member_path, own_size, own_words};
-use layout::{Layouts, Shape};
+use layout::{Kinds, Layouts, Shape};
 use layout_picture::{TypeLayout, case_number_size, member_name};
 use lift_lower::Val;
 use std::alloc::AllocError;
+use svg_drawing::Fill;
 use tables::{Resolve, ValType};
 
 /// The most elements of a list that are shown.
@@ -28,6 +30,10 @@ pub struct Viewer<'a> {
     pub parts: Vec<Part<'a>>,
     /// The blocks of the values that were shown.
     pub found: Vec<Block<'a>>,
+    /// Where the core values of the arguments are drawn, if they are.
+    pub starts: &'a [Start],
+    /// How many values were shown.
+    pub values: usize,
     /// How many blocks were left out since the last one that was shown.
     pub hidden: usize,
     pub ghost laid_out: { layouts.now ≡ layouts_of resolve.now },
@@ -47,6 +53,22 @@ fn end_before(layout: &TypeLayout<'_>, index: usize) -> u32 {
     match layout.field(before) {
         Some(part) => part.offset.saturating_add(part.layout.size()),
         None => 0,
+    }
+}
+
+/// A place after so many core values, if it is in these.
+fn after(place: Place, count: usize) -> Place {
+    match place {
+        Place::Core(index) => Place::Core(index.saturating_add(count)),
+        other => other,
+    }
+}
+
+/// How many core values carry a value of a type.
+fn core_count(layout: &TypeLayout<'_>) -> usize {
+    match layout.flat() {
+        Kinds::Flat(kinds) => kinds.len(),
+        Kinds::Spilled => 0,
     }
 }
 
@@ -79,19 +101,27 @@ impl<'a> Viewer<'a> {
     fn show_padding(&mut self, at: u32, size: u32) -> Result<(), AllocError> {
         let size = size as usize;
         let bytes = bytes_at(self.memory, at, size.min(LINE));
-        self.page.push_bytes(at, bytes, "padding")?;
+        self.page.push_bytes(at, bytes, Fill::Hatched, "padding")?;
         self.page.push_more(size.saturating_sub(LINE))
+    }
+
+    /// What the bytes of the next value are filled with.
+    fn next_fill(&mut self) -> Fill {
+        let fill = Fill::Hue(self.values);
+        self.values = self.values.saturating_add(1);
+        fill
     }
 
     /// Shows the bytes of a string.
     fn show_text(&mut self, at: u32, size: u32) -> Result<(), AllocError> {
         let size = size as usize;
         let bytes = bytes_at(self.memory, at, size.min(SHOWN_BYTES));
+        let fill = self.next_fill();
         let mut start = at;
         for chunk in bytes.chunks(LINE) {
             let mut note = String::new(self.page.alloc);
             push_characters(&mut note, chunk)?;
-            self.page.push_bytes(start, chunk, note.as_str())?;
+            self.page.push_bytes(start, chunk, fill, note.as_str())?;
             start = start.saturating_add(16);
         }
         self.page.push_more(size.saturating_sub(SHOWN_BYTES))
@@ -109,15 +139,22 @@ impl<'a> Viewer<'a> {
         let path = spot.path.as_str();
         let note = own_words(self.page.alloc, self.resolve, layout, path, spot.value)?;
         let bytes = bytes_at(self.memory, at, size as usize);
-        self.page.push_bytes(at, bytes, note.as_str())
+        let fill = self.next_fill();
+        self.page.push_bytes(at, bytes, fill, note.as_str())
     }
 
     /// Leaves the block of a string or a list to be shown.
     fn find(&mut self, content: Content<'a>, place: Place, path: String) -> Result<(), AllocError> {
         let is_shown = !matches!(place, Place::Hidden);
+        let start = match place {
+            Place::At(_) => self.page.last(),
+            Place::Core(index) => self.starts.get(index).copied(),
+            Place::Elsewhere | Place::Hidden => None,
+        };
         self.found.push(Block {
             content,
             path,
+            start,
             is_shown,
         })?;
         Ok(())
@@ -143,7 +180,7 @@ impl<'a> Viewer<'a> {
         self.parts.push(Part::Value(Spot {
             value,
             ty: part.layout.ty,
-            place: spot.place.plus(part.offset),
+            place: after(spot.place, 1).plus(part.offset),
             path,
         }))?;
         self.push_padding(spot.place, start, part.offset)
@@ -201,7 +238,7 @@ impl<'a> Viewer<'a> {
         self.push_part(Part::Fields(Members {
             values: fields.values,
             ty: fields.ty,
-            place,
+            place: after(place, core_count(&part.layout)),
             path: fields.path,
             index: index.saturating_add(1),
         }))?;

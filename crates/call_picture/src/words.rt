@@ -1,26 +1,10 @@
 //! Values in words.
 
-use canonical_abi::Flat;
 use layout::Shape;
 use layout_picture::{TypeLayout, case_number_size, member_name, type_text};
 use lift_lower::Val;
 use std::alloc::{AllocError, Global};
-use std::fmt::Write;
 use tables::Resolve;
-
-/// Appends core values.
-pub fn push_flats(text: &mut String, flats: &[Flat]) -> Result<(), AllocError> {
-    for (index, flat) in flats.iter().enumerate() {
-        if index > 0 {
-            text.push_str(", ")?;
-        }
-        match flat {
-            Flat::I32(number) => write!(text, "i32 {number}")?,
-            Flat::I64(number) => write!(text, "i64 {number}")?,
-        }
-    }
-    Ok(())
-}
 
 /// A value of a primitive type other than string. No text for other values.
 fn scalar_text(alloc: Global, value: &Val) -> Result<String, AllocError> {

@@ -1,21 +1,22 @@
 //! Pictures of the bytes of types, for a terminal or as SVG.
 //!
-//! `Sheet::draw` draws each type of a package: its fields with their offsets, sizes and alignments, padding, and cases
-//! side by side. It adds the flat core values of each type and the two core signatures of each function. The numbers
-//! are those of `TypeLayout`, whose contracts speak of `canonical_abi`. `Sheet::draw_function` adds those of one
-//! function. It stands on `layout` and `tables`.
+//! `diagram_of` says what is in the bytes of a type, and a `Sheet` draws it to scale, below the lines of text that came
+//! before it. Each byte is as wide as any other, padding is shaded, and the cases of a variant are one below the other,
+//! at the same offsets. Below the boxes are all offsets, sizes and alignments. The numbers are those of `TypeLayout`,
+//! whose contracts speak of `canonical_abi`. It stands on `layout`, `tables` and `svg_drawing`.
 #![tactic(auto)]
 
-mod bands;
 mod boxes;
+mod cells;
 mod names;
-mod picture;
+mod rows;
+mod scaled;
 mod sheet;
 mod signatures;
-mod svg;
 mod type_layout;
 
-pub use names::{member_name, type_text};
-pub use sheet::{Form, Sheet};
-pub use signatures::push_signature;
+pub use cells::{Cell, Diagram, Lane, Note, diagram_of};
+pub use names::{label_of, member_name, origin_of, owner_of, type_text};
+pub use sheet::{Form, Level, Sheet};
+pub use signatures::{push_flat, push_signature};
 pub use type_layout::{Part, TypeLayout, case_number_size};

@@ -51,6 +51,38 @@ pub fn label_of(resolve: &Resolve, id: TypeId) -> &str {
     }
 }
 
+/// The type that a used name is of, where it was declared.
+pub fn origin_of(resolve: &Resolve, id: TypeId) -> TypeId {
+    let mut origin = id;
+    for _ in 0..resolve.definitions.len() {
+        match definition(resolve, origin) {
+            Some(
+                TypeDef {
+                    kind: TypeDefKind::Use(next),
+                    ..
+                },
+            ) => origin = *next,
+            _ => return origin,
+        }
+    }
+    origin
+}
+
+/// The full name of the interface that declares a type. No text if the type has no name.
+pub fn owner_of(alloc: Global, resolve: &Resolve, id: TypeId) -> Result<String, AllocError> {
+    if let Some(definition) = definition(resolve, id)
+        && let Some(name) = &definition.name
+        && let Some(interface) = resolve.interfaces.as_slice().get(name.interface.0 as usize)
+        && let Some(package) = resolve
+            .packages
+            .as_slice()
+            .get(interface.package.0 as usize)
+    {
+        return String::from_str(alloc, package.full_name(alloc, &interface.name)?.as_str());
+    }
+    Ok(String::new(alloc))
+}
+
 /// Leaves pieces to be written: types between `<` and `>`.
 fn push_members(pieces: &mut Vec<Piece>, members: &[Option<ValType>]) -> Result<(), AllocError> {
     pieces.push(Piece::Mark(">"))?;

@@ -15,7 +15,7 @@ use tables::{Resolve, ValType};
 /// A type of a package's tables, with the layouts of these tables. Contracts see it as the tables and the type.
 #[derive(Drop)]
 pub struct TypeLayout<'a> {
-    pub(crate) resolve: &'a Resolve,
+    pub resolve: &'a Resolve,
     layouts: &'a Layouts,
     pub ty: ValType,
     ghost laid_out: { layouts.now ≡ layouts_of resolve.now },

@@ -1,0 +1,146 @@
+//! Lanes in rows of so many bytes.
+
+use crate::cells::{Cell, Lane};
+use std::alloc::{AllocError, Global};
+
+/// The bytes that a cell has in a row.
+#[derive(Clone, Copy, Debug)]
+pub struct Piece<'a> {
+    pub cell: &'a Cell,
+    /// How many bytes are before it in the row.
+    pub column: u32,
+    /// In bytes.
+    pub size: u32,
+    /// Whether the cell begins with it.
+    pub is_first: bool,
+    /// Whether the cell ends with it.
+    pub is_last: bool,
+}
+
+/// Some bytes of a lane.
+#[derive(Debug, Drop)]
+pub struct Row<'a> {
+    /// The offset of the first byte.
+    pub offset: u32,
+    pub pieces: Vec<Piece<'a>>,
+    /// How many bytes are left out after the row, all of one cell.
+    pub skipped: u32,
+}
+
+/// How many rows a cell has at most. If it has more, those in the middle are left out.
+const MOST_ROWS: u32 = 4;
+
+/// The rows so far.
+#[derive(Drop)]
+struct Rows<'a> {
+    alloc: Global,
+    /// The bytes of a row.
+    width: u32,
+    list: Vec<Row<'a>>,
+    /// The row that is not full yet.
+    pieces: Vec<Piece<'a>>,
+    offset: u32,
+    column: u32,
+}
+
+/// How many of the bytes that a cell has left are left out: whole rows, so that one row or less is left.
+fn skipped_of(left: u32, width: u32) -> u32 {
+    let rows = left.saturating_sub(1).checked_div(width).unwrap_or(0);
+    if rows < MOST_ROWS {
+        return 0;
+    }
+    rows.saturating_mul(width)
+}
+
+impl<'a> Rows<'a> {
+    /// Ends the row, after which so many bytes are left out.
+    fn end_row(&mut self, skipped: u32) -> Result<(), AllocError> {
+        let pieces = std::mem::replace(&mut self.pieces, Vec::new(self.alloc));
+        self.list.push(Row {
+            offset: self.offset,
+            pieces,
+            skipped,
+        })?;
+        let after = self.offset.saturating_add(self.width);
+        self.offset = after.saturating_add(skipped);
+        self.column = 0;
+        Ok(())
+    }
+
+    /// Adds the next bytes of a cell, as many as the row has room for. Returns how many of the cell are left.
+    fn push_piece(&mut self, cell: &'a Cell, left: u32) -> Result<u32, AllocError> {
+        let size = self.width.saturating_sub(self.column).min(left);
+        self.pieces.push(Piece {
+            cell,
+            column: self.column,
+            size,
+            is_first: left == cell.size,
+            is_last: left == size,
+        })?;
+        self.column = self.column.saturating_add(size);
+        let left = left.saturating_sub(size);
+        if self.column < self.width {
+            return Ok(left);
+        }
+        let skipped = skipped_of(left, self.width);
+        self.end_row(skipped)?;
+        Ok(left.saturating_sub(skipped))
+    }
+
+    /// Adds a cell.
+    fn push_cell(&mut self, cell: &'a Cell) -> Result<(), AllocError> {
+        let mut left = cell.size;
+        for _ in 0..MOST_ROWS + 2 {
+            if left == 0 {
+                break;
+            }
+            left = self.push_piece(cell, left)?;
+        }
+        Ok(())
+    }
+}
+
+/// The rows of a lane, each of so many bytes.
+pub fn rows_of<'a>(alloc: Global, lane: &'a Lane, width: u32) -> Result<Vec<Row<'a>>, AllocError> {
+    let mut rows = Rows {
+        alloc,
+        width,
+        list: Vec::new(alloc),
+        pieces: Vec::new(alloc),
+        offset: 0,
+        column: 0,
+    };
+    for cell in &lane.cells {
+        rows.push_cell(cell)?;
+    }
+    if rows.column > 0 {
+        rows.end_row(0)?;
+    }
+    Ok(rows.list)
+}
+
+/// The words for a piece that has room for so many characters: as many as fit, of those of its cell. What is cut ends
+/// in `..`, and what goes on from the row before begins with it.
+pub fn label_of(alloc: Global, piece: &Piece<'_>, room: usize) -> Result<String, AllocError> {
+    let (name, text) = (piece.cell.name.as_str(), piece.cell.text.as_str());
+    let length = name.chars().count();
+    if piece.cell.member.is_none() {
+        Ok(String::new(alloc))
+    } else if !piece.is_first {
+        format!(in alloc; ".. {}", front_of(name, room.saturating_sub(3)))
+    } else if text.chars().count() <= room {
+        String::from_str(alloc, text)
+    } else if length <= room {
+        String::from_str(alloc, name)
+    } else {
+        format!(in alloc; "{}..", front_of(name, room.saturating_sub(2)))
+    }
+}
+
+/// The first characters of a text.
+fn front_of(text: &str, count: usize) -> &str {
+    match text.char_indices().nth(count) {
+        Some((place, _)) => text.get(..place).unwrap_or(""),
+        None => text,
+    }
+}

@@ -1,0 +1,186 @@
+//! Diagrams as rectangles of an SVG picture.
+
+use crate::cells::{Cell, Diagram, Lane, Note};
+use crate::rows::{Piece, Row, label_of, rows_of};
+use std::alloc::{AllocError, Global};
+use svg_drawing::{Area, Drawing, Fill, Ink, Point};
+
+/// The bytes of a row.
+const ROW: u32 = 16;
+
+/// The pixels of a byte, which is as wide everywhere.
+const BYTE: u32 = 48;
+
+/// The pixels of a row of boxes.
+const HEIGHT: u32 = 26;
+
+/// The pixels of a line of text.
+pub const LINE: u32 = 18;
+
+/// The pixels between two cases.
+const GAP: u32 = 16;
+
+/// Where boxes begin. Offsets end before it.
+const LEFT: u32 = 72;
+
+/// How many characters fit into a byte.
+const CHARACTERS: usize = 6;
+
+/// What a cell is filled with.
+fn fill_of(cell: &Cell) -> Fill {
+    match cell.member {
+        Some(member) => Fill::Hue(member),
+        None => Fill::Hatched,
+    }
+}
+
+/// Adds a text before the boxes.
+fn push_margin(drawing: &mut Drawing, y: u32, text: &str) -> Result<(), AllocError> {
+    let x = LEFT - 8;
+    drawing.text_before(Point { x, y }, Ink::Dim, text)
+}
+
+/// Adds the box of a piece, with its words.
+fn push_piece(
+    alloc: Global,
+    drawing: &mut Drawing,
+    top: u32,
+    piece: &Piece<'_>,
+) -> Result<(), AllocError> {
+    let left = LEFT.saturating_add(piece.column.saturating_mul(BYTE));
+    let area = Area {
+        left,
+        top,
+        width: piece.size.saturating_mul(BYTE),
+        height: HEIGHT,
+    };
+    let (offset, size, text) = (piece.cell.offset, piece.cell.size, piece.cell.text.as_str());
+    let about = format!(in alloc; "{offset}: {text}, size {size}")?;
+    drawing.rectangle(area, fill_of(piece.cell), about.as_str())?;
+    let room = (piece.size as usize)
+        .saturating_mul(CHARACTERS)
+        .saturating_sub(1);
+    let label = label_of(alloc, piece, room)?;
+    if label.is_empty() {
+        return Ok(());
+    }
+    let at = Point {
+        x: left.saturating_add(5),
+        y: top.saturating_add(17),
+    };
+    drawing.text(at, Ink::Plain, label.as_str())
+}
+
+/// Adds a row, and what is told of bytes that are left out after it. Returns where it ends.
+fn push_row(
+    alloc: Global,
+    drawing: &mut Drawing,
+    top: u32,
+    row: &Row<'_>,
+) -> Result<u32, AllocError> {
+    let offset = row.offset;
+    push_margin(
+        drawing,
+        top.saturating_add(17),
+        format!(in alloc; "{offset}")?.as_str(),
+    )?;
+    for piece in &row.pieces {
+        push_piece(alloc, drawing, top, piece)?;
+    }
+    let bottom = top.saturating_add(HEIGHT);
+    let skipped = row.skipped;
+    if skipped == 0 {
+        return Ok(bottom);
+    }
+    let at = Point {
+        x: LEFT.saturating_add(5),
+        y: bottom.saturating_add(13),
+    };
+    let words = format!(in alloc; ".. {skipped} bytes are left out")?;
+    drawing.text(at, Ink::Dim, words.as_str())?;
+    Ok(bottom.saturating_add(LINE))
+}
+
+/// Adds a lane. Returns where it ends.
+fn push_lane(
+    alloc: Global,
+    drawing: &mut Drawing,
+    top: u32,
+    lane: &Lane,
+) -> Result<u32, AllocError> {
+    let mut bottom = top;
+    for row in &rows_of(alloc, lane, ROW)? {
+        bottom = push_row(alloc, drawing, bottom, row)?;
+    }
+    Ok(bottom)
+}
+
+/// Adds the numbers of the bytes of a row. Returns where they end.
+fn push_ruler(
+    alloc: Global,
+    drawing: &mut Drawing,
+    top: u32,
+    size: u32,
+) -> Result<u32, AllocError> {
+    if size < 2 {
+        return Ok(top.saturating_add(4));
+    }
+    for byte in 0..size.min(ROW) {
+        let at = Point {
+            x: LEFT
+                .saturating_add(byte.saturating_mul(BYTE))
+                .saturating_add(BYTE / 2),
+            y: top.saturating_add(13),
+        };
+        drawing.text_around(at, Ink::Dim, format!(in alloc; "{byte}")?.as_str())?;
+    }
+    Ok(top.saturating_add(LINE))
+}
+
+/// Adds the boxes of a diagram of a type of this size. Returns where they end.
+pub fn push_scaled(
+    alloc: Global,
+    drawing: &mut Drawing,
+    from: (u32, u32),
+    diagram: &Diagram,
+) -> Result<u32, AllocError> {
+    let (top, size) = from;
+    let mut bottom = push_ruler(alloc, drawing, top, size)?;
+    for (index, lane) in diagram.lanes.iter().enumerate() {
+        if index > 0 {
+            push_margin(drawing, bottom.saturating_add(12), "or")?;
+            bottom = bottom.saturating_add(GAP);
+        }
+        bottom = push_lane(alloc, drawing, bottom, lane)?;
+    }
+    Ok(bottom.saturating_add(4))
+}
+
+/// Adds a line of the list below boxes.
+fn push_note(
+    alloc: Global,
+    drawing: &mut Drawing,
+    top: u32,
+    note: &Note,
+) -> Result<(), AllocError> {
+    let y = top.saturating_add(13);
+    if let Some(offset) = note.offset {
+        push_margin(drawing, y, format!(in alloc; "{offset}")?.as_str())?;
+    }
+    drawing.text(Point { x: LEFT, y }, Ink::Dim, note.text.as_str())
+}
+
+/// Adds the list below boxes. Returns where it ends.
+pub fn push_list(
+    alloc: Global,
+    drawing: &mut Drawing,
+    top: u32,
+    diagram: &Diagram,
+) -> Result<u32, AllocError> {
+    let mut bottom = top;
+    for note in &diagram.notes {
+        push_note(alloc, drawing, bottom, note)?;
+        bottom = bottom.saturating_add(LINE);
+    }
+    Ok(bottom)
+}
