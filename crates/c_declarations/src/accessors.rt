@@ -1,13 +1,16 @@
 //! How values are loaded and stored.
 
-use crate::header::Header;
+use crate::header::{Header, Includer};
 use c_types::c_names::NameKind;
 use std::alloc::AllocError;
 use std::fmt::Write;
 
 impl<'a> Header<'a> {
-    /// Writes how a type of this name is loaded and stored.
+    /// Writes how a type of this name is loaded and stored by a host.
     pub(crate) fn put_access(&mut self, c: &str) -> Result<(), AllocError> {
+        if self.purpose.includer == Includer::Guest {
+            return Ok(());
+        }
         let alloc = self.alloc;
         let load = self.take_own(NameKind::Function, format!(in alloc; "{c}_load")?)?;
         let store = self.take_own(NameKind::Function, format!(in alloc; "{c}_store")?)?;
@@ -15,13 +18,21 @@ impl<'a> Header<'a> {
         push_store(&mut self.text, c, store.as_str())
     }
 
-    /// Writes how an element of a list is loaded and stored.
-    pub(crate) fn put_elements(&mut self, c: &str, element: &str) -> Result<(), AllocError> {
+    /// Writes how an element of a list is loaded and stored by a host.
+    fn put_places(&mut self, c: &str, element: &str) -> Result<(), AllocError> {
         let alloc = self.alloc;
         let get = self.take_own(NameKind::Function, format!(in alloc; "{c}_get")?)?;
         let set = self.take_own(NameKind::Function, format!(in alloc; "{c}_set")?)?;
         push_get(&mut self.text, c, element, get.as_str())?;
         push_set(&mut self.text, c, element, set.as_str())
+    }
+
+    /// Writes how the elements of a list are reached.
+    pub(crate) fn put_elements(&mut self, c: &str, element: &str) -> Result<(), AllocError> {
+        match self.purpose.includer {
+            Includer::Host => self.put_places(c, element),
+            Includer::Guest => self.put_pointers(c, element),
+        }
     }
 }
 

@@ -69,8 +69,10 @@ impl<'a> Header<'a> {
     ) -> Result<(), AllocError> {
         let alloc = self.alloc;
         let name = self.take_own(NameKind::Type, entry.scope.name(alloc, entry.label)?)?;
+        let key = format!(in alloc; "{} {}", entry.scope.full_name.as_str(), entry.label)?;
+        self.put_comment(key.as_str(), comment)?;
         let (name, c) = (name.as_str(), self.types.c(target));
-        write!(self.text, "\n/* {comment} */\ntypedef {c} {name};\n")?;
+        write!(self.text, "typedef {c} {name};\n")?;
         self.put_extent(name, target)?;
         let spelling = String::from_str(alloc, entry.label)?;
         self.types.set_end(entry.id, target, spelling);
@@ -127,7 +129,9 @@ impl<'a> Header<'a> {
         let alloc = self.alloc;
         let (full_name, label) = (entry.scope.full_name.as_str(), entry.label);
         let c = self.take_own(NameKind::Type, entry.scope.name(alloc, label)?)?;
-        write!(self.text, "\n/* {word} {full_name} {label} */\n")?;
+        let key = format!(in alloc; "{full_name} {label}")?;
+        let last = format!(in alloc; "{word} {}", key.as_str())?;
+        self.put_comment(key.as_str(), last.as_str())?;
         Ok(c)
     }
 

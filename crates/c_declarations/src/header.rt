@@ -6,11 +6,29 @@ use c_types::{Laid, Types};
 use std::alloc::{AllocError, Global};
 use std::fmt::Write;
 use std::mem::replace;
+use wit_comments::{Block, Comments};
+
+/// Who includes a header.
+#[derive(Clone, Copy, PartialEq, Eq)]
+pub enum Includer {
+    /// A host, which has linear memories as arrays of bytes.
+    Host,
+    /// A guest, whose addresses are those of its linear memory.
+    Guest,
+}
+
+/// Who a header is for, and what its items are said to be.
+#[derive(Clone, Copy)]
+pub struct Purpose<'a> {
+    pub includer: Includer,
+    pub comments: &'a Comments,
+}
 
 /// The header so far.
 #[derive(Drop)]
 pub struct Header<'a> {
     pub alloc: Global,
+    pub purpose: Purpose<'a>,
     pub text: String,
     pub names: Names,
     pub types: Types<'a>,
@@ -20,9 +38,16 @@ pub struct Header<'a> {
 }
 
 impl<'a> Header<'a> {
-    pub fn new(alloc: Global, laid: Laid<'a>, keyed: KeyedState) -> Result<Header<'a>, AllocError> {
+    /// Nothing yet.
+    pub fn new(
+        alloc: Global,
+        laid: Laid<'a>,
+        keyed: KeyedState,
+        purpose: Purpose<'a>,
+    ) -> Result<Header<'a>, AllocError> {
         Ok(Header {
             alloc,
+            purpose,
             text: String::new(alloc),
             names: Names::new(alloc, keyed)?,
             types: Types::new(alloc, laid, keyed)?,
@@ -35,6 +60,19 @@ impl<'a> Header<'a> {
     pub fn begin_package(&mut self, prefix: &str) -> Result<(), AllocError> {
         self.front = format!(in self.alloc; "{prefix}_")?;
         Ok(())
+    }
+
+    /// Writes the comment of an item that these words name, and what it is.
+    pub fn put_comment(&mut self, key: &str, last: &str) -> Result<(), AllocError> {
+        let block = Block {
+            open: "/*",
+            indent: "",
+            lines: self.purpose.comments.of(key),
+            last,
+        };
+        self.text.push('\n')?;
+        block.push(&mut self.text)?;
+        self.text.push('\n')
     }
 
     /// Begins a text of its own, and gives the text before it.

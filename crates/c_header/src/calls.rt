@@ -40,7 +40,7 @@ pub struct Call<'a> {
 }
 
 /// The function of this number. None if the tables have no such function.
-fn called_of<'a>(laid: &Laid<'a>, id: FunctionId) -> Option<Called<'a>> {
+pub fn called_of<'a>(laid: &Laid<'a>, id: FunctionId) -> Option<Called<'a>> {
     let definitions = laid.resolve.definitions.as_slice();
     let Some(Definition::Function(function)) = definitions.get(id.0 as usize) else {
         return None;
@@ -68,23 +68,35 @@ fn parameter_parts(alloc: Global, parameters: &[Parameter]) -> Result<Vec<Part>,
     Ok(parts)
 }
 
-/// Writes a function as WIT spells it.
-fn push_signature(
-    text: &mut String,
+/// A function as WIT spells it.
+pub fn signature_of(
+    alloc: Global,
     types: &Types<'_>,
     function: &Function,
-) -> Result<(), AllocError> {
-    write!(text, "\n/* {}: func(", function.name.as_str())?;
+) -> Result<String, AllocError> {
+    let mut text = format!(in alloc; "{}: func(", function.name.as_str())?;
     for (index, parameter) in function.params.as_slice().iter().enumerate() {
         text.push_str(if index == 0 { "" } else { ", " })?;
         let ty = types.spelling(Some(parameter.ty));
         write!(text, "{}: {ty}", parameter.name.as_str())?;
     }
     match function.result {
-        Some(ty) => writeln!(text, ") -> {} */", types.spelling(Some(ty)))?,
-        None => text.push_str(") */\n")?,
+        Some(ty) => write!(text, ") -> {}", types.spelling(Some(ty)))?,
+        None => text.push(')')?,
     }
-    Ok(())
+    Ok(text)
+}
+
+/// Writes the comment of a function.
+fn put_signature(
+    header: &mut Header<'_>,
+    scope: &Scope,
+    function: &Function,
+) -> Result<(), AllocError> {
+    let alloc = header.alloc;
+    let signature = signature_of(alloc, &header.types, function)?;
+    let key = format!(in alloc; "{} {}", scope.full_name.as_str(), function.name.as_str())?;
+    header.put_comment(key.as_str(), signature.as_str())
 }
 
 /// Writes the name of a function.
@@ -109,25 +121,25 @@ fn take_if(
     }
 }
 
-/// Takes the name of the record of parameters, and writes it if there are some.
-fn put_parameters(
+/// Takes the name of the record of parameters, and writes it if it is to be written.
+pub fn put_parameters(
     header: &mut Header<'_>,
     stem: &str,
     called: &Called<'_>,
+    is_written: bool,
 ) -> Result<Row, AllocError> {
     let alloc = header.alloc;
     let parts = parameter_parts(alloc, called.function.params.as_slice())?;
-    let has_parts = !parts.is_empty();
     let name = format!(in alloc; "{stem}_parameters")?;
     let row = Row {
         end: called.ty,
         spelling: String::new(alloc),
-        c: take_if(header, has_parts, NameKind::Type, name)?,
+        c: take_if(header, is_written, NameKind::Type, name)?,
         key: String::new(alloc),
         form: Form::Record,
         parts,
     };
-    if has_parts {
+    if is_written {
         header.put_struct(called.ty, &row)?;
     }
     Ok(row)
@@ -170,7 +182,8 @@ fn call_of<'a>(
     stem: &str,
     called: Called<'a>,
 ) -> Result<Call<'a>, AllocError> {
-    let parameters = put_parameters(header, stem, &called)?;
+    let has_parameters = !called.function.params.as_slice().is_empty();
+    let parameters = put_parameters(header, stem, &called, has_parameters)?;
     let names = names_of(header, stem, called.function)?;
     Ok(Call {
         called,
@@ -224,12 +237,6 @@ fn push_call(text: &mut String, types: &Types<'_>, call: &Call<'_>) -> Result<()
     }
 }
 
-/// Writes a function as WIT spells it, and its name.
-fn put_heading(header: &mut Header<'_>, stem: &str, function: &Function) -> Result<(), AllocError> {
-    push_signature(&mut header.text, &header.types, function)?;
-    put_name(header, stem, function.name.as_str())
-}
-
 /// Writes what is made for a function.
 pub fn put_function(
     header: &mut Header<'_>,
@@ -241,7 +248,8 @@ pub fn put_function(
     };
     header.put_inners(id.0)?;
     let stem = scope.name(header.alloc, called.function.name.as_str())?;
-    put_heading(header, stem.as_str(), called.function)?;
+    put_signature(header, scope, called.function)?;
+    put_name(header, stem.as_str(), called.function.name.as_str())?;
     let call = call_of(header, stem.as_str(), called)?;
     put_numbers(header, stem.as_str(), &call)?;
     push_call(&mut header.text, &header.types, &call)

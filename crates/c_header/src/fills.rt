@@ -84,7 +84,7 @@ fn push_body(text: &mut String, types: &Types<'_>, call: &Call<'_>) -> Result<()
     if passing.is_spilled {
         text.push_str(SPILLED)?;
     } else {
-        types.push_flats(text, call.parameters.parts.as_slice())?;
+        types.push_flats(text, "parameters->", call.parameters.parts.as_slice())?;
     }
     if passing.has_area() {
         writeln!(text, "    wit_put(flats, {}, area);", passing.passed)?;

@@ -3,16 +3,26 @@
 use crate::calls::put_function;
 use crate::common::COMMON;
 use crate::prefixes::{prefix_of, stems_of};
-use atoms::{KeyedState, NameKey};
-use c_declarations::{Header, Scope};
+use atoms::{KeyedState, Label, NameKey};
+use c_declarations::{Header, Includer, Purpose, Scope};
 use c_types::Laid;
 use c_types::c_names::{c_word, text_constant};
 use std::alloc::{AllocError, Global};
 use std::fmt::Write;
 use tables::{FunctionId, Interface, PackageName};
+use wit_comments::Comments;
+
+/// What the texts of packages say.
+#[derive(Clone, Copy)]
+pub struct Texts<'a> {
+    /// The canonical text of each package.
+    pub canonical: &'a [String],
+    /// The comments of all.
+    pub comments: &'a Comments,
+}
 
 /// Hashers with a key of these texts.
-fn keyed_by(texts: &[String]) -> KeyedState {
+pub fn keyed_by(texts: &[String]) -> KeyedState {
     let mut key = NameKey::new();
     for text in texts {
         key.write(text.as_bytes());
@@ -20,15 +30,15 @@ fn keyed_by(texts: &[String]) -> KeyedState {
     key.state()
 }
 
-/// The scope of an interface of a package whose names begin with a prefix.
-fn scope_of(
+/// The scope of an interface or a world of this name, of a package whose names begin with a prefix.
+pub fn scope_of(
     alloc: Global,
     prefix: &str,
     package: &PackageName,
-    interface: &Interface,
+    name: &Label,
 ) -> Result<Scope, AllocError> {
-    let word = c_word(alloc, interface.name.as_str())?;
-    let full_name = package.full_name(alloc, &interface.name)?;
+    let word = c_word(alloc, name.as_str())?;
+    let full_name = package.full_name(alloc, name)?;
     Ok(Scope {
         prefix: format!(in alloc; "{prefix}_{}", word.as_str())?,
         full_name: String::from_str(alloc, full_name.as_str())?,
@@ -76,7 +86,9 @@ fn put_interface(
     let before = header.begin();
     put_entries(header, scope, interface)?;
     let own = header.end(before);
-    write!(header.text, "\n/* ---- {} */\n\n", scope.full_name.as_str())?;
+    let last = format!(in header.alloc; "---- {}", scope.full_name.as_str())?;
+    header.put_comment(scope.full_name.as_str(), last.as_str())?;
+    header.text.push('\n')?;
     let guard = format!(in header.alloc; "wit_interface_{}", scope.prefix.as_str())?;
     header.put_guarded(guard.as_str(), own.as_str())
 }
@@ -90,7 +102,7 @@ fn put_interfaces(
 ) -> Result<(), AllocError> {
     for interface in header.types.laid.resolve.interfaces.as_slice() {
         if interface.package.0 as usize == place {
-            let scope = scope_of(header.alloc, prefix, package, interface)?;
+            let scope = scope_of(header.alloc, prefix, package, &interface.name)?;
             put_interface(header, &scope, interface)?;
         }
     }
@@ -130,8 +142,8 @@ fn put_packages(
     Ok(())
 }
 
-/// Writes the short names, which a host asks for.
-fn put_short_names(header: &mut Header<'_>) -> Result<(), AllocError> {
+/// Writes the short names, which the one asks for who includes the header.
+pub fn put_short_names(header: &mut Header<'_>) -> Result<(), AllocError> {
     header.text.push_str(SHORT_NAMES)?;
     header.put_short_names()?;
     header.text.push_str("#endif /* WIT_SHORT_NAMES */\n")
@@ -168,17 +180,22 @@ fn put_header(
     Ok(())
 }
 
-/// The header of packages that have these canonical texts, each package after those that it uses. It is called by the
+/// The header of packages that have these texts, each package after those that it uses. It is called by the
 /// main one, of this number. No text if there is no such package.
 pub fn header_of(
     alloc: Global,
     laid: Laid<'_>,
-    texts: &[String],
+    texts: Texts<'_>,
     main: usize,
 ) -> Result<String, AllocError> {
     let packages = laid.resolve.packages.as_slice();
     let stems = stems_of(alloc, packages)?;
-    let mut header = Header::new(alloc, laid, keyed_by(texts))?;
+    let purpose = Purpose {
+        includer: Includer::Host,
+        comments: texts.comments,
+    };
+    let texts = texts.canonical;
+    let mut header = Header::new(alloc, laid, keyed_by(texts), purpose)?;
     if let Some(main) = packages.get(main) {
         put_header(&mut header, stems.as_slice(), texts, main)?;
     }

@@ -38,7 +38,7 @@ fn push_passed(
     )?;
     writeln!(text, "    {c} parameters;")?;
     text.push_str("    memset(&parameters, 0, sizeof parameters);\n")?;
-    types.push_received(text, call.parameters.parts.as_slice())
+    types.push_received(text, "parameters.", call.parameters.parts.as_slice())
 }
 
 /// Writes the function that reads the parameters of a function, if it has some.

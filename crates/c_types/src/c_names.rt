@@ -1,8 +1,8 @@
 //! Names in C: those of labels, and the names of a header, each taken once.
 //!
-//! `c_word` and `c_label` make names of labels. `Names::take` gives a name that nothing else has. `ShortNames` has names
-//! without that of their package. `short_key` cuts long names, and `text_constant` writes a text as a constant. It knows
-//! no types. It stands on `atoms`.
+//! `c_word` and `c_label` make names of labels. `Names::take` gives a name that nothing else has. `ShortNames` has
+//! names without that of their package. `short_key` cuts long names, and `text_constant` writes a text as a constant.
+//! It knows no types. It stands on `atoms`.
 
 mod keys;
 mod names;

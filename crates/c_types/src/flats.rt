@@ -294,15 +294,25 @@ impl<'a> Types<'a> {
         Err(AllocError)
     }
 
-    /// Writes how the core values of parameters are made.
-    pub fn push_flats(&self, text: &mut String, parameters: &[Part]) -> Result<(), AllocError> {
-        let steps = self.field_steps("parameters->", 0, "    ", parameters)?;
+    /// Writes how the core values of parameters are made, which are named in C by a front and their labels.
+    pub fn push_flats(
+        &self,
+        text: &mut String,
+        front: &str,
+        parameters: &[Part],
+    ) -> Result<(), AllocError> {
+        let steps = self.field_steps(front, 0, "    ", parameters)?;
         self.push_steps_of(text, Way::Made, steps)
     }
 
-    /// Writes how parameters are read out of their core values.
-    pub fn push_received(&self, text: &mut String, parameters: &[Part]) -> Result<(), AllocError> {
-        let steps = self.field_steps("parameters.", 0, "    ", parameters)?;
+    /// Writes how parameters are read out of their core values. They are named in C by a front and their labels.
+    pub fn push_received(
+        &self,
+        text: &mut String,
+        front: &str,
+        parameters: &[Part],
+    ) -> Result<(), AllocError> {
+        let steps = self.field_steps(front, 0, "    ", parameters)?;
         self.push_steps_of(text, Way::Read, steps)
     }
 

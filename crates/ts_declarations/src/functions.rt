@@ -8,19 +8,27 @@ use std::fmt::Write;
 use tables::{Definition, Function, FunctionId, Parameter};
 
 impl<'a> Page<'a> {
-    /// Writes a function as WIT spells it, as a comment.
-    fn put_signature(&mut self, function: &Function) -> Result<(), AllocError> {
-        self.text.push_str("    /** func(")?;
+    /// A function as WIT spells it.
+    fn signature(&self, function: &Function) -> Result<String, AllocError> {
+        let mut text = String::from_str(self.alloc, "func(")?;
         for (index, parameter) in function.params.as_slice().iter().enumerate() {
-            self.text.push_str(if index == 0 { "" } else { ", " })?;
+            text.push_str(if index == 0 { "" } else { ", " })?;
             let wit = self.spellings.wit(Some(parameter.ty));
-            write!(self.text, "{}: {wit}", parameter.name.as_str())?;
+            write!(text, "{}: {wit}", parameter.name.as_str())?;
         }
         match function.result {
-            Some(ty) => writeln!(self.text, ") -> {} */", self.spellings.wit(Some(ty)))?,
-            None => self.text.push_str(") */\n")?,
+            Some(ty) => write!(text, ") -> {}", self.spellings.wit(Some(ty)))?,
+            None => text.push(')')?,
         }
-        Ok(())
+        Ok(text)
+    }
+
+    /// Writes the comment of a function of an interface, or of one that a world imports or exports.
+    fn put_signature(&mut self, function: &Function, side: &str) -> Result<(), AllocError> {
+        let signature = self.signature(function)?;
+        let name = format!(in self.alloc; "{side}{}", function.name.as_str())?;
+        self.put_comment("    ", name.as_str(), signature.as_str())?;
+        self.text.push('\n')
     }
 
     /// Writes a parameter. A list of numbers may be a typed array.
@@ -42,14 +50,14 @@ impl<'a> Page<'a> {
         Ok(())
     }
 
-    /// Writes a function.
-    pub fn put_function(&mut self, id: FunctionId) -> Result<(), AllocError> {
+    /// Writes a function of an interface, or of one that a world imports or exports: the word for this is before it.
+    pub fn put_function(&mut self, id: FunctionId, side: &str) -> Result<(), AllocError> {
         let resolve = self.resolve;
         let found = resolve.definitions.as_slice().get(id.0 as usize);
         let Some(Definition::Function(function)) = found else {
             return Ok(());
         };
-        self.put_signature(function)?;
+        self.put_signature(function, side)?;
         self.text.push_str("    ")?;
         push_key(&mut self.text, function.name.as_str())?;
         self.text.push_str(": (")?;
@@ -61,10 +69,10 @@ impl<'a> Page<'a> {
         Ok(())
     }
 
-    /// Writes functions.
+    /// Writes the functions of an interface.
     pub fn put_functions(&mut self, ids: &[FunctionId]) -> Result<(), AllocError> {
         for id in ids {
-            self.put_function(*id)?;
+            self.put_function(*id, "")?;
         }
         Ok(())
     }

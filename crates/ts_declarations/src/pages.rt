@@ -8,6 +8,7 @@ use std::fmt::Write;
 use tables::{
     Direction, Interface, InterfaceId, PackageId, Resolve, World, WorldItem, WorldItemKind,
 };
+use wit_comments::{Block, Comments};
 
 /// The declarations so far.
 #[derive(Drop)]
@@ -17,17 +18,39 @@ pub struct Page<'a> {
     pub text: String,
     pub spellings: Spellings,
     pub namespaces: Namespaces,
+    pub comments: &'a Comments,
+    /// The full name of the interface or the world that is written.
+    pub scope: String,
 }
 
 impl<'a> Page<'a> {
-    fn new(alloc: Global, resolve: &'a Resolve) -> Result<Page<'a>, AllocError> {
+    fn new(
+        alloc: Global,
+        resolve: &'a Resolve,
+        comments: &'a Comments,
+    ) -> Result<Page<'a>, AllocError> {
         Ok(Page {
             alloc,
             resolve,
             text: String::new(alloc),
             spellings: Spellings::of(alloc, resolve)?,
             namespaces: Namespaces::of(alloc, resolve)?,
+            comments,
+            scope: String::new(alloc),
         })
+    }
+
+    /// Writes the comment of what a name of the interface or the world has, and what it is.
+    pub fn put_comment(&mut self, indent: &str, name: &str, last: &str) -> Result<(), AllocError> {
+        let blank = if name.is_empty() { "" } else { " " };
+        let key = format!(in self.alloc; "{}{blank}{name}", self.scope.as_str())?;
+        let block = Block {
+            open: "/**",
+            indent,
+            lines: self.comments.of(key.as_str()),
+            last,
+        };
+        block.push(&mut self.text)
     }
 
     /// The full name of an interface or a world of a package.
@@ -52,8 +75,11 @@ impl<'a> Page<'a> {
 
     /// Writes the interface of this number.
     fn put_interface(&mut self, place: usize, interface: &Interface) -> Result<(), AllocError> {
-        let full_name = self.full_name(interface.package, &interface.name)?;
-        write!(self.text, "\n/** interface {} */\n", full_name.as_str())?;
+        self.scope = self.full_name(interface.package, &interface.name)?;
+        let last = format!(in self.alloc; "interface {}", self.scope.as_str())?;
+        self.text.push('\n')?;
+        self.put_comment("", "", last.as_str())?;
+        self.text.push('\n')?;
         let namespace = self.namespaces.interface(place);
         writeln!(self.text, "export namespace {namespace} {{")?;
         self.put_types(interface.uses.as_slice())?;
@@ -71,9 +97,9 @@ impl<'a> Page<'a> {
     }
 
     /// Writes an item of a world.
-    fn put_item(&mut self, kind: WorldItemKind) -> Result<(), AllocError> {
+    fn put_item(&mut self, kind: WorldItemKind, side: &str) -> Result<(), AllocError> {
         match kind {
-            WorldItemKind::Function(id) => self.put_function(id),
+            WorldItemKind::Function(id) => self.put_function(id, side),
             WorldItemKind::Interface(id) => {
                 let full_name = self.interface_name(id)?;
                 let namespace = self.namespaces.interface(id.0 as usize);
@@ -95,9 +121,13 @@ impl<'a> Page<'a> {
         items: &[WorldItem],
     ) -> Result<(), AllocError> {
         writeln!(self.text, "  export interface {name} {{")?;
+        let side = match direction {
+            Direction::Import => "import ",
+            Direction::Export => "export ",
+        };
         for item in items {
             if item.direction == direction {
-                self.put_item(item.kind)?;
+                self.put_item(item.kind, side)?;
             }
         }
         self.text.push_str("  }\n")
@@ -105,8 +135,11 @@ impl<'a> Page<'a> {
 
     /// Writes the world of this number.
     fn put_world(&mut self, place: usize, world: &World) -> Result<(), AllocError> {
-        let full_name = self.full_name(world.package, &world.name)?;
-        write!(self.text, "\n/** world {} */\n", full_name.as_str())?;
+        self.scope = self.full_name(world.package, &world.name)?;
+        let last = format!(in self.alloc; "world {}", self.scope.as_str())?;
+        self.text.push('\n')?;
+        self.put_comment("", "", last.as_str())?;
+        self.text.push('\n')?;
         let namespace = self.namespaces.world(place);
         writeln!(self.text, "export namespace {namespace} {{")?;
         self.put_items("Imports", Direction::Import, world.items.as_slice())?;
@@ -123,9 +156,14 @@ impl<'a> Page<'a> {
     }
 }
 
-/// The declarations of a table: of its last package, and of the interfaces of others that it begins with.
-pub fn declarations_of(alloc: Global, resolve: &Resolve) -> Result<String, AllocError> {
-    let mut page = Page::new(alloc, resolve)?;
+/// The declarations of a table: of its last package, and of the interfaces of others that it begins with. They have the
+/// comments of these.
+pub fn declarations_of<'a>(
+    alloc: Global,
+    resolve: &'a Resolve,
+    comments: &'a Comments,
+) -> Result<String, AllocError> {
+    let mut page = Page::new(alloc, resolve, comments)?;
     if let Some(main) = resolve.packages.as_slice().last() {
         writeln!(
             page.text,

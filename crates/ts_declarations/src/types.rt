@@ -6,12 +6,52 @@ use atoms::Label;
 use std::alloc::AllocError;
 use std::fmt::Write;
 use tables::{Case, Definition, Field, TypeDefKind, TypeId, TypeName, ValType};
+use wit_comments::Block;
 
 impl<'a> Page<'a> {
     /// Writes the comment of a type, and what comes before its name.
     fn put_heading(&mut self, word: &str, label: &str, keyword: &str) -> Result<(), AllocError> {
-        writeln!(self.text, "  /** {word} {label} */")?;
-        write!(self.text, "  export {keyword} ")?;
+        let last = format!(in self.alloc; "{word} {label}")?;
+        self.put_comment("  ", label, last.as_str())?;
+        write!(self.text, "\n  export {keyword} ")?;
+        Ok(())
+    }
+
+    /// The lines of the comment of a member of a type.
+    fn comment_of(&self, label: &str, member: &str) -> Result<&'a [String], AllocError> {
+        let key = format!(in self.alloc; "{} {label} {member}", self.scope.as_str())?;
+        Ok(self.comments.of(key.as_str()))
+    }
+
+    /// Begins the line of a case or a label, below its comment if it has one.
+    fn begin_member(&mut self, label: &str, member: &str) -> Result<(), AllocError> {
+        if let Some((last, lines)) = self.comment_of(label, member)?.split_last() {
+            let block = Block {
+                open: "/**",
+                indent: "    ",
+                lines,
+                last: last.as_str(),
+            };
+            self.text.push('\n')?;
+            block.push(&mut self.text)?;
+        }
+        self.text.push_str("\n    | ")
+    }
+
+    /// Writes a field: its comment with its type in WIT, its key and its type.
+    fn put_field(&mut self, label: &str, field: &Field) -> Result<(), AllocError> {
+        let lines = self.comment_of(label, field.name.as_str())?;
+        let block = Block {
+            open: "/**",
+            indent: "    ",
+            lines,
+            last: self.spellings.wit(Some(field.ty)),
+        };
+        block.push(&mut self.text)?;
+        let before = if lines.is_empty() { " " } else { "\n    " };
+        self.text.push_str(before)?;
+        push_key(&mut self.text, field.name.as_str())?;
+        writeln!(self.text, ": {};", self.spellings.text(field.ty))?;
         Ok(())
     }
 
@@ -27,20 +67,19 @@ impl<'a> Page<'a> {
         self.put_heading("record", label, "interface")?;
         writeln!(self.text, "{} {{", self.spellings.text(ValType::Id(id)))?;
         for field in fields {
-            self.text.push_str("    ")?;
-            self.put_member(field.name.as_str(), field.ty)?;
-            self.text.push_str(";\n")?;
+            self.put_field(label, field)?;
         }
         self.text.push_str("  }\n")
     }
 
-    fn put_case(&mut self, case: &Case) -> Result<(), AllocError> {
-        let label = case.name.as_str();
+    fn put_case(&mut self, label: &str, case: &Case) -> Result<(), AllocError> {
+        let name = case.name.as_str();
+        self.begin_member(label, name)?;
         match case.ty {
-            None => write!(self.text, "\n    | \"{label}\"")?,
+            None => write!(self.text, "\"{name}\"")?,
             Some(ty) => {
-                self.text.push_str("\n    | { ")?;
-                self.put_member(label, ty)?;
+                self.text.push_str("{ ")?;
+                self.put_member(name, ty)?;
                 self.text.push_str(" }")?;
             }
         }
@@ -51,14 +90,16 @@ impl<'a> Page<'a> {
         self.put_heading("variant", label, "type")?;
         write!(self.text, "{} =", self.spellings.text(ValType::Id(id)))?;
         for case in cases {
-            self.put_case(case)?;
+            self.put_case(label, case)?;
         }
         self.text.push_str(";\n")
     }
 
-    fn put_labels(&mut self, labels: &[Label]) -> Result<(), AllocError> {
+    /// Writes the labels of a type.
+    fn put_labels(&mut self, name: &str, labels: &[Label]) -> Result<(), AllocError> {
         for label in labels {
-            write!(self.text, "\n    | \"{}\"", label.as_str())?;
+            self.begin_member(name, label.as_str())?;
+            write!(self.text, "\"{}\"", label.as_str())?;
         }
         Ok(())
     }
@@ -66,19 +107,17 @@ impl<'a> Page<'a> {
     fn put_enum(&mut self, label: &str, id: TypeId, labels: &[Label]) -> Result<(), AllocError> {
         self.put_heading("enum", label, "type")?;
         write!(self.text, "{} =", self.spellings.text(ValType::Id(id)))?;
-        self.put_labels(labels)?;
+        self.put_labels(label, labels)?;
         self.text.push_str(";\n")
     }
 
     /// Writes flags, which are the labels that are set.
     fn put_flags(&mut self, label: &str, id: TypeId, labels: &[Label]) -> Result<(), AllocError> {
-        writeln!(
-            self.text,
-            "  /** flags {label}: those that are set, in this order */"
-        )?;
+        let last = format!(in self.alloc; "flags {label}: those that are set, in this order")?;
+        self.put_comment("  ", label, last.as_str())?;
         let name = self.spellings.text(ValType::Id(id));
-        write!(self.text, "  export type {name} = (")?;
-        self.put_labels(labels)?;
+        write!(self.text, "\n  export type {name} = (")?;
+        self.put_labels(label, labels)?;
         self.text.push_str("\n  )[];\n")
     }
 
@@ -90,9 +129,10 @@ impl<'a> Page<'a> {
         text: &str,
         wit: &str,
     ) -> Result<(), AllocError> {
-        writeln!(self.text, "  /** type {label} = {wit} */")?;
+        let last = format!(in self.alloc; "type {label} = {wit}")?;
+        self.put_comment("  ", label, last.as_str())?;
         let name = self.spellings.text(ValType::Id(id));
-        writeln!(self.text, "  export type {name} = {text};")?;
+        writeln!(self.text, "\n  export type {name} = {text};")?;
         Ok(())
     }
 

@@ -4,10 +4,12 @@ use atoms::KeyedState;
 use indexmap::IndexSet;
 use std::alloc::{AllocError, Global};
 
-/// The names of the part that all headers have.
+/// The names of the parts that all headers for hosts, and all headers for guests, have.
 static COMMON: &str = "\
-WIT_COMMON WIT_ERROR WIT_NONE WIT_OK WIT_SHORT_NAMES WIT_SOME wit_begin wit_bool wit_char wit_i32 wit_i64 wit_put
-wit_string wit_string_load wit_string_store
+WIT_COMMON WIT_ERROR WIT_GUEST WIT_IMPLEMENTATION WIT_NONE WIT_OK WIT_OWN_BLOCKS WIT_SHORT_NAMES WIT_SOME WIT_STRING
+cabi_realloc wit_allocate wit_allocate_all wit_begin wit_bool wit_calls wit_char wit_end wit_enter wit_first wit_flat
+wit_grow wit_i32 wit_i64 wit_leave wit_next wit_put wit_string wit_string_bytes wit_string_load wit_string_new
+wit_string_of wit_string_store
 ";
 
 /// The names that are taken.
@@ -18,7 +20,7 @@ pub struct Names {
 }
 
 impl Names {
-    /// The names of the part that all headers have.
+    /// The names of the parts that all headers have.
     pub fn new(alloc: Global, keyed: KeyedState) -> Result<Names, AllocError> {
         let mut taken = IndexSet::with_hasher(alloc, keyed);
         for name in COMMON.split_whitespace() {

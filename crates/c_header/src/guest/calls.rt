@@ -1,0 +1,119 @@
+//! A function of a world, and what its import and its export have in common.
+
+use crate::calls::{Called, signature_of};
+use crate::guest::places::Place;
+use c_declarations::Header;
+use c_types::{Part, Row, Types};
+use canonical_abi::CoreKind;
+use std::alloc::AllocError;
+use std::fmt::Write;
+use tables::{Direction, Function};
+
+/// A function of a world, and the names of what is made for it.
+#[derive(Drop)]
+pub struct GuestCall<'a> {
+    pub called: Called<'a>,
+    /// Its parameters. Their record is written if they go through memory.
+    pub parameters: Row,
+    /// The function of values, which the guest calls if it is an import, and defines if it is an export.
+    pub name: String,
+    /// The function of core values.
+    pub core: String,
+}
+
+impl<'a> GuestCall<'a> {
+    /// The one core value of the result, if the result is one.
+    pub fn one(&self) -> Option<CoreKind> {
+        if self.called.passing.has_area() {
+            None
+        } else {
+            self.called.passing.returned
+        }
+    }
+}
+
+/// A core value in C.
+pub fn core_type(kind: CoreKind) -> &'static str {
+    match kind {
+        CoreKind::I32 => "uint32_t",
+        CoreKind::I64 => "uint64_t",
+    }
+}
+
+/// What a function in C returns that returns this core value.
+pub fn returned_type(kind: Option<CoreKind>) -> &'static str {
+    match kind {
+        Some(kind) => core_type(kind),
+        None => "void",
+    }
+}
+
+/// What reads the bits of a core value.
+pub fn reader_of(kind: CoreKind) -> &'static str {
+    match kind {
+        CoreKind::I32 => "wit_i32",
+        CoreKind::I64 => "wit_i64",
+    }
+}
+
+/// What stands before an entry of a list.
+pub fn comma(index: usize) -> &'static str {
+    if index == 0 { "" } else { ", " }
+}
+
+/// What comes before the name of a function of the world itself where its comment is kept.
+fn word_before(place: &Place, direction: Direction) -> &'static str {
+    match direction {
+        _ if !place.front.is_empty() => "",
+        Direction::Import => "import ",
+        Direction::Export => "export ",
+    }
+}
+
+/// Writes the comment of a function, and the function as WIT spells it, with the full name of its interface or world.
+pub fn put_heading(
+    header: &mut Header<'_>,
+    place: &Place,
+    function: &Function,
+    direction: Direction,
+) -> Result<(), AllocError> {
+    let (alloc, full_name) = (header.alloc, place.scope.full_name.as_str());
+    let (before, name) = (word_before(place, direction), function.name.as_str());
+    let key = format!(in alloc; "{full_name} {before}{name}")?;
+    let signature = signature_of(alloc, &header.types, function)?;
+    let last = format!(in alloc; "{full_name} {}", signature.as_str())?;
+    header.put_comment(key.as_str(), last.as_str())
+}
+
+/// Writes the parameters of a function of values.
+fn push_parameters(
+    text: &mut String,
+    types: &Types<'_>,
+    parameters: &[Part],
+) -> Result<(), AllocError> {
+    if parameters.is_empty() {
+        return text.push_str("void");
+    }
+    for (index, part) in parameters.iter().enumerate() {
+        if let Some(ty) = part.ty {
+            let (c, label) = (types.c(ty), part.label.as_str());
+            write!(text, "{}{c} in_{label}", comma(index))?;
+        }
+    }
+    Ok(())
+}
+
+/// Writes the head of a function of values, up to its parameters.
+pub fn push_value_head(
+    text: &mut String,
+    types: &Types<'_>,
+    call: &GuestCall<'_>,
+) -> Result<(), AllocError> {
+    let c = match call.called.function.result {
+        Some(ty) => types.c(ty),
+        None => "void",
+    };
+    write!(text, "{c} {}(", call.name.as_str())?;
+    push_parameters(text, types, call.parameters.parts.as_slice())?;
+    text.push_str(")")
+}

@@ -1,0 +1,201 @@
+//! The header of a world for a guest.
+
+use crate::guest::common::{COMMON, END, IMPLEMENTATION};
+use crate::guest::exports::put_export;
+use crate::guest::imports::put_import;
+use crate::guest::places::{Place, place_of_interface, place_of_world};
+use crate::packages::{Texts, keyed_by, put_short_names};
+use crate::prefixes::stems_of;
+use c_declarations::{Header, Includer, Purpose, Scope, needs_of};
+use c_types::Laid;
+use std::alloc::{AllocError, Global};
+use std::fmt::Write;
+use tables::{Direction, FunctionId, Interface, InterfaceId, World, WorldItem, WorldItemKind};
+
+/// What is written of a world.
+#[derive(Drop)]
+struct Guest<'a> {
+    header: Header<'a>,
+    world: &'a World,
+    /// The names of the packages in C, without their versions.
+    stems: Vec<String>,
+    /// What is exported for the functions that the guest defines.
+    bodies: String,
+}
+
+impl<'a> Guest<'a> {
+    /// Writes the types of an interface.
+    fn put_types(&mut self, scope: &Scope, interface: &Interface) -> Result<(), AllocError> {
+        let before = self.header.begin();
+        self.header.put_types(scope, interface.uses.as_slice())?;
+        self.header.put_types(scope, interface.types.as_slice())?;
+        let own = self.header.end(before);
+        if own.as_str().is_empty() {
+            return Ok(());
+        }
+        let full_name = scope.full_name.as_str();
+        let text = &mut self.header.text;
+        write!(text, "\n/* ---- {full_name} */\n\n")?;
+        let guard = format!(in self.header.alloc; "wit_interface_{}", scope.prefix.as_str())?;
+        self.header.put_guarded(guard.as_str(), own.as_str())
+    }
+
+    /// Writes the types of an interface, with the short names of its package.
+    fn put_interface(&mut self, interface: &Interface) -> Result<(), AllocError> {
+        let place = place_of_interface(&self.header, self.stems.as_slice(), interface)?;
+        let Some(place) = place else {
+            return Ok(());
+        };
+        self.header.begin_package(place.package.as_str())?;
+        self.put_types(&place.scope, interface)
+    }
+
+    /// Writes the types that the world needs.
+    fn put_interfaces(&mut self) -> Result<(), AllocError> {
+        let needed = needs_of(self.header.alloc, &self.header.types.laid, self.world)?;
+        let interfaces = self.header.types.laid.resolve.interfaces.as_slice();
+        for (place, interface) in interfaces.iter().enumerate() {
+            if needed.get(place).copied() == Some(true) {
+                self.put_interface(interface)?;
+            }
+        }
+        Ok(())
+    }
+
+    /// Writes functions that cross the border of the world in this direction.
+    fn put_functions(
+        &mut self,
+        place: &Place,
+        direction: Direction,
+        ids: &[FunctionId],
+    ) -> Result<(), AllocError> {
+        self.header.begin_package(place.package.as_str())?;
+        for id in ids {
+            match direction {
+                Direction::Import => put_import(&mut self.header, place, *id)?,
+                Direction::Export => put_export(&mut self.header, &mut self.bodies, place, *id)?,
+            }
+        }
+        Ok(())
+    }
+
+    /// Writes the functions of an interface.
+    fn put_functions_of(
+        &mut self,
+        direction: Direction,
+        id: InterfaceId,
+    ) -> Result<(), AllocError> {
+        let interfaces = self.header.types.laid.resolve.interfaces.as_slice();
+        let Some(interface) = interfaces.get(id.0 as usize) else {
+            return Ok(());
+        };
+        match place_of_interface(&self.header, self.stems.as_slice(), interface)? {
+            Some(place) => self.put_functions(&place, direction, interface.functions.as_slice()),
+            None => Ok(()),
+        }
+    }
+
+    /// Writes a function of the world itself.
+    fn put_function(&mut self, direction: Direction, id: FunctionId) -> Result<(), AllocError> {
+        match place_of_world(&self.header, self.stems.as_slice(), self.world)? {
+            Some(place) => self.put_functions(&place, direction, &[id]),
+            None => Ok(()),
+        }
+    }
+
+    /// Writes the functions of an item of the world.
+    fn put_item(&mut self, item: &WorldItem) -> Result<(), AllocError> {
+        match item.kind {
+            WorldItemKind::Interface(id) => self.put_functions_of(item.direction, id),
+            WorldItemKind::Function(id) => self.put_function(item.direction, id),
+        }
+    }
+
+    /// Writes the functions of all items that cross in this direction.
+    fn put_items(&mut self, direction: Direction) -> Result<(), AllocError> {
+        let world = self.world;
+        for item in world.items.as_slice() {
+            if item.direction == direction {
+                self.put_item(item)?;
+            }
+        }
+        Ok(())
+    }
+
+    /// Writes the functions of all items that cross in this direction, below a title if there are some.
+    fn put_titled(&mut self, direction: Direction, title: &str) -> Result<(), AllocError> {
+        let before = self.header.begin();
+        self.put_items(direction)?;
+        let own = self.header.end(before);
+        if own.as_str().is_empty() {
+            return Ok(());
+        }
+        let text = &mut self.header.text;
+        write!(text, "\n/* ---- {title} */\n")?;
+        text.push_str(own.as_str())
+    }
+
+    /// Writes the functions of the world of this scope.
+    fn put_directions(&mut self, scope: &Scope) -> Result<(), AllocError> {
+        let (alloc, full_name) = (self.header.alloc, scope.full_name.as_str());
+        let imports = format!(in alloc; "imports of {full_name}")?;
+        self.put_titled(Direction::Import, imports.as_str())?;
+        let exports = format!(in alloc; "exports of {full_name}, which the guest has to define")?;
+        self.put_titled(Direction::Export, exports.as_str())
+    }
+
+    /// Writes what a guest has once.
+    fn put_implementation(&mut self) -> Result<(), AllocError> {
+        let text = &mut self.header.text;
+        text.push_str(IMPLEMENTATION)?;
+        text.push_str(self.bodies.as_str())?;
+        text.push_str(END)
+    }
+
+    /// Writes the header of the world of this place.
+    fn put_header(&mut self, place: &Place) -> Result<(), AllocError> {
+        let scope = &place.scope;
+        let guard = format!(in self.header.alloc; "wit_{}_h", scope.prefix.as_str())?;
+        let guard = self.header.take_upper(guard.as_str())?;
+        let (guard, full_name) = (guard.as_str(), scope.full_name.as_str());
+        let text = &mut self.header.text;
+        writeln!(
+            text,
+            "/* The world {full_name} for a guest in C or C++, by wit-explain bind guest. Do not edit. */"
+        )?;
+        write!(text, "#ifndef {guard}\n#define {guard}\n\n{COMMON}")?;
+        self.put_interfaces()?;
+        self.put_directions(scope)?;
+        self.put_implementation()?;
+        put_short_names(&mut self.header)?;
+        let text = &mut self.header.text;
+        write!(text, "\n#endif /* {guard} */\n")?;
+        Ok(())
+    }
+}
+
+/// The header of a world for a guest, of a table of packages that have these texts. No text if the world's
+/// package is not there.
+pub fn guest_header_of<'a>(
+    alloc: Global,
+    laid: Laid<'a>,
+    texts: Texts<'a>,
+    world: &'a World,
+) -> Result<String, AllocError> {
+    let purpose = Purpose {
+        includer: Includer::Guest,
+        comments: texts.comments,
+    };
+    let stems = stems_of(alloc, laid.resolve.packages.as_slice())?;
+    let mut guest = Guest {
+        header: Header::new(alloc, laid, keyed_by(texts.canonical), purpose)?,
+        world,
+        stems,
+        bodies: String::new(alloc),
+    };
+    if let Some(place) = place_of_world(&guest.header, guest.stems.as_slice(), world)? {
+        guest.put_header(&place)?;
+    }
+    let header = guest.header;
+    Ok(header.text)
+}

@@ -1,0 +1,176 @@
+//! Comments by items, and texts with them.
+
+use crate::items::{Item, items_of};
+use crate::lines::lines_of;
+use std::alloc::{AllocError, Global};
+use std::collections::BTreeMap;
+use std::fmt::Write;
+use wit_places::{Lexed, PackageRef};
+use wit_text::Keyword;
+
+/// The comments of packages.
+#[derive(Drop)]
+pub struct Comments {
+    alloc: Global,
+    /// The lines of each, by the words that name the item.
+    lines: BTreeMap<String, Vec<String>>,
+}
+
+/// The word before the name of an item of a world.
+fn side_word(side: Option<Keyword>) -> &'static str {
+    match side {
+        Some(Keyword::Import) => "import ",
+        Some(Keyword::Export) => "export ",
+        _ => "",
+    }
+}
+
+/// The words that name an item of a package.
+fn key_of(alloc: Global, package: PackageRef<'_>, item: &Item<'_>) -> Result<String, AllocError> {
+    let PackageRef {
+        namespace,
+        name,
+        version,
+    } = package;
+    let mut key = format!(in alloc; "{namespace}:{name}")?;
+    if !item.scope.is_empty() {
+        write!(key, "/{}", item.scope)?;
+    }
+    if let Some(version) = version {
+        write!(key, "@{version}")?;
+    }
+    if !item.name.is_empty() {
+        write!(key, " {}{}", side_word(item.side), item.name)?;
+    }
+    if !item.member.is_empty() {
+        write!(key, " {}", item.member)?;
+    }
+    Ok(key)
+}
+
+/// Where the text between the token before and a token is.
+fn between<'a>(lexed: &Lexed<'a>, index: usize) -> &'a str {
+    let start = match index.checked_sub(1) {
+        Some(before) => lexed.span_at(before).map_or(0, |span| span.end),
+        None => 0,
+    };
+    let end = lexed.span_at(index).map_or(start, |span| span.start);
+    lexed.text.get(start..end).unwrap_or("")
+}
+
+impl Comments {
+    /// No comments.
+    pub fn new(alloc: Global) -> Comments {
+        Comments {
+            alloc,
+            lines: BTreeMap::new(alloc),
+        }
+    }
+
+    /// Adds those of a file of a package.
+    pub fn add(&mut self, package: PackageRef<'_>, lexed: &Lexed<'_>) -> Result<(), AllocError> {
+        for item in items_of(self.alloc, lexed)? {
+            let lines = lines_of(self.alloc, between(lexed, item.first))?;
+            if !lines.is_empty() {
+                let key = key_of(self.alloc, package, &item)?;
+                self.lines.insert(key, lines)?;
+            }
+        }
+        Ok(())
+    }
+
+    /// The lines of the comment of an item, without the marks of comments. It is named as `namespace:name` or
+    /// `namespace:name/interface`, with the version, then the name of what this has, then that of its member.
+    pub fn of(&self, key: &str) -> &[String] {
+        let Some(lines) = self.lines.get(key) else {
+            return &[];
+        };
+        lines.as_slice()
+    }
+}
+
+/// The blanks that the line of a place begins with.
+fn indent_at(text: &str, place: usize) -> &str {
+    let front = text.get(..place).unwrap_or("");
+    match front.rsplit_once('\n') {
+        Some((_, indent)) => indent,
+        None => front,
+    }
+}
+
+/// Writes lines as comments of WIT.
+fn push_lines(out: &mut String, indent: &str, lines: &[String]) -> Result<(), AllocError> {
+    for line in lines {
+        let line = line.as_str();
+        let blank = if line.is_empty() { "" } else { " " };
+        write!(out, "{indent}///{blank}{line}\n")?;
+    }
+    Ok(())
+}
+
+/// A canonical text of a package with its comments, each in lines before its item.
+pub fn with_comments(
+    alloc: Global,
+    text: &str,
+    package: PackageRef<'_>,
+    comments: &Comments,
+) -> Result<String, AllocError> {
+    let lexed = Lexed::new(alloc, "", text);
+    let mut out = String::new(alloc);
+    let mut done = 0;
+    for item in items_of(alloc, &lexed)? {
+        let key = key_of(alloc, package, &item)?;
+        let lines = comments.of(key.as_str());
+        let first = lexed.span_at(item.first).map_or(0, |span| span.start);
+        let indent = indent_at(text, first);
+        let line = first.saturating_sub(indent.len());
+        if !lines.is_empty() {
+            out.push_str(text.get(done..line).unwrap_or(""))?;
+            push_lines(&mut out, indent, lines)?;
+            done = line;
+        }
+    }
+    out.push_str(text.get(done..).unwrap_or(""))?;
+    Ok(out)
+}
+
+/// Writes a line of a comment that must not end it.
+fn push_inside(out: &mut String, line: &str) -> Result<(), AllocError> {
+    for (index, part) in line.split("*/").enumerate() {
+        out.push_str(if index == 0 { "" } else { "* /" })?;
+        out.push_str(part)?;
+    }
+    Ok(())
+}
+
+/// A comment of C or TypeScript.
+#[derive(Clone, Copy)]
+pub struct Block<'a> {
+    /// What it opens with.
+    pub open: &'a str,
+    /// The blanks before each line.
+    pub indent: &'a str,
+    /// What the text of a package says.
+    pub lines: &'a [String],
+    /// What the item is.
+    pub last: &'a str,
+}
+
+impl Block<'_> {
+    /// Writes the lines, then what the item is. It ends with the comment's last mark.
+    pub fn push(&self, out: &mut String) -> Result<(), AllocError> {
+        let (open, indent, last) = (self.open, self.indent, self.last);
+        if self.lines.is_empty() {
+            write!(out, "{indent}{open} {last} */")?;
+            return Ok(());
+        }
+        write!(out, "{indent}{open}")?;
+        for line in self.lines {
+            let blank = if line.is_empty() { "" } else { " " };
+            write!(out, "\n{indent} *{blank}")?;
+            push_inside(out, line.as_str())?;
+        }
+        write!(out, "\n{indent} *\n{indent} * {last}\n{indent} */")?;
+        Ok(())
+    }
+}
