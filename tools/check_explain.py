@@ -9,9 +9,10 @@ tests/explain/runs has one run after another: a line `$ wit-explain WORDS`, what
 the status is 2, the text is what goes to standard error, and nothing may go to standard output; otherwise it is the
 other way round. Each program named is run, by default those that the gate built by both compilers, both of which have
 to be there. Each block of `console` of the pages has to be a stored run, and docs/pictures/shapes.svg what the run of
-PICTURE prints. A run of BINARIES writes the file `out`, as `witcall` writes it on the words beside it: the one that the
-gate built, if no other is named. Both programs are in release/ too, packed. The exit status is 1 if one of them
-differs.
+PICTURE prints. Pictures that runs print of the types of one file have to be to scale, and those of calls have the words
+of the same call without `--svg`, with arrows from each pointer to its block (tools/check_drawings.py). A run of
+BINARIES writes the file `out`, as `witcall` writes it on the words beside it: the one that the gate built, if no other
+is named. Both programs are in release/ too, packed. The exit status is 1 if one of them differs.
 """
 import collections
 import difflib
@@ -21,12 +22,15 @@ import subprocess
 import sys
 import tempfile
 
+from check_drawings import has_other_words, untrue_arrows, untrue_drawings
 from repository import ROOT, blocks, pages, parser, place
 
 FOLDER = ROOT / "tests" / "explain"
 BUILT = [ROOT / "crates" / "explain" / "out" / name for name in ("explain", "explain.by-rattle")]
 PROMPT = "$ wit-explain"
-PICTURE = "layout --svg - shapes.wit"
+DRAWN = "layout --svg - "
+CALLED = "call --svg - "
+PICTURE = f"{DRAWN}shapes.wit"
 WITCALL = ROOT / "crates" / "program" / "out" / "program"
 # options by which a run may write a file: it has a copy of the files for itself
 WRITING = ("-o", "--output", "--svg")
@@ -36,6 +40,12 @@ BINARIES = {
     "bin -o out shapes.wit": "bin shapes.wit",
     "bin --output out wit": "bin --with wit/deps/clocks/wall.wit wit/app.wit",
     "bin --output=out wit": "bin --with wit/deps/clocks/wall.wit wit/app.wit",
+}
+WRITTEN = {
+    "encode -o out modules/package.wasm": "modules/package.wasm",
+    "encode --world guest -o out modules/carrying.wasm": "modules/world.wasm",
+    "embed modules/guest.wasm --world guest -o out modules/guest.wit": "modules/carrying.wasm",
+    "embed modules/carrying.wasm --world guest -o out modules/guest.wit": "modules/carrying.wasm",
 }
 
 
@@ -68,14 +78,17 @@ def printed(program, words, folder):
 
 
 def has_other_binary(witcall, words, folder):
-    """Whether a run of BINARIES wrote another binary than `witcall` writes. It is told."""
-    if " ".join(words) not in BINARIES:
+    """Whether a run of BINARIES or of WRITTEN wrote another binary. It is told."""
+    run = " ".join(words)
+    if run in WRITTEN:
+        made = (folder / WRITTEN[run]).read_bytes()
+    elif run in BINARIES:
+        made = subprocess.run([witcall, *BINARIES[run].split(" ")], cwd=folder, capture_output=True, check=True).stdout
+    else:
         return False
-    made = subprocess.run([witcall, *BINARIES[" ".join(words)].split(" ")], cwd=folder, capture_output=True,
-                          check=True).stdout
     if (folder / "out").read_bytes() == made:
         return False
-    print(f"{PROMPT} {' '.join(words)}: the file is not what witcall writes")
+    print(f"{PROMPT} {run}: the file is not {WRITTEN.get(run, 'what witcall writes')}")
     return True
 
 
@@ -112,6 +125,23 @@ def untrue_pages(stored):
     return len(found) + (not is_current) + (not shown)
 
 
+def untrue_pictures(stored):
+    """How many pictures that are stored are not to scale, or not of their call. Each is told. There has to be one of
+    each kind."""
+    runs = [(words, text) for words, text in stored.items()
+            if words.startswith(DRAWN) and text.startswith("<svg") and words.split(" ")[3].endswith(".wit")]
+    found = [f"{PROMPT} {words}: {it}" for words, text in runs
+             for it in untrue_drawings((FOLDER / "files" / words.split(" ")[3]).read_text(), text)]
+    for it in found:
+        print(f"{it} is not to scale")
+    calls = [(words, text) for words, text in stored.items() if words.startswith(CALLED) and text.startswith("<svg")]
+    wrong = [words for words, text in calls
+             if has_other_words(text, stored.get(words.replace(CALLED, "call "))) or untrue_arrows(text)]
+    for words in wrong:
+        print(f"{PROMPT} {words}: the words or the arrows aren't those of the call without --svg")
+    return len(found) + len(wrong) + (not runs) + (not calls)
+
+
 def stored_twice(runs):
     """How many runs are stored twice. Each is told."""
     found = [words for words, number in collections.Counter(" ".join(words) for words, _ in runs).items() if number > 1]
@@ -131,7 +161,7 @@ def main():
         sys.exit(f"tools/check_explain.py: there is no {missing[0]}: {BUILDING}")
     runs = stored_runs()
     stored = {" ".join(words): text.rpartition("status ")[0] for words, text in runs}
-    found = untrue_pages(stored) + stored_twice(runs)
+    found = untrue_pages(stored) + untrue_pictures(stored) + stored_twice(runs)
     found += sum(differing(program.resolve(), given.witcall.resolve()) for program in programs)
     if found or not runs:
         sys.exit(f"{found} runs, blocks or pictures differ, of {len(runs)} runs")

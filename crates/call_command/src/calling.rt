@@ -1,7 +1,7 @@
 //! Calls of functions of packages.
 ghost use Rattle.tables.specs.Closed.{IsFunction};
 
-use call_picture::{Call, JsonError, Picture};
+use call_picture::{Call, Form, JsonError, Picture};
 use checked_packages::{Checked, is_in_form};
 use json_faults::{Fault, first_fault};
 use serde_json::Value as Json;
@@ -20,6 +20,8 @@ pub struct CallWords<'a> {
     pub arguments: &'a str,
     /// A JSON array of the result, or of nothing.
     pub answer: &'a str,
+    /// How the call is shown.
+    pub form: Form,
 }
 
 /// Why a call was not made.
@@ -58,7 +60,8 @@ fn picture_of(
         Err(JsonError::NoMemory) => return Err(AllocError),
         Err(error) => return Ok(Err(Refused::Arguments(error))),
     };
-    let picture = call.picture(words.interface, arguments.as_slice(), answer.as_slice())?;
+    let title = (words.interface, words.form);
+    let picture = call.picture(title, arguments.as_slice(), answer.as_slice())?;
     Ok(Ok(picture))
 }
 
@@ -125,29 +128,29 @@ fn report_refused(
     Ok(())
 }
 
-/// Reports a call of a function of a package.
+/// Makes a call of a function of a package, and returns what it did. Reports why it was not made.
 fn report_picture(
     alloc: Global,
     report: &mut Report,
     package: &Checked,
     func: FunctionId,
     words: &CallWords<'_>,
-) -> Result<(), AllocError>
+) -> Result<Option<String>, AllocError>
     requires { IsFunction «package».now.tables func }
 {
     is_in_form(&package.tables);
     let call = Call::new(alloc, &package.tables, &package.layouts, func)?;
     match picture_of(&call, words)? {
         Ok(picture) => {
-            report.text.push_str(picture.text.as_str())?;
             if !picture.is_answered {
                 report.status = 1;
             }
-            Ok(())
+            Ok(Some(picture.text))
         }
         Err(refused) => {
             let fault = fault_of(alloc, (&package.tables, func), refused, words)?;
-            report_refused(report, refused, fault)
+            report_refused(report, refused, fault)?;
+            Ok(None)
         }
     }
 }
@@ -224,18 +227,20 @@ fn report_missing(
     Ok(())
 }
 
-/// Calls the function of the first package that has it, and reports what the call did. The status is 1 if there is
-/// none, if a text of JSON says no values of its types, or if there is a trap.
+/// Calls the function of the first package that has it, and returns what the call did. If there is none, or if a text
+/// of JSON says no values of its types, it reports that, and there is nothing to return. The status is 1 then, and also
+/// if there is a trap.
 pub fn report_call(
     alloc: Global,
     report: &mut Report,
     packages: &[Checked],
     words: &CallWords<'_>,
-) -> Result<(), AllocError> {
+) -> Result<Option<String>, AllocError> {
     for package in packages {
         if let Some(func) = package.tables.function(words.interface, words.function) {
             return report_picture(alloc, report, package, func, words);
         }
     }
-    report_missing(alloc, report, packages, words)
+    report_missing(alloc, report, packages, words)?;
+    Ok(None)
 }

@@ -7,6 +7,7 @@ ghost use Rattle.package_form.specs.Scope.{AreDistinct};
 ghost use Rattle.package_text.specs.Writable.{IsWritable};
 
 use crate::graph::graph_of;
+use crate::names::NameFaults;
 use layout::Layouts;
 use layout_limits::first_above_limits;
 use package_adding::PackageSet;
@@ -14,8 +15,11 @@ use package_order::{Arrangement, arranged};
 use std::alloc::{AllocError, Global};
 use std::fmt::Write;
 use tables::{Resolve, Sequence};
-use wit_faults::{Around, Cause, Known, PackageRef, Report, first_path};
-use wit_files::{Member, Source, members_of};
+use wit_binaries::with_texts;
+use wit_comments::Comments;
+use wit_faults::{Cause, Known, PackageRef, Report, first_path};
+use wit_files::{MAX_FAULTS, Member, Source, members_of};
+use wit_text::Ast;
 
 /// A package without a fault: its own tables, which begin with what it uses of others.
 #[derive(Drop)]
@@ -34,6 +38,8 @@ pub struct CheckedSet {
     /// All of them, as one table.
     pub set: PackageSet,
     pub list: Vec<Checked>,
+    /// The comments of their texts.
+    pub comments: Comments,
 }
 
 impl CheckedSet {
@@ -42,6 +48,7 @@ impl CheckedSet {
         CheckedSet {
             set: PackageSet::new(alloc),
             list: Vec::new(alloc),
+            comments: Comments::new(alloc),
         }
     }
 }
@@ -75,15 +82,29 @@ struct Checker<'a> {
     /// The packages of these, and what was found of each.
     set: PackageSet,
     checked: Vec<Checked>,
+    comments: Comments,
 }
 
-/// Adds a package to a set.
-fn added(alloc: Global, set: &mut PackageSet, member: &Member<'_>) -> Result<Checked, Cause> {
-    let id = set.add_ast(alloc, &member.tree)?;
+/// Adds the comments of a package's files.
+fn add_comments(comments: &mut Comments, member: &Member<'_>) -> Result<(), AllocError> {
+    for lexed in member.files.as_slice() {
+        comments.add(member.package(), lexed)?;
+    }
+    Ok(())
+}
+
+/// Adds the package of a tree to a set.
+fn added(
+    alloc: Global,
+    set: &mut PackageSet,
+    tree: &Ast,
+    is_dependency: bool,
+) -> Result<Checked, Cause> {
+    let id = set.add_ast(alloc, tree)?;
     let tables = set.table(alloc, id)?;
     match Layouts::of(alloc, &tables) {
         Ok(layouts) => Ok(Checked {
-            is_dependency: member.is_dependency,
+            is_dependency,
             tables,
             layouts,
         }),
@@ -105,6 +126,7 @@ impl<'a> Checker<'a> {
             is_good: vec![in alloc; false; members.len()]?,
             set: PackageSet::new(alloc),
             checked: Vec::new(alloc),
+            comments: Comments::new(alloc),
         })
     }
 
@@ -116,6 +138,34 @@ impl<'a> Checker<'a> {
             }
         }
         None
+    }
+
+    /// Reports the faults of a member's names, of which the first that was found is known, in the order of their
+    /// places.
+    fn report_each(
+        &mut self,
+        report: &mut Report,
+        member: &Member<'_>,
+        first: Cause,
+    ) -> Result<(), AllocError>
+        ensures { OnOk result (report.new.status ≡ 1) }
+    {
+        let known = self.known.as_slice();
+        let mut faults = NameFaults::of(self.alloc, member)?;
+        let mut cause = first;
+        for _ in 0..MAX_FAULTS {
+            if !faults.add(known, &cause)? {
+                break;
+            }
+            let Some(tree) = faults.rest.tree()? else {
+                break;
+            };
+            match added(self.alloc, &mut self.set, &tree, member.is_dependency) {
+                Ok(_) => break,
+                Err(next) => cause = next,
+            }
+        }
+        faults.report(report)
     }
 
     /// Checks a member, which uses these. If one of them has a fault, it is left out.
@@ -132,21 +182,25 @@ impl<'a> Checker<'a> {
         if let Some(package) = self.first_bad(used) {
             return report.leave_out(self.alloc, member.files.as_slice(), package);
         }
-        match added(self.alloc, &mut self.set, member) {
+        if member.has_fault {
+            report.status = 1;
+            return Ok(());
+        }
+        match added(
+            self.alloc,
+            &mut self.set,
+            &member.tree,
+            member.is_dependency,
+        ) {
             Ok(checked) => {
                 self.checked.push(checked)?;
+                add_comments(&mut self.comments, member)?;
                 if let Some(mark) = self.is_good.get_mut(place) {
                     *mark = true;
                 }
                 Ok(())
             }
-            Err(cause) => {
-                let around = Around {
-                    files: member.files.as_slice(),
-                    known: self.known.as_slice(),
-                };
-                report.add_package(self.alloc, around, &cause)
-            }
+            Err(cause) => self.report_each(report, member, cause),
         }
     }
 }
@@ -171,6 +225,7 @@ fn check_each<'a>(
     Ok(CheckedSet {
         set: checker.set,
         list: checker.checked,
+        comments: checker.comments,
     })
 }
 
@@ -230,15 +285,18 @@ pub fn check_members<'a>(
     }
 }
 
-/// Checks the packages of these files. Names are checked once all texts can be read.
+/// Checks the packages of these files, which are texts and binaries. The names of a package are checked if its texts
+/// and the packages that it depends on have no fault, and if the package of each file is known.
 pub fn check_sources(
     alloc: Global,
     report: &mut Report,
-    sources: &[Source],
+    sources: Vec<Source>,
 ) -> Result<CheckedSet, AllocError> {
-    let members = members_of(alloc, report, sources)?;
-    if report.status != 0 {
+    let texts = with_texts(alloc, report, sources)?;
+    let are_read = report.status == 0;
+    let members = members_of(alloc, report, texts.as_slice())?;
+    if !are_read || !members.are_all {
         return Ok(CheckedSet::none(alloc));
     }
-    check_members(alloc, report, members.as_slice())
+    check_members(alloc, report, members.list.as_slice())
 }

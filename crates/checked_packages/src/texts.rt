@@ -3,12 +3,17 @@
 use crate::checking::check_sources;
 use std::alloc::{AllocError, Global};
 use wit_faults::{Report, Style};
-use wit_files::{MAX_TEXT, Source};
+use wit_files::{MAX_BINARY, MAX_TEXT, Source, is_binary};
 
-/// A text, named by its index.
+/// A text or a binary, named by its index.
 fn source_of(alloc: Global, index: usize, text: &[u8]) -> Result<Source, AllocError> {
-    // One byte more than a text may have tells that it is too long.
-    let kept = text.get(..=MAX_TEXT).unwrap_or(text);
+    let most = if is_binary(text) {
+        MAX_BINARY
+    } else {
+        MAX_TEXT
+    };
+    // One byte more than it may have tells that it is too long.
+    let kept = text.get(..=most).unwrap_or(text);
     Ok(Source {
         path: format!(in alloc; "{index}")?,
         folder: String::new(alloc),
@@ -17,15 +22,15 @@ fn source_of(alloc: Global, index: usize, text: &[u8]) -> Result<Source, AllocEr
     })
 }
 
-/// The faults of the packages of these texts, in any order, as `wit-explain check --json` tells those of files: an array
-/// of objects. `file` is the index of the text, in digits.
+/// The faults of the packages of these texts, in any order, as `wit-explain check --json` tells those of files: an
+/// array of objects. `file` is the index of the text, in digits.
 pub fn faults_of(alloc: Global, texts: &[&[u8]]) -> Result<String, AllocError> {
     let mut sources = Vec::new(alloc);
     for (index, text) in texts.iter().enumerate() {
         sources.push(source_of(alloc, index, text)?)?;
     }
     let mut report = Report::new(alloc, Style::Json);
-    let _packages = check_sources(alloc, &mut report, sources.as_slice())?;
+    let _packages = check_sources(alloc, &mut report, sources)?;
     report.finish()?;
     let Report { text, .. } = report;
     Ok(text)

@@ -7,9 +7,10 @@ use explain_words::{
     refusal_of_words, usage,
 };
 use layout_picture::Form;
+use module_worlds::EmbedError;
 use package_commands::{
-    binary_of, declarations_for_ts, document_of, encoded, header_for_c, picture_of, push_contents,
-    push_decoded, push_differences, text_of,
+    Unembedded, binary_of, declarations_for_ts, document_of, embedded, encoded, header_for_c,
+    header_for_guest, picture_of, push_contents, push_decoded, push_differences, text_of,
 };
 use std::alloc::AllocError;
 use std::fmt::{Display, Write};
@@ -56,7 +57,7 @@ fn checked_paths(
     paths: &[&str],
 ) -> Result<CheckedSet, AllocError> {
     let sources = sources_of(rt, paths)?;
-    check_sources(rt.alloc(), report, sources.as_slice())
+    check_sources(rt.alloc(), report, sources)
 }
 
 fn check(rt: &HostRuntime, options: &Options<'_>, paths: &[&str]) -> Result<Report, AllocError> {
@@ -108,7 +109,7 @@ fn text(rt: &HostRuntime, options: &Options<'_>, paths: &[&str]) -> Result<Repor
     if report.status == 0
         && let Some(package) = list.get(main_of(list))
     {
-        match text_of(rt.alloc(), package) {
+        match text_of(rt.alloc(), &packages, package) {
             Ok(text) => report.text.push_str(text.as_str())?,
             Err(error) => refuse(&mut report, paths, &error)?,
         }
@@ -167,6 +168,49 @@ fn encode(
     Ok(report)
 }
 
+/// Reports why a module is not written with a world of the package of these paths.
+fn refuse_module(
+    report: &mut Report,
+    module: &str,
+    paths: &[&str],
+    error: &Unembedded,
+) -> Result<(), AllocError> {
+    match error {
+        Unembedded::World(error) => refuse(report, paths, error)?,
+        Unembedded::Embed(EmbedError::Unfit(misfits)) => {
+            for misfit in misfits {
+                refuse(report, &[module], misfit)?;
+            }
+        }
+        error => refuse(report, &[module], error)?,
+    }
+    Ok(())
+}
+
+/// Writes a module to a file, with a world of the last package of these paths that is no dependency.
+fn embed(
+    rt: &HostRuntime,
+    options: &Options<'_>,
+    module: &str,
+    paths: &[&str],
+) -> Result<Report, AllocError> {
+    let (Some(world), Some(file)) = (options.world, options.output) else {
+        return Report::said(rt.alloc(), usage(), 2);
+    };
+    let mut report = new_report(rt, options);
+    let packages = checked_paths(rt, &mut report, paths)?;
+    let list = packages.list.as_slice();
+    if report.status == 0
+        && let Some(package) = list.get(main_of(list))
+    {
+        match embedded(rt, package, world, module) {
+            Ok(bytes) => save(rt, &mut report, file, bytes.as_slice())?,
+            Err(error) => refuse_module(&mut report, module, paths, &error)?,
+        }
+    }
+    Ok(report)
+}
+
 /// Prints the packages of a binary that another tool wrote.
 fn decode(rt: &HostRuntime, options: &Options<'_>, path: &str) -> Result<Report, AllocError> {
     let mut report = new_report(rt, options);
@@ -174,6 +218,15 @@ fn decode(rt: &HostRuntime, options: &Options<'_>, path: &str) -> Result<Report,
         refuse(&mut report, &[path], &error)?;
     }
     Ok(report)
+}
+
+/// How a picture is written.
+fn form_of(options: &Options<'_>) -> Form {
+    if options.svg.is_some() {
+        Form::Svg
+    } else {
+        Form::Boxes
+    }
 }
 
 /// Prints a picture, or writes it to a file that is not `-`.
@@ -190,6 +243,7 @@ fn show(
     Ok(())
 }
 
+/// Draws the types of a path, or the types and functions of a name.
 fn layout(
     rt: &HostRuntime,
     options: &Options<'_>,
@@ -201,17 +255,16 @@ fn layout(
     if report.status != 0 {
         return Ok(report);
     }
-    let form = if options.svg.is_some() {
-        Form::Svg
-    } else {
-        Form::Boxes
-    };
     let list = packages.list.as_slice();
-    match picture_of(rt.alloc(), list, form, wanted)? {
+    match picture_of(rt.alloc(), list, form_of(options), wanted)? {
         Some(picture) => show(rt, &mut report, options.svg, picture.as_str())?,
         None => {
             report.status = 1;
-            writeln!(report.text, "{path}: no type `{}`", wanted.unwrap_or(""))?;
+            writeln!(
+                report.text,
+                "{path}: no type or function `{}`",
+                wanted.unwrap_or("")
+            )?;
         }
     }
     Ok(report)
@@ -227,6 +280,24 @@ fn bind_c(rt: &HostRuntime, options: &Options<'_>, paths: &[&str]) -> Result<Rep
     match header_for_c(rt.alloc(), &packages) {
         Ok(header) => report.text.push_str(header.as_str())?,
         Err(cause) => refuse(&mut report, paths, &cause)?,
+    }
+    Ok(report)
+}
+
+/// Writes a header for guests of a world of the last package of these paths that is no dependency.
+fn bind_guest(
+    rt: &HostRuntime,
+    options: &Options<'_>,
+    paths: &[&str],
+) -> Result<Report, AllocError> {
+    let mut report = new_report(rt, options);
+    let packages = checked_paths(rt, &mut report, paths)?;
+    if report.status != 0 {
+        return Ok(report);
+    }
+    match header_for_guest(rt.alloc(), &packages, options.world) {
+        Ok(header) => report.text.push_str(header.as_str())?,
+        Err(error) => refuse(&mut report, paths, &error)?,
     }
     Ok(report)
 }
@@ -269,7 +340,10 @@ fn call(
     let mut report = new_report(rt, options);
     let packages = checked_paths(rt, &mut report, &[path])?;
     if report.status == 0 {
-        report_call(rt.alloc(), &mut report, packages.list.as_slice(), words)?;
+        let list = packages.list.as_slice();
+        if let Some(picture) = report_call(rt.alloc(), &mut report, list, words)? {
+            show(rt, &mut report, options.svg, picture.as_str())?;
+        }
     }
     Ok(report)
 }
@@ -291,6 +365,7 @@ fn run_call(
         function,
         arguments,
         answer,
+        form: form_of(options),
     };
     call(rt, options, path, &words)
 }
@@ -329,7 +404,6 @@ fn run_plain(
         ["text", paths @ ..] if !paths.is_empty() => text(rt, options, paths),
         ["diff", old, new] => differences(rt, options, old, new),
         ["decode", path] => decode(rt, options, path),
-        ["call", path, words @ ..] => run_call(rt, options, path, words),
         ["bind", "c", paths @ ..] if !paths.is_empty() => bind_c(rt, options, paths),
         ["bind", "ts", paths @ ..] if !paths.is_empty() => bind_ts(rt, options, paths),
         _ => refuse_words(rt, words),
@@ -348,6 +422,14 @@ fn run_options(rt: &HostRuntime, options: &Options<'_>) -> Result<Report, AllocE
             if !paths.is_empty() && !options.is_json && options.svg.is_none() => {
             encode(rt, options, paths, file)
         }
+        (["bind", "guest", paths @ ..], None)
+            if !paths.is_empty() && !options.is_json && options.svg.is_none() => {
+            bind_guest(rt, options, paths)
+        }
+        (["embed", module, paths @ ..], Some(_))
+            if !paths.is_empty() && !options.is_json && options.svg.is_none() => {
+            embed(rt, options, module, paths)
+        }
         _ if options.world.is_some() => refuse_words(rt, words),
         (["--version"], None) => Report::said(rt.alloc(), VERSION, 0),
         (["check", paths @ ..], None) if !paths.is_empty() && options.svg.is_none() => {
@@ -360,6 +442,9 @@ fn run_options(rt: &HostRuntime, options: &Options<'_>) -> Result<Report, AllocE
         (["layout", path], None) if !options.is_json => layout(rt, options, path, None),
         (["layout", path, wanted], None) if !options.is_json => {
             layout(rt, options, path, Some(wanted))
+        }
+        (["call", path, words @ ..], None) if !options.is_json => {
+            run_call(rt, options, path, words)
         }
         _ if options.is_json || options.svg.is_some() => refuse_words(rt, words),
         (["bin", paths @ ..], Some(file)) if !paths.is_empty() => binary(rt, options, paths, file),

@@ -1,10 +1,11 @@
 //! Packages and worlds as the binaries that other tools read.
 
 use checked_packages::Checked;
-use component_encoding::{EncodeError, package_bytes, world_bytes, world_named};
+use component_encoding::world_named;
+use encoded_packages::{EncodeError, package_bytes, world_bytes};
 use package_form::own_package;
 use std::alloc::{AllocError, Global};
-use tables::{PackageId, Resolve};
+use tables::{PackageId, Resolve, World};
 use thiserror::Error;
 
 /// Why a package or a world is not encoded.
@@ -36,6 +37,18 @@ fn own_id(tables: &Resolve) -> Result<PackageId, AllocError> {
     }
 }
 
+/// The world of a name in the package that a table is of.
+pub fn own_world<'a>(
+    alloc: Global,
+    tables: &'a Resolve,
+    name: &str,
+) -> Result<&'a World, Unencoded> {
+    match world_named(tables, own_id(tables)?, name) {
+        Some(world) => Ok(world),
+        None => Err(Unencoded::NoWorld(String::from_str(alloc, name)?)),
+    }
+}
+
 /// The bytes of a package, or of the world of a name alone.
 pub fn encoded(
     alloc: Global,
@@ -43,12 +56,8 @@ pub fn encoded(
     world: Option<&str>,
 ) -> Result<Vec<u8>, Unencoded> {
     let tables = &package.tables;
-    let own = own_id(tables)?;
-    let Some(name) = world else {
-        return Ok(package_bytes(alloc, tables, own)?);
-    };
-    match world_named(tables, own, name) {
-        Some(world) => Ok(world_bytes(alloc, tables, world)?),
-        None => Err(Unencoded::NoWorld(String::from_str(alloc, name)?)),
+    match world {
+        Some(name) => Ok(world_bytes(alloc, tables, own_world(alloc, tables, name)?)?),
+        None => Ok(package_bytes(alloc, tables, own_id(tables)?)?),
     }
 }

@@ -1,20 +1,22 @@
-//! Pictures of types.
+//! Pictures of types and of functions.
 
 use checked_packages::Checked;
 use layout_picture::{Form, Sheet};
+use package_picture::draw_package;
 use std::alloc::{AllocError, Global};
 
 /// Draws the packages that are no dependencies.
 fn draw(sheet: &mut Sheet, packages: &[Checked], wanted: Option<&str>) -> Result<(), AllocError> {
     for package in packages {
         if !package.is_dependency {
-            sheet.draw(&package.tables, &package.layouts, wanted)?;
+            draw_package(sheet, &package.tables, &package.layouts, wanted)?;
         }
     }
     Ok(())
 }
 
-/// The pictures of the types of packages that are no dependencies, or of those of a name. None if no type has the name.
+/// The pictures of the types of packages that are no dependencies, or of the types and functions of a name. None if
+/// there are none of this name.
 pub fn picture_of(
     alloc: Global,
     packages: &[Checked],

@@ -1,7 +1,7 @@
 //! What to do about a fault, as docs/ERRORS.md has it.
 
 use crate::cause::Cause;
-use crate::places::{Found, declared_twice};
+use crate::places::{Found, declared_twice, place_of};
 use crate::unknown::of_unknown;
 use layout::LayoutError;
 use std::alloc::{AllocError, Global};
@@ -142,11 +142,7 @@ pub fn hint_of(
     around: Around<'_>,
     cause: &Cause,
 ) -> Result<String, AllocError> {
-    let is_binary = found.lexed.text.starts_with("\0asm");
     let hint = match cause {
-        Cause::Text(_) | Cause::NotUtf8(_) if is_binary => {
-            "this is a binary: `witcall text` prints its package as WIT"
-        }
         Cause::Text(error) => return hint_of_text(alloc, found.lexed, error),
         Cause::Resolve(error) => return of_names(alloc, found, around, error),
         Cause::Layout(LayoutError::TooLarge, _) => "use a list",
@@ -156,4 +152,30 @@ pub fn hint_of(
         Cause::Read(_) => "",
     };
     String::from_str(alloc, hint)
+}
+
+/// A fault of a package as it is told: where, what it is, and what to do about it.
+#[derive(Drop)]
+pub struct PackageFault<'a> {
+    pub found: Option<Found<'a>>,
+    pub words: String,
+    pub hint: String,
+}
+
+/// How a fault of a package is told.
+pub fn package_fault<'a>(
+    alloc: Global,
+    around: Around<'a>,
+    cause: &Cause,
+) -> Result<PackageFault<'a>, AllocError> {
+    let found = place_of(alloc, around, cause)?;
+    let hint = match found {
+        Some(found) => hint_of(alloc, found, around, cause)?,
+        None => String::new(alloc),
+    };
+    Ok(PackageFault {
+        found,
+        words: format!(in alloc; "{cause}")?,
+        hint,
+    })
 }

@@ -6,7 +6,7 @@ use crate::drawing::{Fault, push_fault};
 use crate::hints::{Around, Known, hint_of};
 use crate::json::push_object;
 use crate::paint::Paint;
-use crate::places::{Found, first_path, place_in, place_of};
+use crate::places::{Found, first_path, place_in};
 use std::alloc::{AllocError, Global};
 use wit_places::{Lexed, PackageRef};
 use wit_text::Span;
@@ -52,12 +52,17 @@ impl Report {
         })
     }
 
-    /// Appends a fault in the report's style.
+    /// Appends a fault in the report's style. In a text a blank line is between two.
     fn push(&mut self, alloc: Global, fault: &Fault<'_>) -> Result<(), AllocError>
         ensures { self.new.status ≡ self.old.status }
     {
         match self.style {
-            Style::Text(paint) => push_fault(alloc, &mut self.text, paint, fault),
+            Style::Text(paint) => {
+                if !self.text.is_empty() {
+                    self.text.push('\n')?;
+                }
+                push_fault(alloc, &mut self.text, paint, fault)
+            }
             Style::Json => {
                 let before = if self.text.is_empty() { "[\n" } else { ",\n" };
                 self.text.push_str(before)?;
@@ -135,24 +140,6 @@ impl Report {
             Some(found) => self.add_at(alloc, found.lexed, found.span, words, hint),
             None => Ok(()),
         }
-    }
-
-    /// Adds a fault of a package, with its place in one of its files and its hint.
-    pub fn add_package(
-        &mut self,
-        alloc: Global,
-        around: Around<'_>,
-        cause: &Cause,
-    ) -> Result<(), AllocError>
-        ensures { OnOk result (self.new.status ≡ 1) }
-    {
-        let words = format!(in alloc; "{cause}")?;
-        let found = place_of(alloc, around, cause)?;
-        let hint = match found {
-            Some(found) => hint_of(alloc, found, around, cause)?,
-            None => String::new(alloc),
-        };
-        self.add_found(alloc, found, words.as_str(), hint.as_str())
     }
 
     /// Adds that a package of these files was not checked, since it depends on one with a fault.

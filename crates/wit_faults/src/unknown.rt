@@ -7,7 +7,7 @@ use std::alloc::{AllocError, Global};
 use std::fmt::Write;
 use wit_hints::hint_of_unknown;
 use wit_places::{Declarations, Lexed, PackageRef};
-use wit_text::Keyword;
+use wit_text::{Keyword, Punctuation};
 
 /// The most interfaces of another package that a hint names.
 const MAX_NAMED: usize = 5;
@@ -20,6 +20,8 @@ enum Kind<'a> {
     Interface,
     /// One of another package.
     InterfaceOf(PackageRef<'a>),
+    /// A type of this interface of another package.
+    TypeOf(PackageRef<'a>, &'a str),
 }
 
 /// The package of the path that ends in a token.
@@ -35,6 +37,32 @@ fn names_interface(lexed: &Lexed<'_>, index: usize) -> bool {
         || lexed.is_keyword(before, Keyword::Export)
 }
 
+/// The token before the names of a `use` that one at a token is among: the name of an interface, or its version.
+fn list_owner(lexed: &Lexed<'_>, index: usize) -> Option<usize> {
+    for place in (0..index).rev() {
+        if lexed.is_used_list(place) {
+            return place.checked_sub(2);
+        }
+        let is_between = lexed.is_mark(place, Punctuation::Comma)
+            || lexed.is_keyword(place, Keyword::As);
+        if !is_between && lexed.name_at(place).is_none() {
+            return None;
+        }
+    }
+    None
+}
+
+/// What a name has to stand for that is among those of a `use` of an interface of another package.
+fn used_of<'a>(lexed: &Lexed<'a>, index: usize) -> Option<Kind<'a>> {
+    let owner = list_owner(lexed, index)?;
+    let interface = match lexed.name_at(owner) {
+        Some(_) => owner,
+        None => owner.checked_sub(1)?,
+    };
+    let package = package_before(lexed, interface)?;
+    Some(Kind::TypeOf(package, lexed.name_at(interface)?))
+}
+
 /// What the name at a place has to stand for.
 fn kind_of<'a>(found: Found<'a>) -> Option<Kind<'a>> {
     let index = found.lexed.index_of(found.span?)?;
@@ -44,7 +72,7 @@ fn kind_of<'a>(found: Found<'a>) -> Option<Kind<'a>> {
     if names_interface(found.lexed, index) {
         return Some(Kind::Interface);
     }
-    Some(Kind::Type)
+    Some(used_of(found.lexed, index).unwrap_or(Kind::Type))
 }
 
 /// The names of the interfaces of files.
@@ -127,18 +155,49 @@ fn of_interface(alloc: Global, around: Around<'_>, word: &str) -> Result<String,
     )
 }
 
-/// The interfaces of a package among those that are known.
-fn interfaces_in<'a>(
-    alloc: Global,
-    known: &[Known<'a>],
-    package: PackageRef<'_>,
-) -> Result<Vec<&'a str>, AllocError> {
+/// The files of a package among those that are known.
+fn files_of<'a>(known: &[Known<'a>], package: PackageRef<'_>) -> &'a [Lexed<'a>] {
     for other in known {
         if other.package.is(package) {
-            return interfaces_of(alloc, other.files);
+            return other.files;
         }
     }
-    Ok(Vec::new(alloc))
+    &[]
+}
+
+/// The types that an interface of these files declares.
+fn types_of<'a>(
+    alloc: Global,
+    files: &[Lexed<'a>],
+    interface: &str,
+) -> Result<Vec<&'a str>, AllocError> {
+    let mut names = Vec::new(alloc);
+    for lexed in files {
+        names.append(&mut Declarations::of(alloc, lexed)?.types_of(alloc, interface)?)?;
+    }
+    Ok(names)
+}
+
+/// What to do about a name that is no type of an interface of another package.
+fn of_used_type(
+    alloc: Global,
+    files: &[Lexed<'_>],
+    interface: &str,
+    word: &str,
+) -> Result<String, AllocError> {
+    let names = types_of(alloc, files, interface)?;
+    let names = names.as_slice();
+    if names.is_empty() {
+        return format!(in alloc; "interface `{interface}` declares no type");
+    }
+    if let Some(name) = nearest(alloc, word, names)? {
+        return format!(in alloc;
+            "interface `{interface}` has no type `{word}`; did you mean `{name}`?"
+        );
+    }
+    let listed = listed(alloc, names)?;
+    let listed = listed.as_str();
+    format!(in alloc; "interface `{interface}` has no type `{word}`; it has {listed}")
 }
 
 /// Names with commas between them: the first ones, if they are many.
@@ -161,7 +220,7 @@ fn of_other_interface(
     package: PackageRef<'_>,
     word: &str,
 ) -> Result<String, AllocError> {
-    let names = interfaces_in(alloc, known, package)?;
+    let names = interfaces_of(alloc, files_of(known, package))?;
     let names = names.as_slice();
     if names.is_empty() {
         return format!(in alloc; "package `{package}` has no interface");
@@ -217,6 +276,9 @@ pub fn of_unknown(
         Some(Kind::Interface) => of_interface(alloc, around, word),
         Some(Kind::InterfaceOf(package)) => {
             of_other_interface(alloc, around.known, package, word)
+        }
+        Some(Kind::TypeOf(package, interface)) => {
+            of_used_type(alloc, files_of(around.known, package), interface, word)
         }
         Some(Kind::Type) | None => of_type(alloc, found.lexed, around.files, word),
     }

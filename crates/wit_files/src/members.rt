@@ -3,7 +3,7 @@ ghost use Rattle.std.specs.Prelude.{◌≡◌, ◌+◌, ◌≤◌, length, IfOk,
 ghost use Rattle.std.specs.List.{sum_by};
 
 use crate::sources::Source;
-use crate::texts::{Header, Text, headers_of, texts_of, tree_of};
+use crate::texts::{Headers, Text, texts_of};
 use std::alloc::{AllocError, Global};
 use wit_faults::{Lexed, PackageRef, Report};
 use wit_text::Ast;
@@ -16,6 +16,8 @@ pub struct Member<'a> {
     pub files: Vec<Lexed<'a>>,
     pub is_dependency: bool,
     pub tree: Ast,
+    /// Whether a text of it has a fault, which is reported. The tree has what is without one.
+    pub has_fault: bool,
 }
 
 impl Member<'_> {
@@ -24,11 +26,26 @@ impl Member<'_> {
     }
 }
 
-/// A file whose text was read.
+/// The packages of files, and whether each file is known to be of one.
+#[derive(Drop)]
+pub struct Members<'a> {
+    pub list: Vec<Member<'a>>,
+    pub are_all: bool,
+}
+
+/// A file whose text was read, or a part of it.
 #[derive(Drop)]
 struct Part<'a> {
     text: Text<'a>,
     tree: Ast,
+    has_fault: bool,
+}
+
+/// The files whose packages are known.
+#[derive(Drop)]
+struct Parts<'a> {
+    list: Vec<Part<'a>>,
+    are_all: bool,
 }
 
 /// Files of one package, which were found in one folder, and what these have together.
@@ -38,10 +55,11 @@ struct Joined<'a> {
     is_dependency: bool,
     files: Vec<Lexed<'a>>,
     tree: Ast,
+    has_fault: bool,
 }
 
 /// Adds items after those of a tree.
-fn append(tree: &mut Ast, more: Vec<Item>) -> Result<(), AllocError> {
+pub(crate) fn append(tree: &mut Ast, more: Vec<Item>) -> Result<(), AllocError> {
     for item in more {
         tree.items.push(item)?;
     }
@@ -53,7 +71,11 @@ impl<'a> Joined<'a> {
     fn of(alloc: Global, part: Part<'a>) -> Result<Joined<'a>, AllocError>
         ensures { IfOk result (λ joined. length joined.files.items ≡ 1) }
     {
-        let Part { text, tree } = part;
+        let Part {
+            text,
+            tree,
+            has_fault,
+        } = part;
         let Text { source, lexed } = text;
         let mut files = Vec::new(alloc);
         files.push(lexed)?;
@@ -62,6 +84,7 @@ impl<'a> Joined<'a> {
             is_dependency: source.is_dependency,
             files,
             tree,
+            has_fault,
         })
     }
 
@@ -76,32 +99,46 @@ impl<'a> Joined<'a> {
     fn add(&mut self, part: Part<'a>) -> Result<(), AllocError>
         ensures { OnOk result (length self.new.files.items ≡ length self.old.files.items + 1) }
     {
-        let Part { text, tree } = part;
+        let Part {
+            text,
+            tree,
+            has_fault,
+        } = part;
         let Text { source: _, lexed } = text;
         let Ast { package: _, items } = tree;
         append(&mut self.tree, items)?;
         self.files.push(lexed)?;
+        self.has_fault = self.has_fault || has_fault;
         Ok(())
     }
 }
 
-/// The files that can be read. The faults of the others are reported: if the status is 0, there are none.
+/// The files whose packages are known. The faults of their texts are reported: if the status is 0, there are none.
 fn parts_of<'a>(
     alloc: Global,
     report: &mut Report,
     texts: Vec<Text<'a>>,
-    headers: &[Header<'a>],
-) -> Result<Vec<Part<'a>>, AllocError>
-    ensures { IfOk result (λ parts. report.new.status ≡ 0 → length parts.items ≡ length texts.entry.items) }
+    headers: &Headers<'a>,
+) -> Result<Parts<'a>, AllocError>
+    ensures { IfOk result (λ parts. report.new.status ≡ 0 → length parts.list.items ≡ length texts.entry.items) }
 {
-    let mut parts = Vec::new(alloc);
+    let mut list = Vec::new(alloc);
+    let mut are_all = true;
     for text in texts {
-        match tree_of(alloc, &text, headers) {
-            Ok(tree) => parts.push(Part { text, tree })?,
-            Err(cause) => report.add(alloc, &text.lexed, &[], &cause)?,
+        let (tree, has_fault) = match headers.tree_of(&text) {
+            Ok(tree) => (Some(tree), false),
+            Err(cause) => (headers.rest_of(report, &text, cause)?, true),
+        };
+        match tree {
+            Some(tree) => list.push(Part {
+                text,
+                tree,
+                has_fault,
+            })?,
+            None => are_all = false,
         }
     }
-    Ok(parts)
+    Ok(Parts { list, are_all })
 }
 
 /// The files of a package, and those of other ones.
@@ -138,11 +175,13 @@ fn push_member<'a>(members: &mut Vec<Member<'a>>, joined: Joined<'a>) -> Result<
         is_dependency,
         files,
         tree,
+        has_fault,
     } = joined;
     members.push(Member {
         files,
         is_dependency,
         tree,
+        has_fault,
     })?;
     Ok(())
 }
@@ -162,18 +201,22 @@ fn packages_of<'a>(alloc: Global, parts: Vec<Part<'a>>) -> Result<Vec<Member<'a>
     Ok(members)
 }
 
-/// The packages of the files whose texts can be read. The faults of the others are reported: if the status is 0, there
-/// are none, and each file is one of a package.
+/// The packages of files, as far as their texts can be read. The faults of these are reported: if the status is 0,
+/// there are none, and each file is one of a package.
 pub fn members_of<'a>(
     alloc: Global,
     report: &mut Report,
     sources: &'a [Source],
-) -> Result<Vec<Member<'a>>, AllocError>
+) -> Result<Members<'a>, AllocError>
     ensures { IfOk result (λ members. report.new.status ≡ 0
-        → sum_by (λ m. length m.files.items) members.items ≡ length sources.now) }
+        → sum_by (λ m. length m.files.items) members.list.items ≡ length sources.now) }
 {
     let texts = texts_of(alloc, sources)?;
-    let headers = headers_of(alloc, texts.as_slice())?;
-    let parts = parts_of(alloc, report, texts, headers.as_slice())?;
-    packages_of(alloc, parts)
+    let headers = Headers::of(alloc, texts.as_slice())?;
+    let parts = parts_of(alloc, report, texts, &headers)?;
+    let list = packages_of(alloc, parts.list)?;
+    Ok(Members {
+        list,
+        are_all: parts.are_all,
+    })
 }

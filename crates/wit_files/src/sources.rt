@@ -1,5 +1,5 @@
 //! The files of a command: those that it names, and those of its folders.
-ghost use Rattle.std.specs.Prelude.{◌≡◌, false};
+ghost use Rattle.std.specs.Prelude.{◌≡◌, ◌<◌, ◌^◌, false, OnOk};
 
 use atoms::{ReadUpToError, Source as Bytes, Watched, read_up_to};
 use std::alloc::{AllocError, Global};
@@ -9,6 +9,15 @@ use wit_faults::ReadError;
 /// The most bytes of a text.
 pub const MAX_TEXT: usize = 1_048_576;
 
+/// The most bytes of a binary: a module has more than the section with its package.
+pub const MAX_BINARY: usize = 67_108_864;
+
+/// How many more bytes of a binary than of a text are read.
+const MAX_REST: usize = MAX_BINARY - MAX_TEXT - 1;
+
+/// The bytes that a binary begins with.
+static FRONT: [u8; 4] = [0x00, 0x61, 0x73, 0x6d];
+
 /// A file of a command.
 #[derive(Debug, Drop)]
 pub struct Source {
@@ -17,8 +26,23 @@ pub struct Source {
     pub folder: String,
     /// It is in the folder of dependencies.
     pub is_dependency: bool,
-    /// What it has, or more than the limit of it.
+    /// What it has, or one byte more than the limit of it.
     pub bytes: Result<Vec<u8>, ReadError>,
+}
+
+/// Whether bytes begin as those of a binary do.
+pub fn is_binary(bytes: &[u8]) -> bool {
+    bytes.starts_with(FRONT.as_slice())
+}
+
+impl Source {
+    /// Whether it begins as a binary does.
+    pub fn is_binary(&self) -> bool {
+        match &self.bytes {
+            Ok(bytes) => is_binary(bytes.as_slice()),
+            Err(_) => false,
+        }
+    }
 }
 
 /// Where files are found: in a folder, or by the command, which is no text.
@@ -28,21 +52,52 @@ struct Origin<'a> {
     is_dependency: bool,
 }
 
-/// The files of a folder whose names end in `.wit`, and its folders, each in the order of their names.
+/// The files of a folder that are read, and its folders, each in the order of their names.
 #[derive(Drop)]
 struct Entries {
     files: Vec<String>,
     folders: Vec<String>,
 }
 
-fn read<R: Bytes>(alloc: Global, reader: &mut R) -> Result<Vec<u8>, ReadError>
-    requires { R.has_failed reader.old ≡ false }
+/// Reads up to so many bytes, and one more.
+fn read_some<R: Bytes>(alloc: Global, reader: &mut R, limit: usize) -> Result<Vec<u8>, ReadError>
+    requires ready { R.has_failed reader.old ≡ false }
+    requires small { limit < 2 ^ 32 }
+    ensures { OnOk result (R.has_failed reader.new ≡ false) }
 {
-    match read_up_to(alloc, reader, MAX_TEXT) {
+    match read_up_to(alloc, reader, limit) {
         Ok(bytes) => Ok(bytes),
         Err(ReadUpToError::Failed(place)) => Err(ReadError::Read(place)),
         Err(ReadUpToError::NoMemory) => Err(ReadError::NoMemory),
     }
+}
+
+/// Reads what comes after the front of a binary, and appends it.
+fn read_rest<R: Bytes>(alloc: Global, reader: &mut R, bytes: &mut Vec<u8>) -> Result<(), ReadError>
+    requires { R.has_failed reader.old ≡ false }
+{
+    let rest = match read_some(alloc, reader, MAX_REST) {
+        Ok(rest) => rest,
+        Err(ReadError::Read(place)) => {
+            return Err(ReadError::Read(bytes.len().saturating_add(place)));
+        }
+        Err(error) => return Err(error),
+    };
+    match bytes.extend_from_slice(rest.as_slice()) {
+        Ok(()) => Ok(()),
+        Err(_) => Err(ReadError::NoMemory),
+    }
+}
+
+/// Reads up to the limit of a text, or up to that of a binary, and one byte more.
+fn read<R: Bytes>(alloc: Global, reader: &mut R) -> Result<Vec<u8>, ReadError>
+    requires { R.has_failed reader.old ≡ false }
+{
+    let mut bytes = read_some(alloc, reader, MAX_TEXT)?;
+    if bytes.len() > MAX_TEXT && is_binary(bytes.as_slice()) {
+        read_rest(alloc, reader, &mut bytes)?;
+    }
+    Ok(bytes)
 }
 
 /// The bytes of a file, or of standard input if the path is `-`.
@@ -79,17 +134,29 @@ fn paths_in(rt: &HostRuntime, folder: &str) -> Result<Vec<String>, AllocError> {
     Ok(paths)
 }
 
-fn entries_of(rt: &HostRuntime, folder: &str) -> Result<Entries, AllocError> {
+/// What a folder has. Of its files those are read whose names end so.
+fn entries_of(rt: &HostRuntime, folder: &str, endings: &[&str]) -> Result<Entries, AllocError> {
     let mut files = Vec::new(rt.alloc());
     let mut folders = Vec::new(rt.alloc());
     for path in paths_in(rt, folder)? {
         if is_folder(rt, path.as_str()) {
             folders.push(path)?;
-        } else if path.as_str().ends_with(".wit") {
+        } else if endings.iter().any(|ending| path.as_str().ends_with(ending)) {
             files.push(path)?;
         }
     }
     Ok(Entries { files, folders })
+}
+
+/// A file of this path, or standard input if the path is `-`.
+fn source_at(rt: &HostRuntime, path: String, origin: Origin<'_>) -> Result<Source, AllocError> {
+    let bytes = bytes_of(rt, path.as_str());
+    Ok(Source {
+        path,
+        folder: String::from_str(rt.alloc(), origin.folder)?,
+        is_dependency: origin.is_dependency,
+        bytes,
+    })
 }
 
 /// Reads a file.
@@ -99,13 +166,7 @@ fn push_file(
     path: String,
     origin: Origin<'_>,
 ) -> Result<(), AllocError> {
-    let bytes = bytes_of(rt, path.as_str());
-    sources.push(Source {
-        path,
-        folder: String::from_str(rt.alloc(), origin.folder)?,
-        is_dependency: origin.is_dependency,
-        bytes,
-    })?;
+    sources.push(source_at(rt, path, origin)?)?;
     Ok(())
 }
 
@@ -121,14 +182,14 @@ fn push_files(
     Ok(())
 }
 
-/// Reads what a folder of dependencies has: files, and the files of folders.
+/// Reads what a folder of dependencies has: files, binaries too, and the files of folders.
 fn push_dependencies(
     rt: &HostRuntime,
     sources: &mut Vec<Source>,
     folder: &str,
 ) -> Result<(), AllocError> {
     let is_dependency = true;
-    let Entries { files, folders } = entries_of(rt, folder)?;
+    let Entries { files, folders } = entries_of(rt, folder, &[".wit", ".wasm"])?;
     push_files(
         rt,
         sources,
@@ -140,7 +201,7 @@ fn push_dependencies(
     )?;
     for path in folders {
         let folder = path.as_str();
-        let Entries { files, folders: _ } = entries_of(rt, folder)?;
+        let Entries { files, folders: _ } = entries_of(rt, folder, &[".wit"])?;
         push_files(
             rt,
             sources,
@@ -162,7 +223,7 @@ fn push_folder(
 ) -> Result<(), AllocError> {
     let alloc = rt.alloc();
     let is_dependency = false;
-    let Entries { files, folders: _ } = entries_of(rt, folder)?;
+    let Entries { files, folders: _ } = entries_of(rt, folder, &[".wit"])?;
     if files.is_empty() {
         sources.push(Source {
             path: String::from_str(alloc, folder)?,
@@ -185,19 +246,25 @@ fn push_folder(
     push_dependencies(rt, sources, dependencies.as_str())
 }
 
+/// Files that the command names.
+static NAMED: Origin<'static> = Origin {
+    folder: "",
+    is_dependency: false,
+};
+
+/// Reads the file of this path, or standard input if the path is `-`.
+pub fn source_of(rt: &HostRuntime, path: &str) -> Result<Source, AllocError> {
+    source_at(rt, String::from_str(rt.alloc(), path)?, NAMED)
+}
+
 /// Reads the files that these paths are or have.
 pub fn sources_of(rt: &HostRuntime, paths: &[&str]) -> Result<Vec<Source>, AllocError> {
     let mut sources = Vec::new(rt.alloc());
-    let named = Origin {
-        folder: "",
-        is_dependency: false,
-    };
     for path in paths {
         if is_folder(rt, path) {
             push_folder(rt, &mut sources, path)?;
         } else {
-            let path = String::from_str(rt.alloc(), path)?;
-            push_file(rt, &mut sources, path, named)?;
+            sources.push(source_of(rt, path)?)?;
         }
     }
     Ok(sources)

@@ -1,10 +1,14 @@
 //! The texts of files, and their trees.
-ghost use Rattle.std.specs.Prelude.{◌≡◌, length, IfOk};
+ghost use Rattle.std.specs.Prelude.{◌≡◌, length, IfOk, OnOk};
 
+use crate::items::without_item;
 use crate::sources::{MAX_TEXT, Source};
 use std::alloc::{AllocError, Global};
-use wit_faults::{Cause, Lexed, PackageRef};
-use wit_text::{Ast, Span, TextError, parse};
+use wit_faults::{Cause, Lexed, PackageRef, Report};
+use wit_text::{Ast, Expected, Keyword, Span, TextError, Token, parse};
+
+/// The most faults that are told of a text, or of the names of a package.
+pub const MAX_FAULTS: usize = 20;
 
 /// A file as it can be shown.
 #[derive(Drop)]
@@ -15,7 +19,7 @@ pub struct Text<'a> {
 
 /// What the first line of a text names: its package, and how it is spelled.
 #[derive(Clone, Copy, Debug)]
-pub struct Header<'a> {
+struct Header<'a> {
     folder: &'a str,
     package: PackageRef<'a>,
     spelled: &'a str,
@@ -56,36 +60,6 @@ pub fn texts_of<'a>(alloc: Global, sources: &'a [Source]) -> Result<Vec<Text<'a>
     Ok(texts)
 }
 
-/// The first lines of these texts that name packages.
-pub fn headers_of<'a>(alloc: Global, texts: &[Text<'a>]) -> Result<Vec<Header<'a>>, AllocError> {
-    let mut headers = Vec::new(alloc);
-    for text in texts {
-        if let Some(own) = text.lexed.own_package() {
-            headers.push(Header {
-                folder: text.source.folder.as_str(),
-                package: own.package,
-                spelled: text.lexed.at(own.span),
-            })?;
-        }
-    }
-    Ok(headers)
-}
-
-/// The first line that names the package of a folder, if its files name one alone.
-fn shared<'a>(headers: &[Header<'a>], folder: &str) -> Option<Header<'a>> {
-    let mut found: Option<Header<'a>> = None;
-    for header in headers {
-        if header.folder == folder {
-            match found {
-                Some(first) if !first.package.is(header.package) => return None,
-                Some(_) => {}
-                None => found = Some(*header),
-            }
-        }
-    }
-    found
-}
-
 /// The bytes as a text.
 fn text_of(bytes: &[u8]) -> Result<&str, Cause> {
     if bytes.len() > MAX_TEXT {
@@ -122,10 +96,9 @@ fn without_front(error: TextError, front: usize) -> TextError {
     }
 }
 
-/// The tree of a text without a `package` line, read below the line of another text.
-fn tree_below(alloc: Global, header: Header<'_>, text: &str) -> Result<Ast, TextError> {
-    let spelled = header.spelled;
-    let mut whole = format!(in alloc; "package {spelled};\n")?;
+/// The tree of a text without a `package` line, read below one that names this package.
+pub fn tree_below(alloc: Global, package: &str, text: &str) -> Result<Ast, TextError> {
+    let mut whole = format!(in alloc; "package {package};\n")?;
     let front = whole.len();
     whole.push_str(text)?;
     match parse(alloc, whole.as_str()) {
@@ -134,17 +107,159 @@ fn tree_below(alloc: Global, header: Header<'_>, text: &str) -> Result<Ast, Text
     }
 }
 
-/// The tree of a file. If it has no `package` line, it is below that of its folder.
-pub fn tree_of(alloc: Global, file: &Text<'_>, headers: &[Header<'_>]) -> Result<Ast, Cause> {
-    let bytes = match &file.source.bytes {
-        Ok(bytes) => bytes.as_slice(),
-        Err(error) => return Err(Cause::Read(*error)),
-    };
-    let text = text_of(bytes)?;
-    if !file.lexed.has_package_line()
-        && let Some(header) = shared(headers, file.source.folder.as_str())
-    {
-        return Ok(tree_below(alloc, header, text)?);
+/// A fault of a text, with the tokens that the text had when it was found.
+#[derive(Drop)]
+struct TextFault {
+    /// Its offset. The greatest number if the text can't be read on behind it.
+    offset: usize,
+    cause: Cause,
+    tokens: Vec<Token>,
+}
+
+/// Whether the line of the package has to come.
+fn wants_package(cause: &Cause) -> bool {
+    matches!(
+        cause,
+        Cause::Text(TextError::Expected(Expected::Keyword(Keyword::Package), _))
+    )
+}
+
+/// Where a text has a fault behind which it can be read on.
+fn place_of(cause: &Cause) -> Option<usize> {
+    match cause {
+        _ if wants_package(cause) => None,
+        Cause::Text(
+            TextError::BadChar(span)
+            | TextError::Expected(_, span)
+            | TextError::Unsupported(_, span)
+            | TextError::Depth(span),
+        ) => Some(span.start),
+        _ => None,
     }
-    Ok(parse(alloc, text)?)
+}
+
+/// The tokens of a text as they can be shown.
+pub fn tokens_of(alloc: Global, text: &str) -> Vec<Token> {
+    let Lexed { tokens, .. } = Lexed::new(alloc, "", text);
+    tokens
+}
+
+/// The first lines that name packages. A text without one is read below that of its folder.
+#[derive(Drop)]
+pub struct Headers<'a> {
+    alloc: Global,
+    list: Vec<Header<'a>>,
+}
+
+impl<'a> Headers<'a> {
+    /// Those of these texts.
+    pub fn of(alloc: Global, texts: &[Text<'a>]) -> Result<Headers<'a>, AllocError> {
+        let mut list = Vec::new(alloc);
+        for text in texts {
+            if let Some(own) = text.lexed.own_package() {
+                list.push(Header {
+                    folder: text.source.folder.as_str(),
+                    package: own.package,
+                    spelled: text.lexed.at(own.span),
+                })?;
+            }
+        }
+        Ok(Headers { alloc, list })
+    }
+
+    /// The first line that names the package of a folder, if its files name one alone.
+    fn shared(&self, folder: &str) -> Option<Header<'a>> {
+        let mut found: Option<Header<'a>> = None;
+        for header in self.list.as_slice() {
+            if header.folder == folder {
+                match found {
+                    Some(first) if !first.package.is(header.package) => return None,
+                    Some(_) => {}
+                    None => found = Some(*header),
+                }
+            }
+        }
+        found
+    }
+
+    /// The tree of a file that has this text.
+    fn tree_with(&self, file: &Text<'_>, text: &str) -> Result<Ast, Cause> {
+        if !file.lexed.has_package_line()
+            && let Some(header) = self.shared(file.source.folder.as_str())
+        {
+            return Ok(tree_below(self.alloc, header.spelled, text)?);
+        }
+        Ok(parse(self.alloc, text)?)
+    }
+
+    /// The tree of a file.
+    pub fn tree_of(&self, file: &Text<'_>) -> Result<Ast, Cause> {
+        let bytes = match &file.source.bytes {
+            Ok(bytes) => bytes.as_slice(),
+            Err(error) => return Err(Cause::Read(*error)),
+        };
+        self.tree_with(file, text_of(bytes)?)
+    }
+
+    /// The tree of a file without the items that have faults, of which the first is known. All are added to these.
+    /// None if it can't be read on, or has too many.
+    fn tree_of_rest(
+        &self,
+        file: &Text<'_>,
+        first: Cause,
+        faults: &mut Vec<TextFault>,
+    ) -> Result<Option<Ast>, AllocError> {
+        let mut left = String::from_str(self.alloc, file.lexed.text)?;
+        let mut cause = first;
+        for _ in 0..MAX_FAULTS {
+            let place = place_of(&cause);
+            let tokens = tokens_of(self.alloc, left.as_str());
+            faults.push(TextFault {
+                offset: place.unwrap_or(usize::MAX),
+                cause,
+                tokens,
+            })?;
+            let Some(place) = place else {
+                return Ok(None);
+            };
+            let Some(skipped) = without_item(self.alloc, left.as_str(), place)? else {
+                return Ok(None);
+            };
+            left = skipped.text;
+            match self.tree_with(file, left.as_str()) {
+                Ok(tree) => return Ok(Some(tree)),
+                Err(next) if wants_package(&next) => return Ok(None),
+                Err(next) => cause = next,
+            }
+        }
+        Ok(None)
+    }
+
+    /// The tree of a file's package without any item, if the file names it.
+    fn empty_tree(&self, file: &Text<'_>) -> Option<Ast> {
+        let own = file.lexed.own_package()?;
+        tree_below(self.alloc, file.lexed.at(own.span), "").ok()
+    }
+
+    /// Reports the faults of a file, of which the first that was found is known, in the order of their places. It
+    /// answers what can be read of the file without them. None if its package isn't known.
+    pub fn rest_of(
+        &self,
+        report: &mut Report,
+        file: &Text<'_>,
+        first: Cause,
+    ) -> Result<Option<Ast>, AllocError>
+        ensures { OnOk result (report.new.status ≡ 1) }
+    {
+        let mut faults = Vec::new(self.alloc);
+        let tree = self.tree_of_rest(file, first, &mut faults)?;
+        faults.sort_by_key(|fault| fault.offset)?;
+        let (path, text) = (file.lexed.path, file.lexed.text);
+        for fault in faults {
+            let TextFault { cause, tokens, .. } = fault;
+            report.add(self.alloc, &Lexed { path, text, tokens }, &[], &cause)?;
+        }
+        report.status = 1;
+        Ok(tree.or(self.empty_tree(file)))
+    }
 }

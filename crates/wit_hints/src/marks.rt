@@ -1,7 +1,7 @@
 //! What to do if a mark has to come.
 
 use crate::earlier::earlier_line;
-use crate::types::{begins_type, of_bare, of_error_type, of_too_many};
+use crate::types::{begins_type, of_bare, of_error_type, of_too_many, precedes_type};
 use crate::versions::{of_at, of_version};
 use near_names::{begins_function, declaration, did_you_mean, holder_for, is_constant};
 use std::alloc::{AllocError, Global};
@@ -262,6 +262,8 @@ fn of_end(alloc: Global, spot: &Spot<'_>, mark: Punctuation) -> Result<String, A
         (Punctuation::Comma, _, _) if is_function(spot) => {
             format!(in alloc; "is a `}}` missing before `{}`?", spot.word_before())
         }
+        (Punctuation::Comma, Within::Angles, Some(Punctuation::Semicolon)) if precedes_type(spot) =>
+            { String::from_str(alloc, "write `,` instead of `;`") }
         (Punctuation::Semicolon, _, None) => of_error_type(alloc, spot),
         (Punctuation::Semicolon, Within::File, Some(Punctuation::At)) => of_at(alloc, spot),
         (_, _, Some(found)) => String::from_str(alloc, for_other(spot.within, mark, found)),

@@ -34,6 +34,15 @@ pub fn begins_type(spot: &Spot<'_>) -> bool {
     }
 }
 
+/// Whether a type comes after a token, and no name of a field, a parameter or a function.
+pub fn precedes_type(spot: &Spot<'_>) -> bool {
+    let next = spot.index.saturating_add(1);
+    match keyword_at(spot.lexed, next) {
+        Some(keyword) => is_type(keyword),
+        None => spot.lexed.use_at(next).is_some(),
+    }
+}
+
 /// Whether the type before a token may have another one after it: in a tuple, or as the first one of a result.
 pub fn may_have_next(lexed: &Lexed<'_>, index: usize) -> bool {
     let Some(open) = opener(lexed, index) else {

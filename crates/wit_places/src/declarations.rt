@@ -331,6 +331,20 @@ impl<'a> Declarations<'a> {
         None
     }
 
+    /// The names of the types that the interface of this name declares.
+    pub fn types_of(&self, alloc: Global, interface: &str) -> Result<Vec<&'a str>, AllocError> {
+        let mut names = Vec::new(alloc);
+        let Some(scope) = self.scope_named(interface) else {
+            return Ok(names);
+        };
+        for declaration in &self.list {
+            if declaration.scope == scope.scope && declares_type(declaration.keyword) {
+                names.push(declaration.name)?;
+            }
+        }
+        Ok(names)
+    }
+
     /// The first place of a name in an interface or a world that declares no type of this name, and is none of these.
     pub fn undeclared(&self, lexed: &Lexed<'_>, name: &str, others: &[usize]) -> Option<Span> {
         let mut scope: usize = 0;

@@ -1,0 +1,107 @@
+//! A package that is read again without items that have faults.
+
+use crate::items::without_item;
+use crate::members::{Member, append};
+use crate::texts::{tokens_of, tree_below};
+use std::alloc::{AllocError, Global};
+use wit_faults::Lexed;
+use wit_places::names_of_types;
+use wit_text::{Ast, Span, TextError, parse};
+
+/// A package without the items that were skipped.
+#[derive(Drop)]
+pub struct RemainingItems<'a> {
+    alloc: Global,
+    /// The name of the package, as a text spells it.
+    package: String,
+    /// Its files: their whole texts, and the tokens without those of items that were skipped.
+    pub files: Vec<Lexed<'a>>,
+    /// The texts with blanks in place of items that were skipped.
+    texts: Vec<String>,
+    /// The types that items which were skipped declare or use.
+    names: Vec<&'a str>,
+}
+
+impl<'a> RemainingItems<'a> {
+    /// The whole of a package.
+    pub fn of(alloc: Global, member: &Member<'a>) -> Result<RemainingItems<'a>, AllocError> {
+        let mut files = Vec::new(alloc);
+        let mut texts = Vec::new(alloc);
+        for lexed in member.files.as_slice() {
+            files.push(Lexed::new(alloc, lexed.path, lexed.text))?;
+            texts.push(String::from_str(alloc, lexed.text)?)?;
+        }
+        Ok(RemainingItems {
+            alloc,
+            package: member.package().to_string(alloc)?,
+            files,
+            texts,
+            names: Vec::new(alloc),
+        })
+    }
+
+    /// Notes the types that an item of a file at a span declares or uses.
+    fn note_names(&mut self, file: usize, span: Span) -> Result<(), AllocError> {
+        let Some(lexed) = self.files.get(file) else {
+            return Ok(());
+        };
+        let item = lexed.text.get(span.start..span.end).unwrap_or("");
+        let item = Lexed::new(self.alloc, "", item);
+        for name in names_of_types(self.alloc, &item)? {
+            self.names.push(name)?;
+        }
+        Ok(())
+    }
+
+    /// The number of the file that has this path.
+    pub fn file_at(&self, path: &str) -> Option<usize> {
+        self.files.iter().position(|lexed| lexed.path == path)
+    }
+
+    /// Skips the item at a place of a file. False if there is none.
+    pub fn skip(&mut self, file: usize, place: usize) -> Result<bool, AllocError> {
+        let Some(text) = self.texts.get(file) else {
+            return Ok(false);
+        };
+        let Some(skipped) = without_item(self.alloc, text.as_str(), place)? else {
+            return Ok(false);
+        };
+        self.note_names(file, skipped.span)?;
+        if let Some(lexed) = self.files.get_mut(file) {
+            lexed.tokens = tokens_of(self.alloc, skipped.text.as_str());
+        }
+        if let Some(text) = self.texts.get_mut(file) {
+            *text = skipped.text;
+        }
+        Ok(true)
+    }
+
+    /// Whether an item that was skipped declares or uses a type of this name.
+    pub fn has_skipped(&self, name: &str) -> bool {
+        self.names.iter().any(|skipped| *skipped == name)
+    }
+
+    /// The tree of one of its files.
+    fn tree_of(&self, lexed: &Lexed<'_>, text: &str) -> Result<Ast, TextError> {
+        if lexed.has_package_line() {
+            parse(self.alloc, text)
+        } else {
+            tree_below(self.alloc, self.package.as_str(), text)
+        }
+    }
+
+    /// The tree of what is left. None if a text of it can't be read.
+    pub fn tree(&self) -> Result<Option<Ast>, AllocError> {
+        let mut whole: Option<Ast> = None;
+        for (lexed, text) in self.files.iter().zip(self.texts.iter()) {
+            let Ok(tree) = self.tree_of(lexed, text.as_str()) else {
+                return Ok(None);
+            };
+            match &mut whole {
+                Some(first) => append(first, tree.items)?,
+                None => whole = Some(tree),
+            }
+        }
+        Ok(whole)
+    }
+}
