@@ -23,11 +23,12 @@
 # | vectors        | the stored calls of crates/vectors, in C          | python3                                             |
 # | json_vectors   | its rows of a host's memory, with values as JSON  | python3                                             |
 # | import_vectors | its calls, as a host with values as JSON serves   | python3                                             |
-# | bindings       | examples/c/shop.h, made anew                      |                                                     |
+# | bindings       | examples/c/shop.h and examples/guest/club.h, anew |                                                     |
 # | engine         | core modules in Node's engine, their traps        | clang, lld, Node with its headers                   |
 # | js             | the same modules, linked by bindings/js           | clang, lld, Node, the module of the release         |
+# | guest          | examples/guest, a guest in C, behind bindings/js  | clang, lld, Node, the module of the release         |
 # | js-tests       | the tests of bindings/js, and the stored calls    | Node, python3, the module of the release            |
-# | python         | the tests of bindings/python, both kinds of rows, | Python 3.9 or newer                                 |
+# | python         | the tests of bindings/python, both kinds of rows, | Python 3.9 or newer; mypy if it is there            |
 # |                | documents of packages by tools/check_document.py  |                                                     |
 # | languages      | the programs of docs/LANGUAGES.md                 | python3, and the tools of each language             |
 # | crate          | the tests of bindings/rust, both kinds of rows    | cargo, python3; clippy and rustfmt if they are there |
@@ -101,7 +102,7 @@ has() {
     case "$only $name" in
         ' '* | '--bindings python' | '--bindings crate') ;;
         '--bindings '*) return 1 ;;
-        *' cmake' | *' rust' | *' helgrind' | *' bindings' | *' engine' | *' js' | *' js-tests') return 1 ;;
+        *' cmake' | *' rust' | *' helgrind' | *' bindings' | *' engine' | *' js' | *' js-tests' | *' guest') return 1 ;;
         *' python' | *' crate' | *' language-'*) return 1 ;;
     esac
     for tool; do
@@ -178,6 +179,10 @@ has_new_python() {
 
 python_tests() {
     (cd "$root/bindings/python" && WITCALL_LIBRARY="$prefix/lib/libwitcall.so" python3 -B -m unittest discover -s tests -t .)
+}
+
+python_types() {
+    (cd "$root/bindings/python" && mypy --cache-dir "$build/mypy" witcall)
 }
 
 # Takes the rows of a script of examples/c by the program of the same name in bindings/python.
@@ -266,6 +271,7 @@ if has import_vectors python3 && [ -x "$build/json_vectors" ]; then
 fi
 if has bindings; then
     same bindings "$here/c/shop.h" "$prefix/bin/wit-explain" bind c "$here/c/shop.wit"
+    same bindings-guest "$here/guest/club.h" "$prefix/bin/wit-explain" bind guest "$here/guest/guest.wit"
 fi
 if has engine clang wasm-ld node; then
     step build-callee wasm_module "$here/engine/callee.c" "$build/callee.wasm" 131072
@@ -278,6 +284,10 @@ if has engine clang wasm-ld node; then
         same js "$here/engine/host.expected" node "$root/bindings/js/tests/host.mjs" "$build"
     fi
 fi
+if has guest clang wasm-ld node && has_module guest; then
+    step guest env WIT_EXPLAIN="$prefix/bin/wit-explain" "$here/guest/run.sh" "$build/guest"
+    grep 'LEFT OUT' "$build/guest.log" || true
+fi
 if has js-tests node python3 && has_module js-tests; then
     step js-tests js_tests
     same js-vectors "$here/c/vectors.expected" python3 "$here/c/vectors.py" "$root/bindings/js/tests/vectors.mjs"
@@ -287,6 +297,9 @@ if has python python3 && has_new_python python; then
     step python-documents python_documents
     same python-vectors "$here/c/vectors.expected" python_rows vectors
     same python-json_vectors "$root/bindings/python/tests/json_vectors.expected" python_rows json_vectors room blocks
+    if command -v mypy >/dev/null; then
+        step python-types python_types
+    fi
 fi
 if has crate cargo python3; then
     step crate-tests crate test

@@ -18,8 +18,8 @@
  *   - Each pointer is good for its length, and of length 0 it may be null. A pointer to a handle, a call, a row or a member is not null.
  *     (A pointer doesn't tell what it points to.)
  *   - No two arrays of one call overlap, the memories too. (The library writes one while it reads another, and compares no addresses.)
- *   - A handle is WITCALL_NONE, or was written by witcall_open or witcall_open_set. Of copies of a handle one is used. (An address tells
- *     nothing of who wrote it.)
+ *   - A handle is WITCALL_NONE, or was written by witcall_open, witcall_open_set or witcall_open_module. Of copies of a handle one is used. (An
+ *     address tells nothing of who wrote it.)
  *   - One call at a time uses a handle, and calls of two threads are ordered; see below. (A call doesn't know of others.)
  *   - Each block was free in the memory that it is in. (Only that memory's allocator knows which bytes are free.)
  *   - func is the function that the host runs, and answer is what its core function returned. (Other values of the same kinds look the same.)
@@ -207,6 +207,12 @@ witcall_status witcall_open(const uint8_t *bytes, size_t bytes_len, witcall_pack
 witcall_status witcall_open_set(const uint8_t *bytes, size_t bytes_len, const size_t *lengths, size_t lengths_len,
                                 witcall_package *package);
 
+/* Opens the package that a binary of another tool carries, with those that it depends on, of which it has what is used: the world of a core
+ * module, or a component with a world or with interfaces (docs/FORMATS.md, "Binaries of other tools"). The handle is written in any case, and
+ * is to be closed, as that of witcall_open. The world of a module has the number 0: witcall_owner_name tells its full name (WITCALL_WORLD),
+ * and witcall_describe what it imports and exports. If the binary carries no package, this is 44, and witcall_explain of its bytes says why. */
+witcall_status witcall_open_module(const uint8_t *bytes, size_t bytes_len, witcall_package *package);
+
 /* Frees what a handle stands for, and makes it WITCALL_NONE. Closing it again does nothing. */
 void witcall_close(witcall_package *package);
 
@@ -252,7 +258,7 @@ witcall_status witcall_to_text(witcall_package *package, uint8_t *text, size_t t
  * offsets and core signatures. docs/package.schema.json is its schema. count bytes; if there is no room, this is 71, and count is the length. */
 witcall_status witcall_describe(witcall_package *package, uint8_t *json, size_t json_len);
 
-/* What is wrong with the packages of WIT texts, in any order, as one JSON array. The texts' bytes stand one after another, as those of
+/* What is wrong with the packages of WIT texts, or of binaries as of witcall_open_module, in any order, as one JSON array. The texts' bytes stand one after another, as those of
  * witcall_open_set; texts of one package are its files. A fault is an object, as `wit-explain check --json` has it: file is the index of the text,
  * in digits; line, column, endLine and endColumn are its place, if it has one; error is its number, and message its words; hint says what to do.
  * The array is empty if nothing is wrong. count bytes; if there is no room, this is 71, and count is the length. */

@@ -5,4 +5,5 @@ pub mod Imports
 pub mod Inputs
 pub mod Json
 pub mod Line
+pub mod Modules
 pub mod Written

@@ -15,9 +15,9 @@ use serde_json::Value as Json;
 use std::alloc::AllocError;
 
 impl JsonCall<'_> {
-    /// Tells what is wrong in a text that is none of the arguments, as a line: the first place, as `[0].lines[2].count`,
-    /// what has to stand there, and what does. It has no place if the text is no array of as many values. No line, of 0
-    /// bytes, if the text says arguments. 61 if it is no JSON, or 66.
+    /// Tells what is wrong in a text that is none of the arguments, as a line: the first place, as
+    /// `[0].lines[2].count`, what has to stand there, and what does. It has no place if the text is no array of as many
+    /// values. No line, of 0 bytes, if the text says arguments. 61 if it is no JSON, or 66.
     pub fn fault(&self, text: &[u8], out: &mut [u8]) -> Result<usize, CallError>
         ensures { JsonFaults (option_map (λ p. p.now) self.now.«package») self.now.number text.now out.old result
             out.new }

@@ -33,8 +33,8 @@ pub struct JsonImport<'a, 'b> {
 
 impl JsonImport<'_, '_> {
     /// Tells the text of the arguments that the guest passed, an array of one value for each parameter, and how many
-    /// bytes it has. The memory is the guest's, and is only read. Fails as `ImportCall::arguments`, and with 71 if there
-    /// is no room.
+    /// bytes it has. The memory is the guest's, and is only read. Fails as `ImportCall::arguments`, and with 71 if
+    /// there is no room.
     pub fn read(&self, memory: &mut [u8], out: &mut [u8], limit: u64) -> Result<usize, CallError>
         ensures done { JsonReadsArguments (option_map (λ p. p.now) self.now.«package») self.now.number
             self.now.flats.now memory.old limit out.old result out.new }
@@ -84,10 +84,10 @@ impl JsonImport<'_, '_> {
 }
 
 impl JsonCall<'_> {
-    /// Tells the blocks that the result asks for that a text says, in the memory of the guest that called: how many they
-    /// are, and at the front of `requests` as many as there is room for. The return area is none of them. The text has no
-    /// bytes if the function has no result. 61 or 62 if it says no result; K4 in `place` if a text or a list needs more
-    /// than 16,777,216 bytes; 76 if the blocks have together more bytes than the limit; or 66.
+    /// Tells the blocks that the result asks for that a text says, in the memory of the guest that called: how many
+    /// they are, and at the front of `requests` as many as there is room for. The return area is none of them. The text
+    /// has no bytes if the function has no result. 61 or 62 if it says no result; K4 in `place` if a text or a list
+    /// needs more than 16,777,216 bytes; 76 if the blocks have together more bytes than the limit; or 66.
     pub fn result_requests(
         &self,
         text: &[u8],

@@ -5,6 +5,7 @@ use Rattle.std.specs.Str.{IsUtf8}
 use Rattle.c_border.specs.Functions.{OfFunction, numbered}
 use Rattle.c_border.specs.Inputs.{ArePieces, AreNoPieces}
 use Rattle.c_border.specs.Line.{LineDone}
+use Rattle.c_border.specs.Modules.{OpensCarried}
 use Rattle.canonical_abi.specs.Layout.{lifted_signature, lowered_signature}
 use Rattle.canonical_abi.specs.Types.{FunctionType}
 use Rattle.canonical_abi.specs.declared.flat.CoreKind.{CoreKind}
@@ -105,10 +106,20 @@ TellsOf old new status Comes = (held : Option Held) × (old ≡ held) × (new �
 abbrev pub CallsOf : Option Held → Option Held → ℕ → Status → (FunctionType → Result ℕ CallError → Type 0) → Type 0 → Type 0
 CallsOf old new number status Tells unchanged = TellsOf old new status (λ held done. CallsFunction (held_package held) number Tells unchanged done)
 
+-- a handle holds this, and the status is that of its opening; or nothing, if there was no memory for it
+abbrev pub IsHeld : Held → Option Held → Status → Type 0
+IsHeld held None status = status ≡ no_memory
+IsHeld held (Some new) status = (new ≡ held) × (status ≡ opening_status held.opened)
+
 -- a handle stands for what the inputs are opened as, and the status tells which; or for nothing, where there was no memory for it
 abbrev pub Opens : List (List ℕ) → Option Held → Status → Type 0
 Opens inputs None status = status ≡ no_memory
 Opens inputs (Some held) status = IsOpening inputs held.opened × (status ≡ opening_status held.opened)
+
+-- a handle holds what the packages that a binary carries are opened as, and the status tells which; or nothing, if there was no memory for it
+abbrev pub OpensModule : Option Held → Status → Type 0
+OpensModule None status = status ≡ no_memory
+OpensModule (Some held) status = OpensCarried held.opened × (status ≡ opening_status held.opened)
 
 -- the handle holds what the pieces of the bytes with these lengths are opened as; 74 bad lengths if there are none
 abbrev pub OpensPieces : List ℕ → List ℕ → Option Held → Status → Type 0

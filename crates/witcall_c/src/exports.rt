@@ -19,7 +19,8 @@ ghost use Rattle.c_border.specs.Json.{JsonAsks, JsonFaults, JsonFills, JsonReads
 ghost use Rattle.c_border.specs.Line.{LineDone};
 ghost use Rattle.c_border.specs.Written.{Describes, WritesBinary, WritesText};
 ghost use Rattle.tables.specs.declared.tables.Direction.TheVariants.{Import, Export};
-ghost use Rattle.witcall_c.specs.Calls.{FindsFunction, FindsOfWorld, LineOf, Opens, OpensPieces, CallsOf, TellsOf};
+ghost use Rattle.witcall_c.specs.Calls.{FindsFunction, FindsOfWorld, IsHeld, LineOf, Opens, OpensModule, OpensPieces};
+ghost use Rattle.witcall_c.specs.Calls.{CallsOf, TellsOf};
 ghost use Rattle.witcall_c.specs.Calls.{held_package, stands_for, held_table};
 ghost use Rattle.witcall_c.specs.Version.{abi, library_version};
 
@@ -59,12 +60,10 @@ pub extern "C" fn witcall_version(bytes: &mut [u8]) -> Status
     Status::of(tell_bytes(VERSION, bytes))
 }
 
-/// Lets a handle stand for what the inputs are opened as, or for nothing where there was no memory for it.
-fn open(alloc: Global, inputs: &[&[u8]], handle: &mut Handle) -> Status
-    requires { 0 < length inputs.now }
-    ensures { Opens (all_bytes inputs.now) (stands_for handle.new) result }
+/// Lets a handle hold what was opened, or nothing if there is no memory for it.
+fn hold(alloc: Global, held: Held, handle: &mut Handle) -> Status
+    ensures { IsHeld held (stands_for handle.new) result }
 {
-    let held = Held::open(alloc, inputs);
     let status = held.status();
     match Box::new(alloc, held) {
         Ok(held) => {
@@ -76,6 +75,14 @@ fn open(alloc: Global, inputs: &[&[u8]], handle: &mut Handle) -> Status
             Status::of(Err(CallError::NoMemory))
         }
     }
+}
+
+/// Lets a handle stand for what the inputs are opened as, or for nothing where there was no memory for it.
+fn open(alloc: Global, inputs: &[&[u8]], handle: &mut Handle) -> Status
+    requires { 0 < length inputs.now }
+    ensures { Opens (all_bytes inputs.now) (stands_for handle.new) result }
+{
+    hold(alloc, Held::open(alloc, inputs), handle)
 }
 
 /// Opens a package. The handle is written in any case; after 66 no memory it holds nothing. It does not free what the
@@ -104,6 +111,15 @@ pub extern "C" fn witcall_open_set(
             Status::of(Err(error))
         }
     }
+}
+
+/// Opens the package of the world or of the interfaces that a binary of another tool carries, with those that it
+/// depends on. The handle is written in any case, as by `witcall_open`. 44 if it carries none.
+#[unsafe(no_mangle)]
+pub extern "C" fn witcall_open_module(alloc: Global, bytes: &[u8], handle: &mut Handle) -> Status
+    ensures { OpensModule (stands_for handle.new) result }
+{
+    hold(alloc, Held::open_module(alloc, bytes), handle)
 }
 
 /// Frees what a handle stands for, if anything, so that it stands for nothing.
@@ -735,8 +751,8 @@ pub extern "C" fn witcall_describe(alloc: Global, handle: &mut Handle, json: &mu
     Status::of(done)
 }
 
-/// What is wrong with the packages of these texts, whose bytes stand one after another, as `wit-explain check --json` tells
-/// of files: an array of objects, each with the index of its text as `file`.
+/// What is wrong with the packages of these texts, whose bytes stand one after another, as `wit-explain check --json`
+/// tells of files: an array of objects, each with the index of its text as `file`.
 #[unsafe(no_mangle)]
 pub extern "C" fn witcall_explain(
     alloc: Global,

@@ -3,10 +3,11 @@ ghost use Rattle.std.specs.Prelude.{◌≡◌, ◌<◌, IfOk, IfErr, length};
 ghost use Rattle.std.specs.Option.{option_map};
 ghost use Rattle.opening.specs.Sets.{all_bytes};
 ghost use Rattle.c_border.specs.Functions.{HasNoFunction};
+ghost use Rattle.c_border.specs.Modules.{OpensCarried};
 ghost use Rattle.witcall_c.specs.Calls.{IsOpening, opening_status, FindsFunction, FindsOfWorld, HasFunction, LineOf};
 ghost use Rattle.witcall_c.specs.Calls.{held_indexed, held_package, held_table};
 
-use c_border::tell_line;
+use c_border::{open_module, tell_line};
 use error_numbers::Numbered;
 use host_calls::{CallError, Status, out_of_memory, refused};
 use lift_lower::Types;
@@ -28,6 +29,15 @@ impl Held {
     {
         Held {
             opened: open_indexed(alloc, inputs),
+        }
+    }
+
+    /// What the packages that a binary carries are opened as.
+    pub fn open_module(alloc: Global, bytes: &[u8]) -> Held
+        ensures { OpensCarried result.opened }
+    {
+        Held {
+            opened: open_module(alloc, bytes),
         }
     }
 
