@@ -24,6 +24,13 @@ export interface Library {
    */
   open(inputs: Input | Input[]): Package;
 
+  /**
+   * Opens the package that a module carries, with those that it depends on: a core module with a world in a section
+   * `component-type..`, or a component as other tools write a world or a package.
+   * @throws {WitError} `44 not this shape` if it carries none; `explain` of the same bytes says why
+   */
+  openModule(module: BufferSource): Package;
+
   /** What is wrong with the packages of these texts, in any order. Texts of one package are its files. */
   explain(texts: Input | Input[]): Fault[];
 }
@@ -54,6 +61,9 @@ export interface Package {
   /** Their types, each with its layout. */
   readonly types: readonly Type[];
 
+  /** The worlds of the package and of those that it depends on. A module has one. */
+  readonly worlds: readonly World[];
+
   /**
    * The function of this name, in the interface of this full name, as `a:b/c@1.0.0`.
    * @throws {WitError} `63 no function`
@@ -81,6 +91,14 @@ export interface Package {
 
   /** The same, for `using`. */
   [Symbol.dispose](): void;
+}
+
+/** A world: the functions of the interfaces that it imports and exports, and its own. */
+export interface World {
+  /** Its full name, as `a:b/w@1.0.0`. */
+  readonly name: string;
+  readonly imports: readonly WitFunction[];
+  readonly exports: readonly WitFunction[];
 }
 
 /** Sizes, alignments and offsets are bytes in a memory. */
@@ -247,6 +265,43 @@ export interface ImportsOptions {
 export function imports(
   pkg: Package, world: string, implementation: Implementation, options: ImportsOptions,
 ): WebAssembly.Imports;
+
+export interface GuestOptions {
+  /** What else the module imports. */
+  imports?: WebAssembly.Imports;
+
+  /**
+   * The greatest size of its memory, in bytes: values that have more together are refused. 16 MiB if it is left out.
+   */
+  limit?: number;
+
+  /** Who grants blocks, if it isn't `granted`. */
+  grant?: Grant;
+}
+
+/** A function of values that a guest exports, or the functions of an interface by their names. */
+export interface GuestExports {
+  readonly [name: string]: any;
+}
+
+export interface Guest {
+  readonly pkg: Package;
+  readonly world: World;
+  readonly instance: WebAssembly.Instance;
+
+  /** For each interface an object of its functions, under the interface's full name, and each of the world's own. */
+  readonly exports: GuestExports;
+}
+
+/**
+ * Makes an instance of a core module that carries its world, whose imports are functions of values. No WIT text is
+ * needed. If the module exports `_initialize`, that is called first.
+ * @throws {WitError} `44 not this shape` if it carries no world
+ * @throws {TypeError} if the implementation lacks a function that the world imports
+ */
+export function instantiate(
+  library: Library, module: BufferSource, implementation?: Implementation, options?: GuestOptions,
+): Promise<Guest>;
 
 /** Has `cabi_realloc` of an instance grant blocks, up to the first one for which it traps. */
 export const granted: Grant;

@@ -1,3 +1,4 @@
+export { instantiate } from "./lib/guest.js";
 export { imports } from "./lib/imports.js";
 export { load } from "./lib/library.js";
 export { lift } from "./lib/lift.js";

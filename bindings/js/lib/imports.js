@@ -2,7 +2,6 @@
 import { LIMIT, STEP, Side, granted, limitOf, ran, stopping } from "./link.js";
 import { Texts } from "./texts.js";
 import { decodedAll, encoded } from "./values.js";
-import { importsOf } from "./worlds.js";
 
 /** The module that a core module imports a function of a world itself from. */
 const ROOT = "$root";
@@ -48,10 +47,14 @@ export function imports(pkg, world, implementation, { guest, limit = LIMIT, gran
     all[module] ??= {};
     all[module][func.name] = imported(pkg, func, method, options);
   };
-  const { interfaces, functions } = importsOf(pkg, world);
-  for (const func of pkg.functions.filter((it) => interfaces.has(it.interface))) {
-    add(func.interface, func, methodOf(implementation[func.interface], func.name, `${func.interface}#`));
+  const found = pkg.worlds.find((it) => it.name === world);
+  if (!found) throw new TypeError(`the package has no world ${world}`);
+  for (const func of found.imports) {
+    if (func.interface) {
+      add(func.interface, func, methodOf(implementation[func.interface], func.name, `${func.interface}#`));
+    } else {
+      add(ROOT, func, methodOf(implementation, func.name, ""));
+    }
   }
-  for (const name of functions) add(ROOT, pkg.findImport(world, name), methodOf(implementation, name, ""));
   return all;
 }

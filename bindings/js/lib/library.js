@@ -92,6 +92,15 @@ export class Library {
   }
 
   /**
+   * Opens the package that a module carries, with those that it depends on.
+   * @param {BufferSource} module a core module with a world, or a component as other tools write a world or a package
+   * @returns {Package}
+   */
+  openModule(module) {
+    return new Package(this, [viewOf(module).slice()], true);
+  }
+
+  /**
    * Tells what is wrong with the packages of these texts, in any order. Texts of one package are its files.
    * @param {string | BufferSource | (string | BufferSource)[]} texts
    * @returns {Fault[]} none if nothing is wrong

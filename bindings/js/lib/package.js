@@ -1,6 +1,7 @@
 import { CODE, REFUSAL, Space } from "./core.js";
 import { WitError } from "./errors.js";
 import { tableOf } from "./table.js";
+import { worldsOf } from "./worlds.js";
 
 /** The size of a handle, and the room that most names and lines need. */
 const HANDLE_SIZE = 16;
@@ -9,15 +10,15 @@ const ROOM = 256;
 const decoder = new TextDecoder();
 
 /**
- * Opens inputs in an instance.
+ * Opens inputs in an instance, or the package that a module carries.
  * @returns {number} the handle's address
  */
-function opened(core, inputs) {
+function opened(core, inputs, isModule) {
   const space = new Space(core);
   const handle = core.allocate(HANDLE_SIZE);
   try {
     core.bytes.fill(0, handle, handle + HANDLE_SIZE);
-    const status = openedAs(space, inputs, handle);
+    const status = openedAs(space, inputs, isModule, handle);
     if (status.code === CODE.DONE) return handle;
     throw refusal(core, status, handle);
   } catch (error) {
@@ -55,9 +56,10 @@ function putInputs(space, inputs) {
   return [bytes, length, lengths, inputs.length];
 }
 
-function openedAs(space, inputs, handle) {
+function openedAs(space, inputs, isModule, handle) {
   const { core } = space;
   const [bytes, length, ...lengths] = putInputs(space, inputs);
+  if (isModule) return core.call("witcall_open_module", bytes, length, handle);
   if (inputs.length === 1) return core.call("witcall_open", bytes, length, handle);
   return core.call("witcall_open_set", bytes, length, ...lengths, handle);
 }
@@ -98,22 +100,25 @@ export function toldBy(core, call) {
 export class Package {
   #library;
   #inputs;
+  #isModule;
   #place;
   #table;
 
   /**
    * @param {import("./library.js").Library} library
    * @param {Uint8Array[]} inputs
+   * @param {boolean} [isModule] whether the one input is a module that carries the package
    */
-  constructor(library, inputs) {
+  constructor(library, inputs, isModule = false) {
     this.#library = library;
     this.#inputs = inputs;
+    this.#isModule = isModule;
     this.#open();
   }
 
   #open() {
     const { core } = this.#library;
-    this.#place = { core, handle: opened(core, this.#inputs) };
+    this.#place = { core, handle: opened(core, this.#inputs, this.#isModule) };
   }
 
   /**
@@ -147,6 +152,11 @@ export class Package {
   /** Their types, each with its layout. */
   get types() {
     return this.#rows.types;
+  }
+
+  /** The worlds of the package and of those that it depends on. A module has one. */
+  get worlds() {
+    return worldsOf(this);
   }
 
   /**

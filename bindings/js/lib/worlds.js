@@ -1,39 +1,13 @@
-// What a world imports, as the text of its package says it. The library writes an item a line (docs/FORMATS.md).
-
-const PACKAGE = /^package ([^@;]+)(@[^;]+)?;/;
-const ITEM = /^  import %?([^ ;:]+(?::[^ ;]+)?)(?:;|: func\()/;
-
-/** The full name of an interface of a package, or of another one. */
-const fullName = (name, [, own, version = ""]) => (name.includes("/") ? name : `${own}/${name}${version}`);
-
-/** The lines of a world. */
-function* linesOf(text, short) {
-  let isInside = false;
-  for (const line of text.split("\n")) {
-    if (line === "}") isInside = false;
-    if (isInside) yield line;
-    if (line === `world ${short} {` || line === `world %${short} {`) isInside = true;
-  }
-}
+// The worlds of a package, as its document says them (docs/package.schema.json).
 
 /**
- * The full names of the interfaces that a world imports, and the names of the functions.
+ * The worlds of a package and of those that it depends on, with the functions of their interfaces and their own.
  * @param {import("./package.js").Package} pkg
- * @param {string} world its full name
  */
-export function importsOf(pkg, world) {
-  const text = pkg.toText();
-  const head = PACKAGE.exec(text);
-  const found = [...text.matchAll(/^world %?(\S+) \{/gm)].map(([, name]) => name);
-  const short = found.find((name) => fullName(name, head) === world);
-  if (short === undefined) throw new TypeError(`the package has no world ${world}`);
-  const interfaces = new Set();
-  const functions = [];
-  for (const line of linesOf(text, short)) {
-    const [, name] = ITEM.exec(line) ?? [];
-    if (name === undefined) continue;
-    if (line.includes(": func(")) functions.push(name);
-    else interfaces.add(fullName(name.replaceAll("%", ""), head));
-  }
-  return { interfaces, functions };
+export function worldsOf(pkg) {
+  const { interfaces, worlds } = pkg.describe();
+  const numbered = new Map(pkg.functions.map((it) => [it.number, it]));
+  const numbersOf = (item) => ("function" in item ? [item.function] : interfaces[item.interface].functions);
+  const functionsOf = (items) => items.flatMap(numbersOf).map((number) => numbered.get(number));
+  return worlds.map((it) => ({ name: it.name, imports: functionsOf(it.imports), exports: functionsOf(it.exports) }));
 }

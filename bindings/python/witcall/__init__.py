@@ -10,7 +10,7 @@ from ._errors import NotThisType, OutOfMemory, Refused, Status, Trap, WitcallErr
 from ._faults import Fault, explain
 from ._library import version
 from ._link import ArrayMemory, Memory, Stopped, grant, link
-from ._package import Package, open
+from ._package import Package, World, open, open_module
 from ._serving import answer, receive, serve
 from ._table import CoreSignature, Function, Member, Type
 from ._values import bind, fill, read
@@ -35,6 +35,7 @@ __all__ = [
     "Trap",
     "Type",
     "WitcallError",
+    "World",
     "answer",
     "bind",
     "explain",
@@ -42,6 +43,7 @@ __all__ = [
     "grant",
     "link",
     "open",
+    "open_module",
     "read",
     "receive",
     "serve",

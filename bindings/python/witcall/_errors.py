@@ -17,7 +17,7 @@ class Status(NamedTuple):
     code: int
     number: int
     step: int
-    count: int
+    count: int  # type: ignore[assignment] # hides the count of a tuple
 
 
 class WitcallError(Exception):

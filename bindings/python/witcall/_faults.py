@@ -6,7 +6,7 @@ import json
 from dataclasses import dataclass
 from typing import Optional
 
-from ._library import bytes_of, joined, library
+from ._library import asked, bytes_of, joined
 from ._package import Input, bytes_of_input
 
 
@@ -57,5 +57,5 @@ def explain(*texts: Input) -> list[Fault]:
     inputs = joined([bytes_of_input(it) for it in texts])
     if not texts:
         return []
-    told = bytes_of(lambda array, room: library().witcall_explain(*inputs, array, room))
+    told = bytes_of(lambda array, room: asked("witcall_explain", *inputs, array, room))
     return [_fault(it) for it in json.loads(told)]

@@ -81,6 +81,7 @@ _REQUESTS = [POINTER(CRequest), c_size_t, c_uint64]
 PARAMETERS: dict[str, list[Any]] = {
     "witcall_version": _BYTES,
     "witcall_open_set": [*_BYTES, POINTER(c_size_t), c_size_t, *_HANDLE],
+    "witcall_open_module": [*_BYTES, *_HANDLE],
     "witcall_explain": [*_BYTES, POINTER(c_size_t), c_size_t, *_BYTES],
     "witcall_line": [*_HANDLE, *_BYTES],
     "witcall_status_line": [CStatus, *_BYTES],
@@ -153,6 +154,12 @@ def library() -> ctypes.PyDLL:
         function.argtypes = parameters
         function.restype = CStatus
     return found
+
+
+def asked(name: str, *words: Any) -> CStatus:
+    """The status that a function of the library returns."""
+    status: CStatus = getattr(library(), name)(*words)
+    return status
 
 
 def status_of(status: CStatus) -> Status:

@@ -7,8 +7,9 @@ import os
 import pathlib
 import threading
 import weakref
+from dataclasses import dataclass
 from types import TracebackType
-from typing import Any, Optional, Union
+from typing import Any, Callable, Iterator, Optional, Union
 
 from ._errors import Refused, Status, WitcallError
 from ._library import (
@@ -17,6 +18,7 @@ from ._library import (
     REFUSED,
     CStatus,
     Handle,
+    asked,
     bytes_of,
     checked,
     error_of,
@@ -40,18 +42,51 @@ def bytes_of_input(source: Input) -> bytes:
     return bytes(source)
 
 
-def _open(handle: Handle, inputs: list[bytes]) -> CStatus:
-    status: CStatus = library().witcall_open_set(*joined(inputs), handle)
-    return status
+Opening = Callable[[Handle], CStatus]
+
+
+def _of_inputs(inputs: list[bytes]) -> Opening:
+    """Opens the last of these packages."""
+
+    def opened(handle: Handle) -> CStatus:
+        status: CStatus = library().witcall_open_set(*joined(inputs), handle)
+        return status
+
+    return opened
+
+
+def _of_module(module: bytes) -> Opening:
+    """Opens the package that a module carries."""
+
+    def opened(handle: Handle) -> CStatus:
+        status: CStatus = library().witcall_open_module(module, len(module), handle)
+        return status
+
+    return opened
 
 
 def _refusal(handle: Handle, status: Status) -> WitcallError:
     """Why a package was refused. The whole line is the handle's, if it stands for the refusal."""
     try:
-        line = bytes_of(lambda array, room: library().witcall_line(handle, array, room))
+        line = bytes_of(lambda array, room: asked("witcall_line", handle, array, room))
     except Refused as error:
         return error_of(status) if error.number == NOT_OPEN else error
     return typed(status, line.decode())
+
+
+@dataclass(frozen=True)
+class World:
+    """A world of a package.
+
+    Attributes:
+        name: its full name, as `a:b/w@1.0.0`
+        imports: the functions of the interfaces that it imports, and those that it imports itself
+        exports: those that it exports in the same ways
+    """
+
+    name: str
+    imports: tuple[Function, ...]
+    exports: tuple[Function, ...]
 
 
 class Package:
@@ -61,12 +96,12 @@ class Package:
     thread at a time asks it; others wait.
     """
 
-    def __init__(self, inputs: list[bytes]) -> None:
+    def __init__(self, opening: Opening) -> None:
         self._lock = threading.RLock()
         self._handle = Handle()
         self._table: Optional[Table] = None
         self._close = weakref.finalize(self, library().witcall_close, self._handle)
-        status = status_of(_open(self._handle, inputs))
+        status = status_of(opening(self._handle))
         if status.code != DONE:
             error = _refusal(self._handle, status)
             self._close()
@@ -75,8 +110,7 @@ class Package:
     def ask(self, name: str, *words: Any) -> CStatus:
         """Calls a function of the library that takes a handle."""
         with self._lock:
-            status: CStatus = getattr(library(), name)(self._handle, *words)
-            return status
+            return asked(name, self._handle, *words)
 
     def told(self, name: str, *words: Any) -> bytes:
         """The bytes that a function of the library writes of this package."""
@@ -122,6 +156,28 @@ class Package:
         """The function that a world itself exports, by the full name of the world."""
         return self._find("witcall_find_export", world, name)
 
+    @property
+    def worlds(self) -> tuple[World, ...]:
+        """The worlds of the package and of those that it depends on. A module has one."""
+        described = self.describe()
+        functions = {it.number: it for it in self.functions}
+
+        def of(item: dict[str, int]) -> Iterator[Function]:
+            if "function" in item:
+                yield functions[item["function"]]
+            else:
+                yield from (
+                    functions[it] for it in described["interfaces"][item["interface"]]["functions"]
+                )
+
+        def every(items: list[dict[str, int]]) -> tuple[Function, ...]:
+            return tuple(it for item in items for it in of(item))
+
+        return tuple(
+            World(it["name"], every(it["imports"]), every(it["exports"]))
+            for it in described["worlds"]
+        )
+
     def to_text(self) -> str:
         """The package as a text. Of several it is the last, which opens again after the others."""
         return self.told("witcall_to_text").decode()
@@ -166,4 +222,17 @@ def open(*inputs: Input) -> Package:
     Raises:
         Refused: if the library refuses it; the line says why
     """
-    return Package([bytes_of_input(it) for it in inputs])
+    return Package(_of_inputs([bytes_of_input(it) for it in inputs]))
+
+
+def open_module(module: Union[bytes, bytearray, memoryview, "os.PathLike[str]"]) -> Package:
+    """Opens the package that a module carries, with those that it depends on.
+
+    Args:
+        module: the bytes of a core module with a world in a section `component-type..`, those of a
+            component as other tools write a world or a package, or the path of a file that has them
+
+    Raises:
+        Refused: `44 not this shape` if it carries no package; `explain` of the same bytes says why
+    """
+    return Package(_of_module(bytes_of_input(module)))

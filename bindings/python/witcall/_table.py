@@ -150,7 +150,8 @@ class Table:
             return None
         if info.kind < _FIRST_ROW:
             return Type(_KINDS[info.kind], info.size, info.align)
-        return self._types[info.row]
+        row: int = info.row
+        return self._types[row]
 
     def _owner(self, row: RowInfo) -> tuple[Optional[str], Optional[str]]:
         """The full name of the interface or of the world that a row is declared in."""

@@ -179,7 +179,7 @@ def bind(
         functions, by the same names. A call may end in a `Trap`, or in `NotThisType` if an argument
         is no value of its type.
     """
-    stopping = (Stopped, *stops)
+    stopping: tuple[type[BaseException], ...] = (Stopped, *stops)
 
     def bound(function: Function, body: Body, post_return: Optional[Body]) -> Callable[..., Any]:
         def call(*arguments: Any) -> Any:

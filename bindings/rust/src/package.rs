@@ -52,11 +52,27 @@ impl Package {
 
     /// Opens the last of several packages, which may use those before it.
     pub fn open_set<Input: AsRef<[u8]>>(inputs: &[Input]) -> Result<Package, Error> {
+        let (bytes, lengths) = joined(inputs);
+        Package::opened(|| Handle::open(&bytes, &lengths))
+    }
+
+    /// Opens the package that a module carries, with those that it depends on: a core module with a world in a section
+    /// `component-type..`, or a component as other tools write a world or a package. If it carries none, this is
+    /// `44 not this shape`, and [`explain`](crate::explain) of the same bytes says why.
+    ///
+    /// ```
+    /// let refused = witcall::Package::open_module(b"\0asm\x01\0\0\0").unwrap_err();
+    /// assert_eq!(refused.to_string(), "error 44 not this shape");
+    /// ```
+    pub fn open_module(module: impl AsRef<[u8]>) -> Result<Package, Error> {
+        Package::opened(|| Handle::open_module(module.as_ref()))
+    }
+
+    fn opened(open: impl FnOnce() -> (Handle, Status)) -> Result<Package, Error> {
         if sys::abi() != sys::ABI {
             return Err(Error::OtherInterface(sys::abi()));
         }
-        let (bytes, lengths) = joined(inputs);
-        let (handle, status) = Handle::open(&bytes, &lengths);
+        let (handle, status) = open();
         match checked(status) {
             Ok(_) => Ok(Package { handle: RefCell::new(handle) }),
             Err(error) => Err(refusal(handle, error)),
@@ -101,6 +117,11 @@ impl Package {
     /// Their types, each with its layout.
     pub fn types(&self) -> Result<Vec<Definition>, Error> {
         table::types(self)
+    }
+
+    /// The full names of the worlds of the package and of those that it depends on. A module has one.
+    pub fn worlds(&self) -> Result<Vec<String>, Error> {
+        table::worlds(self)
     }
 
     /// What a type of this package is made of; none if it is a primitive or `string`.

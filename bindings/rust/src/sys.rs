@@ -119,6 +119,7 @@ extern "C" {
         lengths_len: usize,
         package: *mut Handle,
     ) -> Status;
+    fn witcall_open_module(bytes: *const u8, bytes_len: usize, package: *mut Handle) -> Status;
     fn witcall_explain(
         bytes: *const u8,
         bytes_len: usize,
@@ -346,6 +347,14 @@ impl Handle {
         let (inputs, count) = (lengths.as_ptr(), lengths.len());
         // SAFETY: each pointer goes with the length of its slice. The handle stands for nothing before.
         let status = unsafe { witcall_open_set(bytes.as_ptr(), bytes.len(), inputs, count, &mut handle) };
+        (handle, status)
+    }
+
+    /// Opens the package that a module carries.
+    pub fn open_module(module: &[u8]) -> (Handle, Status) {
+        let mut handle = Handle { at: ptr::null_mut(), is_open: 0 };
+        // SAFETY: the pointer and the length are those of one slice. The handle stands for nothing before.
+        let status = unsafe { witcall_open_module(module.as_ptr(), module.len(), &mut handle) };
         (handle, status)
     }
 

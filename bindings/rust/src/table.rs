@@ -250,6 +250,18 @@ pub(crate) fn definition(package: &Package, number: u32) -> Result<Definition, E
     })
 }
 
+/// The full names of the worlds.
+pub(crate) fn worlds(package: &Package) -> Result<Vec<String>, Error> {
+    let mut found = Vec::new();
+    for number in 0.. {
+        match name(package, Name::Owner(WORLD, number)) {
+            Err(Error::Refused { number: sys::NOT_THERE, .. }) => break,
+            other => found.push(other?),
+        }
+    }
+    Ok(found)
+}
+
 pub(crate) fn functions(package: &Package) -> Result<Vec<Function>, Error> {
     numbers(package, true)?.into_iter().map(|number| function(package, number)).collect()
 }

@@ -74,7 +74,7 @@ fn functions_are_those_of_the_header() {
     let (of_header, mut declared) = (functions_of_header(), functions_of_rust());
     assert_eq!(declared.remove("witcall_abi").unwrap(), ["uint32_t"]);
     assert!(HEADER.contains("uint32_t witcall_abi(void);"));
-    assert_eq!(declared.len(), 33);
+    assert_eq!(declared.len(), 34);
     for (name, types) in declared {
         assert_eq!(types, of_header[&name], "{name}");
     }

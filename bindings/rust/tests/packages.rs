@@ -32,6 +32,26 @@ fn what_is_refused_has_its_number_and_its_line() {
 }
 
 #[test]
+fn a_module_has_its_world() -> Result<(), Error> {
+    let module = |name: &str| file(&format!("tests/explain/files/modules/{name}.wasm"));
+    let package = Package::open_module(module("echo"))?;
+    let world = "demo:echo/guest@1.0.0";
+    assert_eq!(package.worlds()?, [world]);
+    assert_eq!(package.find_import(world, "ask")?.lowered.results, [CoreType::I32]);
+    assert_eq!(package.find("demo:echo/echo@1.0.0", "upper")?.lifted.parameters, [CoreType::I32; 2]);
+    for name in ["carrying", "world", "package"] {
+        assert_eq!(Package::open_module(module(name))?.worlds()?[0], "demo:greet/guest@0.1.0");
+    }
+    for name in ["none", "guest", "cut", "old"] {
+        let refused = Package::open_module(module(name)).unwrap_err();
+        assert_eq!(refused, Error::Refused { number: 44, line: "error 44 not this shape".to_owned() });
+    }
+    let message = "the module has no section `component-type`, at byte 8";
+    assert_eq!(explain(&[module("none")])?[0].message, message);
+    Ok(())
+}
+
+#[test]
 fn a_long_text_is_written_whole() -> Result<(), Error> {
     let functions: String = (0..1000).map(|number| format!("  g{number}: func();\n")).collect();
     let text = format!("package a:b;\n\ninterface c {{\n{functions}}}\n");
