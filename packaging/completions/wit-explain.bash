@@ -13,15 +13,16 @@ _wit_explain() {
     elif [ "$COMP_CWORD" -eq 1 ]; then
         mapfile -t COMPREPLY < <(compgen -W 'check show text bin encode layout diff call bind --help --version' -- "$current")
     elif [[ ${COMP_WORDS[1]} == bind && $COMP_CWORD -eq 2 && $current != -* ]]; then
-        mapfile -t COMPREPLY < <(compgen -W 'c ts' -- "$current")
+        mapfile -t COMPREPLY < <(compgen -W 'c guest ts' -- "$current")
     elif [[ $current == -* ]]; then
         case ${COMP_WORDS[1]} in
             check | show) options='--json --color --help' ;;
             layout) options='--svg --json --color --help' ;;
             bin) options='-o --output --color --help' ;;
             encode) options='-o --output --world --color --help' ;;
-            text | diff | call) options='--color --help' ;;
-            bind) options='--color --help' ;;
+            call) options='--svg --color --help' ;;
+            text | diff) options='--color --help' ;;
+            bind) options='--world --color --help' ;;
             *) options=--help ;;
         esac
         mapfile -t COMPREPLY < <(compgen -W "$options" -- "$current")
