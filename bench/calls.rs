@@ -38,6 +38,14 @@ fn number(index: usize) -> u32 {
     (index as u32).wrapping_mul(2_654_435_761)
 }
 
+/// A number of splitmix64, in which a processor that predicts branches finds no pattern.
+fn random(index: usize) -> u32 {
+    let mut bits = (index as u64 + 1).wrapping_mul(0x9e37_79b9_7f4a_7c15);
+    bits = (bits ^ (bits >> 30)).wrapping_mul(0xbf58_476d_1ce4_e5b9);
+    bits = (bits ^ (bits >> 27)).wrapping_mul(0x94d0_49bb_1331_11eb);
+    ((bits ^ (bits >> 31)) >> 32) as u32
+}
+
 // The values, each from address 0 on.
 
 /// Writes elements, each made of its index.
@@ -78,11 +86,11 @@ fn fill_bools(source: &mut [u8], count: usize) {
     fill_each(source, count, |index| [(number(index) >> 16) as u8 % 2]);
 }
 
-/// Elements of `SIZE` bytes, of numbers, the first byte of each a number below `CASES`.
+/// Elements of `SIZE` bytes, of numbers, the first byte of each a random number below `CASES`.
 fn fill_elements<const SIZE: usize, const CASES: u32>(source: &mut [u8], count: usize) {
     fill_numbers(source, count * SIZE / 4);
     for (index, place) in source.chunks_exact_mut(SIZE).take(count).enumerate() {
-        place[0] = ((number(index) >> 16) % CASES) as u8;
+        place[0] = (random(index) % CASES) as u8;
     }
 }
 
@@ -95,7 +103,7 @@ fn fill_flags(source: &mut [u8], count: usize) {
 fn fill_maybes(source: &mut [u8], count: usize) {
     fill_elements::<12, 2>(source, count);
     for (index, place) in source.chunks_exact_mut(12).take(count).enumerate() {
-        place[4] = ((number(index) >> 20) % 2) as u8;
+        place[4] = ((random(index) >> 1) % 2) as u8;
     }
 }
 

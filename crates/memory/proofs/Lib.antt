@@ -1,6 +1,7 @@
 pub mod AlikeExamples
 mod BlocksApart
 mod BumpAlike
+mod CopiedEnds
 mod FirstFitAlike
 mod FirstFitGrowth
 mod FirstFitSteps

@@ -4,6 +4,7 @@ ghost use Rattle.memory.specs.Blocks.{are_good};
 ghost use Rattle.memory.specs.Lent.{lent, LentAllocates, LentReleases};
 
 use crate::block::Block;
+use crate::copies::write_over;
 use canonical_abi::{Full, Guest, Honest, NotTaken};
 
 /// The host's bytes where they are. Its blocks are handed out in turn, each where it is the one that is asked for. Live
@@ -63,9 +64,7 @@ impl<'a> Guest for Lent<'a> {
     }
 
     fn write(&mut self, at: u32, src: &[u8]) {
-        let start = at as usize;
-        let end = start + src.len();
-        self.bytes[start..end].copy_from_slice(src);
+        write_over(self.bytes, at as usize, src);
     }
 
     fn alloc(&mut self, align: u32, size: u32) -> Result<u32, Full> {

@@ -4,12 +4,14 @@
 //! make. `Bump`, `FirstFit`, which takes blocks back, and `Space` are `Honest` as well: they never grant
 //! what is live. One that was made by `growing` grows by whole pages where a block doesn't fit. `Scripted`
 //! answers from a list and is not honest. `Lent` is a host's own memory, where it is, with the blocks that the
-//! host's allocator has granted before a call. Stands on `canonical_abi`, whose `Guest` is the promise that the
+//! host's allocator has granted before a call. `write_over` is what writes into all of them but `Scripted`, also for a
+//! `Guest` that is made elsewhere. Stands on `canonical_abi`, whose `Guest` is the promise that the
 //! layers above use, and on `max_tree`, in which `FirstFit` finds its holes.
 #![tactic(auto)]
 
 mod block;
 mod bump;
+mod copies;
 mod error;
 mod first_fit;
 mod holes;
@@ -22,6 +24,7 @@ mod space;
 pub use block::{Block, can_lend};
 pub use bump::Bump;
 pub use canonical_abi::{Full, Guest, Honest, NotTaken};
+pub use copies::write_over;
 pub use error::{MAX_LEN, MemoryError, PAGE};
 pub use first_fit::FirstFit;
 pub use laws::{

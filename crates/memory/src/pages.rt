@@ -6,6 +6,7 @@ ghost use Rattle.canonical_abi.specs.Guest.{overwrite};
 ghost use Rattle.memory.specs.Growth.{ArePages, GrowsTo, HasNoGrowth, ReachesEnd};
 ghost use Rattle.memory.specs.Refusals.{RefusesLength};
 
+use crate::copies::write_over;
 use crate::error::{MAX_LEN, MemoryError, PAGE};
 use canonical_abi::Full;
 use std::alloc::Global;
@@ -64,9 +65,7 @@ impl Pages {
         ensures len { length self.new.bytes.items ≡ length self.old.bytes.items }
         ensures max { self.new.max ≡ self.old.max }
     {
-        let start = at as usize;
-        let end = start + src.len();
-        self.bytes[start..end].copy_from_slice(src);
+        write_over(self.bytes.as_mut_slice(), at as usize, src);
     }
 
     /// Grows by the least number of pages with which there are `end` bytes, which is none where they are there;

@@ -162,13 +162,12 @@ part-sized k (inl e) m s n j h inside = rw e (part-number w8 m s n j (omega (ari
 part-sized k (inr (inl e)) m s n j h inside = rw e (part-number w16 m s n j (omega (arith, h, e)) inside)
 part-sized k (inr (inr e)) m s n j h inside = rw e (part-number w32 m s n j (omega (arith, h, e)) inside)
 
--- a chunk whose bytes were blended in a buffer
-pub chunk-crosses : (allocates : Allocation) (t : ClosedType) (n : ℕ) (m : List ℕ) (a : ℕ) (old : Memory) (at part : ℕ) (new : Memory) (seen caps buffer : List ℕ) → AreBytes m → IsBytewise t
-    → n * size t ≡ part → part ≤ 2048 → length buffer ≡ 2048 → a + part ≤ length m → at + part ≤ length old.bytes
-    → ((i : ℕ) → i < part → get_or caps i 0 ≡ each_cap t m a n i) → ((i : ℕ) → i < n → IsTested t m (a + i * size t)) → seen ≡ old.bytes
-    → ((i : ℕ) → i < length (slice_range m a (a + part)) → get_or buffer i 0 ≡ capped_byte (get_or caps i 0) (get_or (slice_range seen at (at + part)) i 0) (get_or (slice_range m a (a + part)) i 0))
+-- a chunk whose bytes were merged in a buffer
+pub chunk-merged : (allocates : Allocation) (t : ClosedType) (n : ℕ) (m : List ℕ) (a : ℕ) (old : Memory) (at part : ℕ) (new : Memory) (buffer : List ℕ) → AreBytes m → IsBytewise t
+    → n * size t ≡ part → part ≤ 2048 → length buffer ≡ 2048 → a + part ≤ length m → at + part ≤ length old.bytes → ((i : ℕ) → i < n → IsTested t m (a + i * size t))
+    → ((i : ℕ) → i < part → get_or buffer i 0 ≡ capped_byte (each_cap t m a n i) (get_or old.bytes (at + i) 0) (get_or m (a + i) 0))
     → new ≡ with_bytes old (overwrite old.bytes at (take part buffer)) → Crosses t m a n allocates old at new
-chunk-crosses allocates t m_n m a old at part new seen caps buffer bytes bytewise whole few long inside fits told tested same blended wrote =
+chunk-merged allocates t m_n m a old at part new buffer bytes bytewise whole few long inside fits tested merged wrote =
     front-crosses allocates t m a m_n old at part (each_cap t m a m_n) new bytes bytewise alike tested (omega (arith, whole, inside)) (omega (arith, whole, fits)) front
   where
     alike : (i : ℕ) → each_cap t m a m_n i ≡ upto (each_cap t m a m_n) part i
@@ -177,23 +176,35 @@ chunk-crosses allocates t m_n m a old at part new seen caps buffer bytes bytewis
       | inr g ↦ each-past t m a m_n i (omega (arith, whole, g)) ∙ sym (upto-out (each_cap t m a m_n) part i g)
     ]
 
-    byte : (j : ℕ) → j < part → get_or (take part buffer) j 0 ≡ capped_byte (each_cap t m a m_n j) (get_or old.bytes (at + j) 0) (get_or m (a + j) 0)
-    byte j h =
-        let long_m = part-length m a part inside in
-        get_or-take part buffer j 0 h ∙ blended j (omega (arith, long_m, h))
-        ∙ ap (λ c. capped_byte c (get_or (slice_range seen at (at + part)) j 0) (get_or (slice_range m a (a + part)) j 0)) (told j h)
-        ∙ ap (λ b. capped_byte (each_cap t m a m_n j) b (get_or (slice_range m a (a + part)) j 0)) (part-get seen at part j h ∙ ap (λ l. get_or l (at + j) 0) same)
-        ∙ ap (capped_byte (each_cap t m a m_n j) (get_or old.bytes (at + j) 0)) (part-get m a part j h)
-
     front : Front (each_cap t m a m_n) m a old at part new
     front =
         let size : length (take part buffer) ≡ part = length-take-le part buffer (omega (arith, long, few)) in
         let to : at + 0 ≡ at = omega arith in
         let of : a + 0 ≡ a = omega arith in
         let more = front-more (each_cap t m a m_n) m a old at 0 old new (take part buffer) (front-none (each_cap t m a m_n) m a old at 0 refl) (omega (arith, size, fits)) (rw to wrote)
-        (λ j h. let none : 0 + j ≡ j = omega arith in rw (none, to, of) (byte j (omega (arith, size, h)))) in
+        (λ j h.
+        let low : j < part = omega (arith, size, h) in
+        let none : 0 + j ≡ j = omega arith in
+        rw (none, to, of) (get_or-take part buffer j 0 low ∙ merged j low)) in
         let all : 0 + part ≡ part = omega arith in
         rw (size, all) at more
+
+-- a chunk whose bytes were blended in a buffer
+pub chunk-crosses : (allocates : Allocation) (t : ClosedType) (n : ℕ) (m : List ℕ) (a : ℕ) (old : Memory) (at part : ℕ) (new : Memory) (seen caps buffer : List ℕ) → AreBytes m → IsBytewise t
+    → n * size t ≡ part → part ≤ 2048 → length buffer ≡ 2048 → a + part ≤ length m → at + part ≤ length old.bytes
+    → ((i : ℕ) → i < part → get_or caps i 0 ≡ each_cap t m a n i) → ((i : ℕ) → i < n → IsTested t m (a + i * size t)) → seen ≡ old.bytes
+    → ((i : ℕ) → i < length (slice_range m a (a + part)) → get_or buffer i 0 ≡ capped_byte (get_or caps i 0) (get_or (slice_range seen at (at + part)) i 0) (get_or (slice_range m a (a + part)) i 0))
+    → new ≡ with_bytes old (overwrite old.bytes at (take part buffer)) → Crosses t m a n allocates old at new
+chunk-crosses allocates t m_n m a old at part new seen caps buffer bytes bytewise whole few long inside fits told tested same blended wrote =
+    chunk-merged allocates t m_n m a old at part new buffer bytes bytewise whole few long inside fits tested byte wrote
+  where
+    byte : (j : ℕ) → j < part → get_or buffer j 0 ≡ capped_byte (each_cap t m a m_n j) (get_or old.bytes (at + j) 0) (get_or m (a + j) 0)
+    byte j h =
+        let long_m = part-length m a part inside in
+        blended j (omega (arith, long_m, h))
+        ∙ ap (λ c. capped_byte c (get_or (slice_range seen at (at + part)) j 0) (get_or (slice_range m a (a + part)) j 0)) (told j h)
+        ∙ ap (λ b. capped_byte (each_cap t m a m_n j) b (get_or (slice_range m a (a + part)) j 0)) (part-get seen at part j h ∙ ap (λ l. get_or l (at + j) 0) same)
+        ∙ ap (capped_byte (each_cap t m a m_n j) (get_or old.bytes (at + j) 0)) (part-get m a part j h)
 
 -- the caps of a chunk of elements that all have the same
 pub chunk-caps : (t : ClosedType) (m : List ℕ) (step : ℕ) (bytes caps : List ℕ) (len n a i : ℕ) → 0 < step → HasCaps t step bytes

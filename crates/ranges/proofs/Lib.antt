@@ -9,4 +9,6 @@ pub mod BoolsAndNumbersCross
 pub mod CapsOfFields
 pub mod CapsOfCases
 pub mod ColumnsLaidOverCaps
+pub mod WordsUnderMasks
+pub mod VariantsMerged
 pub mod PlansOneByOne

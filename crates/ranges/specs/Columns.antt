@@ -1,10 +1,11 @@
 -- Plans of elements with variants inside: which bytes belong to no variant, and where the variants stand.
-use Rattle.std.specs.Prelude.{◌≡◌, ℕ, zero, suc, ◌+◌, ◌-◌, ◌*◌, ◌<◌, ◌≤◌, cond, nat_lt, List, [], ◌∷◌, get_or}
+use Rattle.std.specs.Prelude.{◌≡◌, ◌⊎◌, ℕ, zero, suc, ◌+◌, ◌-◌, ◌*◌, ◌<◌, ◌≤◌, cond, nat_lt, List, [], ◌∷◌, get_or}
 use Rattle.canonical_abi.specs.Types.{ClosedType}
 use Rattle.canonical_abi.specs.Layout.{size}
 use Rattle.ranges.specs.Bytewise.{IsBytewise, IsTested, cap_at, nodes_at, HasCaps}
 use Rattle.ranges.specs.Plan.{IsBlank}
 use Rattle.ranges.specs.declared.columns.Column.{Column}
+use Rattle.ranges.specs.declared.rows.Rows.{Rows}
 use Rattle.ranges.specs.declared.blend.Caps.{Caps}
 use Rattle.ranges.specs.declared.planned.Plan.{Plan}
 
@@ -40,6 +41,10 @@ columns_seen cs step m a (suc n) = columns_seen cs step m a n + column_nodes cs 
 abbrev pub AreBefore : ℕ → List Column → Type 0
 AreBefore end [] = Unit {0}
 AreBefore end (c ∷ cs) = (c.at + c.rows.size ≤ end) × (0 < c.rows.size) × (c.rows.size ≤ 16) × (c.rows.cases ≤ 16) × AreBefore end cs
+
+-- the caps of all cases are masks: each keeps a byte or takes it
+abbrev pub AreMasks : Rows → Type 0
+AreMasks r = (i : ℕ) → i < r.cases * 16 → (get_or r.caps i 0 ≡ 0) ⊎ (get_or r.caps i 0 ≡ 255)
 
 -- the cap of byte i of the element at a in m
 abbrev pub planned_cap : Plan → List ℕ → ℕ → ℕ → ℕ

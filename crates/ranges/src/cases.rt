@@ -8,7 +8,7 @@ use crate::elements::Strided;
 
 /// The eight caps at a place, as a number.
 #[inline(always)]
-fn word_of(rows: &[u8; 256], at: usize) -> u64
+pub(crate) fn word_of(rows: &[u8; 256], at: usize) -> u64
     requires { at + 8 ≤ 256 }
     ensures { (j : ℕ) → j < 8 → get_or (to_le_bytes w64 result) j 0 ≡ get_or rows.now (at + j) 0 }
 {
@@ -20,7 +20,7 @@ fn word_of(rows: &[u8; 256], at: usize) -> u64
 /// The first byte of a variant of so many bytes. Eight are taken at one go, so that a loop over many is made into
 /// vector code.
 #[inline(always)]
-fn case_at(memory: &[u8], at: usize, width: usize) -> u64
+pub(crate) fn case_at(memory: &[u8], at: usize, width: usize) -> u64
     requires some { 0 < width }
     requires inside { at + width ≤ length memory.now }
     ensures { result ≡ get_or memory.now at 0 }
@@ -35,7 +35,7 @@ fn case_at(memory: &[u8], at: usize, width: usize) -> u64
 
 /// Puts the first caps of a word.
 #[inline(always)]
-fn put_word(caps: &mut [u8; 2048], at: usize, word: u64, width: usize)
+pub(crate) fn put_word(caps: &mut [u8; 2048], at: usize, word: u64, width: usize)
     requires room { at + width ≤ 2048 }
     requires short { width ≤ 8 }
     ensures put { (j : ℕ) → j < width → get_or caps.new (at + j) 0 ≡ get_or (to_le_bytes w64 word) j 0 }

@@ -1,5 +1,6 @@
 //! Flags, which cross as they are where no bit stands behind their labels.
 ghost use Rattle.std.specs.Prelude.{◌≡◌, ◌⊎◌, ℕ, ◌+◌, ◌*◌, ◌^◌, ◌<◌, ◌≤◌, length, IsTrue};
+ghost use Rattle.std.specs.Int.{w8, w16, w32};
 ghost use Rattle.canonical_abi.specs.Layout.{flags_size};
 ghost use Rattle.canonical_abi.specs.Reading.{number_at, byte_width};
 ghost use Rattle.canonical_abi.specs.Types.{flags_type};
@@ -8,28 +9,56 @@ ghost use Rattle.ranges.specs.Bytewise.{Crosses};
 use crate::blend::{Caps, cross_range};
 use crate::elements::Elements;
 use canonical_abi::Guest;
-use values::bytes::{flags_bytes, low_flags, number_of_size};
+use values::bytes::{flags_bytes, low_flags, u8_at, u16_at, u32_at};
 
 /// The most flags that are tested before they are written.
 const FLAGS: usize = 4096;
 
-/// Whether numbers of so many bytes are at most this one.
-#[inline(always)]
-fn are_at_most(part: &[u8], width: usize, count: usize, most: u32) -> bool
-    requires known { (width ≡ 1) ⊎ ((width ≡ 2) ⊎ (width ≡ 4)) }
+/// Whether bytes are at most this number. By itself, over a slice of its own, each of these loops is made into vector
+/// code of its own width.
+#[inline(never)]
+fn are_bytes_at_most(part: &[u8], count: usize, most: u32) -> bool
     requires few { count < 2 ^ 32 }
-    requires inside { count * width ≤ length part.now }
-    ensures { IsTrue result → (i : ℕ) → i < count → number_at part.now (i * width) (byte_width width) ≤ most }
+    requires inside { count * 1 ≤ length part.now }
+    ensures { IsTrue result → (i : ℕ) → i < count → number_at part.now (i * 1) w8 ≤ most }
+{
+    let mut largest: u8 = 0;
+    for i in 0..count {
+        largest = largest.max(u8_at(part, i));
+    }
+    u32::from(largest) <= most
+}
+
+/// The same of numbers of two bytes.
+#[inline(never)]
+fn are_pairs_at_most(part: &[u8], count: usize, most: u32) -> bool
+    requires few { count < 2 ^ 32 }
+    requires inside { count * 2 ≤ length part.now }
+    ensures { IsTrue result → (i : ℕ) → i < count → number_at part.now (i * 2) w16 ≤ most }
+{
+    let mut largest: u16 = 0;
+    for i in 0..count {
+        largest = largest.max(u16_at(part, i * 2));
+    }
+    u32::from(largest) <= most
+}
+
+/// The same of numbers of four bytes.
+#[inline(never)]
+fn are_words_at_most(part: &[u8], count: usize, most: u32) -> bool
+    requires few { count < 2 ^ 32 }
+    requires inside { count * 4 ≤ length part.now }
+    ensures { IsTrue result → (i : ℕ) → i < count → number_at part.now (i * 4) w32 ≤ most }
 {
     let mut largest: u32 = 0;
     for i in 0..count {
-        largest = largest.max(number_of_size(part, i * width, width));
+        largest = largest.max(u32_at(part, i * 4));
     }
     largest <= most
 }
 
-/// The same with the width as a constant, by itself, over a slice of its own: so the loop is made into vector code.
-#[inline(never)]
+/// Whether numbers of so many bytes are at most this one.
+#[inline(always)]
 fn are_all_at_most(part: &[u8], width: usize, count: usize, most: u32) -> bool
     requires known { (width ≡ 1) ⊎ ((width ≡ 2) ⊎ (width ≡ 4)) }
     requires few { count < 2 ^ 32 }
@@ -37,9 +66,9 @@ fn are_all_at_most(part: &[u8], width: usize, count: usize, most: u32) -> bool
     ensures { IsTrue result → (i : ℕ) → i < count → number_at part.now (i * width) (byte_width width) ≤ most }
 {
     match width {
-        1 => are_at_most(part, 1, count, most),
-        2 => are_at_most(part, 2, count, most),
-        _ => are_at_most(part, 4, count, most),
+        1 => are_bytes_at_most(part, count, most),
+        2 => are_pairs_at_most(part, count, most),
+        _ => are_words_at_most(part, count, most),
     }
 }
 

@@ -16,6 +16,7 @@ mod flags;
 mod numbers;
 mod planned;
 mod rows;
+mod words;
 
 pub use blend::Caps;
 pub use bools::cross_bools;

@@ -1,12 +1,12 @@
 //! The plan of a type's values.
-ghost use Rattle.std.specs.Prelude.{◌≡◌, ◌+◌, ◌-◌, ◌*◌, ◌^◌, ◌<◌, ◌≤◌, min, length, IfSome};
+ghost use Rattle.std.specs.Prelude.{◌≡◌, [], ◌∷◌, ◌+◌, ◌-◌, ◌*◌, ◌^◌, ◌<◌, ◌≤◌, min, length, IfSome};
 ghost use Rattle.std.specs.Int.{next_multiple_of};
 ghost use Rattle.canonical_abi.specs.Guest.{IsAlignment};
 ghost use Rattle.canonical_abi.specs.Types.{ClosedType, record_type, record_fields, field_count, variant_type};
 ghost use Rattle.canonical_abi.specs.Types.{variant_cases, case_count};
 ghost use Rattle.canonical_abi.specs.Layout.{size};
 ghost use Rattle.values.specs.Types.{IsInside};
-ghost use Rattle.ranges.specs.Columns.{AreBefore, HasPlain, HasPlan, IsBounded, Plans};
+ghost use Rattle.ranges.specs.Columns.{AreBefore, AreMasks, HasPlain, HasPlan, IsBounded, Plans};
 ghost use Rattle.ranges.specs.Bytewise.{Crosses, each_nodes};
 ghost use Rattle.ranges.specs.Plan.{IsBlank};
 ghost use Rattle.tables.specs.Closed.{closed_type};
@@ -16,6 +16,7 @@ use crate::caps::fill;
 use crate::columns::{Column, cross_columns};
 use crate::elements::Elements;
 use crate::rows::rows_of;
+use crate::words::{are_masks, cross_words};
 use arrayvec::ArrayVec;
 use canonical_abi::Guest;
 use layout::Shape;
@@ -103,9 +104,38 @@ pub fn cross_planned<G: Guest>(
     ensures same_length { length (G.memory guest.new).bytes ≡ length (G.memory guest.old).bytes }
 {
     if plan.columns.is_empty() {
-        cross_plain(&plan.plain, source, elements, guest, nodes)
+        return cross_plain(&plan.plain, source, elements, guest, nodes);
+    }
+    let Some(column) = word_column(plan) else {
+        return cross_columns(plan, source, elements, guest, nodes);
+    };
+    let front = cross_words(column, source, elements, guest);
+    let own = front.count as u64 * u64::from(plan.plain.nodes);
+    *nodes = nodes.saturating_add(front.seen + own);
+    front.count
+}
+
+/// The one column of elements that are variants of eight bytes or more, or records of one, where the caps of all cases
+/// are masks. Of eight bytes with more cases than two, caps are laid and blended faster than words are chosen by row.
+fn word_column(plan: &Plan) -> Option<&Column>
+    requires { IsBounded plan.now }
+    ensures one { IfSome result (λ c. plan.now.columns.items ≡ c.now ∷ []) }
+    ensures whole { IfSome result (λ c. plan.now.plain.size ≡ c.now.rows.size) }
+    ensures front { IfSome result (λ c. c.now.at ≡ 0) }
+    ensures long { IfSome result (λ c. 8 ≤ c.now.rows.size) }
+    ensures short { IfSome result (λ c. c.now.rows.size ≤ 16) }
+    ensures few_cases { IfSome result (λ c. c.now.rows.cases ≤ 16) }
+    ensures masks { IfSome result (λ c. AreMasks c.now.rows) }
+{
+    let [column] = plan.columns.as_slice() else {
+        return None;
+    };
+    let size = column.rows.size;
+    let is_usual = size > 8 || size == 8 && column.rows.cases == 2;
+    if is_usual && size == plan.plain.size && are_masks(&column.rows) {
+        Some(column)
     } else {
-        cross_columns(plan, source, elements, guest, nodes)
+        None
     }
 }
 
