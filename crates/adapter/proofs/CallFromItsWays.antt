@@ -1,13 +1,12 @@
 -- The parts of a call, put together from how its ways ended.
-use Rattle.std.proofs.Common.{◌≡◌, ◌^◌, ◌<◌, ◌≤◌, inl, inr, ℕ, Bool, true, false, if◌then◌else◌, List, [], ◌∷◌, ◌++◌, length, map, take, Option, Some, None, Result, Ok, Err, OnOk, IfErr, refl, sym, ap, ◌∙◌, arith}
+use Rattle.std.proofs.Common.{◌≡◌, ◌^◌, ◌<◌, ◌≤◌, inl, inr, ℕ, min, Bool, true, false, if◌then◌else◌, List, [], ◌∷◌, ◌++◌, length, map, take, Option, Some, None, Result, Ok, Err, OnOk, IfErr, refl, sym, ap, ◌∙◌, arith}
 use Rattle.std.proofs.Math.Seq.{take-append_seam, take-length}
 use Rattle.std.proofs.lemmas.Bool.{leb-true}
-use Rattle.std.proofs.lemmas.List.{length-map, take-map}
+use Rattle.std.proofs.lemmas.List.{length-map, length-take, take-map}
 use Rattle.canonical_abi.specs.Types.{FunctionType, Fields, result_fields}
 use Rattle.canonical_abi.specs.Layout.{CoreSignature, lifted_signature, max_flat_params, max_flat_results, field_kinds, fits_flat, passed_kinds}
 use Rattle.canonical_abi.specs.Reading.{low_bits, kind_of, number_of}
 use Rattle.canonical_abi.specs.Guest.{Memory, Allocation, IsLimited}
-use Rattle.canonical_abi.specs.Lowering.{PassesResult}
 use Rattle.canonical_abi.specs.Script.{AddressFaulty}
 use Rattle.canonical_abi.specs.Trace.{Event, grant}
 use Rattle.canonical_abi.specs.Call.{area_of, argument_flats, KindsFit}
@@ -18,7 +17,6 @@ use Rattle.canonical_abi.specs.declared.trap.Fault.{Fault}
 use Rattle.canonical_abi.specs.declared.trap.Fault.TheVariants as ended
 use Rattle.canonical_abi.specs.declared.trap.Step.TheVariants as step
 use Rattle.canonical_abi.specs.declared.trap.TrapKind.{TrapKind}
-use Rattle.canonical_abi.proofs.FlatValues.LoweredValuesLift.{fields-lower-kinds}
 use Rattle.crossing.specs.Outcome.{Counts, IsCrossed, MetFault, WasRefused}
 use Rattle.crossing.specs.Ways.{ParamsWalk, ResultWalk, AreaIsBad, IsUnbegun, WayEnds}
 use Rattle.crossing.specs.declared.stopped.Stopped.{Stopped}
@@ -42,6 +40,26 @@ argument-kinds f flats kinds = sym (take-map kind_of (length ks) flats) ∙ ap (
     by : (b : Bool) → take (length ks) (if b then lifted_signature f else record { params = ks ++ kind.I32 ∷ []; results = [] }).params ≡ ks
     by true = take-length ks
     by false = take-append_seam ks (kind.I32 ∷ [])
+
+-- there are at most sixteen of these, and no more than the call has
+passed-few : (ts : Fields) → length (passed_kinds max_flat_params ts) ≤ 16
+passed-few ts = by (fits_flat max_flat_params ts) refl
+  where
+    by : (b : Bool) → fits_flat max_flat_params ts ≡ b → length (if b then field_kinds ts else kind.I32 ∷ []) ≤ 16
+    by true fits = leb-true _ _ fits
+    by false spills = omega arith
+
+pub arguments-stand : (f : FunctionType) (flats : List Flat) → KindsFit f flats → length (lifted_signature f).params ≤ length flats
+arguments-stand f flats kinds =
+    let same : length (argument_flats f flats) ≡ length (passed_kinds max_flat_params f.params) = sym (length-map (argument_flats f flats) kind_of) ∙ ap length (argument-kinds f flats kinds) in
+    let front = length-take (length (passed_kinds max_flat_params f.params)) flats in
+    omega (arith, same, front)
+
+pub arguments-room : (f : FunctionType) (flats : List Flat) (room : ℕ) → KindsFit f flats → min 17 (length flats) ≤ room → length (argument_flats f flats) ≤ room
+arguments-room f flats room kinds fits =
+    let same : length (argument_flats f flats) ≡ length (passed_kinds max_flat_params f.params) = sym (length-map (argument_flats f flats) kind_of) ∙ ap length (argument-kinds f flats kinds) in
+    let front = length-take (length (passed_kinds max_flat_params f.params)) flats in
+    omega (arith, fits, same, passed-few f.params, front)
 
 pub same-arguments : (f : FunctionType) (flats given : List Flat) (count : ℕ) (s : CoreSignature) → given ≡ take count flats → count ≡ length s.params → s ≡ lifted_signature f → given ≡ argument_flats f flats
 same-arguments f flats given count s is counted same = is ∙ ap (λ n. take n flats) (counted ∙ ap (λ t. length t.params) same)
@@ -171,17 +189,3 @@ leave-fails allocates f flats m answer old new c kinds (Err fault) fails = inr (
 pub ok-anyway : {A : Type 0} (r : Result A Fault) (P : Type 0) → P → OnOk r P
 ok-anyway (Ok _) P h = h
 ok-anyway (Err _) P h = tt
-
--- at most one core value is given back
-pub returned-few : (allocates : Allocation) (f : FunctionType) (flats : List Flat) (m : List ℕ) (answer : List Flat) (old : Memory) (given : List Flat) (new : Memory) (c : ℕ)
-    → HasReturned allocates f flats m answer old given new c → length given ≤ 1
-returned-few allocates f flats m answer old given new c h = by h.2.passes
-  where
-    ts : Fields
-    ts = result_fields f.result
-
-    by : PassesResult max_flat_results ts (area_of f flats) h.0 h.1 given → length given ≤ 1
-    by (inl (fits, lowered)) =
-        let kinds : length given ≡ length (field_kinds ts) = sym (length-map given kind_of) ∙ ap length (fields-lower-kinds ts h.0 h.1 given lowered) in
-        omega (arith, leb-true _ _ fits, kinds)
-    by (inr s) = let none : length given ≡ 0 = ap length s.2 in omega (arith, none)

@@ -1,8 +1,8 @@
 -- Core values that cross as they are: one more of them, and what they say of a half of a call.
 use Rattle.std.proofs.Common.{◌≡◌, ◌+◌, ◌<◌, ◌≤◌, ◌%◌, ◌^◌, inl, ℕ, zero, suc, true, List, [], ◌∷◌, length, map, take, get_or, refl, sym, ap, ◌∙◌, subst, arith, add-one}
 use Rattle.std.proofs.Math.Seq.{take-length}
-use Rattle.std.proofs.lemmas.Bool.{le-leb, and_parts}
-use Rattle.std.proofs.lemmas.List.{length-map, get_or-map}
+use Rattle.std.proofs.lemmas.Bool.{le-leb}
+use Rattle.std.proofs.lemmas.List.{length-map}
 use Rattle.canonical_abi.specs.Types.{Prim, ClosedType, prim_type, string_type, list_type, record_type, variant_type, flags_type, Fields, no_field, field, FunctionType, result_fields}
 use Rattle.canonical_abi.specs.Values.{Value}
 use Rattle.canonical_abi.specs.Layout.{prim_kind, field_kinds, fits_flat, passed_kinds, max_flat_params, max_flat_results}
@@ -22,6 +22,7 @@ use Rattle.tables.specs.declared.tables.Resolve.{Resolve}
 use Rattle.tables.specs.declared.tables.ValType.{ValType}
 use Rattle.values.specs.Members.{fields_of_types, AreAllInside}
 use Rattle.values.specs.Types.{IsInside}
+use Rattle.crossing.proofs.ParametersInOrder.{parameter-at, parameter-inside as inside-there}
 use Rattle.adapter.specs.Plain.{IsOwn, IsOwnOf, AreOwn, PassAsTheyAre, ArePlainArguments}
 
 -- one more
@@ -120,6 +121,14 @@ front-arguments f flats arguments count kinds is counted small own =
     let same : length (passed_kinds max_flat_params f.params) ≡ count = sym (ap length passed) ∙ length-map arguments kind_of ∙ counted in
     (kinds, is ∙ sym (ap (λ n. take n flats) same), few, own)
 
+-- so are all of them, where that many are passed
+pub whole-front : (f : FunctionType) (flats arguments : List Flat) (count : ℕ) → arguments ≡ take count flats → count ≡ length flats → count ≤ 16
+    → fits_flat max_flat_results (result_fields f.result) ≡ true → AreOwn f.params arguments → ArePlainArguments f flats arguments
+whole-front f flats arguments count is counted small goes own =
+    let all : arguments ≡ flats = is ∙ ap (λ n. take n flats) counted ∙ take-length flats in
+    let plain : PassAsTheyAre f flats = (goes, omega (arith, counted, small), subst (AreOwn f.params) all own) in
+    subst (ArePlainArguments f flats) (sym all) (all-arguments f flats plain)
+
 pub arguments-entered : (allocates : Allocation) (f : FunctionType) (flats arguments : List Flat) (m : List ℕ) (callee : Memory) (c : ℕ) → ArePlainArguments f flats arguments → c ≡ length arguments
     → IsLimited callee → HasEntered allocates f flats m callee arguments callee c
 arguments-entered allocates f flats arguments m callee c (kinds, is, few, own) counted small =
@@ -168,19 +177,8 @@ plain-returned allocates f flats answer m caller c own few counted small =
 
 -- ---- types in a table
 
-inside-at : (r : Resolve) (types : List ValType) (i : ℕ) (e : ValType) → i < length types → AreAllInside r types → IsInside r (get_or types i e)
-inside-at r [] i e t h = absurd (omega arith)
-inside-at r (y ∷ types) zero e t h = (and_parts _ _ h).0
-inside-at r (y ∷ types) (suc i) e t h = inside-at r types i e (omega arith) (and_parts _ _ h).1
-
--- the type of the parameter at a place
-pub parameter-at : (params : List Parameter) (i : ℕ) (p : Parameter) → i < length params → p ≡ get_or params i p → p.ty ≡ get_or (map (λ p. p.ty) params) i p.ty
-parameter-at params i p t is = ap (λ q. q.ty) is ∙ sym (get_or-map (λ p. p.ty) params i p p.ty t)
-
 pub parameter-inside : (r : Resolve) (params : List Parameter) (i : ℕ) (p : Parameter) → i < length params → p ≡ get_or params i p → AreAllInside r (map (λ p. p.ty) params) → IsInside r p.ty
-parameter-inside r params i p t is all =
-    let q : ValType → Type 0 = λ v. IsInside r v in
-    subst q (sym (parameter-at params i p t is)) (inside-at r (map (λ p. p.ty) params) i p.ty (omega (arith, t, length-map params (λ p. p.ty))) all)
+parameter-inside r params i p t is all = inside-there r params i p t is all
 
 pub parameter-own : (r : Resolve) (params : List Parameter) (flats : List Flat) (i : ℕ) (p : Parameter) (d : Flat) → i < length params → length flats ≡ length params → p ≡ get_or params i p
     → AreOwn (fields_of_types r (take i (map (λ p. p.ty) params))) (take i flats) → IsOwnOf (closed_type r p.ty) (get_or flats i d) → AreOwn (fields_of_types r (take (i + 1) (map (λ p. p.ty) params))) (take (i + 1) flats)

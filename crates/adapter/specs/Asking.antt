@@ -3,8 +3,7 @@ use Rattle.std.specs.Prelude.{◌≡◌, ℕ, zero, suc, ◌+◌, ◌-◌, ◌*�
 use Rattle.canonical_abi.specs.Reading.{reading}
 use Rattle.canonical_abi.specs.Requests.{requests}
 use Rattle.canonical_abi.specs.Trace
-use Rattle.canonical_abi.specs.Layout.{size}
-use Rattle.canonical_abi.specs.Types.{ClosedType, Fields, no_field, field}
+use Rattle.canonical_abi.specs.Types.{ClosedType}
 use Rattle.canonical_abi.specs.Values.{Value}
 use Rattle.canonical_abi.specs.declared.trap.TrapKind.{TrapKind}
 use Rattle.adapter.specs.declared.asking.request.Request.{Request}

@@ -1,27 +1,29 @@
 //! The first way of a call: the arguments, from the caller into the callee.
-ghost use Rattle.std.specs.Prelude.{◌≡◌, ◌^◌, ◌<◌, [], length, OnOk, IfErr};
+ghost use Rattle.std.specs.Prelude.{◌≡◌, ◌^◌, ◌<◌, ◌≤◌, min, [], length, OnOk, IfErr};
 ghost use Rattle.canonical_abi.specs.Halves.{HasEntered, EntryFails};
 ghost use Rattle.tables.specs.Closed.{IsFunction, function_type};
 
 use crate::fault::{fault_of, trap};
 use crate::invocation::Invocation;
-use canonical_abi::{Fault, Guest, Step, TrapKind};
-use crossing::Walk;
-use lift_lower::Flats;
+use arrayvec::ArrayVec;
+use canonical_abi::{Fault, Flat, Guest, Step, TrapKind};
+use crossing::{Parameters, Walk};
 use tables::{TypeId, ValType};
 
 /// Puts the arguments, as the walk's source holds them, into the callee: the flat values that carry them there into
 /// `handed`, which was empty, and in `nodes` how many nodes were visited, those up to the fault if there was
 /// one. The kinds of all flat values come first. Takes no memory of the host.
-pub(crate) fn pass_arguments<E: Guest>(
+pub(crate) fn pass_arguments<E: Guest, const N: usize>(
     walk: &Walk,
     call: &Invocation,
     callee: &mut E,
-    handed: &mut Flats,
+    handed: &mut ArrayVec<Flat, N>,
     nodes: &mut u64,
 ) -> Result<(), Fault>
     requires function { IsFunction walk.now.types.now call.now.func }
     requires short { length walk.now.source.now < 2 ^ 32 }
+    requires capacity { N ≤ 17 }
+    requires room { min 17 (length call.now.flats.now) ≤ N }
     requires empty { handed.old.items ≡ [] }
     requires fresh { nodes.old ≡ 0 }
     ensures entered { OnOk result (HasEntered E.allocates (function_type walk.now.types.now call.now.func)
@@ -36,9 +38,12 @@ pub(crate) fn pass_arguments<E: Guest>(
         return Err(trap(TrapKind::CoreSignature, Step::LiftArgs));
     }
     let count = layouts.lifted_count(call.func);
-    // A function's row is the record of its parameters.
-    let params = ValType::Id(TypeId(call.func.0));
     let flats = &call.flats[..count];
+    // A function's row is the record of its parameters.
+    let params = &Parameters {
+        row: ValType::Id(TypeId(call.func.0)),
+        each: walk.types.resolve().signature(call.func).params.as_slice(),
+    };
     let crossed = walk.cross_params(params, flats, callee, handed, nodes);
     // A count is a number of 64 bits.
     let _count = *nodes;

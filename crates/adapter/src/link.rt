@@ -1,5 +1,5 @@
 //! The call itself.
-ghost use Rattle.std.specs.Prelude.{◌≡◌, ◌≢◌, ◌+◌, ◌*◌, ◌≤◌, [], Err, Some, length, IfOk, OnOk, IfErr};
+ghost use Rattle.std.specs.Prelude.{◌≡◌, ◌≢◌, ◌+◌, ◌*◌, ◌≤◌, min, [], Err, Some, length, IfOk, OnOk, IfErr};
 ghost use Rattle.adapter.specs.Asking.{IsToldAhead};
 ghost use Rattle.canonical_abi.specs.Call.{Calls, Ways, exact, AllowsSameRuns, AllowsSamePosts, KindsFit};
 ghost use Rattle.canonical_abi.specs.Few.{AreFewNodes};
@@ -26,6 +26,7 @@ use crate::invocation::Invocation;
 use crate::plain::{is_plain_answer, plain_arguments, put};
 use crate::requests::{Unasked, ask_answer, ask_arguments};
 use crate::results::pass_answer;
+use arrayvec::ArrayVec;
 use canonical_abi::{Fault, Flat, Guest, Step, TrapKind};
 use crossing::Walk;
 use layout::Layouts;
@@ -125,14 +126,16 @@ impl<'a> Link<'a> {
     }
 
     /// The same for core values that are walked over; `handed` was empty.
-    fn enter_walked<C: Guest, E: Guest>(
+    fn enter_walked<C: Guest, E: Guest, const N: usize>(
         &mut self,
         call: &Invocation,
         caller: &C,
         callee: &mut E,
-        handed: &mut Flats,
+        handed: &mut ArrayVec<Flat, N>,
     ) -> Result<(), Fault>
         requires function { IsFunction self.old.resolve call.now.func }
+        requires capacity { N ≤ 17 }
+        requires room { min 17 (length call.now.flats.now) ≤ N }
         requires empty { handed.old.items ≡ [] }
         ensures entered { OnOk result (HasEntered E.allocates (function_type self.old.resolve call.now.func)
             call.now.flats.now (C.memory caller.now).bytes
@@ -263,16 +266,18 @@ impl<'a> Link<'a> {
 
     /// The second half of a call whose core values have the kinds of its function, for an answer that is walked over;
     /// `back` was empty.
-    fn leave_walked<C: Guest, E: Guest>(
+    fn leave_walked<C: Guest, E: Guest, const N: usize>(
         &mut self,
         call: &Invocation,
         answer: &[Flat],
         caller: &mut C,
         callee: &E,
-        back: &mut Flats,
+        back: &mut ArrayVec<Flat, N>,
     ) -> Result<(), Fault>
         requires function { IsFunction self.old.resolve call.now.func }
         requires kinds { KindsFit (function_type self.old.resolve call.now.func) call.now.flats.now }
+        requires capacity { N ≤ 17 }
+        requires room { 1 ≤ N }
         requires empty { back.old.items ≡ [] }
         ensures returned { OnOk result (HasReturned C.allocates (function_type self.old.resolve call.now.func)
             call.now.flats.now (E.memory callee.now).bytes answer.now
@@ -414,7 +419,10 @@ impl<'a> Link<'a> {
             call.func,
             call.flats,
         ) else {
-            return self.run_walked(call, caller, callee, body);
+            if call.flats.len() > 4 {
+                return self.run_walked::<C, E, B, 17>(call, caller, callee, body);
+            }
+            return self.run_walked::<C, E, B, 4>(call, caller, callee, body);
         };
         self.there = arguments.len() as u64;
         self.back = 0;
@@ -426,8 +434,8 @@ impl<'a> Link<'a> {
         Ok(answer)
     }
 
-    /// The same for core values that are walked over.
-    fn run_walked<C: Guest, E: Guest, B: Body<E>>(
+    /// The same for core values that are walked over, by a list with room for those that the callee gets.
+    fn run_walked<C: Guest, E: Guest, B: Body<E>, const N: usize>(
         &mut self,
         call: &Invocation,
         caller: &C,
@@ -435,6 +443,8 @@ impl<'a> Link<'a> {
         body: &mut B,
     ) -> Result<FlatResults, Fault>
         requires function { IsFunction self.old.resolve call.now.func }
+        requires capacity { N ≤ 17 }
+        requires room { min 17 (length call.now.flats.now) ≤ N }
         ensures ran { IfOk result (λ answer. RunsBetween
             (record {
               caller_allocates = C.allocates;
@@ -471,7 +481,7 @@ impl<'a> Link<'a> {
         ensures same_package { self.new.resolve ≡ self.old.resolve }
         ensures same_layouts { self.new.layouts ≡ self.old.layouts }
     {
-        let mut given = Flats::new();
+        let mut given = ArrayVec::<Flat, N>::new();
         self.enter_walked(call, caller, callee, &mut given)?;
         match body.call(callee, given.as_slice()) {
             Ok(answer) => Ok(answer),
@@ -535,8 +545,8 @@ impl<'a> Link<'a> {
         ensures same_package { self.new.resolve ≡ self.old.resolve }
         ensures same_layouts { self.new.layouts ≡ self.old.layouts }
     {
-        let mut back = Flats::new();
+        let mut back = FlatResults::new();
         self.leave_walked(call, answer, caller, callee, &mut back)?;
-        Ok(flat_results(back.as_slice()))
+        Ok(back)
     }
 }

@@ -108,23 +108,6 @@ pub fn are_plain(types: &Types, func: FunctionId, flats: &[Flat]) -> bool
     )
 }
 
-/// The core values in front of the return area's address, where a call's are those of the function's signature and
-/// these cross as they are.
-fn plain_front<'a>(types: &Types, func: FunctionId, flats: &'a [Flat]) -> Option<&'a [Flat]>
-    requires { IsFunction types.now func }
-    ensures { IfSome result (λ arguments. ArePlainArguments (function_type types.now func) flats.now arguments.now) }
-{
-    let params = types.resolve().signature(func).params.as_slice();
-    if params.len() > 16 || flats.len() < params.len() {
-        return None;
-    }
-    let arguments = &flats[..params.len()];
-    if are_own(types, params, arguments) && types.layouts().takes(func, flats) {
-        return Some(arguments);
-    }
-    None
-}
-
 /// The core values that carry a call's arguments, where the call's are those of the function's signature and these
 /// cross as they are.
 #[inline(always)]
@@ -136,13 +119,22 @@ pub(crate) fn plain_arguments<'a>(
     requires { IsFunction types.now func }
     ensures { IfSome result (λ arguments. ArePlainArguments (function_type types.now func) flats.now arguments.now) }
 {
-    if are_plain(types, func, flats) {
-        return Some(flats);
-    }
-    if is_plain_result(types, func) {
+    let params = types.resolve().signature(func).params.as_slice();
+    if params.len() > 16 || flats.len() < params.len() {
         return None;
     }
-    plain_front(types, func, flats)
+    let arguments = &flats[..params.len()];
+    if !are_own(types, params, arguments) {
+        return None;
+    }
+    if flats.len() == params.len() && is_plain_result(types, func) {
+        return Some(arguments);
+    }
+    // The return area's address is behind them.
+    if types.layouts().takes(func, flats) {
+        return Some(arguments);
+    }
+    None
 }
 
 /// Puts core values into a list that was empty.

@@ -8,24 +8,27 @@ ghost use Rattle.tables.specs.Closed.{IsFunction, function_type};
 
 use crate::fault::{fault_of, trap};
 use crate::invocation::Invocation;
+use arrayvec::ArrayVec;
 use canonical_abi::{Fault, Flat, Guest, Step, TrapKind};
 use crossing::{Returned, Walk};
-use lift_lower::{Flats, are_kinds, low_word};
+use lift_lower::{are_kinds, low_word};
 
 /// Puts the body's answer, as the walk's source holds it, into the caller: the flat values that carry it there into
 /// `back`, which was empty, and in `nodes` how many nodes were visited, those up to the fault if there was
 /// one. The kinds of the answer come first. Takes no memory of the host.
-pub(crate) fn pass_answer<C: Guest>(
+pub(crate) fn pass_answer<C: Guest, const N: usize>(
     walk: &Walk,
     call: &Invocation,
     answer: &[Flat],
     caller: &mut C,
-    back: &mut Flats,
+    back: &mut ArrayVec<Flat, N>,
     nodes: &mut u64,
 ) -> Result<(), Fault>
     requires within { ∥ AreWithin walk.now.types.now ∥₁ }
     requires function { IsFunction walk.now.types.now call.now.func }
     requires short { length walk.now.source.now < 2 ^ 32 }
+    requires capacity { N ≤ 17 }
+    requires room { 1 ≤ N }
     requires empty { back.old.items ≡ [] }
     requires fresh { nodes.old ≡ 0 }
     requires kinds { KindsFit (function_type walk.now.types.now call.now.func) call.now.flats.now }

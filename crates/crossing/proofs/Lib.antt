@@ -4,4 +4,6 @@ pub mod OneNodeOfAWay
 pub mod ScriptsOfFlatValues
 pub mod ScriptsOfWholeWays
 pub mod ElementsCrossedTogether
+pub mod ParametersInOrder
 mod RecordMembersByStep
+mod OneFieldCrosses

@@ -39,6 +39,20 @@ step-last (field t fs) end h = absurd h
 pub step-here : (fs : Fields) (xs : List Step) (i end : ℕ) (d : Step) → i < length xs → AreSteps (fields_from i fs) end (drop i xs) → IsNext fs i end (get_or xs i d) (drop (i + 1) xs)
 step-here fs xs i end d below h = step-next fs i end (get_or xs i d) (drop (i + 1) xs) (rw (drop-next i xs d below) at h)
 
+-- the two members of a record of two
+module _ (fs : Fields) (first second : Step) (planned : AreSteps fs 0 (first ∷ second ∷ [])) where
+  abbrev pub end-one : ℕ
+  end-one = next_multiple_of 0 (align (leaf_type first.leaf)) + size (leaf_type first.leaf)
+
+  abbrev pub end-two : ℕ
+  end-two = next_multiple_of end-one (align (leaf_type second.leaf)) + size (leaf_type second.leaf)
+
+  pub one : IsNext fs 0 0 first (second ∷ [])
+  one = step-next fs 0 0 first (second ∷ []) planned
+
+  pub two : IsNext fs 1 end-one second []
+  two = (let behind = one.behind in step-next fs 1 end-one second [] (rw one.place at behind))
+
 -- what is read behind a list
 abbrev pub none : Step
 none = record { leaf = leaf.Scalar Bool; place = 0 }

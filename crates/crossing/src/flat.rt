@@ -7,26 +7,32 @@ ghost use Rattle.canonical_abi.specs.Reading.{number_of};
 ghost use Rattle.canonical_abi.specs.Trace.{node};
 ghost use Rattle.canonical_abi.specs.declared.trap.TrapKind.{TrapKind};
 ghost use Rattle.crossing.specs.Outcome.{FlatWalks, FieldsFlatWalk, FlatBehind, FlatEnds};
-ghost use Rattle.values.specs.Members.{AreInside, members_fields};
+ghost use Rattle.values.specs.Members.{AreInside, AreAllInside, members_fields, fields_of_types};
 ghost use Rattle.values.specs.Types.{IsInside};
 ghost use Rattle.tables.specs.Closed.{closed_type, prim_of};
 
+use crate::core_values::{push_header, push_joined};
 use crate::stopped::Stopped;
 use crate::walk::{Fields, Walk, are_bytes};
+use arrayvec::ArrayVec;
 use canonical_abi::{Flat, Guest, TrapKind};
 use layout::Shape;
 use lift_lower::nodes::{
-    Members, ask_block, flags_in, push_header, push_joined, scalar_in, test_block, text_in,
-    write_bytes,
+    Members, ask_block, flags_in, scalar_in, test_block, text_in, write_bytes,
 };
-use lift_lower::{Flats, low_word, lower_scalar};
+use lift_lower::{low_word, lower_scalar};
 use ranges::Elements;
-use tables::{Primitive, ValType};
+use tables::{Parameter, Primitive, ValType};
 
 /// Carries on a primitive other than string.
-fn carry_primitive(primitive: Primitive, flats: &[Flat], out: &mut Flats) -> Result<(), Stopped>
+fn carry_primitive<const N: usize>(
+    primitive: Primitive,
+    flats: &[Flat],
+    out: &mut ArrayVec<Flat, N>,
+) -> Result<(), Stopped>
     requires some { 0 < length flats.now }
-    requires room { length out.old.items < 16 }
+    requires capacity { N ≤ 17 }
+    requires room { length out.old.items < N }
     ensures ok { OnOk result ((m : List ℕ)
         → FlatWalks (prim_type (prim_of primitive)) m (map number_of flats.now) out.old.items out.new.items None
         (node ∷ [])) }
@@ -44,14 +50,15 @@ fn carry_primitive(primitive: Primitive, flats: &[Flat], out: &mut Flats) -> Res
 }
 
 /// Carries on a text: it is tested, and put into a block of its own.
-fn carry_text<G: Guest>(
+fn carry_text<G: Guest, const N: usize>(
     source: &[u8],
     flats: &[Flat],
     guest: &mut G,
-    out: &mut Flats,
+    out: &mut ArrayVec<Flat, N>,
 ) -> Result<(), Stopped>
     requires some { 1 < length flats.now }
-    requires room { length out.old.items + 2 ≤ 16 }
+    requires capacity { N ≤ 17 }
+    requires room { length out.old.items + 2 ≤ N }
     ensures { (n : ℕ) → FlatEnds G.allocates
         (FlatBehind (FlatWalks string_type source.now (map number_of flats.now) out.old.items))
         (G.memory guest.old) n result (G.memory guest.new) n out.new.items }
@@ -74,19 +81,20 @@ fn carry_text<G: Guest>(
 impl Walk<'_> {
     /// Carries on the value in the first of these flat values.
     #[cycle(flat)]
-    fn cross_flat<G: Guest>(
+    fn cross_flat<G: Guest, const N: usize>(
         &self,
         ty: ValType,
         flats: &[Flat],
         guest: &mut G,
-        out: &mut Flats,
+        out: &mut ArrayVec<Flat, N>,
         nodes: &mut u64,
     ) -> Result<(), Stopped>
         requires inside { IsInside self.now.types.now ty }
         requires short { length self.now.source.now < 2 ^ 32 }
         requires carried { length (flat_kinds (closed_type self.now.types.now ty)) ≤ length flats.now }
         requires few { length flats.now ≤ 16 }
-        requires room { length out.old.items + length (flat_kinds (closed_type self.now.types.now ty)) ≤ 16 }
+        requires capacity { N ≤ 17 }
+        requires room { length out.old.items + length (flat_kinds (closed_type self.now.types.now ty)) ≤ N }
         ensures { FlatEnds G.allocates (FlatWalks (closed_type self.now.types.now ty) self.now.source.now
             (map number_of flats.now) out.old.items)
             (G.memory guest.old) nodes.old result (G.memory guest.new) nodes.new out.new.items }
@@ -111,19 +119,54 @@ impl Walk<'_> {
         }
     }
 
+    /// Carries on one member, which is a primitive or a text most often.
+    #[inline(always)]
+    #[cycle(flat)]
+    fn carry_member<G: Guest, const N: usize>(
+        &self,
+        ty: ValType,
+        flats: &[Flat],
+        guest: &mut G,
+        out: &mut ArrayVec<Flat, N>,
+        nodes: &mut u64,
+    ) -> Result<(), Stopped>
+        requires inside { IsInside self.now.types.now ty }
+        requires short { length self.now.source.now < 2 ^ 32 }
+        requires carried { length (flat_kinds (closed_type self.now.types.now ty)) ≤ length flats.now }
+        requires few { length flats.now ≤ 16 }
+        requires capacity { N ≤ 17 }
+        requires room { length out.old.items + length (flat_kinds (closed_type self.now.types.now ty)) ≤ N }
+        ensures { FlatEnds G.allocates (FlatWalks (closed_type self.now.types.now ty) self.now.source.now
+            (map number_of flats.now) out.old.items)
+            (G.memory guest.old) nodes.old result (G.memory guest.new) nodes.new out.new.items }
+    {
+        match ty {
+            ValType::Primitive(primitive) => {
+                *nodes = nodes.saturating_add(1);
+                carry_primitive(primitive, flats, out)
+            }
+            ValType::String => {
+                *nodes = nodes.saturating_add(1);
+                carry_text(self.source, flats, guest, out)
+            }
+            ValType::Id(_) => self.cross_flat(ty, flats, guest, out, nodes),
+        }
+    }
+
     /// Carries on a list: its block is tested, one of the same size is asked for, and its elements cross into that.
-    fn carry_list<G: Guest>(
+    fn carry_list<G: Guest, const N: usize>(
         &self,
         element: ValType,
         flats: &[Flat],
         guest: &mut G,
-        out: &mut Flats,
+        out: &mut ArrayVec<Flat, N>,
         nodes: &mut u64,
     ) -> Result<(), Stopped>
         requires inside { IsInside self.now.types.now element }
         requires short { length self.now.source.now < 2 ^ 32 }
         requires some { 1 < length flats.now }
-        requires room { length out.old.items + 2 ≤ 16 }
+        requires capacity { N ≤ 17 }
+        requires room { length out.old.items + 2 ≤ N }
         ensures { FlatEnds G.allocates (FlatBehind
             (FlatWalks (list_type (closed_type self.now.types.now element)) self.now.source.now
             (map number_of flats.now) out.old.items))
@@ -156,12 +199,12 @@ impl Walk<'_> {
     /// the flat values that carry them, and `nodes` by the nodes that were visited, as far as 64 bits count. If it
     /// ends early, what was added to `out` says nothing. CanonicalABI.md, "Flat Lifting" and "Flat Lowering".
     #[cycle(flat)]
-    pub fn carry_fields<G: Guest>(
+    pub fn carry_fields<G: Guest, const N: usize>(
         &self,
         fields: &Fields,
         flats: &[Flat],
         guest: &mut G,
-        out: &mut Flats,
+        out: &mut ArrayVec<Flat, N>,
         nodes: &mut u64,
     ) -> Result<(), Stopped>
         requires inside { AreInside self.now.types.now fields.now.members }
@@ -170,33 +213,68 @@ impl Walk<'_> {
         requires carried { length (field_kinds (members_fields self.now.types.now fields.now.members))
             ≤ length flats.now }
         requires few { length flats.now ≤ 16 }
+        requires capacity { N ≤ 17 }
         requires room { length out.old.items
-            + length (field_kinds (members_fields self.now.types.now fields.now.members)) ≤ 16 }
+            + length (field_kinds (members_fields self.now.types.now fields.now.members)) ≤ N }
         ensures { FlatEnds G.allocates (FieldsFlatWalk (members_fields self.now.types.now fields.now.members)
             self.now.source.now (map number_of flats.now) out.old.items)
             (G.memory guest.old) nodes.old result (G.memory guest.new) nodes.new out.new.items }
     {
         are_bytes(self.source);
+        let before = out.len();
         let mut used: usize = 0;
         for index in 0..fields.count {
             let Some(member) = self.types.member_type(&fields.members, index) else {
                 unreachable!()
             };
             let rest = &flats[used..];
-            self.cross_flat(member, rest, guest, out, nodes)?;
-            used += self.types.kind_count(member);
+            self.carry_member(member, rest, guest, out, nodes)?;
+            // Each core value is carried by one.
+            used = out.len() - before;
+        }
+        Ok(())
+    }
+
+    /// Carries on the values of a function's parameters, each in the flat values after those of the one before it:
+    /// as `carry_fields` those of their record, into a list that was empty.
+    pub(crate) fn carry_parameters<G: Guest, const N: usize>(
+        &self,
+        params: &[Parameter],
+        flats: &[Flat],
+        guest: &mut G,
+        out: &mut ArrayVec<Flat, N>,
+        nodes: &mut u64,
+    ) -> Result<(), Stopped>
+        requires inside { AreAllInside self.now.types.now (map (λ p. p.ty) params.now) }
+        requires short { length self.now.source.now < 2 ^ 32 }
+        requires carried { length (field_kinds (fields_of_types self.now.types.now (map (λ p. p.ty) params.now)))
+            ≤ length flats.now }
+        requires few { length flats.now ≤ 16 }
+        requires capacity { N ≤ 17 }
+        requires room { length (field_kinds (fields_of_types self.now.types.now (map (λ p. p.ty) params.now))) ≤ N }
+        requires empty { out.old.items ≡ [] }
+        ensures { FlatEnds G.allocates (FieldsFlatWalk
+            (fields_of_types self.now.types.now (map (λ p. p.ty) params.now))
+            self.now.source.now (map number_of flats.now) [])
+            (G.memory guest.old) nodes.old result (G.memory guest.new) nodes.new out.new.items }
+    {
+        are_bytes(self.source);
+        for index in 0..params.len() {
+            // Each core value is carried by one.
+            let rest = &flats[out.len()..];
+            self.carry_member(params[index].ty, rest, guest, out, nodes)?;
         }
         Ok(())
     }
 
     /// Carries on the number of a case, and then its payload in the joined kinds of all payloads.
     #[cycle(flat)]
-    fn carry_variant<G: Guest>(
+    fn carry_variant<G: Guest, const N: usize>(
         &self,
         ty: ValType,
         flats: &[Flat],
         guest: &mut G,
-        out: &mut Flats,
+        out: &mut ArrayVec<Flat, N>,
         nodes: &mut u64,
     ) -> Result<(), Stopped>
         requires inside { IsInside self.now.types.now ty }
@@ -206,7 +284,8 @@ impl Walk<'_> {
         requires carried { length (payload_kinds (variant_cases (closed_type self.now.types.now ty)))
             < length flats.now }
         requires few { length flats.now ≤ 16 }
-        requires room { length out.old.items + length (flat_kinds (closed_type self.now.types.now ty)) ≤ 16 }
+        requires capacity { N ≤ 17 }
+        requires room { length out.old.items + length (flat_kinds (closed_type self.now.types.now ty)) ≤ N }
         ensures { FlatEnds G.allocates (FlatBehind
             (FlatWalks (variant_type (variant_cases (closed_type self.now.types.now ty))) self.now.source.now
             (map number_of flats.now) out.old.items))
@@ -222,8 +301,8 @@ impl Walk<'_> {
             push_joined(&kinds.as_slice()[1..], &[], out);
             return Ok(());
         };
-        let mut carried = Flats::new();
-        self.cross_flat(member, &flats[1..], guest, &mut carried, nodes)?;
+        let mut carried = ArrayVec::<Flat, N>::new();
+        self.carry_member(member, &flats[1..], guest, &mut carried, nodes)?;
         push_joined(&kinds.as_slice()[1..], carried.as_slice(), out);
         Ok(())
     }

@@ -7,6 +7,7 @@
 #![tactic(auto)]
 
 mod addresses;
+mod core_values;
 mod flat;
 mod fronts;
 mod leaves;
@@ -20,4 +21,4 @@ mod ways;
 pub use addresses::Addresses;
 pub use stopped::Stopped;
 pub use walk::{Fields, Walk};
-pub use ways::Returned;
+pub use ways::{Parameters, Returned};

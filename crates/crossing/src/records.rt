@@ -1,6 +1,6 @@
 //! Elements that are records of numbers, texts and lists of numbers: their members are looked at once, and not for each
 //! element.
-ghost use Rattle.std.specs.Prelude.{◌≡◌, ◌+◌, ◌*◌, ◌^◌, ◌<◌, ◌≤◌, length, IfSome};
+ghost use Rattle.std.specs.Prelude.{◌≡◌, [], ◌∷◌, ◌+◌, ◌*◌, ◌^◌, ◌<◌, ◌≤◌, length, IfSome};
 ghost use Rattle.canonical_abi.specs.Types.{record_type, record_fields, field_count};
 ghost use Rattle.canonical_abi.specs.Layout.{size, end_from, field_extents};
 ghost use Rattle.crossing.specs.Outcome.{Walks, FieldsWalk, EachWalks, Ends};
@@ -51,6 +51,14 @@ pub(crate) struct Steps {
     pub list: ArrayVec<Step, 16>,
 }
 
+/// A record of two members, each of which is a step.
+#[derive(Clone, Copy)]
+struct Pair {
+    ty: ValType,
+    first: Step,
+    second: Step,
+}
+
 /// What a type is as a member, if it can be a step.
 fn leaf_of(table: &Types, ty: ValType) -> Option<Leaf>
     requires { IsInside table.now ty }
@@ -73,6 +81,24 @@ fn has_parts(steps: &[Step]) -> bool {
         }
     }
     false
+}
+
+/// A pair with these members in the places of its own.
+#[inline(always)]
+fn pair_of(pair: Pair, first: Leaf, second: Leaf) -> Pair
+    ensures { pair.first.leaf ≡ first → pair.second.leaf ≡ second → result ≡ pair }
+{
+    Pair {
+        ty: pair.ty,
+        first: Step {
+            leaf: first,
+            place: pair.first.place,
+        },
+        second: Step {
+            leaf: second,
+            place: pair.second.place,
+        },
+    }
 }
 
 /// Crosses a member.
@@ -99,6 +125,30 @@ fn cross_leaf<G: Guest>(
         Leaf::Text => cross_text(source, at, guest),
         Leaf::Numbers(primitive) => cross_list(primitive, source, at, guest, nodes),
     }
+}
+
+/// Crosses a member behind what comes before it in its record.
+#[inline(always)]
+fn cross_step<G: Guest>(
+    step: Step,
+    source: &[u8],
+    at: Addresses,
+    guest: &mut G,
+    nodes: &mut u64,
+) -> Result<(), Stopped>
+    requires leaf { IsLeaf step.leaf }
+    requires short { length source.now < 2 ^ 32 }
+    requires fits { at.from + (step.place + size (leaf_type step.leaf)) ≤ length source.now }
+    requires room { at.to + (step.place + size (leaf_type step.leaf)) ≤ length (G.memory guest.old).bytes }
+    requires small { at.to + (step.place + size (leaf_type step.leaf)) < 2 ^ 32 }
+    ensures { Ends G.allocates (Walks (leaf_type step.leaf) source.now (at.from + step.place) (at.to + step.place))
+        (G.memory guest.old) nodes.old result (G.memory guest.new) nodes.new }
+{
+    let behind = Addresses {
+        from: at.from + step.place,
+        to: at.to + step.place,
+    };
+    cross_leaf(step.leaf, source, behind, guest, nodes)
 }
 
 impl Walk<'_> {
@@ -183,6 +233,112 @@ impl Walk<'_> {
         Ok(())
     }
 
+    /// Crosses the members of a record of two: with no loop over them, so that what each is can be a constant.
+    #[inline(always)]
+    fn cross_two<G: Guest>(
+        &self,
+        pair: Pair,
+        at: Addresses,
+        guest: &mut G,
+        nodes: &mut u64,
+    ) -> Result<(), Stopped>
+        requires stepped { AreStepsOf (closed_type self.now.types.now pair.ty) (pair.first ∷ pair.second ∷ []) }
+        requires short { length self.now.source.now < 2 ^ 32 }
+        requires fits { at.from + end_from 0
+            (field_extents (record_fields (closed_type self.now.types.now pair.ty))) ≤ length self.now.source.now }
+        requires room { at.to + end_from 0 (field_extents (record_fields (closed_type self.now.types.now pair.ty)))
+            ≤ length (G.memory guest.old).bytes }
+        requires small { at.to + end_from 0
+            (field_extents (record_fields (closed_type self.now.types.now pair.ty))) < 2 ^ 32 }
+        ensures { Ends G.allocates (FieldsWalk (record_fields (closed_type self.now.types.now pair.ty))
+            self.now.source.now at.from at.to 0)
+            (G.memory guest.old) nodes.old result (G.memory guest.new) nodes.new }
+    {
+        canonical_abi::laws::reads_exactly();
+        are_bytes(self.source);
+        cross_step(pair.first, self.source, at, guest, nodes)?;
+        cross_step(pair.second, self.source, at, guest, nodes)?;
+        Ok(())
+    }
+
+    /// Crosses so many records of two members one after another: a loop by itself.
+    #[inline(always)]
+    fn cross_each_pair<G: Guest>(
+        &self,
+        pair: Pair,
+        elements: Elements,
+        guest: &mut G,
+        nodes: &mut u64,
+    ) -> Result<(), Stopped>
+        requires inside { IsInside self.now.types.now pair.ty }
+        requires stepped { AreStepsOf (closed_type self.now.types.now pair.ty) (pair.first ∷ pair.second ∷ []) }
+        requires short { length self.now.source.now < 2 ^ 32 }
+        requires fits { elements.from + elements.count * size (closed_type self.now.types.now pair.ty)
+            ≤ length self.now.source.now }
+        requires room { elements.to + elements.count * size (closed_type self.now.types.now pair.ty)
+            ≤ length (G.memory guest.old).bytes }
+        requires small { elements.to + elements.count * size (closed_type self.now.types.now pair.ty) < 2 ^ 32 }
+        ensures { Ends G.allocates (EachWalks (closed_type self.now.types.now pair.ty) self.now.source.now
+            elements.from elements.to elements.count)
+            (G.memory guest.old) nodes.old result (G.memory guest.new) nodes.new }
+    {
+        canonical_abi::laws::reads_exactly();
+        are_bytes(self.source);
+        let step = self.types.size_of(pair.ty);
+        for index in 0..elements.count {
+            let ahead = index * step;
+            let at = Addresses {
+                from: elements.from + ahead,
+                to: elements.to + ahead,
+            };
+            *nodes = nodes.saturating_add(1);
+            self.cross_two(pair, at, guest, nodes)?;
+        }
+        Ok(())
+    }
+
+    /// Crosses so many records of two members: what these are is a constant of its own loop for usual pairs.
+    #[inline(always)]
+    fn cross_pairs<G: Guest>(
+        &self,
+        pair: Pair,
+        elements: Elements,
+        guest: &mut G,
+        nodes: &mut u64,
+    ) -> Result<(), Stopped>
+        requires inside { IsInside self.now.types.now pair.ty }
+        requires stepped { AreStepsOf (closed_type self.now.types.now pair.ty) (pair.first ∷ pair.second ∷ []) }
+        requires short { length self.now.source.now < 2 ^ 32 }
+        requires fits { elements.from + elements.count * size (closed_type self.now.types.now pair.ty)
+            ≤ length self.now.source.now }
+        requires room { elements.to + elements.count * size (closed_type self.now.types.now pair.ty)
+            ≤ length (G.memory guest.old).bytes }
+        requires small { elements.to + elements.count * size (closed_type self.now.types.now pair.ty) < 2 ^ 32 }
+        ensures { Ends G.allocates (EachWalks (closed_type self.now.types.now pair.ty) self.now.source.now
+            elements.from elements.to elements.count)
+            (G.memory guest.old) nodes.old result (G.memory guest.new) nodes.new }
+    {
+        match (pair.first.leaf, pair.second.leaf) {
+            (Leaf::Scalar(Primitive::U32), Leaf::Text) => {
+                let usual = pair_of(pair, Leaf::Scalar(Primitive::U32), Leaf::Text);
+                self.cross_each_pair(usual, elements, guest, nodes)
+            }
+            (Leaf::Scalar(primitive), Leaf::Text) => {
+                let usual = pair_of(pair, Leaf::Scalar(primitive), Leaf::Text);
+                self.cross_each_pair(usual, elements, guest, nodes)
+            }
+            (Leaf::Text, Leaf::Text) => {
+                let usual = pair_of(pair, Leaf::Text, Leaf::Text);
+                self.cross_each_pair(usual, elements, guest, nodes)
+            }
+            (Leaf::Numbers(first), Leaf::Numbers(second)) => {
+                let usual = pair_of(pair, Leaf::Numbers(first), Leaf::Numbers(second));
+                self.cross_each_pair(usual, elements, guest, nodes)
+            }
+            _ => self.cross_each_pair(pair, elements, guest, nodes),
+        }
+    }
+
     /// Crosses so many records one after another: a loop by itself.
     #[inline(always)]
     fn cross_each_by_steps<G: Guest>(
@@ -240,7 +396,17 @@ impl Walk<'_> {
             (G.memory guest.old) nodes.old result (G.memory guest.new) nodes.new }
     {
         let mut seen = *nodes;
-        let done = self.cross_each_by_steps(steps, elements, guest, &mut seen);
+        let done = match steps.list.as_slice() {
+            [first, second] => {
+                let pair = Pair {
+                    ty: steps.ty,
+                    first: *first,
+                    second: *second,
+                };
+                self.cross_pairs(pair, elements, guest, &mut seen)
+            }
+            _ => self.cross_each_by_steps(steps, elements, guest, &mut seen),
+        };
         *nodes = seen;
         done
     }

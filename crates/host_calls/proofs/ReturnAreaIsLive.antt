@@ -1,7 +1,7 @@
 -- The return area: what a function's result tells of it; where no block meets it, it is live in the memory that is lent with these blocks.
 use Rattle.std.proofs.Common.{◌≡◌, ◌+◌, ◌&&◌, ◌≤◌, ◌<◌, ℕ, true, false, Some, MatchOption, List, [], ◌∷◌, length, nat_le, nat_lt, refl, sym, subst, arith}
 use Rattle.std.specs.List.{list_all}
-use Rattle.std.proofs.lemmas.Bool.{le-leb, le-ltb, lt-ltb, ltb-true, and_from, and_parts, or_from, not_from_false}
+use Rattle.std.proofs.lemmas.Bool.{le-leb, lt-ltb, ltb-true, and_from, and_parts, or_from, not_from_false}
 use Rattle.std.proofs.lemmas.Bool.Decides.{nat_tests}
 use Rattle.canonical_abi.specs.Guest.{IsWithin}
 use Rattle.canonical_abi.specs.Layout.{size}
@@ -46,9 +46,6 @@ pub none-lent : (len : ℕ) (b : Block) (bs : List Block) → bs ≡ [] → len 
 none-lent len b bs none small =
     let P : List Block → Type 0 = λ cs. can_lend len b cs ≡ true in
     subst P (sym none) (and_from (nat_lt len 4294967296) true (lt-ltb len 4294967296 small) refl)
-
-pub none-refused : (len : ℕ) (b : Block) (bs : List Block) → 4294967296 ≤ len → can_lend len b bs ≡ false
-none-refused len b bs long = rw (le-ltb len 4294967296 long) refl
 
 pub keeps-area : (f : FunctionType) (flats : List Flat) (caller : List ℕ) (blocks : List Block) → can_lend (length caller) (area_block f flats) blocks ≡ true
     → KeepsArea f flats caller blocks

@@ -1,7 +1,6 @@
 -- How many values are visited, part by part.
 use Rattle.std.proofs.Common.{◌≡◌, ℕ, zero, suc, ◌+◌, ◌*◌, ◌≤◌, length, Some, None, sym, ap, subst, length-append, arith}
 use Rattle.std.proofs.lemmas.Nat.{mul-le}
-use Rattle.std.specs.Int.{next_multiple_of}
 use Rattle.canonical_abi.specs.Types.{ClosedType, IsStandard, AreStandardFields, AreStandardCases, prim_type, string_type, list_type, record_type, variant_type, flags_type, Fields, no_field, field, Cases, no_case, plain_case, case_with, nth_field, nth_case, depth, fields_depth, cases_depth}
 use Rattle.canonical_abi.specs.Layout.{size, fields_size, flat_kinds, field_kinds, payload_kinds}
 use Rattle.canonical_abi.proofs.Layouts.AlignmentsAndSizes.{one-size}

@@ -1,6 +1,7 @@
-use Rattle.std.proofs.Common.{refl, ◌≡◌, ◌≤◌, sym, ap, ◌∙◌, subst, arith}
+use Rattle.std.proofs.Common.{map, rules, refl, ◌≡◌, ◌≤◌, sym, ap, ◌∙◌, subst, arith}
 use Rattle.canonical_abi.specs.Types.{record_type, result_fields}
-use Rattle.canonical_abi.specs.Layout.{lifted_signature, size}
+use Rattle.canonical_abi.specs.Layout.{lifted_signature, passed_kinds, max_flat_results, size}
+use Rattle.canonical_abi.specs.Reading.{kind_of}
 use Rattle.tables.specs.Closed.{function_type}
 use Rattle.values.specs.Members.{fields_of_types, AreAllInside}
 use Rattle.adapter.proofs.ParametersAsTableTypes.{same_types}
@@ -14,19 +15,18 @@ lifted_result-requires g c = function-stands c.args.walk.now.types.now c.layouts
 pub lifted_count-requires : goal.lifted_count-requires
 lifted_count-requires g c = function-stands c.args.walk.now.types.now c.layouts-layouts.result.now c.args.call.now.func c.layouts-layouts.ensures c.requires.function
 
-pub cross_result-crossed-requires-clause-inside : goal.cross_result-crossed-requires-clause-inside
-cross_result-crossed-requires-clause-inside g c =
+pub cross_result-crossed-requires : goal.cross_result-crossed-requires
+cross_result-crossed-requires g c =
     let r = c.args.walk.now.types.now in
+    let func = c.args.call.now.func in
     let s = c.signature.result.now in
-    let known = result-inside r c.args.call.now.func c.requires.function s (rw c.resolve.ensures at c.signature.ensures) in
-    subst (AreAllInside r) (sym (same_types s.result _ c.as_slice-types.ensures)) (all-inside r s.result known)
-
-pub cross_result-crossed-requires-clause-small : goal.cross_result-crossed-requires-clause-small
-cross_result-crossed-requires-clause-small g c =
-    let r = c.args.walk.now.types.now in
-    let s = c.signature.result.now in
-    let known = result-known r c.args.call.now.func c.requires.function s (rw c.resolve.ensures at c.signature.ensures) in
-    subst (λ ts. size (record_type (fields_of_types r ts)) ≤ 16777216) (sym (same_types s.result _ c.as_slice-types.ensures)) (result-small r c.requires.within s.result known)
+    let types = c.as_slice-types.result.now in
+    let found = rw c.resolve.ensures at c.signature.ensures in
+    let are = sym (same_types s.result _ c.as_slice-types.ensures) in
+    let inside = subst (AreAllInside r) are (all-inside r s.result (result-inside r func c.requires.function s found)) in
+    let small = subst (λ ts. size (record_type (fields_of_types r ts)) ≤ 16777216) are (result-small r c.requires.within s.result (result-known r func c.requires.function s found)) in
+    let kinds : map kind_of c.args.answer.now ≡ passed_kinds max_flat_results (fields_of_types r types) = search rules in
+    (search rules, (inside, (small, (c.requires.short, (kinds, (c.requires.capacity, (c.requires.room, c.requires.empty)))))))
 
 pub returns-in-Ok-clause-returned : goal.returns-in-Ok-clause-returned
 returns-in-Ok-clause-returned g c =

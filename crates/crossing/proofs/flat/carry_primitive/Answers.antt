@@ -6,7 +6,7 @@ use Rattle.tables.specs.Closed.{prim_of}
 use Rattle.crossing.proofs.flat.carry_primitive.Goals as goal
 
 pub returns-in-Ok-clause-ok : goal.returns-in-Ok-clause-ok
-returns-in-Ok-clause-ok c m =
+returns-in-Ok-clause-ok g c m =
     let p = prim_of c.args.primitive in
     let ns = map number_of c.args.flats.now in
     let s = c.in-Ok.scalar in
@@ -15,4 +15,4 @@ returns-in-Ok-clause-ok c m =
     (value_in s, _ ∷ [], c.in-Ok.ensures.value, (typed, refl, refl), told)
 
 pub returns-in-Err-clause-fault : goal.returns-in-Err-clause-fault
-returns-in-Err-clause-fault c = (c.in-Err.kind, refl, λ m. (c.in-Err.ensures.fault, refl))
+returns-in-Err-clause-fault g c = (c.in-Err.kind, refl, λ m. (c.in-Err.ensures.fault, refl))

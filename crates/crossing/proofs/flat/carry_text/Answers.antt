@@ -46,7 +46,7 @@ returns g c =
     let gr = granted-led 4294967295 A 1 (length text) place old mid ok in
     let led = rw c.as_bytes.ensures.value at c.write_bytes.ensures.led in
     let P : ℕ → Type 0 = λ p. EventLeads A mid (write p text) new in
-    let ends : c.push_header.new.flats.items ≡ header_behind front gr.0.at (length text) = c.push_header.ensures ∙ ap (λ p. header_behind front p (length text)) (sym gr.2) in
+    let ends : c.push_header.new.out.items ≡ header_behind front gr.0.at (length text) = c.push_header.ensures ∙ ap (λ p. header_behind front p (length text)) (sym gr.2) in
     λ n.
     let Q : List Flat → Type 0 = λ f. IsCrossed A (TextFlat A m ns front start len text c.low_word-start.ensures c.low_word-len.ensures held f) old n new n in
     subst Q (sym ends) (text-flat-done A m ns front start len text c.low_word-start.ensures c.low_word-len.ensures held gr.0 gr.1 old mid new n gr.3 ok.no_shorter (subst P (sym gr.2) led) c.write_bytes.ensures.same_length)

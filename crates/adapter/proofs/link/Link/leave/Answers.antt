@@ -1,4 +1,4 @@
-use Rattle.std.proofs.Common.{◌≡◌, ◌≤◌, IfErr, length, sym, ap, ◌∙◌, subst, arith}
+use Rattle.std.proofs.Common.{◌≡◌, ◌≤◌, IfErr, length, sym, ap, ◌∙◌, subst, arith, rules}
 use Rattle.canonical_abi.specs.Call.{KindsFit}
 use Rattle.canonical_abi.specs.Guest.{IsLimited}
 use Rattle.canonical_abi.specs.Halves.{ReturnFails}
@@ -17,12 +17,13 @@ takes-requires g c =
     let same : c.new.result ≡ r = c.new.ensures ∙ ap (λ l. l.resolve) c.self.view_is in
     function-stands r c.layouts.result.now c.args.call.now.func (c.layouts.ensures ∙ ap layouts_of same) c.requires.function
 
-pub leave_walked-requires-clause-kinds : goal.leave_walked-requires-clause-kinds
-leave_walked-requires-clause-kinds g c =
+pub leave_walked-requires : goal.leave_walked-requires
+leave_walked-requires g c =
     let r = c.args.self.now.resolve in
     let own : c.self.inside.resolve.now ≡ r = ap (λ l. l.resolve) c.self.view_is in
     let kinds = (c.takes.ensures r (c.layouts.ensures ∙ ap layouts_of (c.new.ensures ∙ own)) c.requires.function).0 c.if-not-takes.false in
-    subst (λ q. KindsFit (function_type q c.args.call.now.func) c.args.call.now.flats.now) (sym own) kinds
+    let fit = subst (λ q. KindsFit (function_type q c.args.call.now.func) c.args.call.now.flats.now) (sym own) kinds in
+    (search rules, (search rules, (fit, (omega arith, (omega arith, search rules)))))
 
 pub returns-then-not-is_plain_answer-clause-kinds : goal.returns-then-not-is_plain_answer-clause-kinds
 returns-then-not-is_plain_answer-clause-kinds g c =

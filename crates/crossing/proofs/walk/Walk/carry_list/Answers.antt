@@ -71,6 +71,6 @@ returns g c =
     let new = g.G.Guest.memory c.cross_elements.new.guest in
     let gr = granted-led 4294967295 A (align u) (n * size u) c.in-Ok.place old mid ok in
     let Q : ℕ → Type 0 = λ p. Ends A (EachWalks u m start p n) mid c.args.nodes.now (Ok tt) new c.cross_elements.new.nodes in
-    let ends : c.push_header.new.flats.items ≡ header_behind front gr.0.at n = c.push_header.ensures ∙ ap (λ p. header_behind front p n) (sym gr.2) in
+    let ends : c.push_header.new.out.items ≡ header_behind front gr.0.at n = c.push_header.ensures ∙ ap (λ p. header_behind front p n) (sym gr.2) in
     let R : List Flat → Type 0 = λ f. IsCrossed A (ListFlat A u m ns front start n c.low_word-start.ensures c.low_word-count.ensures stands f) old c.args.nodes.now new c.cross_elements.new.nodes in
     subst R (sym ends) (list-flat-ends A u m ns front start n c.low_word-start.ensures c.low_word-count.ensures stands gr.0 gr.1 old mid (Ok tt) new c.args.nodes.now c.cross_elements.new.nodes gr.3 ok.no_shorter (subst Q (sym gr.2) c.in_ok-cross_elements.ensures))
