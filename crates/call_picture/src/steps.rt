@@ -23,7 +23,8 @@ impl Call<'_> {
         requires { HaveTypes (map value_of arguments.now) (function_type self.now.resolve.now self.now.func).params }
     {
         let table = self.table();
-        let mut flats = lower_arguments(&table, self.func, arguments, &mut course.caller)?;
+        let mut flats = Flats::new();
+        lower_arguments(&table, self.func, arguments, &mut course.caller, &mut flats)?;
         let ty = result_type(self.resolve, self.func);
         course.area = ask_area(&table, ty, &mut course.caller)?;
         if let Some(at) = course.area {

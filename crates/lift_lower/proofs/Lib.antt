@@ -12,4 +12,6 @@ pub mod StoredFromParts
 pub mod LoweredFromParts
 pub mod OnlyAllocatorsRefuse
 pub mod CallerSideOfTypedCalls
+pub mod ScalarsLowered
+pub mod ScalarListBytes
 mod HeadExamples

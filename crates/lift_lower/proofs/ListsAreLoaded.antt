@@ -1,5 +1,5 @@
 -- How a callee's fault is the caller's, and how a list's values are read once its block is tested.
-use Rattle.std.proofs.Common.{◌≡◌, ℕ, ◌+◌, ◌*◌, List, Result, Ok, Err, refl}
+use Rattle.std.proofs.Common.{◌≡◌, ℕ, ◌+◌, ◌*◌, List, map, Vec, Global, Result, Ok, Err, refl}
 use Rattle.std.specs.Int.{w32}
 use Rattle.canonical_abi.specs.Types.{ClosedType, list_type}
 use Rattle.canonical_abi.specs.Values.{Value, values_of, list_value}
@@ -11,8 +11,10 @@ use Rattle.canonical_abi.specs.Memory.{Holds, Faulty, HoldsInBlock, FaultyInBloc
 use Rattle.canonical_abi.specs.declared.trap.Fault.{Fault}
 use Rattle.canonical_abi.specs.declared.trap.Step.{Step}
 use Rattle.canonical_abi.proofs.ReadValues.ReadsExactly.{block-at-tells, reading-tells}
-use Rattle.lift_lower.specs.NoValue.{FailsAs, fault_in_step, AnswerStands}
+use Rattle.lift_lower.specs.NoValue.{AnswersAs, FailsAs, fault_in_step, AnswerStands}
 use Rattle.lift_lower.specs.Loading.{reading_block}
+use Rattle.values.specs.Val.{value_of}
+use Rattle.values.specs.declared.val.Val.{Val}
 use Rattle.lift_lower.specs.declared.no_value.NoValue.{NoValue}
 use Rattle.lift_lower.specs.declared.no_value.NoValue.TheVariants as no_value
 
@@ -41,3 +43,10 @@ block-tells t m at = block-at-tells (λ a. reading t m a) (Holds t m at) (Faulty
 pub fails-stand : {X Y : Type 0} (step : Step) (e : NoValue) (f : Fault) (read : Result Y TrapKind) (P : X → Type 0) (F : TrapKind → Type 0) → f ≡ fault_in_step step e → FailsAs e read → ((k : TrapKind) → read ≡ Err k → F k) → AnswerStands step P F (Err f)
 fails-stand step no_value.NoMemory f read P F is h stands = rw is tt
 fails-stand step (no_value.Trap k) f read P F is h stands = rw is (refl, stands k h)
+
+-- the values of a list, as the list
+pub as-listed : (r : Result (Vec Val Global) NoValue) (read : Result (List Value) TrapKind) → AnswersAs (λ v. map value_of v.items) r read
+    → AnswersAs (λ v. list_value (values_of (map value_of v.items))) r (listed read)
+as-listed (Ok v) read h = rw h refl
+as-listed (Err no_value.NoMemory) read h = tt
+as-listed (Err (no_value.Trap k)) read h = rw h refl

@@ -5,3 +5,4 @@ pub mod Lowered
 pub mod Placing
 pub mod Scripts
 pub mod Heads
+pub mod ScalarLists

@@ -5,13 +5,32 @@ ghost use Rattle.canonical_abi.specs.Layout.{prim_width};
 ghost use Rattle.canonical_abi.specs.Reading.{byte_width};
 ghost use Rattle.canonical_abi.specs.Storing.{pointer_pair, number_in};
 ghost use Rattle.canonical_abi.specs.Trace.{EventLeads, RequestEnds, write};
-ghost use Rattle.std.specs.Int.{to_le_bytes, byte_len};
+ghost use Rattle.std.specs.Int.{to_le_bytes, byte_len, next_multiple_of};
 ghost use Rattle.values.specs.Scalar.{prim_in, value_in};
 ghost use Rattle.lift_lower.specs.Scripts.{IsDone, HasEnded, GrantsBlock, PutsText, PutsTextAt};
 
 use canonical_abi::{Guest, TrapKind};
 use values::Scalar;
 use values::bytes::test_block;
+
+/// The next multiple of an alignment. Of those that there are each has a constant divisor here, so that nothing is
+/// divided.
+#[inline(always)]
+pub(crate) fn aligned(end: usize, align: usize) -> usize
+    requires positive { 0 < align }
+    requires fits { next_multiple_of end align < 2 ^ 64 }
+    ensures value { result ≡ next_multiple_of end align }
+    ensures lower_bound { end ≤ result }
+    ensures upper_bound { result < end + align }
+{
+    match align {
+        1 => end.next_multiple_of(1),
+        2 => end.next_multiple_of(2),
+        4 => end.next_multiple_of(4),
+        8 => end.next_multiple_of(8),
+        _ => end.next_multiple_of(align),
+    }
+}
 
 /// Writes bytes at an address.
 pub fn write_bytes<G: Guest>(guest: &mut G, at: usize, bytes: &[u8])
@@ -52,8 +71,9 @@ pub fn write_number<G: Guest>(guest: &mut G, at: usize, size: usize, number: u32
     write_bytes(guest, at, &bytes[..size]);
 }
 
-/// Writes a value of a primitive type other than string.
-pub fn write_scalar<G: Guest>(guest: &mut G, at: usize, scalar: Scalar)
+/// `write_scalar` as a part of the loop that calls it, where the value's type is looked at already.
+#[inline(always)]
+pub(crate) fn put_scalar_at<G: Guest>(guest: &mut G, at: usize, scalar: Scalar)
     requires inside { at + byte_len (prim_width (prim_in scalar)) ≤ length (G.memory guest.old).bytes }
     requires small { at < 2 ^ 32 }
     ensures led { let w = prim_width (prim_in scalar) in
@@ -73,6 +93,18 @@ pub fn write_scalar<G: Guest>(guest: &mut G, at: usize, scalar: Scalar)
         Scalar::U64(n) => write_bytes(guest, at, &n.to_le_bytes()),
         Scalar::Char(c) => write_bytes(guest, at, &u32::from(c).to_le_bytes()),
     }
+}
+
+/// Writes a value of a primitive type other than string.
+pub fn write_scalar<G: Guest>(guest: &mut G, at: usize, scalar: Scalar)
+    requires inside { at + byte_len (prim_width (prim_in scalar)) ≤ length (G.memory guest.old).bytes }
+    requires small { at < 2 ^ 32 }
+    ensures led { let w = prim_width (prim_in scalar) in
+        EventLeads G.allocates (G.memory guest.old) (write at (to_le_bytes w (number_in w (value_in scalar))))
+        (G.memory guest.new) }
+    ensures same_length { length (G.memory guest.new).bytes ≡ length (G.memory guest.old).bytes }
+{
+    put_scalar_at(guest, at, scalar);
 }
 
 /// Asks for a block and tests its address: `Bounds` where it is for more than the limit, before it is asked

@@ -15,6 +15,7 @@ mod lowering;
 mod no_value;
 pub mod nodes;
 mod placing;
+mod scalar_lists;
 mod storing;
 
 pub use canonical_abi::{CoreKind, Fault, Flat, Step, Trap, TrapKind};

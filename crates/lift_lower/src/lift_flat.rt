@@ -29,7 +29,7 @@ pub fn low_word(flats: &[Flat], index: usize) -> u32
 }
 
 #[tactic(auto, unfolding(canonical_abi::specs::Reading::low_bits))]
-fn lift_primitive(primitive: Primitive, flats: &[Flat]) -> Result<Val, NoValue>
+pub(crate) fn lift_primitive(primitive: Primitive, flats: &[Flat]) -> Result<Val, NoValue>
     requires { 0 < length flats.now }
     ensures value { (m : List ℕ) → AnswersAs value_of result
         (lifting (prim_type (prim_of primitive)) m (map number_of flats.now)) }

@@ -1,14 +1,14 @@
 //! Lifting: the values that flat values denote.
-ghost use Rattle.std.specs.Prelude.{◌≡◌, ◌≢◌, ◌≤◌, ◌↔◌, ◌<◌, ◌^◌, Err, [], ◌∷◌, length, map, IfOk, IfErr, IfSome};
-ghost use Rattle.std.specs.Prelude.{option_map, option_to_list};
-ghost use Rattle.canonical_abi.specs.Types.{record_type, result_fields, field, no_field, IsPlain};
+ghost use Rattle.std.specs.Prelude.{◌≡◌, ◌≢◌, ◌≤◌, ◌↔◌, ◌<◌, ◌^◌, ℕ, List, Err, [], ◌∷◌, length, map, IfOk, IfErr};
+ghost use Rattle.std.specs.Prelude.{IfSome, option_map, option_to_list};
+ghost use Rattle.canonical_abi.specs.Types.{prim_type, record_type, result_fields, field, no_field, IsPlain};
 ghost use Rattle.canonical_abi.specs.Flat.{Denotes, DenotesFault};
 ghost use Rattle.canonical_abi.specs.Layout.{size, max_flat_params, max_flat_results};
 ghost use Rattle.canonical_abi.specs.Reading.{denoting};
 ghost use Rattle.canonical_abi.specs.Values.{HaveTypes};
 ghost use Rattle.canonical_abi.specs.declared.trap.Step.TheVariants.{Take};
 ghost use Rattle.layout.specs.Layout.{layouts_of};
-ghost use Rattle.tables.specs.Closed.{closed_type};
+ghost use Rattle.tables.specs.Closed.{closed_type, prim_of};
 ghost use Rattle.values.specs.Members.{fields_of_types, AreAllInside};
 ghost use Rattle.lift_lower.specs.Crossing.{LiftFails};
 ghost use Rattle.lift_lower.specs.NoValue.{AnswersAs, AnswerStands};
@@ -17,14 +17,14 @@ ghost use Rattle.values.specs.Bytes.{AreBytes};
 ghost use Rattle.values.specs.Types.{IsInside};
 ghost use Rattle.values.specs.Val.{value_of};
 
-use crate::lift_flat::{lift_at, lift_fields, low_word};
+use crate::lift_flat::{lift_at, lift_fields, lift_primitive, low_word};
 use crate::loading::{check_block, load_block, load_fields};
 use crate::no_value::NoValue;
 use canonical_abi::{CoreKind, Fault, Flat, Guest, Step, TrapKind};
 use layout::{Layouts, are_kinds};
 use std::alloc::Global;
-use tables::{Resolve, ValType};
-use values::{Members, Types, Val};
+use tables::{Primitive, Resolve, ValType};
+use values::{Members, Types, Val, core_kind};
 
 /// The values that flat values denote over a memory, or the first fault, in step `take`. `NoMemory` where
 /// the host has none for the values.
@@ -121,6 +121,9 @@ fn lift_value(
     ensures plain { IsPlain (closed_type table.now ty) → result ≢ Err NoValue.NoMemory }
     ensures bytes { AreBytes memory.now }
 {
+    if let ValType::Primitive(primitive) = ty {
+        return lift_one(primitive, flats);
+    }
     let Some(kinds) = table.kinds_within(&[ty], 1) else {
         if !are_kinds(&[CoreKind::I32], flats) {
             return Err(NoValue::Trap(TrapKind::CoreSignature));
@@ -132,6 +135,18 @@ fn lift_value(
         return Err(NoValue::Trap(TrapKind::CoreSignature));
     }
     lift_at(alloc, table, ty, memory, flats)
+}
+
+/// The value of a primitive type that flat values denote.
+fn lift_one(primitive: Primitive, flats: &[Flat]) -> Result<Val, NoValue>
+    ensures value { (m : List ℕ) → AnswersAs (λ v. value_of v ∷ []) result
+        (denoting max_flat_results (field (prim_type (prim_of primitive)) no_field) m flats.now) }
+    ensures plain { result ≢ Err NoValue.NoMemory }
+{
+    if !are_kinds(&[core_kind(primitive)], flats) {
+        return Err(NoValue::Trap(TrapKind::CoreSignature));
+    }
+    lift_primitive(primitive, flats)
 }
 
 /// The values that flat values denote, of which at most `limit` go flat.

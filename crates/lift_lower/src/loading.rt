@@ -19,7 +19,9 @@ ghost use Rattle.values.specs.Members.{AreInside, members_fields};
 ghost use Rattle.values.specs.Types.{IsInside};
 ghost use Rattle.values.specs.Val.{value_of};
 
+use crate::guest_blocks::aligned;
 use crate::no_value::NoValue;
+use crate::scalar_lists::load_scalars;
 use canonical_abi::{Fault, Guest, Step, TrapKind};
 use layout::{Layouts, Shape};
 use std::alloc::Global;
@@ -48,7 +50,7 @@ pub(crate) fn check_block(
     }
 }
 
-fn load_primitive(primitive: Primitive, memory: &[u8], at: usize) -> Result<Val, NoValue>
+pub(crate) fn load_primitive(primitive: Primitive, memory: &[u8], at: usize) -> Result<Val, NoValue>
     requires { at + size (prim_type (prim_of primitive)) ≤ length memory.now }
     ensures value { AnswersAs value_of result (reading (prim_type (prim_of primitive)) memory.now at) }
     ensures plain { result ≢ Err NoValue.NoMemory }
@@ -86,8 +88,29 @@ pub(crate) fn load_text(
     }
 }
 
+/// The value at a place that lies inside the memory.
 #[cycle(load)]
+#[inline(always)]
 pub(crate) fn load_at(
+    alloc: Global,
+    table: &Types,
+    ty: ValType,
+    memory: &[u8],
+    at: usize,
+) -> Result<Val, NoValue>
+    requires inside { IsInside table.now ty }
+    requires fits { at + size (closed_type table.now ty) ≤ length memory.now }
+    ensures value { AnswersAs value_of result (reading (closed_type table.now ty) memory.now at) }
+    ensures plain { IsPlain (closed_type table.now ty) → result ≢ Err NoValue.NoMemory }
+{
+    match ty {
+        ValType::Primitive(primitive) => load_primitive(primitive, memory, at),
+        _ => load_compound(alloc, table, ty, memory, at),
+    }
+}
+
+#[cycle(load)]
+fn load_compound(
     alloc: Global,
     table: &Types,
     ty: ValType,
@@ -145,6 +168,9 @@ pub(crate) fn load_list(
     let step = table.size_of(element);
     let align = table.align_of(element);
     check_block(memory, start, align, count * step)?;
+    if let ValType::Primitive(primitive) = element {
+        return load_scalars(alloc, primitive, memory, start, count);
+    }
     let mut items = Vec::new(alloc);
     for index in 0..count {
         let item = load_at(alloc, table, element, memory, start + index * step)?;
@@ -170,12 +196,13 @@ pub(crate) fn load_fields(
         (reading_fields (members_fields table.now members.now) memory.now at 0) }
 {
     let mut fields = Vec::new(alloc);
+    fields.reserve(count)?;
     let mut end: usize = 0;
     for index in 0..count {
         let Some(member) = table.member_type(members, index) else {
             unreachable!()
         };
-        let place = end.next_multiple_of(table.align_of(member));
+        let place = aligned(end, table.align_of(member));
         let field = load_at(alloc, table, member, memory, at + place)?;
         fields.push(field)?;
         end = place + table.size_of(member);

@@ -1,7 +1,7 @@
 //! The caller's side of a typed call: arguments and return area are put into its memory, and the result is
 //! taken from there.
-ghost use Rattle.std.specs.Prelude.{◌≡◌, ◌≢◌, ◌≤◌, ◌↔◌, ℕ, List, IsTrue, Err, length, map, IfOk, IfErr, IfSome};
-ghost use Rattle.std.specs.Prelude.{option_map, option_to_list};
+ghost use Rattle.std.specs.Prelude.{◌≡◌, ◌≢◌, ◌≤◌, ◌↔◌, ℕ, List, [], IsTrue, Err, length, map, IfOk, IfErr, IfSome};
+ghost use Rattle.std.specs.Prelude.{OnOk, option_map, option_to_list};
 ghost use Rattle.canonical_abi.specs.Types.{record_type, record_fields, result_fields, AreStandardFields, IsPlain};
 ghost use Rattle.canonical_abi.specs.Values.{HaveTypes};
 ghost use Rattle.canonical_abi.specs.Layout.{fits_flat, align, size};
@@ -12,7 +12,7 @@ ghost use Rattle.canonical_abi.specs.declared.trap.Step.TheVariants.{Take};
 ghost use Rattle.tables.specs.Closed.{closed_type, function_type, IsFunction};
 ghost use Rattle.lift_lower.specs.Crossing.{AreLowered, LowerFails};
 ghost use Rattle.lift_lower.specs.NoValue.{AnswerStands};
-ghost use Rattle.lift_lower.specs.Lowered.{PassesParamsBy, SpilledLowerBy};
+ghost use Rattle.lift_lower.specs.Lowered.{PassesParamsBy, SpilledLowerBy, CarryScalars};
 ghost use Rattle.lift_lower.specs.Placing.{area_at, IsAreaIn, IsAreaAsked, AreaFails};
 ghost use Rattle.lift_lower.specs.Scripts.{IsDone, HasEnded};
 ghost use Rattle.values.specs.Types.{IsInside};
@@ -27,30 +27,55 @@ use canonical_abi::{Fault, Flat, Guest, TrapKind};
 use std::alloc::Global;
 use tables::{FunctionId, TypeId, ValType};
 use values::bytes::test_block;
-use values::{Flats, Members, Types, Val};
+use values::{Flats, Members, Scalar, Types, Val, lower_scalar};
 
-/// Lowers a function's arguments into the caller. A trap is in step `place`: the first request that fails.
-/// Takes no memory of the host.
+/// Lowers a function's arguments into the caller: their core values replace those that the list had. A trap is in step
+/// `place`: the first request that fails. Takes no memory of the host.
 pub fn lower_arguments<G: Guest>(
     table: &Types,
     func: FunctionId,
     values: &[Val],
     guest: &mut G,
-) -> Result<Flats, Fault>
+    flats: &mut Flats,
+) -> Result<(), Fault>
     requires function { IsFunction table.now func }
     requires typed { HaveTypes (map value_of values.now) (function_type table.now func).params }
-    ensures flats { IfOk result (λ flats. AreLowered G.allocates (function_type table.now func).params
-        (map value_of values.now) (G.memory guest.old) flats.items (G.memory guest.new)) }
-    ensures few { IfOk result (λ flats. length flats.items ≤ 16) }
+    ensures flats { OnOk result (AreLowered G.allocates (function_type table.now func).params
+        (map value_of values.now) (G.memory guest.old) flats.new.items (G.memory guest.new)) }
+    ensures few { OnOk result (length flats.new.items ≤ 16) }
     ensures fault { IfErr result (λ fault. LowerFails G.allocates (function_type table.now func).params
         (map value_of values.now) (G.memory guest.old) fault (G.memory guest.new)) }
 {
+    flats.clear();
+    if lower_scalars(values, flats) {
+        return Ok(());
+    }
+    flats.clear();
     // A function's row is the record of its parameters.
     let row = ValType::Id(TypeId(func.0));
-    match lower_record(table, row, values, guest) {
-        Ok(flats) => Ok(flats),
+    match lower_record(table, row, values, guest, flats) {
+        Ok(()) => Ok(()),
         Err(kind) => Err(place_fault(kind)),
     }
+}
+
+/// Lowers at most sixteen values without a look at their types, if all are of primitive types other than string: no
+/// block is asked for.
+fn lower_scalars(values: &[Val], flats: &mut Flats) -> bool
+    requires empty { flats.old.items ≡ [] }
+    ensures carried { IsTrue result → CarryScalars (map value_of values.now) flats.new.items }
+    ensures few { IsTrue result → length flats.new.items ≤ 16 }
+{
+    if values.len() > 16 {
+        return false;
+    }
+    for value in values {
+        let Some(scalar) = Scalar::of(value) else {
+            return false;
+        };
+        flats.push(lower_scalar(scalar));
+    }
+    true
 }
 
 /// Lowers the fields of a record: flat, or into a block where more than sixteen core values would carry them.
@@ -59,25 +84,25 @@ fn lower_record<G: Guest>(
     ty: ValType,
     values: &[Val],
     guest: &mut G,
-) -> Result<Flats, TrapKind>
+    flats: &mut Flats,
+) -> Result<(), TrapKind>
+    requires empty { flats.old.items ≡ [] }
     requires inside { IsInside table.now ty }
     requires record { closed_type table.now ty ≡ record_type (record_fields (closed_type table.now ty)) }
     requires standard { AreStandardFields (record_fields (closed_type table.now ty)) }
     requires typed { HaveTypes (map value_of values.now) (record_fields (closed_type table.now ty)) }
-    ensures ok { IfOk result (λ flats. IsDone 16777216 G.allocates
-        (λ es. PassesParams 16 (record_fields (closed_type table.now ty)) (map value_of values.now) es flats.items)
+    ensures ok { OnOk result (IsDone 16777216 G.allocates
+        (λ es. PassesParams 16 (record_fields (closed_type table.now ty)) (map value_of values.now) es flats.new.items)
         (G.memory guest.old) (G.memory guest.new)) }
     ensures fault { IfErr result (λ k. HasEnded 16777216 G.allocates
         (PassesParamsBy 16 (record_fields (closed_type table.now ty)) (map value_of values.now))
         (G.memory guest.old) k (G.memory guest.new)) }
 {
     if !goes_flat(table, ty) {
-        return spill_record(table, ty, values, guest);
+        return spill_record(table, ty, values, guest, flats);
     }
-    let mut flats = Flats::new();
     let members = Members::Of(ty);
-    lower_fields(table, MAX_BLOCK, &members, values, guest, &mut flats)?;
-    Ok(flats)
+    lower_fields(table, MAX_BLOCK, &members, values, guest, flats)
 }
 
 /// Whether at most sixteen core values carry the fields of a record.
@@ -86,7 +111,7 @@ fn goes_flat(table: &Types, ty: ValType) -> bool
     requires record { closed_type table.now ty ≡ record_type (record_fields (closed_type table.now ty)) }
     ensures { result ≡ fits_flat 16 (record_fields (closed_type table.now ty)) }
 {
-    table.kinds_within(&[ty], 16).is_some()
+    table.count_within(&[ty], 16).is_some()
 }
 
 /// Stores the fields of a record in a block of its own, whose address is the one core value.
@@ -95,13 +120,15 @@ fn spill_record<G: Guest>(
     ty: ValType,
     values: &[Val],
     guest: &mut G,
-) -> Result<Flats, TrapKind>
+    flats: &mut Flats,
+) -> Result<(), TrapKind>
+    requires empty { flats.old.items ≡ [] }
     requires inside { IsInside table.now ty }
     requires record { closed_type table.now ty ≡ record_type (record_fields (closed_type table.now ty)) }
     requires standard { AreStandardFields (record_fields (closed_type table.now ty)) }
     requires typed { HaveTypes (map value_of values.now) (record_fields (closed_type table.now ty)) }
-    ensures ok { IfOk result (λ flats. IsDone 16777216 G.allocates
-        (λ es. SpilledLower (record_fields (closed_type table.now ty)) (map value_of values.now) es flats.items)
+    ensures ok { OnOk result (IsDone 16777216 G.allocates
+        (λ es. SpilledLower (record_fields (closed_type table.now ty)) (map value_of values.now) es flats.new.items)
         (G.memory guest.old) (G.memory guest.new)) }
     ensures fault { IfErr result (λ k. HasEnded 16777216 G.allocates
         (SpilledLowerBy (record_fields (closed_type table.now ty)) (map value_of values.now))
@@ -112,9 +139,8 @@ fn spill_record<G: Guest>(
     let start = ask_block(guest, MAX_BLOCK, align, size)?;
     let members = Members::Of(ty);
     store_fields(table, MAX_BLOCK, &members, values, guest, start)?;
-    let mut flats = Flats::new();
     flats.push(Flat::I32(start as u32));
-    Ok(flats)
+    Ok(())
 }
 
 /// Asks for the return area of a call, where the result does not go flat. A trap is in step `place`. Takes no
@@ -135,7 +161,7 @@ pub fn ask_area<G: Guest>(
     let Some(ty) = ty else {
         return Ok(None);
     };
-    let Some(_) = table.kinds_within(&[ty], 1) else {
+    let Some(_) = table.count_within(&[ty], 1) else {
         let size = table.size_of(ty);
         let align = table.align_of(ty);
         return match ask_block(guest, MAX_BLOCK, align, size) {
@@ -171,7 +197,7 @@ pub fn is_area<G: Guest>(table: &Types, ty: Option<ValType>, area: Option<u32>, 
     let Some(ty) = ty else {
         return area.is_none();
     };
-    match (table.kinds_within(&[ty], 1), area) {
+    match (table.count_within(&[ty], 1), area) {
         (Some(_), None) => true,
         (None, Some(at)) => is_block(table, ty, at, guest.len()),
         _ => false,

@@ -16,9 +16,12 @@ ghost use Rattle.lift_lower.specs.Crossing.{IsStoredAt, StoreFails};
 ghost use Rattle.values.specs.Members.{AreInside, members_fields};
 ghost use Rattle.lift_lower.specs.Scripts.{IsDone, HasEnded, GrantsBlock, AsksBlock};
 ghost use Rattle.values.specs.Types.{IsInside};
-ghost use Rattle.values.specs.Val.{value_of, variant_value};
+ghost use Rattle.values.specs.Val.{value_of, variant_value, IsCompound};
 
-use crate::guest_blocks::{ask_block, put_text, write_header, write_number, write_scalar};
+use crate::guest_blocks::{
+    aligned, ask_block, put_scalar_at, put_text, write_header, write_number,
+};
+use crate::scalar_lists::store_scalars;
 use canonical_abi::{Fault, Guest, Step, Trap, TrapKind};
 use layout::{Layouts, Shape};
 use tables::{Resolve, ValType};
@@ -78,6 +81,7 @@ pub(crate) fn place_fault(kind: TrapKind) -> Fault
 
 /// Stores a value at a place that lies inside the memory.
 #[cycle(store)]
+#[inline(always)]
 pub(crate) fn store_at<G: Guest>(
     table: &Types,
     limit: u32,
@@ -86,6 +90,37 @@ pub(crate) fn store_at<G: Guest>(
     guest: &mut G,
     at: usize,
 ) -> Result<(), TrapKind>
+    requires inside { IsInside table.now ty }
+    requires standard { IsStandard (closed_type table.now ty) }
+    requires typed { HasType (value_of value.now) (closed_type table.now ty) }
+    requires room { at + size (closed_type table.now ty) ≤ length (G.memory guest.old).bytes }
+    requires small { at + size (closed_type table.now ty) < 2 ^ 32 }
+    ensures ok { OnOk result (IsDone limit G.allocates (Stores (closed_type table.now ty) at (value_of value.now))
+        (G.memory guest.old) (G.memory guest.new)) }
+    ensures fault { IfErr result (λ k. HasEnded limit G.allocates
+        (Stores (closed_type table.now ty) at (value_of value.now))
+        (G.memory guest.old) k (G.memory guest.new)) }
+{
+    match Scalar::of(value) {
+        Some(scalar) => {
+            put_scalar_at(guest, at, scalar);
+            Ok(())
+        }
+        None => store_compound(table, limit, ty, value, guest, at),
+    }
+}
+
+/// Stores a text, a list, a record, a variant or flags.
+#[cycle(store)]
+fn store_compound<G: Guest>(
+    table: &Types,
+    limit: u32,
+    ty: ValType,
+    value: &Val,
+    guest: &mut G,
+    at: usize,
+) -> Result<(), TrapKind>
+    requires compound { IsCompound value.now }
     requires inside { IsInside table.now ty }
     requires standard { IsStandard (closed_type table.now ty) }
     requires typed { HasType (value_of value.now) (closed_type table.now ty) }
@@ -125,13 +160,7 @@ pub(crate) fn store_at<G: Guest>(
             write_number(guest, at, flags_bytes(labels), *bits);
             Ok(())
         }
-        _ => {
-            let Some(scalar) = Scalar::of(value) else {
-                unreachable!()
-            };
-            write_scalar(guest, at, scalar);
-            Ok(())
-        }
+        _ => unreachable!(),
     }
 }
 
@@ -224,6 +253,10 @@ pub(crate) fn store_items<G: Guest>(
         IfErr result (λ k. HasEnded limit G.allocates (EachStores (Stores t) (size t) start (map value_of items.now))
         (G.memory guest.old) k (G.memory guest.new)) }
 {
+    if let ValType::Primitive(primitive) = element {
+        store_scalars(primitive, items, guest, start);
+        return Ok(());
+    }
     let step = table.size_of(element);
     for index in 0..items.len() {
         let place = start + index * step;
@@ -260,7 +293,7 @@ pub(crate) fn store_fields<G: Guest>(
         let Some(member) = table.member_type(members, index) else {
             unreachable!()
         };
-        let place = end.next_multiple_of(table.align_of(member));
+        let place = aligned(end, table.align_of(member));
         let value = &values[index];
         store_at(table, limit, member, value, guest, at + place)?;
         end = place + table.size_of(member);

@@ -18,42 +18,36 @@ use lift_lower::{Flats, Types, Val, ask_area, lower_arguments, store};
 use opening::Package;
 use tables::{FunctionId, ValType};
 
-/// The core values that a call is given. The last is the address of the return area, if there is one.
-#[derive(Drop)]
-pub(crate) struct Placed {
-    pub(crate) flats: Flats,
-    pub(crate) area: Option<u32>,
-}
-
-/// Lowers the arguments into the caller, and then asks for the return area if the result does not go flat.
-/// Takes no memory of the host.
+/// Lowers the arguments into the caller, and then asks for the return area if the result does not go flat: its address
+/// is the last of the core values, which replace those that the list had. Takes no memory of the host.
 pub(crate) fn place_call<C: Guest>(
     table: &Types,
     func: FunctionId,
     arguments: &[Val],
     caller: &mut C,
-) -> Result<Placed, Fault>
+    flats: &mut Flats,
+) -> Result<Option<u32>, Fault>
     requires function { IsFunction table.now func }
     requires typed { HaveTypes (map value_of arguments.now) (function_type table.now func).params }
-    ensures placed { IfOk result (λ placed. IsReady C.allocates (function_type table.now func)
+    ensures placed { IfOk result (λ area. IsReady C.allocates (function_type table.now func)
         (map value_of arguments.now)
-        (C.memory caller.old) placed.flats.items placed.area (C.memory caller.new)) }
+        (C.memory caller.old) flats.new.items area (C.memory caller.new)) }
     ensures small { IfOk result (λ _. IsLimited (C.memory caller.new)) }
-    ensures area { IfOk result (λ placed. IsAreaIn (result_fields (function_type table.now func).result)
-        (C.memory caller.new).bytes placed.area) }
+    ensures area { IfOk result (IsAreaIn (result_fields (function_type table.now func).result)
+        (C.memory caller.new).bytes) }
     ensures fault { IfErr result (λ fault. IsNotReady C.allocates (function_type table.now func)
         (map value_of arguments.now)
         (C.memory caller.old) fault (C.memory caller.new)) }
 {
-    let mut flats = lower_arguments(table, func, arguments, caller)?;
+    lower_arguments(table, func, arguments, caller, flats)?;
     let area = ask_area(table, table.resolve().signature(func).result, caller)?;
     // A memory's length is a number of 32 bits.
     let _len = caller.len();
     let Some(at) = area else {
-        return Ok(Placed { flats, area });
+        return Ok(area);
     };
     flats.push(Flat::I32(at));
-    Ok(Placed { flats, area })
+    Ok(area)
 }
 
 /// Stores a value in a block of its own, which is asked for first. A trap is in step `place`: the first request that

@@ -19,7 +19,7 @@ use crate::placing::{place_call, place_value};
 use crate::steps::{Answer, Held, Step, held_by};
 use adapter::{Body, Link};
 use canonical_abi::{Fault, Guest, NotTaken};
-use lift_lower::{Val, load, take_result};
+use lift_lower::{Flats, Val, load, take_result};
 use opening::Package;
 use std::alloc::{AllocError, Global};
 use tables::{FunctionId, ValType};
@@ -342,16 +342,17 @@ pub(crate) fn call_typed<C: Guest, E: Guest, B: Body<E>>(
     ensures no_memory { IfSome (function_type «package».now.resolve func).result IsPlain → result ≢ Err Fault.NoMemory }
 {
     let table = package.types();
-    let placed = place_call(&table, func, arguments, caller)?;
+    let mut flats = Flats::new();
+    let area = place_call(&table, func, arguments, caller, &mut flats)?;
     let resolve = table.resolve();
     let mut link = Link::new(resolve, table.layouts());
-    let back = link.call(func, placed.flats.as_slice(), caller, callee, body)?;
+    let back = link.call(func, flats.as_slice(), caller, callee, body)?;
     take_result(
         alloc,
         &table,
         resolve.signature(func).result,
         back.as_slice(),
-        placed.area,
+        area,
         caller,
     )
 }

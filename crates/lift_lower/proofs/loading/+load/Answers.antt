@@ -1,30 +1,34 @@
-use Rattle.std.proofs.Common.{◌≡◌, ◌+◌, Some, None, Ok, option_map, ap, sym, ◌∙◌, arith}
+use Rattle.std.proofs.Common.{◌≡◌, ◌+◌, map, Some, None, Ok, option_map, ap, sym, ◌∙◌, subst, arith}
 use Rattle.std.proofs.lemmas.Result.{err_from_is_err_and}
 use Rattle.std.proofs.lemmas.List.{map-append}
 use Rattle.std.specs.Int.{next_multiple_of}
-use Rattle.canonical_abi.specs.Types.{prim_type, boolean, variant_cases, nth_case}
-use Rattle.canonical_abi.specs.Values.{payload_value}
+use Rattle.canonical_abi.specs.Types.{ClosedType, prim_type, boolean, variant_cases, nth_case}
+use Rattle.canonical_abi.specs.Values.{payload_value, values_of, list_value}
 use Rattle.canonical_abi.specs.Layout.{size, align, discriminant_size, payload_place}
-use Rattle.canonical_abi.specs.Reading.{reading, number_at, byte_width, case_number, ◌>>=◌}
-use Rattle.tables.specs.Closed.{closed_type}
+use Rattle.canonical_abi.specs.Reading.{reading, each_at, number_at, byte_width, case_number, ◌>>=◌}
+use Rattle.tables.specs.Closed.{closed_type, prim_of}
 use Rattle.values.specs.Members.{members_fields}
 use Rattle.values.specs.Val.{value_of}
+use Rattle.lift_lower.specs.NoValue.{AnswersAs}
 use Rattle.values.proofs.TypesExtents.{member-depth, case-depth, payload-place, payload-fits}
-use Rattle.lift_lower.proofs.ListsAreLoaded.{fails-pass, listed, list-opened, read-list}
+use Rattle.lift_lower.proofs.ListsAreLoaded.{fails-pass, listed, list-opened, read-list, as-listed}
 use Rattle.lift_lower.proofs.ReadingStepByStep.{each-more, each-fault, fields-more, fields-fault, fields-done, case-none, case-plain, case-payload, plain-none}
 use Rattle.values.proofs.FieldsFromAPlace.{fields-end, fields-inside, nth_field-some}
 use Rattle.values.proofs.ValueOfEachVariant.{value_of-List, value_of-None, value_of-Some}
 use Rattle.lift_lower.proofs.loading.+load.Goals as goal
 
-pub load_at-returns-in_err-items-in-List-clause-value : goal.load_at-returns-in_err-items-in-List-clause-value
-load_at-returns-in_err-items-in-List-clause-value t c =
+pub load_at-returns-in-Primitive-clause-value : goal.load_at-returns-in-Primitive-clause-value
+load_at-returns-in-Primitive-clause-value t c = rw c.in-Primitive.is c.load_primitive.ensures.value
+
+pub load_compound-returns-in_err-items-in-List-clause-value : goal.load_compound-returns-in_err-items-in-List-clause-value
+load_compound-returns-in_err-items-in-List-clause-value t c =
     let r = c.args.table.now in
     let opened = read-list (closed_type r c.args.ty) (closed_type r c.in-List.element) c.args.memory.now c.args.at c.u32_at-start-in-List.result c.u32_at-count.result c.in-List.ensures.shape.0 c.u32_at-start-in-List.ensures c.u32_at-count.ensures in
     let p = err_from_is_err_and c.from_residual.result c.from_residual.ensures.1 in
     rw (p.1, p.2) (fails-pass c.in_err-items-in-List.field-0.0 _ _ c.in_err-items-in-List.ensures (λ k e. opened ∙ e))
 
-pub load_at-returns-in_ok-items-in-List-clause-value : goal.load_at-returns-in_ok-items-in-List-clause-value
-load_at-returns-in_ok-items-in-List-clause-value t c =
+pub load_compound-returns-in_ok-items-in-List-clause-value : goal.load_compound-returns-in_ok-items-in-List-clause-value
+load_compound-returns-in_ok-items-in-List-clause-value t c =
     let r = c.args.table.now in
     let opened = read-list (closed_type r c.args.ty) (closed_type r c.in-List.element) c.args.memory.now c.args.at c.u32_at-start-in-List.result c.u32_at-count.result c.in-List.ensures.shape.0 c.u32_at-start-in-List.ensures c.u32_at-count.ensures in
     rw value_of-List (opened ∙ c.in_ok-items-in-List.ensures)
@@ -38,6 +42,18 @@ load_list-returns-in_err-item t c =
     rw (p.1, p.2) (fails-pass c.in_err-item.field-0.0 _ _ c.in_err-item.ensures.value (λ k e.
     opened ∙ ap listed (each-fault f step c.args.start c.args.count c.loop-index.index _ _ (omega arith) c.loop-index.invariant k e)))
 
+pub load_list-returns-in-Primitive : goal.load_list-returns-in-Primitive
+load_list-returns-in-Primitive t c =
+    let u = closed_type c.args.table.now c.args.element in
+    let q = prim_of c.in-Primitive.primitive in
+    let m = c.args.memory.now in
+    let same : u ≡ prim_type q = ap (closed_type c.args.table.now) c.in-Primitive.is in
+    let opened = list-opened (reading u m) m c.args.start c.args.count c.align_of-align.result c.size_of-step.result _ _ c.align_of-align.ensures.value c.size_of-step.ensures.value c.in_ok-check_block.ensures.value in
+    let P : ClosedType → Type 0 = λ x. AnswersAs (λ v. list_value (values_of (map value_of v.items))) c.load_scalars.result (listed (each_at (reading x m) (size x) c.args.start c.args.count)) in
+    let here : P u = subst P (sym same) (as-listed c.load_scalars.result _ c.load_scalars.ensures) in
+    subst (λ x. AnswersAs (λ v. list_value (values_of (map value_of v.items))) c.load_scalars.result x)
+    (sym (opened ∙ ap (λ s. listed (each_at (reading u m) s c.args.start c.args.count)) c.size_of-step.ensures.value)) here
+
 pub load_list-loop-index-preserved : goal.load_list-loop-index-preserved
 load_list-loop-index-preserved t c =
     let f = reading (closed_type c.args.table.now c.args.element) c.args.memory.now in
@@ -47,8 +63,8 @@ pub load_fields-unreachable-requires : goal.load_fields-unreachable-requires
 load_fields-unreachable-requires t c =
     nth_field-some (members_fields c.args.table.now c.args.members.now) c.loop-index.index (omega (arith, c.requires.counted)) (sym c.in_default.ensures.found)
 
-pub load_fields-next_multiple_of-place-requires-clause-fits : goal.load_fields-next_multiple_of-place-requires-clause-fits
-load_fields-next_multiple_of-place-requires-clause-fits t c =
+pub load_fields-aligned-place-requires-clause-fits : goal.load_fields-aligned-place-requires-clause-fits
+load_fields-aligned-place-requires-clause-fits t c =
     let fs = members_fields c.args.table.now c.args.members.now in
     let h = fields-inside fs c.loop-index.index (closed_type c.args.table.now c.in-Some.member) c.loop-index.end _ (sym c.in-Some.ensures.found) c.loop-index.invariant.1 in
     rw c.align_of.ensures.value (omega arith)
@@ -57,7 +73,7 @@ pub load_fields-overflow_add-at : goal.load_fields-overflow_add-at
 load_fields-overflow_add-at t c =
     let fs = members_fields c.args.table.now c.args.members.now in
     let h = fields-inside fs c.loop-index.index (closed_type c.args.table.now c.in-Some.member) c.loop-index.end _ (sym c.in-Some.ensures.found) c.loop-index.invariant.1 in
-    let g = rw (← c.align_of.ensures.value, ← c.next_multiple_of-place.ensures.value) at h in
+    let g = rw (← c.align_of.ensures.value, ← c.aligned-place.ensures.value) at h in
     omega arith
 
 pub load_fields-load_at-requires : goal.load_fields-load_at-requires
@@ -65,15 +81,15 @@ load_fields-load_at-requires t c =
     let fs = members_fields c.args.table.now c.args.members.now in
     let u = closed_type c.args.table.now c.in-Some.member in
     let h = fields-inside fs c.loop-index.index u c.loop-index.end _ (sym c.in-Some.ensures.found) c.loop-index.invariant.1 in
-    let g = rw (← c.align_of.ensures.value, ← c.next_multiple_of-place.ensures.value) at h in
+    let g = rw (← c.align_of.ensures.value, ← c.aligned-place.ensures.value) at h in
     (omega (arith, member-depth fs c.loop-index.index u (sym c.in-Some.ensures.found), c.decreases), (c.in-Some.ensures.inside, omega arith))
 
 pub load_fields-returns-in_err-field : goal.load_fields-returns-in_err-field
 load_fields-returns-in_err-field t c =
     let fs = members_fields c.args.table.now c.args.members.now in
     let u = closed_type c.args.table.now c.in-Some.member in
-    let place : c.next_multiple_of-place.result ≡ next_multiple_of c.loop-index.end (align u) = c.next_multiple_of-place.ensures.value ∙ ap (next_multiple_of c.loop-index.end) c.align_of.ensures.value in
-    let p = err_from_is_err_and c.from_residual.result c.from_residual.ensures.1 in
+    let place : c.aligned-place.result ≡ next_multiple_of c.loop-index.end (align u) = c.aligned-place.ensures.value ∙ ap (next_multiple_of c.loop-index.end) c.align_of.ensures.value in
+    let p = err_from_is_err_and c.from_residual-in_err-field.result c.from_residual-in_err-field.ensures.1 in
     rw (p.1, p.2) (fails-pass c.in_err-field.field-0.0 _ _ c.in_err-field.ensures.value (λ k e.
     fields-fault fs c.args.memory.now c.args.at c.loop-index.end c.loop-index.index u _ _ (sym c.in-Some.ensures.found) c.loop-index.invariant.0 k (ap (λ x. reading u c.args.memory.now (c.args.at + x)) (sym place) ∙ e)))
 
@@ -81,14 +97,14 @@ pub load_fields-overflow_add-end : goal.load_fields-overflow_add-end
 load_fields-overflow_add-end t c =
     let fs = members_fields c.args.table.now c.args.members.now in
     let h = fields-inside fs c.loop-index.index (closed_type c.args.table.now c.in-Some.member) c.loop-index.end _ (sym c.in-Some.ensures.found) c.loop-index.invariant.1 in
-    let g = rw (← c.align_of.ensures.value, ← c.next_multiple_of-place.ensures.value) at h in
+    let g = rw (← c.align_of.ensures.value, ← c.aligned-place.ensures.value) at h in
     omega (arith, c.size_of.ensures.value)
 
 pub load_fields-loop-index-preserved : goal.load_fields-loop-index-preserved
 load_fields-loop-index-preserved t c =
     let fs = members_fields c.args.table.now c.args.members.now in
     let u = closed_type c.args.table.now c.in-Some.member in
-    let place : c.next_multiple_of-place.result ≡ next_multiple_of c.loop-index.end (align u) = c.next_multiple_of-place.ensures.value ∙ ap (next_multiple_of c.loop-index.end) c.align_of.ensures.value in
+    let place : c.aligned-place.result ≡ next_multiple_of c.loop-index.end (align u) = c.aligned-place.ensures.value ∙ ap (next_multiple_of c.loop-index.end) c.align_of.ensures.value in
     rw (place, c.size_of.ensures.value, c.in_ok-push.ensures.items, map-append) (
       fields-more fs c.args.memory.now c.args.at c.loop-index.end c.loop-index.index u _ _ (sym c.in-Some.ensures.found) c.loop-index.invariant.0 (value_of c.in_ok-field.field) (ap (λ x. reading u c.args.memory.now (c.args.at + x)) (sym place) ∙ c.in_ok-field.ensures.value),
       sym (fields-end fs c.loop-index.end c.loop-index.index u (sym c.in-Some.ensures.found)) ∙ c.loop-index.invariant.1,

@@ -9,16 +9,19 @@ use Rattle.values.proofs.FieldsFromAPlace.{fields_from, fields_end}
 use Rattle.lift_lower.proofs.loading.+load.Given as goal
 
 abbrev pub decreases-load_at : goal.decreases-load_at
-decreases-load_at l = 2 * depth (closed_type l.table.now l.ty) + 1
+decreases-load_at l = 3 * depth (closed_type l.table.now l.ty) + 2
+
+abbrev pub decreases-load_compound : goal.decreases-load_compound
+decreases-load_compound l = 3 * depth (closed_type l.table.now l.ty) + 1
 
 abbrev pub decreases-load_list : goal.decreases-load_list
-decreases-load_list l = 2 * depth (closed_type l.table.now l.element) + 2
+decreases-load_list l = 3 * depth (closed_type l.table.now l.element) + 3
 
 abbrev pub decreases-load_fields : goal.decreases-load_fields
-decreases-load_fields l = 2 * fields_depth (members_fields l.table.now l.members.now) + 2
+decreases-load_fields l = 3 * fields_depth (members_fields l.table.now l.members.now) + 3
 
 abbrev pub decreases-load_variant : goal.decreases-load_variant
-decreases-load_variant l = 2 * depth (closed_type l.table.now l.ty)
+decreases-load_variant l = 3 * depth (closed_type l.table.now l.ty)
 
 abbrev pub invariant-load_list-loop-index : goal.invariant-load_list-loop-index
 invariant-load_list-loop-index l =

@@ -43,5 +43,5 @@ returns-clause-ok g c =
     let is_align : c.align_of-align.result ≡ align (record_type ts) = c.align_of-align.ensures.value ∙ ap align c.requires.record in
     let is_size : c.size_of-size.result ≡ size (record_type ts) = c.size_of-size.ensures.value ∙ ap size c.requires.record in
     let granted = rw (is_align, is_size) at c.in_ok-start.ensures.ok in
-    let told = c.push.ensures.items ∙ ap (λ l. l ++ (I32 c.in_ok-start.start ∷ [])) c.new-flats.ensures in
+    let told = c.push.ensures.items ∙ ap (λ l. l ++ (I32 c.in_ok-start.start ∷ [])) c.requires.empty in
     spilled-done 16777216 g.G.Guest.allocates ts (map value_of c.args.values.now) c.in_ok-start.start (g.G.Guest.memory c.args.guest.now) (g.G.Guest.memory c.ask_block.new.guest) granted c.push.new.self.items (g.G.Guest.memory c.store_fields.new.guest) told c.in_ok-store_fields.ensures.ok

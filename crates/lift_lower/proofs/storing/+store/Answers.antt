@@ -7,12 +7,13 @@ use Rattle.canonical_abi.specs.Types.{ClosedType, IsStandard, list_type, record_
 use Rattle.canonical_abi.specs.Values.{Value, HasType, HaveTypes, values_of, list_value, record_value, plain_value, payload_value, flags_value}
 use Rattle.canonical_abi.specs.Layout.{size, align, prim_width, discriminant_size, payload_place}
 use Rattle.canonical_abi.specs.Storing.{EachStores, Stores, FieldsStore, CaseStores}
-use Rattle.tables.specs.Closed.{closed_type, closed_types}
+use Rattle.tables.specs.Closed.{closed_type, closed_types, prim_of}
 use Rattle.values.specs.Members.{members_fields}
 use Rattle.values.specs.Scalar.{prim_in, value_in}
 use Rattle.values.specs.Val.{value_of}
 use Rattle.values.proofs.TypesExtents.{member-depth, case-depth, payload-place, payload-fits, fields-fit}
 use Rattle.lift_lower.proofs.ScriptPartsInOrder.{begun, begun-as, begun-done, done-as, ended-as}
+use Rattle.lift_lower.proofs.ScalarListBytes.{scalars-stored}
 use Rattle.values.proofs.WeakerAnswers.{if-err-as, on-ok-as}
 use Rattle.values.proofs.FieldsFromAPlace.{fields-inside, fields-end, nth_field-some}
 use Rattle.lift_lower.proofs.StoredFromParts.{ItemsFrom, items-first, items-none, item-inside, item-done, item-ended, FieldsFrom, stored-none, field-done, field-ended, list-done, list-ended, list-refused, record-done, record-ended, plain-stored, payload-stored, case-done, case-ended, plain-done, scalar-done, flags-done}
@@ -20,27 +21,27 @@ use Rattle.values.proofs.ValuesOfTypesByShape.{not-list, not-flags, is-list, is-
 use Rattle.values.proofs.ValueOfEachVariant.{value_of-List, value_of-Record, value_of-String, value_of-Flags}
 use Rattle.lift_lower.proofs.storing.+store.Goals as goal
 
-pub store_at-store_text-requires-clause-room : goal.store_at-store_text-requires-clause-room
-store_at-store_text-requires-clause-room g t c =
+pub store_compound-store_text-requires-clause-room : goal.store_compound-store_text-requires-clause-room
+store_compound-store_text-requires-clause-room g t c =
     let T = closed_type c.args.table.now c.args.ty in
     let e : size T ≡ 8 = ap size (type-of-text T _ (rw (c.in-String.is, value_of-String) at c.requires.typed)) in
     omega (arith, e, c.requires.room)
 
-pub store_at-store_text-requires-clause-small : goal.store_at-store_text-requires-clause-small
-store_at-store_text-requires-clause-small g t c =
+pub store_compound-store_text-requires-clause-small : goal.store_compound-store_text-requires-clause-small
+store_compound-store_text-requires-clause-small g t c =
     let T = closed_type c.args.table.now c.args.ty in
     let e : size T ≡ 8 = ap size (type-of-text T _ (rw (c.in-String.is, value_of-String) at c.requires.typed)) in
     omega (arith, e, c.requires.small)
 
-pub store_at-unreachable-requires : goal.store_at-unreachable-requires
-store_at-unreachable-requires g t c =
+pub store_compound-unreachable-requires : goal.store_compound-unreachable-requires
+store_compound-unreachable-requires g t c =
     let r = c.args.table.now in
     let P : ClosedType → Type 0 = λ x. HasType (list_value (values_of (map value_of c.in-List.items.items))) x in
     let typed = (rw (c.in-List.is, value_of-List) at c.requires.typed) in
     not-list (closed_types r) (closed_type r c.args.ty) c.shape_of.result (values_of (map value_of c.in-List.items.items)) c.shape_of.ensures.shape.0 c.in_default-shape_of.not-List typed
 
-pub store_at-store_list-requires : goal.store_at-store_list-requires
-store_at-store_list-requires g t c κs within =
+pub store_compound-store_list-requires : goal.store_compound-store_list-requires
+store_compound-store_list-requires g t c κs within =
     let r = c.args.table.now in
     let T = closed_type r c.args.ty in
     let u = closed_type r c.in-List-shape_of.element in
@@ -52,8 +53,8 @@ store_at-store_list-requires g t c κs within =
     let items = subst P (sym (ap (map value_of) c.as_slice-items.ensures.value)) typed in
     (omega (arith, deep, c.decreases), (within, (c.in-List-shape_of.ensures.shape.1, (subst IsStandard e c.requires.standard, (items, (omega (arith, wide, c.requires.room), omega (arith, wide, c.requires.small)))))))
 
-pub store_at-store_fields-requires : goal.store_at-store_fields-requires
-store_at-store_fields-requires g t c κs within =
+pub store_compound-store_fields-requires : goal.store_compound-store_fields-requires
+store_compound-store_fields-requires g t c κs within =
     let r = c.args.table.now in
     let T = closed_type r c.args.ty in
     let F = closed_type r c.args.ty in
@@ -70,35 +71,35 @@ store_at-store_fields-requires g t c κs within =
     let values = subst Q (sym (ap (map value_of) c.as_slice-fields.ensures.value)) (is-record vs F fs only typed) in
     (omega (arith, deep, c.decreases), (within, (c.requires.inside, (standard.1, (values, (omega (arith, wide, fields-fit fs, c.requires.room), omega (arith, wide, fields-fit fs, c.requires.small)))))))
 
-pub store_at-unreachable-requires-in_default-shape_of-2 : goal.store_at-unreachable-requires-in_default-shape_of-2
-store_at-unreachable-requires-in_default-shape_of-2 g t c =
+pub store_compound-unreachable-requires-in_default-shape_of-2 : goal.store_compound-unreachable-requires-in_default-shape_of-2
+store_compound-unreachable-requires-in_default-shape_of-2 g t c =
     let r = c.args.table.now in
     let P : ClosedType → Type 0 = λ x. HasType (flags_value c.in-Flags.bits) x in
     let typed = (rw (c.in-Flags.is, value_of-Flags) at c.requires.typed) in
     not-flags (closed_types r) (closed_type r c.args.ty) c.shape_of-in-Flags.result c.in-Flags.bits c.shape_of-in-Flags.ensures.shape.0 c.in_default-shape_of-2.not-Flags typed
 
-pub store_at-write_scalar-requires : goal.store_at-write_scalar-requires
-store_at-write_scalar-requires g t c =
+pub store_at-put_scalar_at-requires : goal.store_at-put_scalar_at-requires
+store_at-put_scalar_at-requires g t c =
     let T = closed_type c.args.table.now c.args.ty in
     let s = c.in-Some.scalar in
     let P : Value → Type 0 = λ v. HasType v T in
     let e : size T ≡ byte_len (prim_width (prim_in s)) = ap size (type-of-scalar T (value_in s) (prim_in s) c.in-Some.ensures.typed (subst P (sym c.in-Some.ensures.value) c.requires.typed)) in
     record { inside = omega (arith, e, c.requires.room); small = omega (arith, c.requires.small) }
 
-pub store_at-returns-in-String-clause-ok : goal.store_at-returns-in-String-clause-ok
-store_at-returns-in-String-clause-ok g t c =
+pub store_compound-returns-in-String-clause-ok : goal.store_compound-returns-in-String-clause-ok
+store_compound-returns-in-String-clause-ok g t c =
     let T = closed_type c.args.table.now c.args.ty in
     let e = type-of-text T _ (rw (c.in-String.is, value_of-String) at c.requires.typed) in
     rw (c.in-String.is, value_of-String, e, ← c.as_str.ensures.value) c.store_text.ensures.ok
 
-pub store_at-returns-in-String-clause-fault : goal.store_at-returns-in-String-clause-fault
-store_at-returns-in-String-clause-fault g t c =
+pub store_compound-returns-in-String-clause-fault : goal.store_compound-returns-in-String-clause-fault
+store_compound-returns-in-String-clause-fault g t c =
     let T = closed_type c.args.table.now c.args.ty in
     let e = type-of-text T _ (rw (c.in-String.is, value_of-String) at c.requires.typed) in
     rw (c.in-String.is, value_of-String, e, ← c.as_str.ensures.value) c.store_text.ensures.fault
 
-pub store_at-returns-in-Record-clause-ok : goal.store_at-returns-in-Record-clause-ok
-store_at-returns-in-Record-clause-ok g t c =
+pub store_compound-returns-in-Record-clause-ok : goal.store_compound-returns-in-Record-clause-ok
+store_compound-returns-in-Record-clause-ok g t c =
     let r = c.args.table.now in
     let T = closed_type r c.args.ty in
     let F = closed_type r c.args.ty in
@@ -112,8 +113,8 @@ store_at-returns-in-Record-clause-ok g t c =
     let given = rw c.as_slice-fields.ensures.value at c.store_fields.ensures.ok in
     rw (c.in-Record.is, value_of-Record, e) (on-ok-as c.store_fields.result _ _ (record-done c.args.limit g.G.Guest.allocates (record_fields F) c.args.at vs old new) given)
 
-pub store_at-returns-in-Record-clause-fault : goal.store_at-returns-in-Record-clause-fault
-store_at-returns-in-Record-clause-fault g t c =
+pub store_compound-returns-in-Record-clause-fault : goal.store_compound-returns-in-Record-clause-fault
+store_compound-returns-in-Record-clause-fault g t c =
     let r = c.args.table.now in
     let T = closed_type r c.args.ty in
     let F = closed_type r c.args.ty in
@@ -127,8 +128,8 @@ store_at-returns-in-Record-clause-fault g t c =
     let given = rw c.as_slice-fields.ensures.value at c.store_fields.ensures.fault in
     rw (c.in-Record.is, value_of-Record, e) (if-err-as c.store_fields.result _ _ (λ k h. record-ended c.args.limit g.G.Guest.allocates (record_fields F) c.args.at vs old k new h) given)
 
-pub store_at-returns-in-Flags-shape_of-clause-ok : goal.store_at-returns-in-Flags-shape_of-clause-ok
-store_at-returns-in-Flags-shape_of-clause-ok g t c =
+pub store_compound-returns-in-Flags-shape_of-clause-ok : goal.store_compound-returns-in-Flags-shape_of-clause-ok
+store_compound-returns-in-Flags-shape_of-clause-ok g t c =
     let r = c.args.table.now in
     let n = c.in-Flags-shape_of.labels in
     let bits = c.in-Flags.bits in
@@ -145,7 +146,7 @@ store_at-returns-in-Some g t c =
     let s = c.in-Some.scalar in
     let P : Value → Type 0 = λ v. HasType v T in
     let e = type-of-scalar T (value_in s) (prim_in s) c.in-Some.ensures.typed (subst P (sym c.in-Some.ensures.value) c.requires.typed) in
-    let done = scalar-done c.args.limit g.G.Guest.allocates (prim_in s) c.args.at (value_in s) (g.G.Guest.memory c.args.guest.now) (g.G.Guest.memory c.write_scalar.new.guest) c.in-Some.ensures.typed c.write_scalar.ensures.led c.write_scalar.ensures.same_length in
+    let done = scalar-done c.args.limit g.G.Guest.allocates (prim_in s) c.args.at (value_in s) (g.G.Guest.memory c.args.guest.now) (g.G.Guest.memory c.put_scalar_at.new.guest) c.in-Some.ensures.typed c.put_scalar_at.ensures.led c.put_scalar_at.ensures.same_length in
     record { ok = rw (e, ← c.in-Some.ensures.value) done; fault = tt }
 
 -- ---- the members of a record
@@ -157,8 +158,8 @@ store_fields-unreachable-requires g t c =
     let n = length-map c.args.values.now value_of in
     nth_field-some fs c.loop-index.index (omega (arith, count, n, c.loop-index-test.true)) (sym c.in_default.ensures.found)
 
-pub store_fields-next_multiple_of-place-requires-clause-fits : goal.store_fields-next_multiple_of-place-requires-clause-fits
-store_fields-next_multiple_of-place-requires-clause-fits g t c =
+pub store_fields-aligned-place-requires-clause-fits : goal.store_fields-aligned-place-requires-clause-fits
+store_fields-aligned-place-requires-clause-fits g t c =
     let fs = members_fields c.args.table.now c.args.members.now in
     let h = fields-inside fs c.loop-index.index (closed_type c.args.table.now c.in-Some.member) c.loop-index.end _ (sym c.in-Some.ensures.found) c.loop-index.invariant.1 in
     rw c.align_of.ensures.value (omega (arith, h, c.requires.small))
@@ -167,7 +168,7 @@ pub store_fields-overflow_add-at : goal.store_fields-overflow_add-at
 store_fields-overflow_add-at g t c =
     let fs = members_fields c.args.table.now c.args.members.now in
     let h = fields-inside fs c.loop-index.index (closed_type c.args.table.now c.in-Some.member) c.loop-index.end _ (sym c.in-Some.ensures.found) c.loop-index.invariant.1 in
-    let k = rw (← c.align_of.ensures.value, ← c.next_multiple_of-place.ensures.value) at h in
+    let k = rw (← c.align_of.ensures.value, ← c.aligned-place.ensures.value) at h in
     omega (arith, k, c.requires.small)
 
 pub store_fields-store_at-requires : goal.store_fields-store_at-requires
@@ -179,7 +180,7 @@ store_fields-store_at-requires g t c κs within =
     let found = sym c.in-Some.ensures.found in
     let v = c.index-values-index.result in
     let h = fields-inside fs i u c.loop-index.end _ found c.loop-index.invariant.1 in
-    let k = rw (← c.align_of.ensures.value, ← c.next_multiple_of-place.ensures.value) at h in
+    let k = rw (← c.align_of.ensures.value, ← c.aligned-place.ensures.value) at h in
     let here = get_or-map value_of c.args.values.now i v (value_of v) c.loop-index-test.true ∙ ap value_of (sym c.index-values-index.is) in
     let below : i < length vs = omega (arith, length-map c.args.values.now value_of, c.loop-index-test.true) in
     let P : Value → Type 0 = λ w. HasType w u in
@@ -195,16 +196,16 @@ store_fields-returns-in_err-store_at-clause-fault g t c =
     let v = c.index-values-index.result in
     let here = get_or-map value_of c.args.values.now i v (value_of v) c.loop-index-test.true ∙ ap value_of (sym c.index-values-index.is) in
     let below : i < length vs = omega (arith, length-map c.args.values.now value_of, c.loop-index-test.true) in
-    let place : c.next_multiple_of-place.result ≡ next_multiple_of c.loop-index.end (align u) = c.next_multiple_of-place.ensures.value ∙ ap (next_multiple_of c.loop-index.end) c.align_of.ensures.value in
+    let place : c.aligned-place.result ≡ next_multiple_of c.loop-index.end (align u) = c.aligned-place.ensures.value ∙ ap (next_multiple_of c.loop-index.end) c.align_of.ensures.value in
     let p = err_from_is_err_and c.from_residual.result c.from_residual.ensures.1 in
-    rw (p.1, p.2) (field-ended c.args.limit g.G.Guest.allocates fs c.args.at vs i c.loop-index.end u (value_of v) c.next_multiple_of-place.result (size u) (sym c.in-Some.ensures.found) below here place refl
+    rw (p.1, p.2) (field-ended c.args.limit g.G.Guest.allocates fs c.args.at vs i c.loop-index.end u (value_of v) c.aligned-place.result (size u) (sym c.in-Some.ensures.found) below here place refl
     (g.G.Guest.memory c.args.guest.now) (g.G.Guest.memory c.loop-index.guest) c.in_err-store_at.field-0.0 (g.G.Guest.memory c.store_at.new.guest) c.loop-index.invariant.2 c.loop-index.invariant.0 c.in_err-store_at.ensures.fault)
 
 pub store_fields-overflow_add-end : goal.store_fields-overflow_add-end
 store_fields-overflow_add-end g t c =
     let fs = members_fields c.args.table.now c.args.members.now in
     let h = fields-inside fs c.loop-index.index (closed_type c.args.table.now c.in-Some.member) c.loop-index.end _ (sym c.in-Some.ensures.found) c.loop-index.invariant.1 in
-    let k = rw (← c.align_of.ensures.value, ← c.next_multiple_of-place.ensures.value) at h in
+    let k = rw (← c.align_of.ensures.value, ← c.aligned-place.ensures.value) at h in
     omega (arith, k, c.size_of.ensures.value, c.requires.small)
 
 pub store_fields-loop-index-preserved : goal.store_fields-loop-index-preserved
@@ -217,8 +218,8 @@ store_fields-loop-index-preserved g t c =
     let v = c.index-values-index.result in
     let here = get_or-map value_of c.args.values.now i v (value_of v) c.loop-index-test.true ∙ ap value_of (sym c.index-values-index.is) in
     let below : i < length vs = omega (arith, length-map c.args.values.now value_of, c.loop-index-test.true) in
-    let place : c.next_multiple_of-place.result ≡ next_multiple_of c.loop-index.end (align u) = c.next_multiple_of-place.ensures.value ∙ ap (next_multiple_of c.loop-index.end) c.align_of.ensures.value in (
-      field-done c.args.limit g.G.Guest.allocates fs c.args.at vs i c.loop-index.end u (value_of v) c.next_multiple_of-place.result c.size_of.result found below here place c.size_of.ensures.value
+    let place : c.aligned-place.result ≡ next_multiple_of c.loop-index.end (align u) = c.aligned-place.ensures.value ∙ ap (next_multiple_of c.loop-index.end) c.align_of.ensures.value in (
+      field-done c.args.limit g.G.Guest.allocates fs c.args.at vs i c.loop-index.end u (value_of v) c.aligned-place.result c.size_of.result found below here place c.size_of.ensures.value
           (g.G.Guest.memory c.args.guest.now) (g.G.Guest.memory c.loop-index.guest) (g.G.Guest.memory c.store_at.new.guest) c.loop-index.invariant.0 c.in_ok-store_at.ensures.ok,
       rw (place, c.size_of.ensures.value) (sym (fields-end fs c.loop-index.end i u found) ∙ c.loop-index.invariant.1),
       have-rest fs vs i u (value_of v) found below c.loop-index.invariant.2,
@@ -260,6 +261,14 @@ store_items-store_at-requires g t c κs within =
     let R : ℕ → Type 0 = λ s. c.args.start + i * s + size u < 4294967296 in
     let step = sym c.size_of-step.ensures.value in
     (omega (arith, c.decreases), (within, (c.requires.inside, (c.requires.standard, (typed, (subst Q step (omega (arith, room, c.loop-index.invariant.no_shorter)), subst R step (omega (arith, small))))))))
+
+pub store_items-store_scalars-requires-clause-typed : goal.store_items-store_scalars-requires-clause-typed
+store_items-store_scalars-requires-clause-typed g t c = rw c.in-Primitive.is at c.requires.typed
+
+pub store_items-returns-in-Primitive-clause-ok : goal.store_items-returns-in-Primitive-clause-ok
+store_items-returns-in-Primitive-clause-ok g t c =
+    rw c.in-Primitive.is (scalars-stored c.args.limit g.G.Guest.allocates (prim_of c.in-Primitive.primitive) (map value_of c.args.items.now) c.args.start (g.G.Guest.memory c.args.guest.now) (g.G.Guest.memory c.store_scalars.new.guest)
+    (rw c.in-Primitive.is at c.requires.typed) c.store_scalars.ensures.led)
 
 pub store_items-returns-in_err-store_at-clause-fault : goal.store_items-returns-in_err-store_at-clause-fault
 store_items-returns-in_err-store_at-clause-fault g t c =

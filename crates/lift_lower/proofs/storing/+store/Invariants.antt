@@ -12,19 +12,22 @@ use Rattle.lift_lower.proofs.StoredFromParts.{ItemsFrom, FieldsFrom}
 use Rattle.lift_lower.proofs.storing.+store.Given as goal
 
 abbrev pub decreases-store_at : goal.decreases-store_at
-decreases-store_at g l = 3 * depth (closed_type l.table.now l.ty) + 1
+decreases-store_at g l = 4 * depth (closed_type l.table.now l.ty) + 2
+
+abbrev pub decreases-store_compound : goal.decreases-store_compound
+decreases-store_compound g l = 4 * depth (closed_type l.table.now l.ty) + 1
 
 abbrev pub decreases-store_list : goal.decreases-store_list
-decreases-store_list g l = 3 * depth (closed_type l.table.now l.element) + 3
+decreases-store_list g l = 4 * depth (closed_type l.table.now l.element) + 4
 
 abbrev pub decreases-store_items : goal.decreases-store_items
-decreases-store_items g l = 3 * depth (closed_type l.table.now l.element) + 2
+decreases-store_items g l = 4 * depth (closed_type l.table.now l.element) + 3
 
 abbrev pub decreases-store_fields : goal.decreases-store_fields
-decreases-store_fields g l = 3 * fields_depth (members_fields l.table.now l.members.now) + 2
+decreases-store_fields g l = 4 * fields_depth (members_fields l.table.now l.members.now) + 3
 
 abbrev pub decreases-store_variant : goal.decreases-store_variant
-decreases-store_variant g l = 3 * depth (closed_type l.table.now l.ty)
+decreases-store_variant g l = 4 * depth (closed_type l.table.now l.ty)
 
 abbrev pub invariant-store_items-loop-index : goal.invariant-store_items-loop-index
 invariant-store_items-loop-index g l =

@@ -21,8 +21,8 @@ use Rattle.witcall.proofs.TypedCallsKeepPromise.{promised}
 use Rattle.witcall.proofs.TypedCalls.{placed, place_fails, link_fails, came_back, takes}
 use Rattle.witcall.proofs.session.call_typed.Goals as goal
 
-pub returns-in_err-placed-clause-call : goal.returns-in_err-placed-clause-call
-returns-in_err-placed-clause-call g c =
+pub returns-in_err-area-clause-call : goal.returns-in_err-area-clause-call
+returns-in_err-area-clause-call g c =
     let f = function_type c.args.package.now.resolve c.args.func in
     let parties : Parties = record { caller_allocates = g.C.Guest.allocates; callee_allocates = g.E.Guest.allocates; runs = g.B.Body.runs c.args.body.now; posts = g.B.Body.posts c.args.body.now } in
     let caller = g.C.Guest.memory c.args.caller.now in
@@ -30,8 +30,8 @@ returns-in_err-placed-clause-call g c =
     let body = g.B.Body.state c.args.body.now in
     let caller' = g.C.Guest.memory c.place_call.new.caller in
     let arguments = map value_of c.args.arguments.now in
-    let fault = c.in_err-placed.field-0.0 in
-    let fails = subst (λ q. IsNotReady g.C.Guest.allocates (function_type q c.args.func) arguments caller fault caller') c.types-table.ensures.types c.in_err-placed.ensures.fault in
+    let fault = c.in_err-area.field-0.0 in
+    let fails = subst (λ q. IsNotReady g.C.Guest.allocates (function_type q c.args.func) arguments caller fault caller') c.types-table.ensures.types c.in_err-area.ensures.fault in
     let p = err_from_is_err_and c.from_residual.result c.from_residual.ensures.1 in
     rw (p.1, p.2) (place_fails parties f arguments caller caller' callee body fault fails)
 
@@ -45,10 +45,10 @@ returns-in_err-back-clause-call g c =
     let caller' = g.C.Guest.memory c.place_call.new.caller in
     let arguments = map value_of c.args.arguments.now in
     let flats = c.as_slice.result.now in
-    let area = c.in_ok-placed.placed.area in
-    let ready = subst (λ q. IsReady g.C.Guest.allocates (function_type q c.args.func) arguments caller c.in_ok-placed.placed.flats.items area caller') c.types-table.ensures.types c.in_ok-placed.ensures.placed in
+    let area = c.in_ok-area.area in
+    let ready = subst (λ q. IsReady g.C.Guest.allocates (function_type q c.args.func) arguments caller c.place_call.new.flats.items area caller') c.types-table.ensures.types c.in_ok-area.ensures.placed in
     let handed = subst (λ fs. IsReady g.C.Guest.allocates f arguments caller fs area caller') (sym c.as_slice.ensures.value) ready in
-    let places = placed parties f arguments caller caller' callee body flats area handed c.in_ok-placed.ensures.small in
+    let places = placed parties f arguments caller caller' callee body flats area handed c.in_ok-area.ensures.small in
     let new = as_world (g.C.Guest.memory c.call.new.caller) (g.E.Guest.memory c.call.new.callee) (g.B.Body.state c.call.new.body) in
     let told = c.in_err-back.ensures.call in
     let calls = subst (λ q. Calls parties exact (function_type q c.args.func) flats (as_world caller' callee body) (Err c.in_err-back.field-0.0) told.0 new)
@@ -70,7 +70,7 @@ take_result-requires-clause-area g c =
     let before = (g.C.Guest.memory c.place_call.new.caller).bytes in
     let after = (g.C.Guest.memory c.call.new.caller).bytes in
     let ts = result_fields (option_map (closed_type own) c.signature.result.now.result) in
-    area_stays ts before after c.in_ok-placed.placed.area c.in_ok-back.ensures.no_shorter (subst (λ ts. IsAreaIn ts before c.in_ok-placed.placed.area) same c.in_ok-placed.ensures.area)
+    area_stays ts before after c.in_ok-area.area c.in_ok-back.ensures.no_shorter (subst (λ ts. IsAreaIn ts before c.in_ok-area.area) same c.in_ok-area.ensures.area)
 
 pub returns-clause-call : goal.returns-clause-call
 returns-clause-call g c =
@@ -83,10 +83,10 @@ returns-clause-call g c =
     let caller' = g.C.Guest.memory c.place_call.new.caller in
     let arguments = map value_of c.args.arguments.now in
     let flats = c.as_slice.result.now in
-    let area = c.in_ok-placed.placed.area in
-    let ready = subst (λ q. IsReady g.C.Guest.allocates (function_type q c.args.func) arguments caller c.in_ok-placed.placed.flats.items area caller') c.types-table.ensures.types c.in_ok-placed.ensures.placed in
+    let area = c.in_ok-area.area in
+    let ready = subst (λ q. IsReady g.C.Guest.allocates (function_type q c.args.func) arguments caller c.place_call.new.flats.items area caller') c.types-table.ensures.types c.in_ok-area.ensures.placed in
     let handed = subst (λ fs. IsReady g.C.Guest.allocates f arguments caller fs area caller') (sym c.as_slice.ensures.value) ready in
-    let places = placed parties f arguments caller caller' callee body flats area handed c.in_ok-placed.ensures.small in
+    let places = placed parties f arguments caller caller' callee body flats area handed c.in_ok-area.ensures.small in
     let new = as_world (g.C.Guest.memory c.call.new.caller) (g.E.Guest.memory c.call.new.callee) (g.B.Body.state c.call.new.body) in
     let back = c.in_ok-back.back.items in
     let told = c.in_ok-back.ensures.call in
@@ -121,8 +121,8 @@ returns-clause-no_memory g c = λ plain.
     let here = subst (λ q. IfSome (function_type q c.args.func).result IsPlain) (sym c.types-table.ensures.types) plain in
     c.take_result.ensures.plain (plain-of (closed_type own) c.signature.result.now.result (subst (λ o. IfSome o IsPlain) same here))
 
-pub returns-in_err-placed-clause-promise : goal.returns-in_err-placed-clause-promise
-returns-in_err-placed-clause-promise g c = promised _ _ _ c.args.package.now.resolve c.args.func _ _ _ _ c.requires.function (returns-in_err-placed-clause-call g c)
+pub returns-in_err-area-clause-promise : goal.returns-in_err-area-clause-promise
+returns-in_err-area-clause-promise g c = promised _ _ _ c.args.package.now.resolve c.args.func _ _ _ _ c.requires.function (returns-in_err-area-clause-call g c)
 
 pub returns-in_err-back-clause-promise : goal.returns-in_err-back-clause-promise
 returns-in_err-back-clause-promise g c = promised _ _ _ c.args.package.now.resolve c.args.func _ _ _ _ c.requires.function (returns-in_err-back-clause-call g c)
