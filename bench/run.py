@@ -18,12 +18,12 @@ import subprocess
 import sys
 import tempfile
 
-import writer
+from opening import SHAPES, component_ld, shapes_table, times_table
 
 sys.path.insert(0, str(pathlib.Path(__file__).resolve().parent.parent))
 
 from tools.measure import times  # noqa: E402
-from tools.measure.harness import INSTRUCTIONS, TIME, Cost, Folder, Growth, Starter, milliseconds  # noqa: E402
+from tools.measure.harness import INSTRUCTIONS, TIME, Growth  # noqa: E402
 from tools.repository import PROGRAM, ROOT, crate_lines, crates_below  # noqa: E402
 
 LIBRARIES = ["atoms", "canonical_abi", "tables", "table_building", "layout", "memory"]
@@ -209,110 +209,29 @@ def json(given):
     return times.grown_lists(words, lengths, Growth(INSTRUCTIONS if given.instructions else TIME, "elements"))
 
 
-# ---- opening, beside wit-parser
-
-
-LENGTHS = {"10 KB": 10000, "100 KB": 100000, "1 MB": 1000000}
-MEMBERS = 10
-ABSENT = ["a:b/none", "none", "[]", "[]"]
-# of these many runs the least counts; what has taken so many milliseconds isn't run again
-OPENING, ENOUGH = Cost(milliseconds, "ms", 300), 3000
-# a module without anything, and a linker that writes it
-MODULE = b"\0asm\x01\0\0\0"
-LINKER = """#!/bin/sh
-while [ "$1" != -o ]; do shift; done
-cp "$(dirname "$0")/empty.module" "$2"
-"""
-
-
-def component_ld():
-    """The linker of components that the Rust toolchain has."""
-    found = sorted(pathlib.Path(answer_of("rustc", "--print", "sysroot")).glob("lib/rustlib/*/bin/wasm-component-ld"))
-    if not found:
-        sys.exit("bench/run.py: the Rust toolchain has no wasm-component-ld")
-    return found[0]
-
-
-def write_texts(folder):
-    """Writes all texts, those with a world for wit-parser, and the linker's stub."""
-    kept = {"empty": "package a:b;\n"} | {told: writer.text_of(length) for told, length in LENGTHS.items()}
-    for told, text in kept.items():
-        (folder / f"{told}.wit").write_text(text)
-        (folder / f"{told} in a world.wit").write_text(text + "world w {\n}\n")
-    for member in range(MEMBERS):
-        (folder / f"member {member}.wit").write_text(writer.text_of(LENGTHS["100 KB"], f"a:p{member}"))
-    (folder / "empty.module").write_bytes(MODULE)
-    (folder / "linker").write_text(LINKER)
-    (folder / "linker").chmod(0o755)
-
-
-def by_wit_parser(folder, told):
-    """The command that has wit-parser read a text."""
-    words = [component_ld(), "--wasm-ld-path", folder / "linker", "--wasi-adapter", "none", "-o", folder / "out.wasm"]
-    return [*words, "--component-type", folder / f"{told} in a world.wit", folder / "empty.module"]
-
-
-def of_program(program, folder):
-    """What is measured of a program, by what it is."""
-    members = [folder / f"member {member}.wit" for member in range(MEMBERS)]
-    commands = {told: [program, "call", folder / f"{told}.wit", *ABSENT] for told in ["empty", *LENGTHS]}
-    commands["bin"] = [program, "bin", folder / "1 MB.wit"]
-    commands["binary"] = [program, "call", folder / "1 MB.wasm", *ABSENT]
-    commands["set"] = [program, "call", *times.behind(members), *ABSENT]
-    return commands
-
-
-def least_of(commands):
-    """The least time of each command. A call of a function that isn't there is refused; all else is done."""
-    for words in commands.values():
-        ran = subprocess.run(words, stdout=subprocess.DEVNULL, stderr=subprocess.DEVNULL, check=False)
-        if ran.returncode != int(words[-len(ABSENT):] == ABSENT):
-            sys.exit(f"bench/run.py: status {ran.returncode} of {' '.join(map(str, words))}")
-    return dict(zip(commands, OPENING.least(list(commands.values()), ENOUGH)))
-
-
-def row(told, time, beside, wanted):
-    """A row of the table."""
-    return f"| {told} | {time:.2f} | {beside:.2f} | {time / beside:.2f} | {wanted} |"
-
-
-def opening_table(program, folder):
-    """The table of a program."""
-    with open(folder / "1 MB.wasm", "wb") as file:
-        subprocess.run([program, "bin", folder / "1 MB.wit"], stdout=file, check=True)
-    ours = of_program(program, folder)
-    best = least_of({**ours, **{f"wit-parser {told}": by_wit_parser(folder, told) for told in ["empty", *LENGTHS]}})
-    mine = {told: best[told] - best["empty"] for told in ours}
-    parser = {told: best[f"wit-parser {told}"] - best["wit-parser empty"] for told in LENGTHS}
-    lines = ["", "| | witcall | beside it | ratio | target |", "|---|---|---|---|---|"]
-    lines += [row(f"a text of {told}, beside wit-parser", mine[told], parser[told], "0.5") for told in LENGTHS]
-    lines.append(row("`bin` of 1 MB, beside wit-parser's reading", mine["bin"], parser["1 MB"], "0.7"))
-    lines.append(row("the binary of 1 MB, beside its text", mine["binary"], mine["1 MB"], "0.6"))
-    lines.append(row("ten packages of 100 KB, beside one text of 1 MB", mine["set"], mine["1 MB"], "1.2"))
-    starter, size = Starter(Folder(folder)), (folder / "1 MB.wit").stat().st_size
-    for told in ("1 MB", "binary"):
-        _, _, most = starter.run(ours[told])
-        told = f"the most memory for {told}, in KiB, beside the text"
-        lines.append(f"| {told} | {most:,} | {size // 1024} | {most * 1024 / size:.1f} | 6 |")
-    return lines
+# ---- opening
 
 
 def opening(given):
     """Opening of texts and binaries in milliseconds, beside wit-parser, without what each takes for an empty text.
 
-    wit-parser is the one in `wasm-component-ld` of the Rust toolchain, which reads the text as a component's type
-    (--component-type) and writes a component without code; a stub stands for the linker that it calls. All programs run
-    in turn. The program is crates/program/out/program, as `rt run` in crates/program leaves it; with --earlier another
-    build is measured too.
+    The program is crates/program/out/program, as `rt run` in crates/program leaves it, or the one of --program. All
+    programs run in turn.
     """
-    write_texts(given.folder)
-    programs = [pathlib.Path(it).resolve() for it in ([given.earlier] if given.earlier else []) + [PROGRAM]]
     with machine((component_ld(), "--version")):
-        lines = [line for program in programs for line in opening_table(program, given.folder)]
-    print("\n".join(lines))
+        lines = times_table(given.program, given.folder)
+    print("\n".join(["", *lines]))
 
 
-BENCHMARKS = (values, calls, holes, host, json, opening)
+def shapes(given):
+    """Opening of texts and binaries of many shapes: instructions by callgrind, beside those of wit-parser, times, page
+    faults and memory. --shape takes one alone."""
+    with machine((component_ld(), "--version"), ("valgrind", "--version")):
+        lines = shapes_table(given.program, given.folder, given.shape)
+    print("\n".join(["", *lines]))
+
+
+BENCHMARKS = (values, calls, holes, host, json, opening, shapes)
 
 
 def outside(folder):
@@ -335,8 +254,10 @@ def main():
         one.set_defaults(benchmark=benchmark)
         if benchmark is json:
             one.add_argument("--instructions", action="store_true", help="count these by callgrind, and no time")
-        if benchmark is opening:
-            one.add_argument("--earlier", metavar="PROGRAM")
+        if benchmark in (opening, shapes):
+            one.add_argument("--program", type=lambda path: pathlib.Path(path).resolve(), default=PROGRAM)
+        if benchmark is shapes:
+            one.add_argument("--shape", action="append", choices=SHAPES)
     given = parser.parse_args()
     with tempfile.TemporaryDirectory() as scratch:
         given.folder = outside(given.folder or scratch)
