@@ -46,29 +46,32 @@ fn put(buffer: &mut [u8], at: usize, bytes: &[u8])
     buffer[at..at + bytes.len()].copy_from_slice(bytes);
 }
 
-/// Puts the bytes of a value into a buffer.
+/// Puts the bytes of a value into a buffer. Where its type is a constant, nothing of it is looked at.
 #[inline(always)]
-fn put_scalar(scalar: Scalar, buffer: &mut [u8], at: usize)
-    requires { at + byte_len (prim_width (prim_in scalar)) ≤ length buffer.old }
-    ensures { let w = prim_width (prim_in scalar) in
+fn put_scalar(primitive: Primitive, scalar: Scalar, buffer: &mut [u8], at: usize)
+    requires typed { prim_in scalar ≡ prim_of primitive }
+    requires room { at + byte_len (prim_width (prim_of primitive)) ≤ length buffer.old }
+    ensures { let w = prim_width (prim_of primitive) in
         buffer.new ≡ overwrite buffer.old at (to_le_bytes w (number_in w (value_in scalar))) }
 {
-    match scalar {
-        Scalar::Bool(b) => put(buffer, at, &[u8::from(b)]),
-        Scalar::S8(n) => put(buffer, at, &n.to_le_bytes()),
-        Scalar::U8(n) => put(buffer, at, &n.to_le_bytes()),
-        Scalar::S16(n) => put(buffer, at, &n.to_le_bytes()),
-        Scalar::U16(n) => put(buffer, at, &n.to_le_bytes()),
-        Scalar::S32(n) => put(buffer, at, &n.to_le_bytes()),
-        Scalar::U32(n) => put(buffer, at, &n.to_le_bytes()),
-        Scalar::S64(n) => put(buffer, at, &n.to_le_bytes()),
-        Scalar::U64(n) => put(buffer, at, &n.to_le_bytes()),
-        Scalar::Char(c) => put(buffer, at, &u32::from(c).to_le_bytes()),
+    match (primitive, scalar) {
+        (Primitive::Bool, Scalar::Bool(b)) => put(buffer, at, &[u8::from(b)]),
+        (Primitive::S8, Scalar::S8(n)) => put(buffer, at, &n.to_le_bytes()),
+        (Primitive::U8, Scalar::U8(n)) => put(buffer, at, &n.to_le_bytes()),
+        (Primitive::S16, Scalar::S16(n)) => put(buffer, at, &n.to_le_bytes()),
+        (Primitive::U16, Scalar::U16(n)) => put(buffer, at, &n.to_le_bytes()),
+        (Primitive::S32, Scalar::S32(n)) => put(buffer, at, &n.to_le_bytes()),
+        (Primitive::U32, Scalar::U32(n)) => put(buffer, at, &n.to_le_bytes()),
+        (Primitive::S64, Scalar::S64(n)) => put(buffer, at, &n.to_le_bytes()),
+        (Primitive::U64, Scalar::U64(n)) => put(buffer, at, &n.to_le_bytes()),
+        (Primitive::Char, Scalar::Char(c)) => put(buffer, at, &u32::from(c).to_le_bytes()),
+        _ => unreachable!(),
     }
 }
 
 /// Puts the bytes of values of a primitive type into a buffer, one after another.
-fn fill(primitive: Primitive, items: &[Val], buffer: &mut [u8])
+#[inline(always)]
+fn fill_each(primitive: Primitive, items: &[Val], buffer: &mut [u8])
     requires typed { AllByRecursion (λ v. HasType v (prim_type (prim_of primitive))) (map value_of items.now) }
     requires room { length items.now * byte_len (prim_width (prim_of primitive)) ≤ length buffer.old }
     ensures filled { let w = prim_width (prim_of primitive) in
@@ -80,7 +83,29 @@ fn fill(primitive: Primitive, items: &[Val], buffer: &mut [u8])
         let Some(scalar) = Scalar::of(&items[index]) else {
             unreachable!()
         };
-        put_scalar(scalar, buffer, index * step);
+        put_scalar(primitive, scalar, buffer, index * step);
+    }
+}
+
+/// The same, with the type as a constant.
+fn fill(primitive: Primitive, items: &[Val], buffer: &mut [u8])
+    requires typed { AllByRecursion (λ v. HasType v (prim_type (prim_of primitive))) (map value_of items.now) }
+    requires room { length items.now * byte_len (prim_width (prim_of primitive)) ≤ length buffer.old }
+    ensures filled { let w = prim_width (prim_of primitive) in
+        take (length items.now * byte_len w) buffer.new ≡ bytes_of_scalars w (map value_of items.now) }
+    ensures same_length { length buffer.new ≡ length buffer.old }
+{
+    match primitive {
+        Primitive::Bool => fill_each(Primitive::Bool, items, buffer),
+        Primitive::S8 => fill_each(Primitive::S8, items, buffer),
+        Primitive::U8 => fill_each(Primitive::U8, items, buffer),
+        Primitive::S16 => fill_each(Primitive::S16, items, buffer),
+        Primitive::U16 => fill_each(Primitive::U16, items, buffer),
+        Primitive::S32 => fill_each(Primitive::S32, items, buffer),
+        Primitive::U32 => fill_each(Primitive::U32, items, buffer),
+        Primitive::S64 => fill_each(Primitive::S64, items, buffer),
+        Primitive::U64 => fill_each(Primitive::U64, items, buffer),
+        Primitive::Char => fill_each(Primitive::Char, items, buffer),
     }
 }
 
@@ -140,7 +165,8 @@ pub(crate) fn store_scalars<G: Guest>(
 }
 
 /// Loads values of a primitive type that stand one after another inside the memory.
-pub(crate) fn load_scalars(
+#[inline(always)]
+fn load_each(
     alloc: Global,
     primitive: Primitive,
     memory: &[u8],
@@ -159,4 +185,30 @@ pub(crate) fn load_scalars(
         items.push_reserved(item);
     }
     Ok(items)
+}
+
+/// The same, with the type as a constant.
+pub(crate) fn load_scalars(
+    alloc: Global,
+    primitive: Primitive,
+    memory: &[u8],
+    start: usize,
+    count: usize,
+) -> Result<Vec<Val>, NoValue>
+    requires inside { start + count * byte_len (prim_width (prim_of primitive)) ≤ length memory.now }
+    ensures { let p = prim_of primitive in AnswersAs (λ v. map value_of v.items) result
+        (each_at (reading (prim_type p) memory.now) (byte_len (prim_width p)) start count) }
+{
+    match primitive {
+        Primitive::Bool => load_each(alloc, Primitive::Bool, memory, start, count),
+        Primitive::S8 => load_each(alloc, Primitive::S8, memory, start, count),
+        Primitive::U8 => load_each(alloc, Primitive::U8, memory, start, count),
+        Primitive::S16 => load_each(alloc, Primitive::S16, memory, start, count),
+        Primitive::U16 => load_each(alloc, Primitive::U16, memory, start, count),
+        Primitive::S32 => load_each(alloc, Primitive::S32, memory, start, count),
+        Primitive::U32 => load_each(alloc, Primitive::U32, memory, start, count),
+        Primitive::S64 => load_each(alloc, Primitive::S64, memory, start, count),
+        Primitive::U64 => load_each(alloc, Primitive::U64, memory, start, count),
+        Primitive::Char => load_each(alloc, Primitive::Char, memory, start, count),
+    }
 }

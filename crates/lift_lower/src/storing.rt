@@ -230,6 +230,44 @@ pub(crate) fn ask_elements<G: Guest>(
     ask_block(guest, limit, align, count.saturating_mul(step))
 }
 
+/// The text that a value of its type is.
+#[inline(always)]
+fn text_of(value: &Val) -> &str
+    requires { HasType (value_of value.now) string_type }
+    ensures { string_value result.now ≡ value_of value.now }
+{
+    let None = Scalar::of(value) else {
+        unreachable!()
+    };
+    let Val::String(text) = value else {
+        unreachable!()
+    };
+    text.as_str()
+}
+
+/// Stores texts one after another.
+fn store_texts<G: Guest>(
+    limit: u32,
+    items: &[Val],
+    guest: &mut G,
+    start: usize,
+) -> Result<(), TrapKind>
+    requires typed { AllByRecursion (λ w. HasType w string_type) (map value_of items.now) }
+    requires room { start + length items.now * 8 ≤ length (G.memory guest.old).bytes }
+    requires small { start + length items.now * 8 < 2 ^ 32 }
+    ensures ok { OnOk result (IsDone limit G.allocates (EachStores (Stores string_type) 8 start (map value_of items.now))
+        (G.memory guest.old) (G.memory guest.new)) }
+    ensures fault { IfErr result (λ k. HasEnded limit G.allocates
+        (EachStores (Stores string_type) 8 start (map value_of items.now))
+        (G.memory guest.old) k (G.memory guest.new)) }
+{
+    for index in 0..items.len() {
+        let text = text_of(&items[index]);
+        store_text(limit, text, guest, start + index * 8)?;
+    }
+    Ok(())
+}
+
 /// Stores the elements of a list one after another.
 #[cycle(store)]
 pub(crate) fn store_items<G: Guest>(
@@ -253,9 +291,13 @@ pub(crate) fn store_items<G: Guest>(
         IfErr result (λ k. HasEnded limit G.allocates (EachStores (Stores t) (size t) start (map value_of items.now))
         (G.memory guest.old) k (G.memory guest.new)) }
 {
-    if let ValType::Primitive(primitive) = element {
-        store_scalars(primitive, items, guest, start);
-        return Ok(());
+    match element {
+        ValType::Primitive(primitive) => {
+            store_scalars(primitive, items, guest, start);
+            return Ok(());
+        }
+        ValType::String => return store_texts(limit, items, guest, start),
+        ValType::Id(_) => (),
     }
     let step = table.size_of(element);
     for index in 0..items.len() {

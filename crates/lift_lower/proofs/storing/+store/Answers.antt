@@ -425,3 +425,6 @@ store_variant-returns-clause-fault g t c =
     let given = rw (place, ap value_of c.deref.ensures) at c.store_at.ensures.fault in
     rw (c.in-Some.is, ← variant) (if-err-as c.store_at.result _ _ (λ k e. case-ended limit A cs c.args.at i (payload_value i w) old mid k new led c.write_number.ensures.same_length
     (ended-as limit A (Stores u a w) (CaseStores cs a i i (payload_value i w)) mid k new (λ es h. payload-stored cs a i i u w es found h) e)) given)
+
+pub store_items-store_texts-requires-clause-typed : goal.store_items-store_texts-requires-clause-typed
+store_items-store_texts-requires-clause-typed g t c = rw c.in-String.is at c.requires.typed

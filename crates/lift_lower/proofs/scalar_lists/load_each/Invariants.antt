@@ -5,7 +5,7 @@ use Rattle.canonical_abi.specs.Types.{prim_type}
 use Rattle.tables.specs.Closed.{prim_of}
 use Rattle.values.specs.Val.{value_of}
 use Rattle.lift_lower.proofs.ReadingStepByStep.{with_front}
-use Rattle.lift_lower.proofs.scalar_lists.load_scalars.Given as goal
+use Rattle.lift_lower.proofs.scalar_lists.load_each.Given as goal
 
 abbrev pub invariant-loop-index : goal.invariant-loop-index
 invariant-loop-index l =

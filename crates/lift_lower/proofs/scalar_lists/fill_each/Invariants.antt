@@ -3,7 +3,7 @@ use Rattle.canonical_abi.specs.Layout.{prim_width}
 use Rattle.tables.specs.Closed.{prim_of}
 use Rattle.lift_lower.specs.ScalarLists.{bytes_of_scalars}
 use Rattle.values.specs.Val.{value_of}
-use Rattle.lift_lower.proofs.scalar_lists.fill.Given as goal
+use Rattle.lift_lower.proofs.scalar_lists.fill_each.Given as goal
 
 abbrev pub invariant-loop-index : goal.invariant-loop-index
 invariant-loop-index l =

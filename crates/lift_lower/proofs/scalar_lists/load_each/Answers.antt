@@ -7,7 +7,7 @@ use Rattle.tables.specs.Closed.{prim_of}
 use Rattle.values.specs.Val.{value_of}
 use Rattle.lift_lower.proofs.ListsAreLoaded.{fails-pass}
 use Rattle.lift_lower.proofs.ReadingStepByStep.{each-more, each-fault}
-use Rattle.lift_lower.proofs.scalar_lists.load_scalars.Goals as goal
+use Rattle.lift_lower.proofs.scalar_lists.load_each.Goals as goal
 
 pub returns-in_err-item : goal.returns-in_err-item
 returns-in_err-item c =
