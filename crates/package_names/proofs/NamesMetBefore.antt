@@ -1,12 +1,11 @@
 -- A name was met before exactly where the set of met names has it, or it is one of the few before that set.
-use Rattle.std.proofs.Common.{◌≡◌, ℕ, zero, suc, Bool, true, false, not, ◌||◌, List, [], ◌∷◌, ◌++◌, map, Contains, ap, sym, ◌∙◌, refl, subst, true≢false, arith, Bor, inl, inr}
+use Rattle.std.proofs.Common.{◌≡◌, ℕ, zero, suc, Bool, true, false, not, ◌||◌, List, [], ◌∷◌, ◌++◌, map, Contains, ap, sym, ◌∙◌, refl, subst, true≢false, arith, Bor, Result, Ok, Err, IfOk, inl, inr}
 use Rattle.std.specs.List.{list_any}
 use Rattle.std.specs.Str.{bytes_eq}
 use Rattle.std.proofs.lemmas.Slice.Eq.{bytes_eq-Decides}
 use Rattle.std.proofs.lemmas.Map.Views.{Contains-from_any, list_any-from_Contains}
 use Rattle.std.specs.Cmp.Lexicographic.{on_texts_equal}
-use Rattle.package_form.specs.Scope.{lowered_name}
-use Rattle.package_form.proofs.AllAndContains.{contains-right, contains-either}
+use Rattle.package_form.proofs.AllAndContains.{contains-left, contains-right, contains-either}
 
 module _ {V : Type 0} (items : V → List ℕ) where
   any-map : (low : List ℕ) (keys : List V) → list_any (bytes_eq low) (map items keys) ≡ list_any (λ k. bytes_eq low (items k)) keys
@@ -52,9 +51,21 @@ in-neither xs ys low a b h = elim (contains-either xs ys low h) [
   | inr c ↦ b c
 ]
 
-module _ (few : List (Bor (List ℕ))) (many names : List (List ℕ)) (view : map lowered_name few ++ many ≡ names) (low : List ℕ) where
-  pub met-in-many : Contains many low → Contains names low
-  met-in-many h = subst (λ (ns : List (List ℕ)). Contains ns low) view (contains-right (map lowered_name few) many low h)
+module _ (front many names : List (List ℕ)) (view : front ++ many ≡ names) (low : List ℕ) where
+  pub met-in-front : Contains front low → Contains names low
+  met-in-front h = subst (λ (ns : List (List ℕ)). Contains ns low) view (contains-left front many low h)
 
-  pub new-in-both : ¬ Contains (map lowered_name few) low → ¬ Contains many low → ¬ Contains names low
-  new-in-both a b = subst (λ (ns : List (List ℕ)). ¬ Contains ns low) view (in-neither (map lowered_name few) many low a b)
+  pub met-in-many : Contains many low → Contains names low
+  met-in-many h = subst (λ (ns : List (List ℕ)). Contains ns low) view (contains-right front many low h)
+
+  pub new-in-both : ¬ Contains front low → ¬ Contains many low → ¬ Contains names low
+  new-in-both a b = subst (λ (ns : List (List ℕ)). ¬ Contains ns low) view (in-neither front many low a b)
+
+-- ---- what a call answers
+
+abbrev pub lent : Bor (List ℕ) → List ℕ
+lent b = b.now
+
+pub kept : {T E : Type 0} (r : Result T E) (P Q : T → Type 0) → ((x : T) → P x → Q x) → IfOk r P → IfOk r Q
+kept (Ok x) P Q f h = f x h
+kept (Err e) P Q f h = tt

@@ -8,9 +8,10 @@ use atoms::{KeyedState, Label};
 use indexmap::IndexSet;
 use std::alloc::{AllocError, Global};
 use std::marker::Model;
+use std::mem::replace;
 use tables::{Name, ResolveError};
 
-/// How many names of a scope are compared one by one; those behind them stand in a table.
+/// How many names of a scope are compared one by one; where there are more, all stand in a table.
 pub const FEW: usize = 16;
 
 /// A name in lower case.
@@ -78,6 +79,81 @@ impl NameTable {
     }
 }
 
+/// Whether a name has no letter in upper case.
+fn is_lower(name: &str) -> bool
+    ensures { result ≡ true → lowered name.now ≡ name.now }
+{
+    for byte in name.as_bytes() {
+        if byte.is_ascii_uppercase() {
+            return false;
+        }
+    }
+    true
+}
+
+/// Names that were met, in lower case, in tables: lent up to the first that isn't in lower case, copied from there on.
+#[derive(Drop)]
+struct LentTable<'a> {
+    lent: IndexSet<&'a str, KeyedState>,
+    copied: NameTable,
+}
+
+impl<'a> Model for LentTable<'a> {
+    ghost use Rattle.std.specs.Prelude.{◌++◌, List, ℕ, map};
+
+    ghost Value = { List (List ℕ) };
+
+    ghost view = { λ n. map (λ s. s.now) n.lent.keys ++ n.copied };
+}
+
+impl<'a> LentTable<'a> {
+    /// No names; those that are met are told apart by hashers with this key.
+    fn new(alloc: Global, keyed: KeyedState) -> LentTable<'a>
+        ensures { result ≡ [] }
+    {
+        LentTable {
+            lent: IndexSet::with_hasher(alloc, keyed),
+            copied: NameTable::new(alloc, keyed),
+        }
+    }
+
+    fn is_empty(&self) -> bool
+        ensures { result ≡ true → self.now ≡ [] }
+    {
+        self.lent.is_empty() && self.copied.is_empty()
+    }
+
+    /// Whether a name is new; it is met now.
+    fn insert(&mut self, alloc: Global, name: &'a str) -> Result<bool, ResolveError>
+        ensures new { IfOk result (λ is_new. is_new ≡ true → ¬ Contains self.old (lowered name.now)) }
+        ensures met_before { IfOk result (λ is_new. is_new ≡ false → Contains self.old (lowered name.now)) }
+        ensures after { IfOk result (λ is_new. is_new ≡ true → self.new ≡ self.old ++ lowered name.now ∷ []) }
+        ensures err { IfErr result (λ e. e ≡ ResolveError.NoMemory) }
+    {
+        if is_lower(name) && self.copied.is_empty() {
+            return Ok(self.lent.insert(name)?);
+        }
+        let name = lowered(alloc, name)?;
+        if self.lent.contains(name.as_str()) {
+            return Ok(false);
+        }
+        self.copied.insert(name)
+    }
+
+    /// Puts in names that all are new. No memory, too, where one isn't.
+    fn insert_all(&mut self, alloc: Global, names: &[&'a str]) -> Result<(), ResolveError>
+        ensures ok { OnOk result (self.new ≡ self.old ++ map lowered_name names.now) }
+        ensures err { IfErr result (λ e. e ≡ ResolveError.NoMemory) }
+    {
+        for name in names {
+            if !self.insert(alloc, name)? {
+                return Err(ResolveError::NoMemory);
+            }
+        }
+        Ok(())
+    }
+}
+
 /// Whether a name is one of these but for the case of its letters.
 fn is_among(names: &[&str], name: &str) -> bool
     ensures yes { result ≡ true → Contains (map lowered_name names.now) (lowered name.now) }
@@ -91,11 +167,11 @@ fn is_among(names: &[&str], name: &str) -> bool
     false
 }
 
-/// The names that were met in a scope: the first few as they stand, those behind them in a table.
+/// The names that were met in a scope: a few as they stand, more in a table.
 #[derive(Drop)]
 pub struct Scope<'a> {
     few: ArrayVec<&'a str, FEW>,
-    many: NameTable,
+    many: LentTable<'a>,
 }
 
 impl<'a> Model for Scope<'a> {
@@ -114,7 +190,7 @@ impl<'a> Scope<'a> {
     {
         Scope {
             few: ArrayVec::new(),
-            many: NameTable::new(alloc, keyed),
+            many: LentTable::new(alloc, keyed),
         }
     }
 
@@ -142,10 +218,15 @@ impl<'a> Scope<'a> {
         if is_among(self.few.as_slice(), name) {
             return Ok(false);
         }
-        if self.few.len() < FEW && self.many.is_empty() {
+        if !self.many.is_empty() {
+            return self.many.insert(alloc, name);
+        }
+        if self.few.len() < FEW {
             self.few.push(name);
             return Ok(true);
         }
-        self.many.insert(lowered(alloc, name)?)
+        let few = replace(&mut self.few, ArrayVec::new());
+        self.many.insert_all(alloc, few.as_slice())?;
+        self.many.insert(alloc, name)
     }
 }

@@ -7,12 +7,12 @@ ghost use Rattle.tree_meaning.specs.Resolves.{places, interface_uses, type_uses}
 ghost use Rattle.tree_scopes.specs.Lent.{lent_names, used_item_of};
 ghost use Rattle.tree_scopes.specs.Sources.{declared_tree};
 
-use crate::named::definition_names;
+use crate::named::list_definition;
 use atoms::{KeyedState, Label};
 use placement::{OrderError, placement};
 use std::alloc::{AllocError, Global};
 use tables::{ResolveError, Sequence};
-use tree_scopes::{Declarations, Names, UsedType, interface_names, push_types};
+use tree_scopes::{Declarations, Names, UsedType, interface_names};
 use wit_tokens::wit_syntax::Path;
 
 /// The places of these names, without those that don't stand there.
@@ -51,8 +51,9 @@ fn interface_graph(
 {
     let names = interface_names(alloc, keyed, all)?;
     let mut graph = Vec::new(alloc);
+    let mut used = Vec::new(alloc);
     for declared in all {
-        let mut used = Vec::new(alloc);
+        used.clear();
         push_interfaces(&mut used, &declared.uses)?;
         graph.push(places(alloc, &names, &used)?)?;
     }
@@ -60,20 +61,14 @@ fn interface_graph(
 }
 
 /// Which types of the interface each of its types names.
-fn type_graph(
-    alloc: Global,
-    keyed: KeyedState,
-    declared: &Declarations,
-) -> Result<Vec<Sequence<usize>>, AllocError>
+fn type_graph(alloc: Global, declared: &Declarations) -> Result<Vec<Sequence<usize>>, AllocError>
     ensures { IfOk result (λ g. g.items ≡ type_uses (declared_tree declared.now)) }
 {
-    let mut own = Vec::new(alloc);
-    push_types(&mut own, &declared.types)?;
-    let own = Names::of(alloc, keyed, own)?;
     let mut graph = Vec::new(alloc);
+    let mut named = Vec::new(alloc);
     for definition in &declared.types {
-        let names = definition_names(alloc, &definition.kind)?;
-        graph.push(places(alloc, &own, &names)?)?;
+        list_definition(&mut named, &definition.kind)?;
+        graph.push(places(alloc, &declared.own, &named)?)?;
     }
     Ok(graph)
 }
@@ -107,23 +102,18 @@ pub fn interface_order(
 }
 
 /// The order of an interface's types. 42 where they name each other.
-fn type_order(
-    alloc: Global,
-    keyed: KeyedState,
-    declared: &Declarations,
-) -> Result<Sequence<usize>, ResolveError>
+fn type_order(alloc: Global, declared: &Declarations) -> Result<Sequence<usize>, ResolveError>
     ensures ok { IfOk result (IsPlacement (type_uses (declared_tree declared.now))) }
     ensures err { IfErr result (λ e. (e ≡ ResolveError.NoMemory)
         ⊎ ((e ≡ ResolveError.Cycle) × ((group : ℕ → Bool) × IsCycle (type_uses (declared_tree declared.now)) group))) }
 {
-    let graph = type_graph(alloc, keyed, declared)?;
+    let graph = type_graph(alloc, declared)?;
     ordered(alloc, &graph)
 }
 
 /// The order of each interface's types.
 pub fn type_orders(
     alloc: Global,
-    keyed: KeyedState,
     all: &[Declarations],
 ) -> Result<Vec<Sequence<usize>>, ResolveError>
     ensures count { IfOk result (λ os. length os.items ≡ length all.now) }
@@ -135,7 +125,7 @@ pub fn type_orders(
 {
     let mut orders = Vec::new(alloc);
     for declared in all {
-        orders.push(type_order(alloc, keyed, declared)?)?;
+        orders.push(type_order(alloc, declared)?)?;
     }
     Ok(orders)
 }

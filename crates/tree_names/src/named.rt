@@ -1,5 +1,5 @@
 //! The names of types in a syntax tree.
-ghost use Rattle.std.specs.Prelude.{◌≡◌, ◌++◌, map, flat_map, OnOk, IfOk};
+ghost use Rattle.std.specs.Prelude.{◌≡◌, ◌++◌, map, flat_map, OnOk};
 ghost use Rattle.wit_tokens.specs.Syntax.{tys_of};
 ghost use Rattle.wit_tokens.specs.View.{ty_view, boxed_view, optional_view, field_view, case_view, definition_view};
 ghost use Rattle.wit_tokens.specs.View.{function_view};
@@ -8,7 +8,7 @@ ghost use Rattle.tree_meaning.specs.Declarations.{named_definition, names_in_fun
 ghost use Rattle.tree_scopes.specs.Lent.{lent_names};
 
 use atoms::Label;
-use std::alloc::{AllocError, Global};
+use std::alloc::AllocError;
 use wit_tokens::wit_syntax::{Case, Field, FuncType, TypeDefKind, TypeExpression};
 
 /// Appends the names that a type names, from the left.
@@ -87,29 +87,27 @@ fn push_named_cases<'a>(names: &mut Vec<&'a Label>, cases: &'a [Case]) -> Result
     Ok(())
 }
 
-/// The names that a definition names, from the left.
-pub fn definition_names<'a>(
-    alloc: Global,
+/// Makes a list anew of the names that a definition names, from the left.
+pub fn list_definition<'a>(
+    names: &mut Vec<&'a Label>,
     kind: &'a TypeDefKind,
-) -> Result<Vec<&'a Label>, AllocError>
-    ensures { IfOk result (λ ns. lent_names ns.items ≡ named_definition (definition_view kind.now)) }
+) -> Result<(), AllocError>
+    ensures { OnOk result (lent_names names.new.items ≡ named_definition (definition_view kind.now)) }
 {
-    let mut names = Vec::new(alloc);
+    names.clear();
     match kind {
-        TypeDefKind::Alias(ty) => push_named(&mut names, ty)?,
-        TypeDefKind::Record(fields) => push_named_fields(&mut names, fields)?,
-        TypeDefKind::Variant(cases) => push_named_cases(&mut names, cases)?,
-        TypeDefKind::Enum(_) | TypeDefKind::Flags(_) => {}
+        TypeDefKind::Alias(ty) => push_named(names, ty),
+        TypeDefKind::Record(fields) => push_named_fields(names, fields),
+        TypeDefKind::Variant(cases) => push_named_cases(names, cases),
+        TypeDefKind::Enum(_) | TypeDefKind::Flags(_) => Ok(()),
     }
-    Ok(names)
 }
 
-/// The names that a function names, from the left.
-pub fn function_names<'a>(alloc: Global, ty: &'a FuncType) -> Result<Vec<&'a Label>, AllocError>
-    ensures { IfOk result (λ ns. lent_names ns.items ≡ names_in_function (function_view ty.now)) }
+/// Makes a list anew of the names that a function names, from the left.
+pub fn list_function<'a>(names: &mut Vec<&'a Label>, ty: &'a FuncType) -> Result<(), AllocError>
+    ensures { OnOk result (lent_names names.new.items ≡ names_in_function (function_view ty.now)) }
 {
-    let mut names = Vec::new(alloc);
-    push_named_fields(&mut names, &ty.params)?;
-    push_named_optional(&mut names, &ty.result)?;
-    Ok(names)
+    names.clear();
+    push_named_fields(names, &ty.params)?;
+    push_named_optional(names, &ty.result)
 }

@@ -4,7 +4,7 @@ ghost use Rattle.std.specs.Prelude.{Some, map, filter_map, length};
 ghost use Rattle.atoms.specs.Label.{IsLabel};
 ghost use Rattle.wit_tokens.specs.View.{entry_view, path_view, used_view, world_entry_view, item_view};
 ghost use Rattle.tree_meaning.specs.Declarations.{InterfaceTree, path_uses, item_tree, interface_of, world_of};
-ghost use Rattle.tree_meaning.specs.Declarations.{interface_at, names_of_trees};
+ghost use Rattle.tree_meaning.specs.Declarations.{interface_at, names_of_trees, type_names};
 ghost use Rattle.tree_meaning.specs.Imports.{imports_of};
 ghost use Rattle.tree_meaning.specs.Resolves.{IsKnownIn, IsKnownUseOf, IsLackingIn, IsUnknownUse, HasKnownNamesOf};
 ghost use Rattle.tree_meaning.specs.Resolves.{IsKnownItemOf, IsUnknownItem, IsKnownWorldOf};
@@ -14,7 +14,7 @@ ghost use Rattle.tree_scopes.specs.Sources.{declared_tree, use_of};
 ghost use Rattle.tree_meaning.specs.Knowing.{IsThere, KnowsEntry, LacksEntry, LacksUse, LacksAny, LacksItem};
 ghost use Rattle.tree_meaning.specs.Knowing.{KnowsFileEntry, LacksFileEntry, RefusesUnknown};
 
-use crate::named::{definition_names, function_names};
+use crate::named::{list_definition, list_function};
 use atoms::Label;
 use std::alloc::{AllocError, Global};
 use tables::ResolveError;
@@ -33,15 +33,16 @@ struct Tree<'a> {
     ghost named: { names ≡ names_of_trees (map declared_tree all.now) },
 }
 
-/// The first of these names that isn't known.
-fn first_unknown<'a>(known: &Names, names: &[&'a Label]) -> Option<&'a Label>
-    ensures none { IfNone result (All (Contains known.now) (lent_names names.now)) }
-    ensures some { IfSome result (λ n. Contains (lent_names names.now) n.now × (¬ Contains known.now n.now)) }
+/// The first of these names that no type of the interface has.
+fn first_unknown<'a>(declared: &Declarations, names: &[&'a Label]) -> Option<&'a Label>
+    ensures none { IfNone result (All (Contains (type_names (declared_tree declared.now))) (lent_names names.now)) }
+    ensures some { IfSome result (λ n. Contains (lent_names names.now) n.now
+        × (¬ Contains (type_names (declared_tree declared.now)) n.now)) }
 {
     for name in names {
-        let Some(_) = known.place_of(name) else {
+        if !declared.has(name) {
             return Some(name);
-        };
+        }
     }
     None
 }
@@ -67,10 +68,7 @@ fn unknown_in_own<'a>(tree: &Tree<'_>, interface: &'a Label, name: &'a Label) ->
 {
     match find_interface(tree, interface) {
         None => Some(interface),
-        Some(declared) => match declared.names.place_of(name) {
-            None => Some(name),
-            Some(_) => None,
-        },
+        Some(declared) => { if declared.has(name) { None } else { Some(name) } }
     }
 }
 
@@ -128,8 +126,9 @@ fn unknown_in_use<'a>(tree: &Tree<'_>, path: &'a Path, used: &'a [UsedName]) -> 
     None
 }
 
+/// The first name in an item that stands for nothing. The list holds what the item names.
 fn unknown_in_item<'a>(
-    alloc: Global,
+    named: &mut Vec<&'a Label>,
     tree: &Tree<'_>,
     declared: &Declarations,
     item: &'a InterfaceItem,
@@ -144,18 +143,18 @@ fn unknown_in_item<'a>(
     match item {
         InterfaceItem::Use(used) => Ok(unknown_in_use(tree, &used.interface, &used.names)),
         InterfaceItem::TypeDef(definition) => {
-            let named = definition_names(alloc, &definition.kind)?;
-            Ok(first_unknown(&declared.names, &named))
+            list_definition(named, &definition.kind)?;
+            Ok(first_unknown(declared, named))
         }
         InterfaceItem::Func(function) => {
-            let named = function_names(alloc, &function.ty)?;
-            Ok(first_unknown(&declared.names, &named))
+            list_function(named, &function.ty)?;
+            Ok(first_unknown(declared, named))
         }
     }
 }
 
 fn unknown_in_items<'a>(
-    alloc: Global,
+    named: &mut Vec<&'a Label>,
     tree: &Tree<'_>,
     declared: &Declarations,
     items: &'a [InterfaceItem],
@@ -168,7 +167,7 @@ fn unknown_in_items<'a>(
         (declared_tree declared.now) (map entry_view items.now) n.now)) }
 {
     for item in items {
-        let unknown = unknown_in_item(alloc, tree, declared, item)?;
+        let unknown = unknown_in_item(named, tree, declared, item)?;
         if let Some(name) = unknown {
             return Ok(Some(name));
         }
@@ -191,7 +190,7 @@ fn is_there(tree: &Tree<'_>, path: &Path) -> bool
 /// The interface that an item of a world names where it isn't there, or the first type that it names: a world
 /// declares none.
 fn unknown_in_world_item<'a>(
-    alloc: Global,
+    named: &mut Vec<&'a Label>,
     tree: &Tree<'_>,
     item: &'a WorldItem,
 ) -> Result<Option<&'a Label>, AllocError>
@@ -211,7 +210,7 @@ fn unknown_in_world_item<'a>(
             }
         }
         WorldItemKind::Func(function) => {
-            let named = function_names(alloc, &function.ty)?;
+            list_function(named, &function.ty)?;
             if named.is_empty() {
                 Ok(None)
             } else {
@@ -222,7 +221,7 @@ fn unknown_in_world_item<'a>(
 }
 
 fn unknown_in_world<'a>(
-    alloc: Global,
+    named: &mut Vec<&'a Label>,
     tree: &Tree<'_>,
     items: &'a [WorldItem],
 ) -> Result<Option<&'a Label>, AllocError>
@@ -234,7 +233,7 @@ fn unknown_in_world<'a>(
         (map item_tree (map world_entry_view items.now)) n.now)) }
 {
     for item in items {
-        if let Some(name) = unknown_in_world_item(alloc, tree, item)? {
+        if let Some(name) = unknown_in_world_item(named, tree, item)? {
             return Ok(Some(name));
         }
     }
@@ -243,7 +242,7 @@ fn unknown_in_world<'a>(
 
 /// A name of an interface, whose declarations stand at this place, or of a world that stands for nothing.
 fn unknown_in_entry<'a>(
-    alloc: Global,
+    named: &mut Vec<&'a Label>,
     tree: &Tree<'_>,
     place: usize,
     item: &'a Item,
@@ -259,9 +258,9 @@ fn unknown_in_entry<'a>(
 {
     match item {
         Item::Interface(interface) => {
-            unknown_in_items(alloc, tree, &tree.all[place], &interface.items)
+            unknown_in_items(named, tree, &tree.all[place], &interface.items)
         }
-        Item::World(world) => unknown_in_world(alloc, tree, &world.items),
+        Item::World(world) => unknown_in_world(named, tree, &world.items),
     }
 }
 
@@ -287,9 +286,10 @@ pub fn known_names(
         all,
         names,
     };
+    let mut named = Vec::new(alloc);
     let mut place = 0;
     for item in items {
-        let unknown = unknown_in_entry(alloc, &tree, place, item)?;
+        let unknown = unknown_in_entry(&mut named, &tree, place, item)?;
         if let Some(name) = unknown {
             return Err(ResolveError::Unknown(name.copy(alloc)?));
         }

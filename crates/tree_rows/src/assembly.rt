@@ -48,11 +48,11 @@ pub fn ordered_index<'a>(
 
 /// Defines all interfaces in package order, the types of each in their order, behind the imports, whose scopes these
 /// are.
-pub fn define_package(
+pub fn define_package<'a>(
     alloc: Global,
-    plan: &Plan<'_>,
+    plan: &Plan<'a>,
     builder: &mut Builder,
-    mut scopes: Vec<KnownTypes>,
+    mut scopes: Vec<KnownTypes<'a>>,
 ) -> Result<(), AllocError>
     requires plan { IsPlan plan.now }
     requires starts { builder.old ≡ start_table plan.now.imports.now plan.now.names.now }

@@ -25,11 +25,11 @@ use tree_scopes::{KnownTypes, TypeIds, UsedType, interface_place};
 use wit_tokens::wit_syntax::Func;
 
 /// Puts a type under a name at the end of the table; the scope then knows it.
-fn define_named(
+fn define_named<'a>(
     alloc: Global,
     builder: &mut Builder,
-    scope: &mut KnownTypes,
-    name: &Label,
+    scope: &mut KnownTypes<'a>,
+    name: &'a Label,
     kind: TypeDefKind,
 ) -> Result<(), AllocError>
     ensures { OnOk result (DefinesNamed builder.old scope.old builder.new scope.new name.now kind) }
@@ -41,15 +41,15 @@ fn define_named(
         }),
         kind,
     }))?;
-    scope.entries.push(alloc, name, id)?;
+    scope.entries.push(name, id)?;
     Ok(())
 }
 
-fn define_type(
+fn define_type<'a>(
     alloc: Global,
     builder: &mut Builder,
-    scope: &mut KnownTypes,
-    item: &wit_tokens::wit_syntax::TypeDef,
+    scope: &mut KnownTypes<'a>,
+    item: &'a wit_tokens::wit_syntax::TypeDef,
 ) -> Result<(), AllocError>
     requires known { KnowsNames scope.old (named_definition (type_item item.now).definition) }
     requires scoped { IsScope builder.old scope.old }
@@ -61,11 +61,11 @@ fn define_type(
 }
 
 /// Defines a used name: another name of that type of the used interface.
-fn define_use(
+fn define_use<'a>(
     alloc: Global,
     builder: &mut Builder,
-    scope: &mut KnownTypes,
-    used: &UsedType,
+    scope: &mut KnownTypes<'a>,
+    used: &UsedType<'a>,
     target: TypeId,
 ) -> Result<(), AllocError>
     requires target { TreeStands builder.old (Id target) (Reference (used_key (used_item_of used.now))) }
@@ -99,11 +99,11 @@ fn define_function(
 }
 
 /// Defines an interface's types in this order.
-fn define_types(
+fn define_types<'a>(
     alloc: Global,
     builder: &mut Builder,
-    scope: &mut KnownTypes,
-    types: &[&wit_tokens::wit_syntax::TypeDef],
+    scope: &mut KnownTypes<'a>,
+    types: &[&'a wit_tokens::wit_syntax::TypeDef],
     order: &[usize],
 ) -> Result<(), AllocError>
     requires earlier { NamesEarlier (scope_names scope.old) (map declared_type types.now) order.now }
@@ -155,13 +155,13 @@ fn target(
 }
 
 /// Defines the names that an interface uses.
-fn define_uses(
+fn define_uses<'a>(
     alloc: Global,
     plan: &Plan<'_>,
     builder: &mut Builder,
     scopes: &[KnownTypes],
-    scope: &mut KnownTypes,
-    uses: &[UsedType],
+    scope: &mut KnownTypes<'a>,
+    uses: &[UsedType<'a>],
 ) -> Result<(), AllocError>
     requires known { All (CanUse (interfaces_of plan.now.imports.now) plan.now.names.now builder.old scopes.now)
         (map used_item_of uses.now) }
@@ -179,13 +179,13 @@ fn define_uses(
 }
 
 /// Defines all of an interface; its scope is then complete.
-pub fn define_interface(
+pub fn define_interface<'a>(
     alloc: Global,
     plan: &Plan<'_>,
     builder: &mut Builder,
     scopes: &[KnownTypes],
-    own: &Own<'_>,
-) -> Result<KnownTypes, AllocError>
+    own: &Own<'a>,
+) -> Result<KnownTypes<'a>, AllocError>
     requires named { label_at builder.old own.now.id.0 ≡ own.now.declared.now.name.now }
     requires others { All (IsScope builder.old) scopes.now }
     requires ids { ArePlaced scopes.now }

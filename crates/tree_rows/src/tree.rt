@@ -27,7 +27,11 @@ use tree_scopes::{Declarations, Imports, KnownTypes};
 use wit_tokens::wit_syntax::Ast;
 
 /// The closed table of a tree, whose definitions are made in this order behind the imports, whose scopes these are.
-fn planned(alloc: Global, plan: &Plan<'_>, scopes: Vec<KnownTypes>) -> Result<Resolve, ResolveError>
+fn planned<'a>(
+    alloc: Global,
+    plan: &Plan<'a>,
+    scopes: Vec<KnownTypes<'a>>,
+) -> Result<Resolve, ResolveError>
     requires plan { IsPlan plan.now }
     requires scopes { AreImportScopes plan.now.imports.now scopes.items }
     ensures ok { IfOk result (IsClosedPackageOf (imported plan.now) (planned_file plan.now)) }
@@ -61,7 +65,7 @@ fn defined(
         scopes,
     } = imports;
     let order = interface_order(alloc, keyed, all)?;
-    let types = type_orders(alloc, keyed, all)?;
+    let types = type_orders(alloc, all)?;
     let names = ordered_index(alloc, keyed, all, order.as_slice())?;
     let labels = ordered_names(alloc, all, order.as_slice())?;
     let plan = Plan {

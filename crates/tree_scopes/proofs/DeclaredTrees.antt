@@ -1,13 +1,14 @@
 -- What is declared by parts of a tree that are lent.
-use Rattle.std.proofs.Common.{◌≡◌, List, [], ◌∷◌, ◌++◌, map, ap, sym, ◌∙◌, ℕ, ◌<◌, Some, length, get_or, subst, arith, Contains, All, Bor}
-use Rattle.tree_meaning.specs.Declarations.{InterfaceTree, names_of_trees, interface_tree_name, interface_at, no_interface, type_names}
+use Rattle.std.proofs.Common.{◌≡◌, ◌↔◌, Bool, true, false, true≢false, IsTrue, Option, None, is_some, List, [], ◌∷◌, ◌++◌, map, ap, sym, ◌∙◌, ℕ, ◌<◌, Some, length, get_or, subst, arith, Contains, All, Bor, inl, inr}
+use Rattle.tree_meaning.specs.Declarations.{InterfaceTree, names_of_trees, interface_tree_name, interface_at, no_interface, type_names, used_names, own_types}
 use Rattle.tree_scopes.specs.Sources.{declared_tree}
 use Rattle.tree_scopes.specs.declared.declared.Declarations.{Declarations}
 use Rattle.std.proofs.lemmas.List.{map-append, get_or-map, length-map, get_or_default}
 use Rattle.tree_scopes.specs.Lent.{lent_names}
-use Rattle.tree_meaning.proofs.NamesFoundInLists.{place-below, place-at}
+use Rattle.tree_meaning.proofs.NamesFoundInLists.{place-below, place-at, place-has, place-lacks}
 use Rattle.tree_meaning.specs.Resolves.{place_of, IsUnknownName, interface_uses, uses_of_interface}
 use Rattle.placement.specs.Order.{IsPlacement}
+use Rattle.package_form.proofs.AllAndContains.{contains-left, contains-right, contains-either}
 
 -- the declarations of one entry more
 pub declared-more : (all before : List Declarations) (d : Declarations) (i : InterfaceTree) (is js : List InterfaceTree) → all ≡ before ++ d ∷ [] → map declared_tree before ≡ is → declared_tree d ≡ i
@@ -33,15 +34,31 @@ interface-there all names n j d same e is =
 -- ---- the names of an interface's types
 
 module _ (d : Declarations) where
-  pub knows-all : (names : List (Bor (List ℕ))) (ns : List (List ℕ)) → lent_names names ≡ ns → All (Contains d.names) (lent_names names) → All (Contains (type_names (declared_tree d))) ns
-  knows-all names ns e h = subst (λ zs. All (Contains zs) ns) d.named (subst (λ zs. All (Contains d.names) zs) e h)
+  pub own-known : (n : List ℕ) (o : Option ℕ) → o ≡ place_of d.own n → is_some o ≡ true → Contains (type_names (declared_tree d)) n
+  own-known n None e h = absurd (cc)
+  own-known n (Some j) e h = contains-right (used_names (declared_tree d)) (own_types (declared_tree d)) n (subst (λ zs. Contains zs n) d.named (place-has d.own n j (sym e)))
 
-  pub lacks-one : (n : List ℕ) → (¬ Contains d.names n) → ¬ Contains (type_names (declared_tree d)) n
-  lacks-one n h c = h (subst (λ zs. Contains zs n) (sym d.named) c)
+  pub has-local : (n : List ℕ) (o l : Option ℕ) (b : Bool) → o ≡ place_of d.own n → is_some o ≡ false → l ≡ place_of d.locals n → b ≡ is_some l
+      → IsTrue b ↔ Contains (type_names (declared_tree d)) n
+  has-local n (Some j) l b e none f same = absurd (cc)
+  has-local n None (Some j) b e none f same = (
+    λ t. contains-left (used_names (declared_tree d)) (own_types (declared_tree d)) n (subst (λ zs. Contains zs n) d.used (place-has d.locals n j (sym f))),
+    λ h. same,
+  )
+  has-local n None None b e none f same = (
+    λ t. absurd (true≢false (sym t ∙ same)),
+    λ h. elim (contains-either (used_names (declared_tree d)) (own_types (declared_tree d)) n h) [
+      | inl c ↦ absurd (place-lacks d.locals n (sym f) (subst (λ zs. Contains zs n) (sym d.used) c))
+      | inr c ↦ absurd (place-lacks d.own n (sym e) (subst (λ zs. Contains zs n) (sym d.named) c))
+    ],
+  )
 
-  pub lacks-name : (names : List (Bor (List ℕ))) (ns : List (List ℕ)) (n : List ℕ) → lent_names names ≡ ns → Contains (lent_names names) n × (¬ Contains d.names n)
+  pub knows-all : (names : List (Bor (List ℕ))) (ns : List (List ℕ)) → lent_names names ≡ ns → All (Contains (type_names (declared_tree d))) (lent_names names) → All (Contains (type_names (declared_tree d))) ns
+  knows-all names ns e h = subst (λ zs. All (Contains (type_names (declared_tree d))) zs) e h
+
+  pub lacks-name : (names : List (Bor (List ℕ))) (ns : List (List ℕ)) (n : List ℕ) → lent_names names ≡ ns → Contains (lent_names names) n × (¬ Contains (type_names (declared_tree d)) n)
       → IsUnknownName (declared_tree d) ns n
-  lacks-name names ns n e h = (subst (λ zs. Contains zs n) e h.0, lacks-one n h.1)
+  lacks-name names ns n e h = (subst (λ zs. Contains zs n) e h.0, h.1)
 
 pub tree-at : (all : List Declarations) (k : ℕ) (d : Declarations) → k < length all → d ≡ get_or all k d → interface_at (map declared_tree all) k ≡ declared_tree d
 tree-at all k d l is = get_or-map declared_tree all k d no_interface l ∙ ap declared_tree (sym is)

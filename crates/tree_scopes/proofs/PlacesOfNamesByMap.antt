@@ -1,6 +1,7 @@
 -- The places of names, as a map tells them.
-use Rattle.std.proofs.Common.{◌≡◌, ℕ, zero, suc, ◌<◌, Bool, true, false, cond, List, [], ◌∷◌, ◌++◌, map, length, take, get_or, Contains, Bor, Option, Some, None, is_some, refl, ap, sym, subst, arith, ◌∙◌, true≢false}
+use Rattle.std.proofs.Common.{◌≡◌, ℕ, zero, suc, ◌<◌, Bool, true, false, cond, if◌then◌else◌, List, [], ◌∷◌, ◌++◌, map, length, take, get_or, Contains, Bor, Option, Some, None, IfSome, IfNone, is_some, refl, ap, sym, subst, arith, ◌∙◌, true≢false, inl, inr}
 use Rattle.std.specs.Map.{lookup}
+use Rattle.indexmap.specs.IndexMap.{insert_entry}
 use Rattle.std.proofs.lemmas.List.{map-append, length-map, length-take}
 use Rattle.std.specs.Option.{option_map}
 use Rattle.std.specs.Str.{bytes_eq}
@@ -11,7 +12,7 @@ use Rattle.tree_scopes.specs.Lent.{lent_names, lent_name}
 use Rattle.package_form.proofs.NamesMetOneByOne.{split-at}
 use Rattle.package_form.specs.Scoped.{NameEntry, mapped_entry}
 use Rattle.tables.specs.declared.tables.TypeId.{TypeId}
-use Rattle.package_form.proofs.AllAndContains.{contains-here, contains-later}
+use Rattle.package_form.proofs.AllAndContains.{contains-here, contains-later, contains-left, contains-right, contains-either}
 use Rattle.tree_meaning.proofs.NamesFoundInLists.{same-bytes}
 
 abbrev first_of : {A : Type 0} → Option A → Option A → Option A
@@ -117,6 +118,18 @@ pub none-there : {A : Type 0} (o : Option A) → is_some o ≡ false → o ≡ N
 none-there None e = refl
 none-there (Some x) e = absurd (true≢false e)
 
+-- ---- an entry that is put back
+
+pub restored : {V : Type 0} (eq : V → V → Bool) (es : List (V × ℕ)) (k : V) (p first : ℕ) → lookup (eq k) es ≡ Some first → insert_entry eq (insert_entry eq es k p) k first ≡ es
+restored eq [] k p first h = absurd (cc)
+restored eq (e ∷ es) k p first h = by (eq k e.0) refl h (restored eq es k p first)
+  where
+    by : (b : Bool) → eq k e.0 ≡ b → cond b (Some e.1) (lookup (eq k) es) ≡ Some first
+        → (lookup (eq k) es ≡ Some first → insert_entry eq (insert_entry eq es k p) k first ≡ es)
+        → insert_entry eq (if b then (e.0, p) ∷ es else e ∷ insert_entry eq es k p) k first ≡ e ∷ es
+    by true q s rest = let same : e.1 ≡ first = cc in rw (q, sym same) refl
+    by false q s rest = rw q (ap (λ zs. e ∷ zs) (rest s))
+
 -- ---- types by their names
 
 module _ {V : Type 0} (items : V → List ℕ) where
@@ -146,3 +159,33 @@ module _ {V : Type 0} (items : V → List ℕ) where
       by : (b : Bool) → cond b (Some e.1) (lookup (λ v. bytes_eq n (items v)) es) ≡ None → (lookup (λ v. bytes_eq n (items v)) es ≡ None → ⊥) → ⊥
       by true s rest = cc
       by false s rest = rest s
+
+module _ {V : Type 0} (items : V → List ℕ) (few many : List (V × TypeId)) (names : List NameEntry) (view : map (mapped_entry items) (few ++ many) ≡ names) (n : List ℕ) where
+  both : map (mapped_entry items) few ++ map (mapped_entry items) many ≡ names
+  both = sym (map-append (mapped_entry items) few many) ∙ view
+
+  found-in-few : (id : TypeId) → lookup (λ v. bytes_eq n (items v)) few ≡ Some id → Contains names (record { name = n; id = id })
+  found-in-few id h = subst (λ (es : List NameEntry). Contains es (record { name = n; id = id })) both
+      (contains-left (map (mapped_entry items) few) (map (mapped_entry items) many) _ (entry-found items few n id h))
+
+  pub found-in-many : (id : TypeId) → lookup (λ v. bytes_eq n (items v)) many ≡ Some id → Contains names (record { name = n; id = id })
+  found-in-many id h = subst (λ (es : List NameEntry). Contains es (record { name = n; id = id })) both
+      (contains-right (map (mapped_entry items) few) (map (mapped_entry items) many) _ (entry-found items many n id h))
+
+  found-nowhere : lookup (λ v. bytes_eq n (items v)) few ≡ None → lookup (λ v. bytes_eq n (items v)) many ≡ None → ¬ Contains (map (λ (e : NameEntry). e.name) names) n
+  found-nowhere f m h =
+      let named : NameEntry → List ℕ = λ e. e.name in
+      let split : map named names ≡ map named (map (mapped_entry items) few) ++ map named (map (mapped_entry items) many) =
+      ap (map named) (sym both) ∙ map-append named (map (mapped_entry items) few) (map (mapped_entry items) many) in
+      elim (contains-either (map named (map (mapped_entry items) few)) (map named (map (mapped_entry items) many)) n (subst (λ (ns : List (List ℕ)). Contains ns n) split h)) [
+        | inl c ↦ absurd (entry-missed items few n c.0 c.1 c.2 f)
+        | inr c ↦ absurd (entry-missed items many n c.0 c.1 c.2 m)
+      ]
+
+  pub among-few : (o : Option TypeId) → o ≡ lookup (λ v. bytes_eq n (items v)) few → IfSome o (λ id. Contains names (record { name = n; id = id }))
+  among-few None e = tt
+  among-few (Some id) e = found-in-few id (sym e)
+
+  pub nowhere-else : (o : Option TypeId) → o ≡ lookup (λ v. bytes_eq n (items v)) few → lookup (λ v. bytes_eq n (items v)) many ≡ None → IfNone o (¬ Contains (map (λ (e : NameEntry). e.name) names) n)
+  nowhere-else None e m = found-nowhere (sym e) m
+  nowhere-else (Some id) e m = tt

@@ -1,9 +1,9 @@
 //! The declarations of an interface of a syntax tree.
-ghost use Rattle.std.specs.Prelude.{◌≡◌, ◌++◌, map, All, OnOk, IfOk};
+ghost use Rattle.std.specs.Prelude.{◌≡◌, ◌↔◌, ◌++◌, map, All, Contains, IsTrue, OnOk, IfOk};
 ghost use Rattle.atoms.specs.Label.{IsLabel};
 ghost use Rattle.wit_tokens.specs.View.{entry_view, path_view, used_view};
 ghost use Rattle.tree_meaning.specs.Declarations.{interface_tree, interface_tree_name, names_of_trees, path_uses};
-ghost use Rattle.tree_meaning.specs.Declarations.{local_name, use_local, type_name};
+ghost use Rattle.tree_meaning.specs.Declarations.{local_name, use_local, type_name, type_names};
 ghost use Rattle.tree_scopes.specs.Lent.{declared_type, used_item_of, lent_names};
 ghost use Rattle.tree_scopes.specs.Sources.{declared_tree};
 
@@ -61,7 +61,7 @@ fn push_locals<'a>(names: &mut Vec<&'a Label>, uses: &[UsedType<'a>]) -> Result<
 }
 
 /// Appends the names of types.
-pub fn push_types<'a>(names: &mut Vec<&'a Label>, types: &[&'a TypeDef]) -> Result<(), AllocError>
+fn push_types<'a>(names: &mut Vec<&'a Label>, types: &[&'a TypeDef]) -> Result<(), AllocError>
     ensures { OnOk result (lent_names names.new.items ≡ lent_names names.old.items
         ++ map type_name (map declared_type types.now)) }
 {
@@ -116,15 +116,27 @@ impl<'a> Declarations<'a> {
                 InterfaceItem::Func(function) => functions.push(function)?,
             }
         }
-        let mut names = Vec::new(alloc);
-        push_locals(&mut names, &uses)?;
-        push_types(&mut names, &types)?;
+        let mut locals = Vec::new(alloc);
+        push_locals(&mut locals, &uses)?;
+        let mut own = Vec::new(alloc);
+        push_types(&mut own, &types)?;
         Ok(Declarations {
             name: &interface.name,
             uses,
             types,
             functions,
-            names: Names::of(alloc, keyed, names)?,
+            locals: Names::of(alloc, keyed, locals)?,
+            own: Names::of(alloc, keyed, own)?,
         })
+    }
+
+    /// Whether the interface has a type of this name, its own or a used one.
+    pub fn has(&self, name: &Label) -> bool
+        ensures { IsTrue result ↔ Contains (type_names (declared_tree self.now)) name.now }
+    {
+        if self.own.place_of(name).is_some() {
+            return true;
+        }
+        self.locals.place_of(name).is_some()
     }
 }

@@ -1,5 +1,5 @@
 //! What an interface of a syntax tree declares, by kind.
-ghost use Rattle.std.specs.Prelude.{◌≡◌, ◌++◌, map};
+ghost use Rattle.std.specs.Prelude.{◌≡◌, map};
 ghost use Rattle.tree_meaning.specs.Declarations.{use_local, type_name};
 ghost use Rattle.tree_scopes.specs.Lent.{declared_type, used_item_of};
 
@@ -22,8 +22,10 @@ pub struct Declarations<'a> {
     pub uses: Vec<UsedType<'a>>,
     pub types: Vec<&'a TypeDef>,
     pub functions: Vec<&'a Func>,
-    /// The names of the used names, then of the types.
-    pub names: Names<'a>,
-    ghost named: { names ≡ map use_local (map used_item_of uses.items)
-        ++ map type_name (map declared_type types.items) },
+    /// The names that used names get.
+    pub locals: Names<'a>,
+    /// The names of the types.
+    pub own: Names<'a>,
+    ghost used: { locals ≡ map use_local (map used_item_of uses.items) },
+    ghost named: { own ≡ map type_name (map declared_type types.items) },
 }

@@ -15,7 +15,7 @@ pub struct Imports<'a> {
     /// The key of all tables of names.
     pub keyed: KeyedState,
     pub table: IndexedTable<'a>,
-    pub scopes: Vec<KnownTypes>,
+    pub scopes: Vec<KnownTypes<'a>>,
     ghost named: { HaveImportNames table scopes.items },
 }
 

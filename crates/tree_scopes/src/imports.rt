@@ -93,11 +93,10 @@ fn type_within(rows: &[Definition], interface: InterfaceId, id: TypeId) -> Optio
 }
 
 /// Puts the types at these places into the scope of their interface.
-fn push_types(
-    alloc: Global,
-    rows: &[Definition],
+fn push_types<'a>(
+    rows: &'a [Definition],
     ids: &[TypeId],
-    scope: &mut KnownTypes,
+    scope: &mut KnownTypes<'a>,
 ) -> Result<(), AllocError>
     ensures names { OnOk result (scope_names scope.new ≡ scope_names scope.old
         ++ filter_map (type_within rows.now scope.old.interface.0) ids.now) }
@@ -106,20 +105,20 @@ fn push_types(
 {
     for id in ids {
         if let Some(name) = type_within(rows, scope.interface, *id) {
-            scope.entries.push(alloc, name, *id)?;
+            scope.entries.push(name, *id)?;
         }
     }
     Ok(())
 }
 
 /// The used names and the types of an import.
-fn import_scope(
+fn import_scope<'a>(
     alloc: Global,
     keyed: KeyedState,
-    rows: &[Definition],
+    rows: &'a [Definition],
     place: InterfaceId,
     interface: &Interface,
-) -> Result<KnownTypes, AllocError>
+) -> Result<KnownTypes<'a>, AllocError>
     ensures names { IfOk result (λ s. scope_names s ≡ types_within rows.now place.0 interface.now) }
     ensures place { IfOk result (λ s. s.interface ≡ place) }
     ensures scoped { IfOk result (λ s. (t : Table) → t.rows ≡ rows.now → IsScope t s) }
@@ -128,8 +127,8 @@ fn import_scope(
         interface: place,
         entries: TypeIds::new(alloc, keyed),
     };
-    push_types(alloc, rows, interface.uses.as_slice(), &mut scope)?;
-    push_types(alloc, rows, interface.types.as_slice(), &mut scope)?;
+    push_types(rows, interface.uses.as_slice(), &mut scope)?;
+    push_types(rows, interface.types.as_slice(), &mut scope)?;
     Ok(scope)
 }
 
@@ -145,11 +144,11 @@ pub fn interface_id(place: usize) -> Result<InterfaceId, AllocError>
 }
 
 /// The scope of each import.
-pub fn import_scopes(
+pub fn import_scopes<'a>(
     alloc: Global,
     keyed: KeyedState,
-    imports: &Resolve,
-) -> Result<Vec<KnownTypes>, AllocError>
+    imports: &'a Resolve,
+) -> Result<Vec<KnownTypes<'a>>, AllocError>
     ensures { IfOk result (λ ss. AreImportScopes imports.now ss.items) }
 {
     let rows = imports.definitions.as_slice();

@@ -1,49 +1,89 @@
 //! The types that an interface's names stand for while its table is made.
 ghost use Rattle.std.specs.Prelude.{◌≡◌, ◌↔◌, ◌++◌, ◌∷◌, [], map, Contains, OnOk, IsTrue};
+ghost use Rattle.std.specs.Prelude.{IfSome, IfNone};
+ghost use Rattle.std.specs.Map.{lookup};
+ghost use Rattle.std.specs.Str.{bytes_eq};
 
 use atoms::{KeyedState, Label};
 use indexmap::IndexMap;
+use package_names::FEW;
 use std::alloc::{AllocError, Global};
 use std::marker::Model;
 use tables::{InterfaceId, TypeId};
 
-/// Types by their names, in the order in which they were defined.
+/// Types by their names, in the order in which they were defined: the first few are compared one by one, those behind
+/// them are found in a table.
 #[derive(Drop)]
-pub struct TypeIds {
-    ids: IndexMap<String, TypeId, KeyedState>,
+pub struct TypeIds<'a> {
+    few: Vec<(&'a Label, TypeId)>,
+    many: IndexMap<&'a str, TypeId, KeyedState>,
 }
 
-impl Model for TypeIds {
-    ghost use Rattle.std.specs.Prelude.{List, map};
-    ghost use Rattle.std.specs.String.{string_bytes};
+impl<'a> Model for TypeIds<'a> {
+    ghost use Rattle.std.specs.Prelude.{◌++◌, List, map};
     ghost use Rattle.package_form.specs.Scoped.{NameEntry, mapped_entry};
+    ghost use Rattle.tree_scopes.specs.Lent.{lent_name};
 
     ghost Value = { List NameEntry };
 
-    ghost view = { λ t. map (mapped_entry string_bytes) t.ids.entries };
+    ghost view = { λ t. map (mapped_entry lent_name) (t.few.items ++ t.many.entries) };
 }
 
-impl TypeIds {
+/// The type of a name among these.
+fn id_among(few: &[(&Label, TypeId)], name: &Label) -> Option<TypeId>
+    ensures { result ≡ lookup (λ s. bytes_eq name.now s.now) few.now }
+{
+    for (other, id) in few {
+        if name.as_bytes() == other.as_bytes() {
+            return Some(*id);
+        }
+    }
+    None
+}
+
+/// The type of a name in a table.
+fn id_in(table: &IndexMap<&str, TypeId, KeyedState>, name: &Label) -> Option<TypeId>
+    ensures { result ≡ lookup (λ s. bytes_eq name.now s.now) table.now.entries }
+{
+    if table.is_empty() {
+        return None;
+    }
+    table.get(name.as_str()).copied()
+}
+
+impl<'a> TypeIds<'a> {
     /// No types; their names are told apart by hashers with this key.
     pub fn new(alloc: Global, keyed: KeyedState) -> Self
         ensures { result ≡ [] }
     {
         TypeIds {
-            ids: IndexMap::with_hasher(alloc, keyed),
+            few: Vec::new(alloc),
+            many: IndexMap::with_hasher(alloc, keyed),
         }
     }
 
     /// Puts a type at the end, under a name. No memory, too, where the name is there already, as no name of a
     /// scope is.
-    pub fn push(&mut self, alloc: Global, name: &Label, id: TypeId) -> Result<(), AllocError>
+    pub fn push(&mut self, name: &'a Label, id: TypeId) -> Result<(), AllocError>
         ensures { OnOk result (self.new ≡ self.old ++ record { name = name.now; id = id } ∷ []) }
     {
-        match self
-            .ids
-            .insert(String::from_str(alloc, name.as_str())?, id)?
-        {
+        if self.few.len() < FEW && self.many.is_empty() {
+            self.few.push((name, id))?;
+            return Ok(());
+        }
+        match self.many.insert(name.as_str(), id)? {
             None => Ok(()),
             Some(_) => Err(AllocError),
+        }
+    }
+
+    fn find(&self, name: &Label) -> Option<TypeId>
+        ensures none { IfNone result (¬ Contains (map (λ e. e.name) self.now) name.now) }
+        ensures some { IfSome result (λ id. Contains self.now (record { name = name.now; id = id })) }
+    {
+        match id_in(&self.many, name) {
+            Some(id) => Some(id),
+            None => id_among(&self.few, name),
         }
     }
 
@@ -51,7 +91,7 @@ impl TypeIds {
     pub fn has(&self, name: &Label) -> bool
         ensures { IsTrue result ↔ Contains (map (λ e. e.name) self.now) name.now }
     {
-        match self.ids.get(name.as_str()) {
+        match self.find(name) {
             Some(_) => true,
             None => false,
         }
@@ -62,8 +102,8 @@ impl TypeIds {
         requires { Contains (map (λ e. e.name) self.now) name.now }
         ensures { Contains self.now (record { name = name.now; id = result }) }
     {
-        match self.ids.get(name.as_str()) {
-            Some(id) => *id,
+        match self.find(name) {
+            Some(id) => id,
             None => unreachable!(),
         }
     }
@@ -71,7 +111,7 @@ impl TypeIds {
 
 /// The types by their names in one interface.
 #[derive(Drop)]
-pub struct KnownTypes {
+pub struct KnownTypes<'a> {
     pub interface: InterfaceId,
-    pub entries: TypeIds,
+    pub entries: TypeIds<'a>,
 }

@@ -14,7 +14,7 @@ mod paths;
 mod sides;
 mod tested;
 
-pub use declare::{interface_names, local_name, push_types};
+pub use declare::{interface_names, local_name};
 pub use declared::{Declarations, UsedType};
 pub use imported::Imports;
 pub use imports::{

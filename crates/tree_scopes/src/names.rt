@@ -1,5 +1,5 @@
 //! Names that are found by their bytes.
-ghost use Rattle.std.specs.Prelude.{◌≡◌, All, IfOk};
+ghost use Rattle.std.specs.Prelude.{◌≡◌, ◌++◌, ◌∷◌, [], List, ℕ, length, All, IfOk, OnOk};
 ghost use Rattle.atoms.specs.Label.{IsLabel};
 ghost use Rattle.tree_scopes.specs.Lent.{lent_names};
 ghost use Rattle.tree_meaning.specs.Resolves.{place_of};
@@ -43,6 +43,23 @@ fn first_place(names: &[&Label], name: &Label) -> Option<usize>
     None
 }
 
+/// Puts a name with its place into a table, where it isn't there.
+fn put_place<'a>(
+    places: &mut IndexMap<&'a str, usize, KeyedState>,
+    name: &'a Label,
+    place: usize,
+) -> Result<(), AllocError>
+    ensures { OnOk result ((ns : List (List ℕ)) → length ns ≡ place
+        → TellsPlaces (λ s. s.now) places.old.entries ns
+        → TellsPlaces (λ s. s.now) places.new.entries (ns ++ name.now ∷ [])) }
+{
+    let name = name.as_str();
+    if let Some(first) = places.insert(name, place)? {
+        places.insert(name, first)?;
+    }
+    Ok(())
+}
+
 /// The names as a table, with the first place of each.
 fn places_of<'a>(
     alloc: Global,
@@ -53,10 +70,7 @@ fn places_of<'a>(
 {
     let mut places = IndexMap::with_capacity_and_hasher(alloc, names.len(), keyed)?;
     for (place, name) in names.iter().enumerate() {
-        let name = name.as_str();
-        if !places.contains_key(name) {
-            places.insert(name, place)?;
-        }
+        put_place(&mut places, name, place)?;
     }
     Ok(places)
 }

@@ -16,8 +16,8 @@ returns-then-is_there-clause-none c =
     subst (λ (k : WorldItemKind). IsKnownItemOf m c.args.tree.now.names (item_tree (world_entry_view (record { direction = way; kind = k })))) (sym c.in-Interface.is)
     (item-known m c.args.tree.now.names way (path_view c.in-Interface.path) there)
 
-pub returns-in-Interface-clause-some : goal.returns-in-Interface-clause-some
-returns-in-Interface-clause-some c =
+pub returns-else-is_there-clause-some : goal.returns-else-is_there-clause-some
+returns-else-is_there-clause-some c =
     let m = imports_of c.args.tree.now.imports.now.table in
     let way = c.args.item.now.direction in
     subst (λ (k : WorldItemKind). IsUnknownItem m c.args.tree.now.names (item_tree (world_entry_view (record { direction = way; kind = k }))) c.interface_label.result.now) (sym c.in-Interface.is)
