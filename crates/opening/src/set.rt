@@ -41,7 +41,7 @@ fn add_binary(alloc: Global, set: &mut PackageSet, bytes: &[u8]) -> Result<(), O
     ensures err { IfErr result (MemberRefuses set.old.resolve bytes.now) }
 {
     let raw = decode(alloc, bytes)?;
-    set.add_raw_with_bytes(alloc, &raw, bytes)?;
+    set.add_raw(alloc, &raw)?;
     Ok(())
 }
 

@@ -1,8 +1,6 @@
 //! Sets of packages.
 ghost use Rattle.std.specs.Prelude.{◌≡◌, ◌<◌, ◌≤◌, ◌⊎◌, ℕ, true, All, IsTrue, IfOk, IfErr, OnOk, OnErr, MatchResult};
 ghost use Rattle.std.specs.Prelude.{length};
-ghost use Rattle.ctype_bin.specs.FileView.{raw_component_view};
-ghost use Rattle.ctype_format.specs.File.{component_file};
 ghost use Rattle.package_form.specs.Closed.{IsAlone};
 ghost use Rattle.package_form.specs.Form.{IsInPackageForm};
 ghost use Rattle.package_form.specs.Naming.{package_scopes};
@@ -32,7 +30,7 @@ use package_text::names_are_labels;
 use std::alloc::{AllocError, Global};
 use tables::{PackageId, Resolve, ResolveError, Sequence};
 use tree_scopes::{has_package, package_name};
-use wit_component::{closed_from_component, spelling};
+use wit_component::closed_from_component;
 use wit_tokens::wit_syntax::Ast;
 
 /// Packages that use each other, as one table: each behind those that it uses, at most 64. None is empty, and none has
@@ -204,33 +202,9 @@ impl PackageSet {
         ensures err { IfErr result (ComponentNotAdded raw.now self.old.resolve) }
         ensures same { OnErr result (self.new ≡ self.old) }
     {
-        self.has_room()?;
-        let Ok(bytes) = spelling(alloc, raw) else {
-            return Err(ResolveError::NoMemory);
-        };
-        self.add_raw_with_bytes(alloc, raw, &bytes)
-    }
-
-    /// The same of a component that these bytes spell: who has read it has them, so that they need not be written anew.
-    /// (Binary.md)
-    pub fn add_raw_with_bytes(
-        &mut self,
-        alloc: Global,
-        raw: &RawComponent,
-        bytes: &[u8],
-    ) -> Result<PackageId, ResolveError>
-        requires spelled { ∥ component_file.spells bytes.now (raw_component_view raw.now) ∥₁ }
-        ensures ok { IfOk result (λ id. ComponentIsAdded raw.now self.old.resolve self.new.resolve id.0) }
-        ensures known { IfOk result (λ id. id.0 < length self.new.resolve.packages) }
-        ensures earlier { OnOk result (KeepsTables self.old.resolve self.new.resolve) }
-        ensures only { (closed r : Resolve) (id : ℕ) → AddsComponent raw.now self.old.resolve closed r id
-            → MatchResult result (λ _. IsSamePackage self.new.resolve r) IsWantOfMemoryToAdd }
-        ensures err { IfErr result (ComponentNotAdded raw.now self.old.resolve) }
-        ensures same { OnErr result (self.new ≡ self.old) }
-    {
         attaches_one();
         self.has_room()?;
-        let closed = closed_from_component(alloc, raw, bytes)?;
+        let closed = closed_from_component(alloc, raw)?;
         names_are_labels(&closed);
         let id = self.attach_component(alloc, closed)?;
         Ok(id)

@@ -1,6 +1,10 @@
 pub mod AppendedDeclarations
 pub mod DeclarationsRowByRow
-pub mod SameBytesSameComponents
+pub mod NoDeclarations
+pub mod SameDeclarations
+pub mod PartsInTurn
+pub mod InterfacesPassed
+pub mod OneType
 pub mod AlikeRows
 pub mod ReadAgain
 pub mod InterfaceRows

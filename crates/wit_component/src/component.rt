@@ -44,6 +44,17 @@ impl Model for PartPlace {
     ghost view = { λ p. record { indices = p.indices.items; types = p.types; instances = p.instances.items } };
 }
 
+/// Before the first declaration.
+pub fn first_part(alloc: Global) -> PartPlace
+    ensures { result ≡ no_front }
+{
+    PartPlace {
+        indices: Vec::new(alloc),
+        types: 0,
+        instances: Vec::new(alloc),
+    }
+}
+
 fn interface_direction(own: usize, interface: &Interface) -> Direction
     ensures { result ≡ interface_direction own interface.now }
 {
@@ -74,7 +85,7 @@ fn interface_declared(
 }
 
 /// The declarations of an interface that has these rows, and the place behind it.
-fn interface_declarations(
+pub fn interface_declarations(
     alloc: Global,
     resolve: &Resolve,
     place: PartPlace,
@@ -126,11 +137,7 @@ fn interfaces_declared(
     ensures labelled { OnOk result (IsTrue (are_labelled resolve.now.definitions 0 resolve.now.interfaces)) }
 {
     let rows = resolve.definitions.as_slice();
-    let mut place = PartPlace {
-        indices: Vec::new(alloc),
-        types: 0,
-        instances: Vec::new(alloc),
-    };
+    let mut place = first_part(alloc);
     let mut start = 0;
     let mut decls = Vec::new(alloc);
     for interface in resolve.interfaces.as_slice() {
@@ -171,7 +178,7 @@ fn component_export(
 }
 
 /// Appends the declarations of a world whose rows begin at `start`, and answers the place behind it.
-fn push_world(
+pub fn push_world(
     alloc: Global,
     resolve: &Resolve,
     decls: &mut Vec<RawDecl>,

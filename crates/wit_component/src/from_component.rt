@@ -1,7 +1,5 @@
 //! The package that a raw component stands for.
 ghost use Rattle.std.specs.Prelude.{◌≡◌, ◌⊎◌, All, IfOk, IfErr, MatchResult};
-ghost use Rattle.ctype_bin.specs.FileView.{raw_component_view};
-ghost use Rattle.ctype_format.specs.File.{component_file};
 ghost use Rattle.tables.specs.Same.{IsSamePackage};
 ghost use Rattle.package_form.specs.Scope.{AreDistinct};
 ghost use Rattle.package_form.specs.Naming.{package_scopes};
@@ -9,17 +7,17 @@ ghost use Rattle.package_form.specs.Form.{IsInPackageForm};
 ghost use Rattle.wit_component.specs.ToComponent.{ComponentStands};
 ghost use Rattle.wit_component.specs.FromComponent.{ClosedComponentRefuses};
 
-use crate::same::{is_empty_package, is_same};
-use crate::to_component::to_written;
+use crate::comparison::is_component_of;
+use crate::empty::is_empty_package;
 use component_reader::{Unread, candidate};
 use ctype_bin::RawComponent;
+use package_form::is_in_form;
 use package_names::distinct_names;
 use std::alloc::Global;
 use tables::{Resolve, ResolveError};
 
 /// The package that a component stands for, whose names may stand twice in a scope.
-fn standing(alloc: Global, raw: &RawComponent, bytes: &[u8]) -> Result<Resolve, ResolveError>
-    requires { ∥ component_file.spells bytes.now (raw_component_view raw.now) ∥₁ }
+fn standing(alloc: Global, raw: &RawComponent) -> Result<Resolve, ResolveError>
     ensures ok { IfOk result (λ r. ∥ ComponentStands raw.now r ∥₁) }
     ensures form { IfOk result (λ r. IsInPackageForm r) }
     ensures same { IfOk result (λ p. (r : Resolve) → ComponentStands raw.now r → All AreDistinct (package_scopes r)
@@ -32,26 +30,23 @@ fn standing(alloc: Global, raw: &RawComponent, bytes: &[u8]) -> Result<Resolve, 
         Err(Unread::NotThisShape) => return Err(ResolveError::NotThisShape),
         Err(Unread::NoMemory) => return Err(ResolveError::NoMemory),
     };
-    let (written, shortest) = to_written(alloc, &package)?;
-    if is_same(alloc, raw, bytes, &written, &shortest)? {
+    if !is_in_form(alloc, &package)? {
+        return Err(ResolveError::NotThisShape);
+    }
+    if is_component_of(alloc, &package, raw)? {
         Ok(package)
     } else {
         Err(ResolveError::NotThisShape)
     }
 }
 
-/// The closed table that a component stands for which these bytes spell, a package behind the interfaces of others that
-/// it imports: what is read of it is written again, and has to be the same. 43 `EmptyPackage` exactly where its one
+/// The closed table that a component stands for, a package behind the interfaces of others that it imports: what is
+/// read of it is written again part by part, and has to be the same. 43 `EmptyPackage` exactly where its one
 /// type is a component type without declarations, whatever is exported; 44 `NotThisShape` exactly where it stands for
 /// no package otherwise. 40 `Duplicate` where it stands for one, and a name of it stands twice in its scope, but for
 /// the case of its letters: the first in the order of the bytes, a definition's members before its name, an interface's
 /// definitions before the interface's. (Binary.md)
-pub fn closed_from_component(
-    alloc: Global,
-    raw: &RawComponent,
-    bytes: &[u8],
-) -> Result<Resolve, ResolveError>
-    requires { ∥ component_file.spells bytes.now (raw_component_view raw.now) ∥₁ }
+pub fn closed_from_component(alloc: Global, raw: &RawComponent) -> Result<Resolve, ResolveError>
     ensures ok { IfOk result (λ r. ∥ ComponentStands raw.now r ∥₁) }
     ensures form { IfOk result (λ r. IsInPackageForm r) }
     ensures distinct { IfOk result (λ r. All AreDistinct (package_scopes r)) }
@@ -62,7 +57,7 @@ pub fn closed_from_component(
     if is_empty_package(raw) {
         return Err(ResolveError::EmptyPackage);
     }
-    let package = standing(alloc, raw, bytes)?;
+    let package = standing(alloc, raw)?;
     distinct_names(alloc, &package)?;
     Ok(package)
 }

@@ -7,17 +7,18 @@
 //! `component_reader`, `tables`, `ctype_bin` and `atoms`.
 #![tactic(auto)]
 
+mod comparison;
 mod component;
+mod empty;
 mod from_component;
 mod interfaces;
 pub mod laws;
 mod names;
 mod rows;
-mod same;
+mod same_declarations;
 mod to_component;
 mod valtypes;
 mod worlds;
 
 pub use from_component::closed_from_component;
-pub use same::spelling;
 pub use to_component::{component_with_bytes, to_raw, to_written};

@@ -18,7 +18,7 @@ use tables::{Resolve, ResolveError};
 
 /// The export of the package's component type.
 #[tactic(auto, unfolding(atoms::specs::Label::is_label))]
-fn package_export(alloc: Global) -> Result<RawExport, AllocError>
+pub fn package_export(alloc: Global) -> Result<RawExport, AllocError>
     ensures { IfOk result (λ e. export_view e ≡ record { name = package_export; type = 0 }) }
 {
     Ok(RawExport {

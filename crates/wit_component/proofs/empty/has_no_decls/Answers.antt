@@ -3,8 +3,8 @@ use Rattle.ctype_format.specs.View.{type_view}
 use Rattle.ctype_format.specs.declared.raw.RawType.{RawType}
 use Rattle.ctype_format.specs.declared.raw.RawDecl.{RawDecl}
 use Rattle.wit_component.specs.FromComponent.{has_no_decls}
-use Rattle.wit_component.proofs.SameBytesSameComponents.{no-decls}
-use Rattle.wit_component.proofs.same.has_no_decls.Goals as goal
+use Rattle.wit_component.proofs.NoDeclarations.{no-decls}
+use Rattle.wit_component.proofs.empty.has_no_decls.Goals as goal
 
 pub returns-in-Component : goal.returns-in-Component
 returns-in-Component c =

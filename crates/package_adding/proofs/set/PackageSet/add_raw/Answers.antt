@@ -2,7 +2,7 @@
 use Rattle.std.proofs.lemmas.Result.{err_from_is_err_and}
 use Rattle.package_adding.proofs.OneSetOrOutOfMemory.{one-component, component-for-memory, component-refused, makes-one, is-known}
 use Rattle.package_adding.proofs.NotAttachedIsNotAdded.{not-read, not-attached}
-use Rattle.package_adding.proofs.set.PackageSet.add_raw_with_bytes.Goals as goal
+use Rattle.package_adding.proofs.set.PackageSet.add_raw.Goals as goal
 
 pub returns-in_err-closed-clause-err : goal.returns-in_err-closed-clause-err
 returns-in_err-closed-clause-err c =
