@@ -535,12 +535,15 @@ const SHAPES: [Shape; 19] = [
 ];
 
 /// What a short call is of, its function's number, and what it reads.
-const SHORT: [(&str, u32, fn(&mut [u8], usize)); 5] = [
+const SHORT: [(&str, u32, fn(&mut [u8], usize)); 8] = [
     ("a `u32`", 18, fill_bytes),
     ("a string of five bytes", 0, fill_ascii),
     ("twenty `u32`, which spill", 19, fill_bytes),
     ("no parameter that answers a `u32`", 20, fill_bytes),
     ("no parameter that answers such a string", 21, fill_answer),
+    ("an enum", 22, fill_bytes),
+    ("flags", 23, fill_bytes),
+    ("a `tuple<u32, u32>`", 24, fill_bytes),
 ];
 
 /// The lists that are called with over memories that grew: of bytes, of numbers of 32 bits, of rows and of pairs.
