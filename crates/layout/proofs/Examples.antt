@@ -20,7 +20,7 @@ use Rattle.tables.specs.declared.tables.Resolve.{Resolve}
 use Rattle.layout.specs.Kinds.{kinds_of, append_kinds, join_kinds}
 use Rattle.layout.specs.declared.kinds.Kinds.{Kinds}
 use Rattle.layout.specs.declared.kinds.Kinds.TheVariants.{Flat, Spilled}
-use Rattle.layout.specs.declared.parts.Parts.TheVariants as parts
+use Rattle.layout.specs.Standing as parts
 use Rattle.layout.specs.declared.rows.Row.{Row}
 use Rattle.layout.specs.declared.error.LayoutError.TheVariants.{TooDeep, TooLarge}
 use Rattle.layout.specs.Layout.{max_depth, max_size, capped, layouts_of, IsDefinitionWithin, LayoutRefuses, RefusesAt, RefusesFirst, AreWithin}

@@ -18,8 +18,8 @@ use Rattle.tables.proofs.ClosedTypesRowByRow.{is_below-later}
 use Rattle.layout.specs.Parts.{payloads, final_type, behind_alias, is_end, is_no_name, AreEnded, record_parts, variant_parts, kind_parts, definition_parts, parts_from}
 use Rattle.layout.specs.Layout.{IsSound}
 use Rattle.layout.specs.Rows.{row_in, rows_at, choices_at, extent_at, extents, definition_row, IsLimitedDefinition}
-use Rattle.layout.specs.declared.parts.Parts.{Parts}
-use Rattle.layout.specs.declared.parts.Parts.TheVariants as parts
+use Rattle.layout.specs.Standing.{Parts}
+use Rattle.layout.specs.Standing as parts
 use Rattle.layout.specs.declared.rows.Row.{Row}
 use Rattle.layout.proofs.MeasuresAgree.{rows-agree, definition-agrees, length-parts, parts-more}
 use Rattle.layout.proofs.RowsSoFar.{RowsSoFar, rows-none, length-rows, next-below, rows-more}

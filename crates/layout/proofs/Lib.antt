@@ -1,5 +1,6 @@
 pub mod JoinsOfFlatKinds
 pub mod FlatKindsCutAtSixteen
+pub mod ElementsPutBehind
 pub mod RecordLoop
 pub mod VariantLoop
 pub mod RowsOfClosedTypes
@@ -12,3 +13,4 @@ pub mod PartsTellClosedTypes
 pub mod StandsForOne
 pub mod StepsSumOverDefinitions
 pub mod Examples
+pub mod HeadsStandAsParts

@@ -18,8 +18,8 @@ use Rattle.tables.proofs.ClosedTypesRowByRow.{split, closed_val-stays}
 use Rattle.layout.specs.Parts.{payloads, record_parts, variant_parts, kind_parts, definition_parts, parts_from}
 use Rattle.layout.specs.Layout.{row_of}
 use Rattle.layout.specs.Rows.{extent_in, extent_at}
-use Rattle.layout.specs.declared.parts.Parts.{Parts}
-use Rattle.layout.specs.declared.parts.Parts.TheVariants as parts
+use Rattle.layout.specs.Standing.{Parts}
+use Rattle.layout.specs.Standing as parts
 use Rattle.layout.specs.declared.rows.Row.{Row}
 use Rattle.layout.proofs.RowsOfClosedTypes.{row_in-of}
 

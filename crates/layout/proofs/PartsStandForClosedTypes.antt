@@ -19,8 +19,8 @@ use Rattle.tables.specs.declared.tables.Resolve.{Resolve}
 use Rattle.tables.proofs.ClosedTypesRowByRow.{split, earlier-at, closed-at, closed_val-stays}
 use Rattle.layout.specs.Parts.{payloads, behind_alias, final_type, record_parts, variant_parts, kind_parts, definition_parts, parts_from}
 use Rattle.layout.specs.Queries.{PartsStand}
-use Rattle.layout.specs.declared.parts.Parts.{Parts}
-use Rattle.layout.specs.declared.parts.Parts.TheVariants as parts
+use Rattle.layout.specs.Standing.{Parts}
+use Rattle.layout.specs.Standing as parts
 use Rattle.layout.proofs.MeasuresAgree.{Agree, types-agree, payload-agrees, payloads-agree, mapped, mapped-options, no-payloads, length-parts, parts-more, parts_from-append}
 use Rattle.layout.proofs.LaidSoFar.{none_such}
 

@@ -19,8 +19,8 @@ use Rattle.tables.proofs.ClosedTypesRowByRow.{split, is_below-later, option_belo
 use Rattle.layout.specs.Parts.{final_type, is_end, is_no_name, AreEnded, parts_from}
 use Rattle.layout.specs.Layout.{row_of, LayoutTable, layouts_of}
 use Rattle.layout.specs.Queries.{IsShaped, TellsField, TellsCase, shape_by, shape_of, field_info_by, field_info_of, field_placed, case_info_by, case_at, case_info_of, PartsStand}
-use Rattle.layout.specs.declared.parts.Parts.{Parts}
-use Rattle.layout.specs.declared.parts.Parts.TheVariants as parts
+use Rattle.layout.specs.Standing.{Parts}
+use Rattle.layout.specs.Standing as parts
 use Rattle.layout.specs.declared.rows.Row.{Row}
 use Rattle.layout.specs.declared.queries.Shape.{Shape}
 use Rattle.layout.specs.declared.queries.FieldInfo.{FieldInfo}

@@ -20,7 +20,7 @@ use Rattle.layout.specs.Layout.{LayoutTable, layouts_of}
 use Rattle.layout.specs.Parts.{behind_alias, final_type, is_end, is_no_name, kind_parts, definition_parts, parts_from}
 use Rattle.layout.specs.Queries.{shape_by, shape_of, field_info_by, field_info_of, field_placed, case_info_by, case_at, case_info_of}
 use Rattle.layout.specs.Named.{kind_named, kind_members, kind_cases, kind_shape, definition_named, named_in, StandsFor, itself, named, OfNamed, StandsForOne, definition_members, definition_cases, definition_shape, own_shape, own_member, own_case}
-use Rattle.layout.specs.declared.parts.Parts.{Parts}
+use Rattle.layout.specs.Standing.{Parts}
 use Rattle.layout.specs.declared.queries.Shape.{Shape}
 use Rattle.layout.specs.declared.queries.Shape.TheVariants as shape
 use Rattle.layout.specs.declared.queries.FieldInfo.{FieldInfo}

@@ -10,7 +10,7 @@ use Rattle.tables.specs.declared.tables.Definition.TheVariants as row
 use Rattle.tables.specs.declared.tables.Resolve.{Resolve}
 use Rattle.layout.specs.Kinds.{kinds_of, passed}
 use Rattle.layout.specs.Parts.{parts_from}
-use Rattle.layout.specs.declared.parts.Parts.{Parts}
+use Rattle.layout.specs.Standing.{Parts}
 use Rattle.layout.specs.Work.{total_work, saturated}
 use Rattle.layout.specs.declared.kinds.Kinds.{Kinds}
 use Rattle.layout.specs.declared.rows.Row.{Row}

@@ -6,3 +6,5 @@ pub mod Signature
 pub mod Parts
 pub mod Queries
 pub mod Named
+pub mod Standing
+pub mod Heads

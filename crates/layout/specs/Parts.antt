@@ -10,8 +10,8 @@ use Rattle.tables.specs.declared.tables.TypeDefKind.{TypeDefKind}
 use Rattle.tables.specs.declared.tables.TypeDefKind.TheVariants as kind
 use Rattle.tables.specs.declared.tables.Definition.{Definition}
 use Rattle.tables.specs.declared.tables.Definition.TheVariants as row
-use Rattle.layout.specs.declared.parts.Parts.{Parts}
-use Rattle.layout.specs.declared.parts.Parts.TheVariants as parts
+use Rattle.layout.specs.Standing.{Parts}
+use Rattle.layout.specs.Standing as parts
 
 -- the payloads of the cases that have one, in order
 abbrev pub payloads : {A : Type 0} → List (Option A) → List A

@@ -8,8 +8,8 @@ use Rattle.tables.specs.Closed.{prim_of}
 use Rattle.tables.specs.Tables.{is_below, option_below}
 use Rattle.tables.specs.declared.tables.ValType.{ValType}
 use Rattle.tables.specs.declared.tables.ValType.TheVariants as val
-use Rattle.layout.specs.declared.parts.Parts.{Parts}
-use Rattle.layout.specs.declared.parts.Parts.TheVariants as parts
+use Rattle.layout.specs.Standing.{Parts}
+use Rattle.layout.specs.Standing as parts
 use Rattle.layout.specs.declared.queries.Shape.{Shape}
 use Rattle.layout.specs.declared.queries.Shape.TheVariants as shape
 use Rattle.layout.specs.declared.queries.FieldInfo.{FieldInfo}

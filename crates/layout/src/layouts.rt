@@ -19,9 +19,9 @@ ghost use Rattle.layout.specs.Work.{laid_work, results_work, results_in, total_w
 
 use crate::error::LayoutError;
 use crate::kinds::Kinds;
-use crate::parts::Parts;
+use crate::parts::PartsTable;
 use crate::queries::{CaseInfo, FieldInfo, Shape};
-use crate::rows::{Row, count_in, extent_in, final_type, lay_definition, look, row_in};
+use crate::rows::{Row, count_in, extent_in, look, row_in};
 use crate::signature::{
     CoreSignature, are_lowered, lifted_of, lowered_of, passed_count, result_of,
 };
@@ -35,15 +35,15 @@ use tables::{Definition, FunctionId, Resolve, ValType};
 #[derive(Drop)]
 struct Tables {
     rows: Vec<Row>,
-    parts: Vec<Parts>,
+    parts: PartsTable,
 }
 
 fn lay_all(alloc: Global, resolve: &Resolve, steps: &mut Steps) -> Result<Tables, LayoutError>
     ensures rows { IfOk result (λ t. t.rows.items ≡ map row_of (closed_types resolve.now)) }
-    ensures parts { IfOk result (λ t. t.parts.items
+    ensures parts { IfOk result (λ t. t.parts
         ≡ parts_from (λ v. extent_of (closed_type resolve.now v)) [] resolve.now.definitions) }
     ensures sound { IfOk result (λ t. All IsSound t.rows.items) }
-    ensures ended { IfOk result (λ t. AreEnded t.parts.items) }
+    ensures ended { IfOk result (λ t. AreEnded t.parts) }
     ensures within { IfOk result (λ _. AreWithin resolve.now) }
     ensures steps { IfOk result (λ t. steps.new.count
         ≡ saturated (steps.old.count + laid_work resolve.now.definitions)) }
@@ -51,11 +51,10 @@ fn lay_all(alloc: Global, resolve: &Resolve, steps: &mut Steps) -> Result<Tables
 {
     let count = resolve.definitions.len();
     let mut rows = Vec::with_capacity(alloc, count)?;
-    let mut parts = Vec::with_capacity(alloc, count)?;
+    let mut parts = PartsTable::with_capacity(alloc, count)?;
     for definition in resolve.definitions.as_slice() {
-        let laid = lay_definition(alloc, rows.as_slice(), parts.as_slice(), definition, steps)?;
-        rows.push(laid.row)?;
-        parts.push(laid.parts)?;
+        let row = parts.lay_definition(rows.as_slice(), definition, steps)?;
+        rows.push(row)?;
     }
     Ok(Tables { rows, parts })
 }
@@ -104,7 +103,7 @@ pub struct Layouts {
     rows: Vec<Row>,
     /// The flat kinds of each function's result; none at a type's place.
     results: Vec<Kinds>,
-    parts: Vec<Parts>,
+    parts: PartsTable,
     work: u64,
 }
 
@@ -118,12 +117,12 @@ impl Model for Layouts {
     ghost view = { λ l. record {
       rows = l.rows.items;
       results = l.results.items;
-      parts = l.parts.items;
+      parts = l.parts;
       work = l.work;
     } };
 
     ghost invariant = { λ l. All IsSound l.rows.items × (length l.results.items ≡ length l.rows.items)
-        × (length l.parts.items ≡ length l.rows.items) × AreEnded l.parts.items };
+        × (length l.parts ≡ length l.rows.items) × AreEnded l.parts };
 }
 
 impl Layouts {
@@ -269,7 +268,7 @@ impl Layouts {
         ensures below { IsTrue (is_below (length self.now.rows) result) }
         ensures end { IsTrue (is_end self.now.parts result) }
     {
-        final_type(self.parts.as_slice(), ty)
+        self.parts.final_type(ty)
     }
 
     fn shape_of(&self, end: ValType) -> Shape
@@ -280,7 +279,7 @@ impl Layouts {
         match end {
             ValType::Primitive(primitive) => Shape::Primitive(primitive),
             ValType::String => Shape::String,
-            ValType::Id(id) => self.parts[id.0 as usize].shape(),
+            ValType::Id(id) => self.parts.shape(id.0 as usize),
         }
     }
 
@@ -289,7 +288,7 @@ impl Layouts {
         ensures { result ≡ field_info_of self.now.parts end index }
     {
         match end {
-            ValType::Id(id) => self.parts[id.0 as usize].field(index),
+            ValType::Id(id) => self.parts.field(id.0 as usize, index),
             _ => None,
         }
     }
@@ -299,7 +298,7 @@ impl Layouts {
         ensures { result ≡ case_info_of self.now.parts end index }
     {
         match end {
-            ValType::Id(id) => self.parts[id.0 as usize].case(index),
+            ValType::Id(id) => self.parts.case(id.0 as usize, index),
             _ => None,
         }
     }

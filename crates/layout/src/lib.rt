@@ -22,7 +22,6 @@ pub use error::LayoutError;
 pub use kind_list::KindList;
 pub use kinds::{Kinds, MAX_FLAT};
 pub use layouts::Layouts;
-pub use parts::Parts;
 pub use queries::{CaseInfo, FieldInfo, Shape};
 pub use rows::{MAX_DEPTH, MAX_SIZE, Row};
 pub use signature::{CoreSignature, are_kinds};

@@ -1,17 +1,303 @@
 //! What stands directly in the types of a package.
-use tables::{Sequence, ValType};
+ghost use Rattle.std.specs.Prelude.{◌≡◌, ◌+◌, ◌<◌, ◌≤◌, ◌++◌, ◌∷◌, [], length, map, All, IsTrue, IfOk, IfErr};
+ghost use Rattle.tables.specs.Tables.{is_below, option_below, kind_below, definition_below};
+ghost use Rattle.canonical_abi.specs.Types.{flags_type};
+ghost use Rattle.layout.specs.Layout.{row_of, IsSound, max_size};
+ghost use Rattle.layout.specs.Standing as parts;
+ghost use Rattle.layout.specs.Heads.{standing};
+ghost use Rattle.layout.specs.Parts.{payloads, final_type, record_parts, variant_parts, kind_parts, definition_parts};
+ghost use Rattle.layout.specs.Parts.{is_no_name};
+ghost use Rattle.layout.specs.Queries.{shape_by, field_info_by, case_info_by};
+ghost use Rattle.layout.specs.Rows.{row_in, rows_at, extent_at, record_row, choices_at, variant_row, list_row};
+ghost use Rattle.layout.specs.Rows.{kind_row, definition_row, IsLimitedRow, IsLimitedDefinition};
+ghost use Rattle.layout.specs.Rows.{RefusesDeeper, RefusesRow, RefusesDefinition};
+ghost use Rattle.layout.specs.Work.{direct_types, laid_in, saturated};
 
-/// What stands directly in a type.
+use crate::error::LayoutError;
+use crate::queries::{CaseInfo, FieldInfo, Shape};
+use crate::rows::{
+    MAX_DEPTH, Row, block_row, deeper, flags_row, limited, look, record_row, variant_row,
+};
+use crate::work::Steps;
+use std::alloc::Global;
+use std::marker::Model;
+use tables::{Choice, Definition, Member, TypeDefKind, ValType};
+
+/// What stands directly in a type, whose fields or payloads lie among those of all types.
 #[derive(Debug, Drop)]
-pub enum Parts {
+pub enum Head {
     /// The type is another one, which is no used name and no new name itself.
     Same(ValType),
     /// The type of a list's elements.
     List(ValType),
-    /// The types of a record's fields, and their places in bytes.
-    Record(Sequence<ValType>, Sequence<u32>),
-    /// The place of a variant's payload in bytes, and the payloads of its cases.
-    Variant(u32, Sequence<Option<ValType>>),
+    /// The place of a record's first field, and the number of its fields.
+    Record(usize, usize),
+    /// The place of a variant's payload in bytes, the place of its first case, and the number of its cases.
+    Variant(u32, usize, usize),
     /// The number of a flags type's labels.
     Flags(usize),
+}
+
+/// What stands directly in each definition of a package, in table order.
+#[derive(Debug, Drop)]
+pub struct PartsTable {
+    heads: Vec<Head>,
+    /// The fields of all records.
+    fields: Vec<FieldInfo>,
+    /// The payloads of the cases of all variants.
+    payloads: Vec<Option<ValType>>,
+}
+
+impl Model for PartsTable {
+    ghost use Rattle.std.specs.Prelude.{List, All, length, map};
+    ghost use Rattle.layout.specs.Standing.{Parts};
+    ghost use Rattle.layout.specs.Heads.{parts_by, LiesWithin};
+
+    ghost Value = { List Parts };
+
+    ghost view = { λ t. map (parts_by t.fields.items t.payloads.items) t.heads.items };
+
+    ghost invariant = { λ t. All (LiesWithin (length t.fields.items) (length t.payloads.items)) t.heads.items };
+}
+
+impl PartsTable {
+    /// Nothing, with room for so many definitions.
+    pub(crate) fn with_capacity(alloc: Global, count: usize) -> Result<PartsTable, LayoutError>
+        ensures ok { IfOk result (λ t. t ≡ []) }
+        ensures err { IfErr result (λ e. e ≡ LayoutError.NoMemory) }
+    {
+        Ok(PartsTable {
+            heads: Vec::with_capacity(alloc, count)?,
+            fields: Vec::new(alloc),
+            payloads: Vec::new(alloc),
+        })
+    }
+
+    /// What a type stands for in the end.
+    #[inline]
+    pub(crate) fn final_type(&self, ty: ValType) -> ValType
+        requires { IsTrue (is_below (length self.now) ty) }
+        ensures { result ≡ final_type self.now ty }
+    {
+        match ty {
+            ValType::Id(id) => match &self.heads[id.0 as usize] {
+                Head::Same(end) => *end,
+                _ => ty,
+            },
+            _ => ty,
+        }
+    }
+
+    /// The shape of the type at this place, which is no name.
+    #[inline]
+    pub(crate) fn shape(&self, place: usize) -> Shape
+        requires within { place < length self.now }
+        requires end { IsTrue (is_no_name (standing self.now place)) }
+        ensures { result ≡ shape_by (standing self.now place) }
+    {
+        match &self.heads[place] {
+            Head::Same(_) => unreachable!(),
+            Head::List(element) => Shape::List(*element),
+            Head::Record(_, count) => Shape::Record(*count),
+            Head::Variant(_, _, count) => Shape::Variant(*count),
+            Head::Flags(labels) => Shape::Flags(*labels),
+        }
+    }
+
+    /// A field of the type at this place, with its place in bytes; None where the type has no such field.
+    #[inline]
+    pub(crate) fn field(&self, place: usize, index: usize) -> Option<FieldInfo>
+        requires { place < length self.now }
+        ensures { result ≡ field_info_by (standing self.now place) index }
+    {
+        match &self.heads[place] {
+            Head::Record(first, count) if index < *count => Some(self.fields[*first + index]),
+            _ => None,
+        }
+    }
+
+    /// A case of the type at this place; None where the type has no such case.
+    #[inline]
+    pub(crate) fn case(&self, place: usize, index: usize) -> Option<CaseInfo>
+        requires { place < length self.now }
+        ensures { result ≡ case_info_by (standing self.now place) index }
+    {
+        match &self.heads[place] {
+            Head::Variant(offset, first, count) if index < *count => Some(CaseInfo {
+                place: *offset,
+                payload: self.payloads[*first + index],
+            }),
+            _ => None,
+        }
+    }
+
+    /// The members of a record, a tuple or a function, whose depth is at most `most`.
+    fn lay_members<M: Member>(
+        &mut self,
+        rows: &[Row],
+        members: &[M],
+        most: u32,
+        steps: &mut Steps,
+    ) -> Result<Row, LayoutError>
+        requires below { All (λ m. IsTrue (is_below (length rows.now) (M.type_of m))) members.now }
+        requires sound { All IsSound rows.now }
+        requires most { most ≤ 65 }
+        ensures row { IfOk result (λ x. x ≡ record_row (rows_at rows.now M.type_of members.now)) }
+        ensures parts { IfOk result (λ _. self.new
+            ≡ self.old ++ record_parts (extent_at rows.now) (map M.type_of members.now) ∷ []) }
+        ensures sound { IfOk result IsSound }
+        ensures within { IfOk result (λ x. (x.depth ≤ most) × (x.size ≤ max_size)) }
+        ensures steps { IfOk result (λ _. steps.new.count ≡ saturated (steps.old.count + length members.now)) }
+        ensures err { IfErr result (λ e. RefusesDeeper most e (record_row (rows_at rows.now M.type_of members.now))) }
+    {
+        let first = self.fields.len();
+        let row = record_row(&mut self.fields, rows, members, most, steps)?;
+        self.heads.push(Head::Record(first, members.len()))?;
+        Ok(row)
+    }
+
+    /// A variant, an enum, an option or a result.
+    fn lay_variant<C: Choice>(
+        &mut self,
+        rows: &[Row],
+        cases: &[C],
+        steps: &mut Steps,
+    ) -> Result<Row, LayoutError>
+        requires below { All (λ c. IsTrue (option_below (length rows.now) (C.payload_of c))) cases.now }
+        requires sound { All IsSound rows.now }
+        ensures row { IfOk result (λ x. x ≡ variant_row (choices_at rows.now C.payload_of cases.now)) }
+        ensures parts { IfOk result (λ _. self.new
+            ≡ self.old ++ variant_parts (extent_at rows.now) (map C.payload_of cases.now) ∷ []) }
+        ensures sound { IfOk result IsSound }
+        ensures within { IfOk result IsLimitedRow }
+        ensures steps { IfOk result (λ _. steps.new.count
+            ≡ saturated (steps.old.count + length (payloads (choices_at rows.now C.payload_of cases.now)))) }
+        ensures err { IfErr result (λ e. RefusesRow e (variant_row (choices_at rows.now C.payload_of cases.now))) }
+    {
+        let first = self.payloads.len();
+        let variant = variant_row(&mut self.payloads, rows, cases, steps)?;
+        let row = limited(variant.row)?;
+        self.heads
+            .push(Head::Variant(variant.payload, first, cases.len()))?;
+        Ok(row)
+    }
+
+    /// A used name or a new name.
+    fn lay_name(
+        &mut self,
+        rows: &[Row],
+        target: ValType,
+        steps: &mut Steps,
+    ) -> Result<Row, LayoutError>
+        requires below { IsTrue (is_below (length rows.now) target) }
+        requires same { length self.old ≡ length rows.now }
+        requires sound { All IsSound rows.now }
+        ensures row { IfOk result (λ x. x ≡ row_in rows.now target) }
+        ensures parts { IfOk result (λ _. self.new ≡ self.old ++ parts.Same (final_type self.old target) ∷ []) }
+        ensures sound { IfOk result IsSound }
+        ensures within { IfOk result IsLimitedRow }
+        ensures steps { steps.new.count ≡ saturated (steps.old.count + 1) }
+        ensures err { IfErr result (λ e. RefusesRow e (row_in rows.now target)) }
+    {
+        let row = limited(look(rows, target, steps))?;
+        let end = self.final_type(target);
+        self.heads.push(Head::Same(end))?;
+        Ok(row)
+    }
+
+    /// A list of these elements.
+    fn lay_list(
+        &mut self,
+        rows: &[Row],
+        element: ValType,
+        steps: &mut Steps,
+    ) -> Result<Row, LayoutError>
+        requires below { IsTrue (is_below (length rows.now) element) }
+        requires sound { All IsSound rows.now }
+        ensures row { IfOk result (λ x. x ≡ list_row (row_in rows.now element)) }
+        ensures parts { IfOk result (λ _. self.new ≡ self.old ++ parts.List element ∷ []) }
+        ensures sound { IfOk result IsSound }
+        ensures within { IfOk result IsLimitedRow }
+        ensures steps { steps.new.count ≡ saturated (steps.old.count + 1) }
+        ensures err { IfErr result (λ e. RefusesRow e (list_row (row_in rows.now element))) }
+    {
+        let row = limited(block_row(deeper(look(rows, element, steps).depth)))?;
+        self.heads.push(Head::List(element))?;
+        Ok(row)
+    }
+
+    /// Flags of so many labels.
+    fn lay_flags(&mut self, labels: usize) -> Result<Row, LayoutError>
+        ensures row { IfOk result (λ x. x ≡ row_of (flags_type labels)) }
+        ensures parts { IfOk result (λ _. self.new ≡ self.old ++ parts.Flags labels ∷ []) }
+        ensures err { IfErr result (λ e. e ≡ LayoutError.NoMemory) }
+    {
+        self.heads.push(Head::Flags(labels))?;
+        Ok(flags_row(labels))
+    }
+
+    /// A type.
+    fn lay_kind(
+        &mut self,
+        rows: &[Row],
+        kind: &TypeDefKind,
+        steps: &mut Steps,
+    ) -> Result<Row, LayoutError>
+        requires below { IsTrue (kind_below (length rows.now) kind.now) }
+        requires same { length self.old ≡ length rows.now }
+        requires sound { All IsSound rows.now }
+        ensures row { IfOk result (λ x. x ≡ kind_row rows.now kind.now) }
+        ensures parts { IfOk result (λ _. self.new
+            ≡ self.old ++ kind_parts (extent_at rows.now) self.old kind.now ∷ []) }
+        ensures sound { IfOk result IsSound }
+        ensures within { IfOk result IsLimitedRow }
+        ensures steps { IfOk result (λ _. steps.new.count ≡ saturated (steps.old.count + direct_types kind.now)) }
+        ensures err { IfErr result (λ e. RefusesRow e (kind_row rows.now kind.now)) }
+    {
+        match kind {
+            TypeDefKind::Use(target) => self.lay_name(rows, ValType::Id(*target), steps),
+            TypeDefKind::Alias(target) => self.lay_name(rows, *target, steps),
+            TypeDefKind::List(element) => self.lay_list(rows, *element, steps),
+            TypeDefKind::Option(payload) => self.lay_variant(rows, &[None, Some(*payload)], steps),
+            TypeDefKind::Result(ok, error) => self.lay_variant(rows, &[*ok, *error], steps),
+            TypeDefKind::Tuple(types) => self.lay_members(rows, types.as_slice(), MAX_DEPTH, steps),
+            TypeDefKind::Record(fields) => self.lay_members(
+                rows,
+                fields.as_slice(),
+                MAX_DEPTH,
+                steps,
+            ),
+            TypeDefKind::Variant(cases) => self.lay_variant(rows, cases.as_slice(), steps),
+            TypeDefKind::Enum(names) => self.lay_variant(rows, names.as_slice(), steps),
+            TypeDefKind::Flags(labels) => self.lay_flags(labels.len()),
+        }
+    }
+
+    /// A definition; a function is laid out as the record of its parameters.
+    pub(crate) fn lay_definition(
+        &mut self,
+        rows: &[Row],
+        definition: &Definition,
+        steps: &mut Steps,
+    ) -> Result<Row, LayoutError>
+        requires below { IsTrue (definition_below (length rows.now) definition.now) }
+        requires same { length self.old ≡ length rows.now }
+        requires sound { All IsSound rows.now }
+        ensures row { IfOk result (λ x. x ≡ definition_row rows.now definition.now) }
+        ensures parts { IfOk result (λ _. self.new
+            ≡ self.old ++ definition_parts (extent_at rows.now) self.old definition.now ∷ []) }
+        ensures sound { IfOk result IsSound }
+        ensures within { IfOk result (λ x. IsLimitedDefinition definition.now x) }
+        ensures steps { IfOk result (λ _. steps.new.count
+            ≡ saturated (steps.old.count + (1 + laid_in definition.now))) }
+        ensures err { IfErr result (λ e. RefusesDefinition e definition.now (definition_row rows.now definition.now)) }
+    {
+        steps.take_one();
+        match definition {
+            Definition::Type(definition) => self.lay_kind(rows, &definition.kind, steps),
+            Definition::Function(function) => {
+                self.lay_members(rows, function.params.as_slice(), MAX_DEPTH + 1, steps)
+            }
+        }
+    }
 }

@@ -10,7 +10,9 @@ use Rattle.ctype_format.specs.contracts.error.BinError as bin_error
 use Rattle.layout.specs.contracts.error.LayoutError as layout_error
 use Rattle.layout.specs.contracts.kinds.Kinds as kinds
 use Rattle.layout.specs.contracts.layouts.Layouts as layouts
-use Rattle.layout.specs.contracts.parts.Parts as parts
+use Rattle.layout.specs.contracts.parts.Head as head
+use Rattle.layout.specs.contracts.parts.PartsTable as parts
+use Rattle.layout.specs.contracts.queries.FieldInfo as field_info
 use Rattle.layout.specs.contracts.rows.Row as row
 use Rattle.witcall_c.proofs.IndexSent.{index-send}
 use Rattle.opening.specs.contracts.indexed.IndexedPackage as indexed
@@ -119,11 +121,17 @@ kinds-send = search (sendable, crosses) depth 40
 row-send : IsSend row.the_row
 row-send = search (sendable, crosses) depth 60
 
-parts-send : IsSend parts.the_row
-parts-send = search (sendable, crosses, val-send) depth 60
+head-send : IsSend head.the_row
+head-send = search (sendable, crosses) depth 60
+
+field_info-send : IsSend field_info.the_row
+field_info-send = search (sendable, crosses) depth 60
+
+parts-field : IsSend (parts.the_field).row
+parts-field = let a = Vec-send head.the_row head-send in let b = Vec-send field_info.the_row field_info-send in search (sendable, crosses, val-send) depth 60
 
 layouts-field : IsSend (layouts.the_field).row
-layouts-field = let a = Vec-send row.the_row row-send in let b = Vec-send kinds.the_row kinds-send in let c = Vec-send parts.the_row parts-send in search sendable depth 60
+layouts-field = let a = Vec-send row.the_row row-send in let b = Vec-send kinds.the_row kinds-send in let c = parts-field in search sendable depth 60
 
 -- ---- a package, and why there is none
 

@@ -1,4 +1,4 @@
-use Rattle.std.proofs.Common.{◌≡◌, ◌+◌, [], length, take, get_or, ap, sym, ◌∙◌, arith}
+use Rattle.std.proofs.Common.{◌≡◌, ◌+◌, [], length, take, get_or, refl, ap, sym, ◌∙◌, arith}
 use Rattle.std.proofs.lemmas.List.{take_all}
 use Rattle.std.proofs.lemmas.List.Sums.{sum_by_more}
 use Rattle.std.proofs.lemmas.Result.{err_from_is_err_and}
@@ -6,14 +6,15 @@ use Rattle.canonical_abi.specs.Layout.{extent_of}
 use Rattle.tables.specs.Closed.{closed_type}
 use Rattle.tables.specs.declared.tables.Definition.{Definition}
 use Rattle.layout.specs.Work.{laid_in, laid_work}
-use Rattle.layout.specs.Parts.{parts_from}
+use Rattle.layout.specs.Parts.{definition_parts, parts_from}
+use Rattle.layout.specs.Rows.{extent_at}
 use Rattle.layout.proofs.RowsSoFar.{length-rows, next-below, refuses-first, all-within, all-rows}
 use Rattle.layout.proofs.LaidSoFar.{laid-none, laid-more, length-laid}
 use Rattle.layout.proofs.layouts.lay_all.Goals as goal
 
 pub loop-definition-init : goal.loop-definition-init
 loop-definition-init c = record {
-  laid = rw (c.in_ok-rows.ensures.items, c.in_ok-parts.ensures.items) (laid-none c.args.resolve.now);
+  laid = rw (c.in_ok-rows.ensures.items, c.in_ok-parts.ensures.ok) (laid-none c.args.resolve.now);
   steps_are = omega (arith, c.args.steps.now.fits);
 }
 
@@ -26,24 +27,24 @@ pub lay_definition-requires-clause-same : goal.lay_definition-requires-clause-sa
 lay_definition-requires-clause-same c =
     let count = ap length c.as_slice-definition-items.ensures in
     let rows = length-rows c.args.resolve.now c.loop-definition.definition-index c.loop-definition.rows.items (omega arith) c.loop-definition.invariant.laid.so_far in
-    let parts = length-laid c.args.resolve.now c.loop-definition.definition-index c.loop-definition.rows.items c.loop-definition.parts.items (omega arith) c.loop-definition.invariant.laid in
-    ap length c.as_slice-in-loop-definition.ensures.value ∙ parts ∙ sym rows ∙ sym (ap length c.as_slice.ensures.value)
+    let parts = length-laid c.args.resolve.now c.loop-definition.definition-index c.loop-definition.rows.items c.loop-definition.parts (omega arith) c.loop-definition.invariant.laid in
+    parts ∙ sym rows ∙ sym (ap length c.as_slice.ensures.value)
 
 pub lay_definition-requires-clause-sound : goal.lay_definition-requires-clause-sound
 lay_definition-requires-clause-sound c = rw c.as_slice.ensures.value c.loop-definition.invariant.laid.so_far.sound
 
-pub returns-in_err-laid-clause-err : goal.returns-in_err-laid-clause-err
-returns-in_err-laid-clause-err c =
+pub returns-in_err-row-clause-err : goal.returns-in_err-row-clause-err
+returns-in_err-row-clause-err c =
     let count = ap length c.as_slice-definition-items.ensures in
-    let refused = rw c.as_slice.ensures.value at c.in_err-laid.ensures.err in
-    let p = err_from_is_err_and c.from_residual-in_err-laid.result c.from_residual-in_err-laid.ensures.1 in
+    let refused = rw c.as_slice.ensures.value at c.in_err-row.ensures.err in
+    let p = err_from_is_err_and c.from_residual-in_err-row.result c.from_residual-in_err-row.ensures.1 in
     rw (p.1, p.2) (refuses-first c.args.resolve.now c.loop-definition.definition-index c.loop-definition.rows.items c.definition-item.result (omega arith) (cc) c.loop-definition.invariant.laid.so_far _ refused)
 
 pub loop-definition-preserved : goal.loop-definition-preserved
 loop-definition-preserved c =
     let count = ap length c.as_slice-definition-items.ensures in
-    let made = rw c.as_slice.ensures.value at c.in_ok-laid.ensures.row in
-    let laid = rw (c.as_slice.ensures.value, c.as_slice-in-loop-definition.ensures.value) at c.in_ok-laid.ensures.parts in
+    let made = rw c.as_slice.ensures.value at c.in_ok-row.ensures.row in
+    let put = rw c.as_slice.ensures.value at c.in_ok-row.ensures.parts in
     let items = c.as_slice-definition-items.result.now in
     let i = c.loop-definition.definition-index in
     let d = c.definition-item.result in
@@ -51,9 +52,9 @@ loop-definition-preserved c =
     let more : laid_work (take (i + 1) items) ≡ laid_work (take i items) + (1 + laid_in d) =
     rw is at (sum_by_more (λ (e : Definition). 1 + laid_in e) items i d (omega arith)) in
     record {
-      laid = laid-more c.args.resolve.now i c.loop-definition.rows.items c.loop-definition.parts.items d (omega arith) (cc) c.loop-definition.invariant.laid
-          c.in_ok-laid.laid.row c.in_ok-laid.laid.parts _ _ made laid c.in_ok-laid.ensures.sound c.in_ok-laid.ensures.within c.in_ok-push.ensures.items c.in_ok-push-2.ensures.items;
-      steps_are = omega (arith, more, c.in_ok-laid.ensures.steps, c.loop-definition.invariant.steps_are);
+      laid = laid-more c.args.resolve.now i c.loop-definition.rows.items c.loop-definition.parts d (omega arith) (cc) c.loop-definition.invariant.laid
+          c.in_ok-row.row (definition_parts (extent_at c.loop-definition.rows.items) c.loop-definition.parts d) _ _ made refl c.in_ok-row.ensures.sound c.in_ok-row.ensures.within c.in_ok-push.ensures.items put;
+      steps_are = omega (arith, more, c.in_ok-row.ensures.steps, c.loop-definition.invariant.steps_are);
     }
 
 pub returns-clause-within : goal.returns-clause-within

@@ -1,8 +1,9 @@
-use Rattle.std.proofs.Common.{◌≡◌, ◌+◌, ◌∷◌, [], ◌++◌, None, Some, take, get_or, arith, rules}
+use Rattle.std.proofs.Common.{◌≡◌, ◌+◌, ◌∷◌, [], ◌++◌, None, Some, take, get_or, ap, ◌∙◌, arith, rules}
 use Rattle.std.proofs.lemmas.List.{length-append}
 use Rattle.layout.specs.declared.rows.Row.{Row}
 use Rattle.layout.specs.Parts.{payloads}
 use Rattle.layout.specs.Rows.{choices_at}
+use Rattle.layout.proofs.ElementsPutBehind.{put-more}
 use Rattle.layout.proofs.VariantLoop.{variant_more, choices_at-some, choices_at-none}
 use Rattle.layout.proofs.rows.variant_row.Goals as goal
 use Rattle.layout.proofs.rows.variant_row.Goals.{in-Some, in_default}
@@ -15,6 +16,8 @@ loop-case-preserved g c =
     let i = c.loop-case.case-index in
     let d = c.case-item.result in
     let so_far = c.loop-case.invariant.so_far in
+    let put = put-more payload cases i d c.args.all_payloads.now.items c.loop-case.all_payloads.items c.push.new.self.items c.payload-payload.result (omega arith)
+    (c.payload-payload.ensures ∙ ap payload c.case-item.is) c.loop-case.invariant.payloads_are c.in_ok-push.ensures.items in
     elim c.match-payload.branch [
       | in-Some w ↦
           let is : payload (get_or cases i d) ≡ Some w.in-Some.payload = cc in
@@ -23,6 +26,7 @@ loop-case-preserved g c =
           record {
             so_far = variant_more {rows = payloads (choices_at rows payload (take i cases))} {rows' = payloads (choices_at rows payload (take (i + 1) cases))} w.look-row.result so_far w.look-row.ensures.sound more
                 (rw (w.depth-is) (search rules)) (rw (w.size-is) (search rules)) (rw w.align-is (search rules)) (rw w.kinds-is w.join-kinds.ensures);
+            payloads_are = put;
             steps_are = rw (w.steps-is, more) (omega (arith, length-append {A = Row}, w.look-row.ensures.steps, c.loop-case.invariant.steps_are));
           }
       | in_default w ↦
@@ -30,6 +34,7 @@ loop-case-preserved g c =
           let more = choices_at-none rows payload cases i d (omega arith) is in
           record {
             so_far = rw (more, w.depth-is, w.size-is, w.align-is, w.kinds-is) so_far;
+            payloads_are = put;
             steps_are = rw (more, w.steps-is) c.loop-case.invariant.steps_are;
           }
     ]

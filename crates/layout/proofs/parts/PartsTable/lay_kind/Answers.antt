@@ -1,6 +1,6 @@
 use Rattle.tables.specs.declared.tables.Case.{Case}
 use Rattle.layout.proofs.StepsSumOverDefinitions.{count-payloads, count-none}
-use Rattle.layout.proofs.rows.lay_kind.Goals as goal
+use Rattle.layout.proofs.parts.PartsTable.lay_kind.Goals as goal
 
 pub returns-in-Variant-clause-steps : goal.returns-in-Variant-clause-steps
 returns-in-Variant-clause-steps c =
