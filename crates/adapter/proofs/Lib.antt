@@ -2,6 +2,7 @@ pub mod ParametersAsTableTypes
 pub mod FunctionsInLayouts
 pub mod CallFromItsWays
 pub mod PlainValuesCrossAsTheyAre
+pub mod NestedValuesCrossAsTheyAre
 mod LinkCallsKeepPromise
 pub mod PackageTypesWithinLimits
 pub mod WhyNothingIsAsked

@@ -12,6 +12,7 @@ mod body;
 mod fault;
 mod invocation;
 mod link;
+mod nested;
 mod plain;
 mod requests;
 mod results;

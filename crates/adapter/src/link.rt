@@ -23,6 +23,7 @@ use crate::asking::Request;
 use crate::body::Body;
 use crate::fault::trap;
 use crate::invocation::Invocation;
+use crate::nested::nested_arguments;
 use crate::plain::{is_plain_answer, plain_arguments, put};
 use crate::requests::{Unasked, ask_answer, ask_arguments};
 use crate::results::pass_answer;
@@ -116,12 +117,50 @@ impl<'a> Link<'a> {
             call.func,
             call.flats,
         ) else {
-            return self.enter_walked(call, caller, callee, handed);
+            return self.enter_nested(call, caller, callee, handed);
         };
         put(arguments, handed);
         self.there = handed.len() as u64;
         // A memory's length is a number of 32 bits.
         let _len = callee.len();
+        Ok(())
+    }
+
+    /// The same for core values that aren't all of primitives; `handed` was empty.
+    fn enter_nested<C: Guest, E: Guest>(
+        &mut self,
+        call: &Invocation,
+        caller: &C,
+        callee: &mut E,
+        handed: &mut Flats,
+    ) -> Result<(), Fault>
+        requires function { IsFunction self.old.resolve call.now.func }
+        requires empty { handed.old.items ≡ [] }
+        ensures entered { OnOk result (HasEntered E.allocates (function_type self.old.resolve call.now.func)
+            call.now.flats.now (C.memory caller.now).bytes
+            (E.memory callee.old) handed.new.items (E.memory callee.new) self.new.there) }
+        ensures fault { IfErr result (λ fault. EntryFails E.allocates (function_type self.old.resolve call.now.func)
+            call.now.flats.now (C.memory caller.now).bytes
+            (E.memory callee.old) fault (E.memory callee.new) self.new.there) }
+        ensures no_memory { result ≢ Err Fault.NoMemory }
+        ensures back { self.new.back ≡ 0 }
+        ensures same_package { self.new.resolve ≡ self.old.resolve }
+        ensures same_layouts { self.new.layouts ≡ self.old.layouts }
+    {
+        let mut there: u64 = 0;
+        let Some(arguments) = nested_arguments(
+            &Types::new(self.resolve, self.layouts),
+            call.func,
+            call.flats,
+            &mut there,
+        ) else {
+            return self.enter_walked(call, caller, callee, handed);
+        };
+        put(arguments, handed);
+        self.there = there;
+        self.back = 0;
+        // A memory's length is a number of 32 bits.
+        let _lens = (caller.len(), callee.len());
         Ok(())
     }
 
@@ -419,16 +458,81 @@ impl<'a> Link<'a> {
             call.func,
             call.flats,
         ) else {
-            if call.flats.len() > 4 {
-                return self.run_walked::<C, E, B, 17>(call, caller, callee, body);
-            }
-            return self.run_walked::<C, E, B, 4>(call, caller, callee, body);
+            return self.run_nested(call, caller, callee, body);
         };
         self.there = arguments.len() as u64;
         self.back = 0;
         // A memory's length is a number of 32 bits.
         let _len = callee.len();
         let Ok(answer) = body.call(callee, arguments) else {
+            return Err(trap(TrapKind::Body, Step::Body));
+        };
+        Ok(answer)
+    }
+
+    /// The same for core values that aren't all of primitives: the body gets those of flags, of cases and of records of
+    /// these as they are, too.
+    fn run_nested<C: Guest, E: Guest, B: Body<E>>(
+        &mut self,
+        call: &Invocation,
+        caller: &C,
+        callee: &mut E,
+        body: &mut B,
+    ) -> Result<FlatResults, Fault>
+        requires function { IsFunction self.old.resolve call.now.func }
+        ensures ran { IfOk result (λ answer. RunsBetween
+            (record {
+              caller_allocates = C.allocates;
+              callee_allocates = E.allocates;
+              runs = B.runs body.old;
+              posts = B.posts body.old;
+            })
+            (function_type self.old.resolve call.now.func)
+            call.now.flats.now
+            (as_world (C.memory caller.now) (E.memory callee.old) (B.state body.old))
+            self.new.there
+            (Some answer.items)
+            (E.memory callee.new)
+            (B.state body.new)) }
+        ensures fault { IfErr result (λ fault. CallsInHalves
+            (record {
+              caller_allocates = C.allocates;
+              callee_allocates = E.allocates;
+              runs = B.runs body.old;
+              posts = B.posts body.old;
+            })
+            (function_type self.old.resolve call.now.func)
+            call.now.flats.now
+            (as_world (C.memory caller.now) (E.memory callee.old) (B.state body.old))
+            (C.memory caller.now)
+            (Err fault)
+            self.new.there
+            0
+            (as_world (C.memory caller.now) (E.memory callee.new) (B.state body.new))) }
+        ensures back { self.new.back ≡ 0 }
+        ensures same_runs { AllowsSameRuns (B.runs body.old) (B.runs body.new) }
+        ensures same_posts { AllowsSamePosts (B.posts body.old) (B.posts body.new) }
+        ensures no_memory { result ≢ Err Fault.NoMemory }
+        ensures same_package { self.new.resolve ≡ self.old.resolve }
+        ensures same_layouts { self.new.layouts ≡ self.old.layouts }
+    {
+        let mut there: u64 = 0;
+        let Some(carried) = nested_arguments(
+            &Types::new(self.resolve, self.layouts),
+            call.func,
+            call.flats,
+            &mut there,
+        ) else {
+            if call.flats.len() > 4 {
+                return self.run_walked::<C, E, B, 17>(call, caller, callee, body);
+            }
+            return self.run_walked::<C, E, B, 4>(call, caller, callee, body);
+        };
+        self.there = there;
+        self.back = 0;
+        // A memory's length is a number of 32 bits.
+        let _lens = (caller.len(), callee.len());
+        let Ok(answer) = body.call(callee, carried) else {
             return Err(trap(TrapKind::Body, Step::Body));
         };
         Ok(answer)

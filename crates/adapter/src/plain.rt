@@ -15,12 +15,31 @@ use tables::{FunctionId, Parameter, Primitive, ValType};
 
 /// Whether a core value is the very one that carries the value that it denotes.
 #[inline(always)]
-fn is_own(primitive: Primitive, flat: Flat) -> bool
+fn is_own_of_one(primitive: Primitive, flat: Flat) -> bool
     ensures { IsTrue result → IsOwn (prim_of primitive) flat }
 {
     match lift_scalar(primitive, flat) {
         Ok(scalar) => lower_scalar(scalar) == flat,
         Err(_) => false,
+    }
+}
+
+/// The same: each arm has a primitive of its own, so that nothing is asked about it again.
+#[inline(always)]
+pub(crate) fn is_own(primitive: Primitive, flat: Flat) -> bool
+    ensures { IsTrue result → IsOwn (prim_of primitive) flat }
+{
+    match primitive {
+        Primitive::Bool => is_own_of_one(Primitive::Bool, flat),
+        Primitive::S8 => is_own_of_one(Primitive::S8, flat),
+        Primitive::U8 => is_own_of_one(Primitive::U8, flat),
+        Primitive::S16 => is_own_of_one(Primitive::S16, flat),
+        Primitive::U16 => is_own_of_one(Primitive::U16, flat),
+        Primitive::S32 => is_own_of_one(Primitive::S32, flat),
+        Primitive::U32 => is_own_of_one(Primitive::U32, flat),
+        Primitive::S64 => is_own_of_one(Primitive::S64, flat),
+        Primitive::U64 => is_own_of_one(Primitive::U64, flat),
+        Primitive::Char => is_own_of_one(Primitive::Char, flat),
     }
 }
 
