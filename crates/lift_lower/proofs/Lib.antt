@@ -9,6 +9,7 @@ pub mod ScriptPartsInOrder
 pub mod EachValueHasAScript
 pub mod EventsBeforeFirstFault
 pub mod StoredFromParts
+pub mod PlacesOfFields
 pub mod LoweredFromParts
 pub mod OnlyAllocatorsRefuse
 pub mod CallerSideOfTypedCalls

@@ -15,6 +15,7 @@ mod lowering;
 mod no_value;
 pub mod nodes;
 mod placing;
+mod record_fields;
 mod scalar_lists;
 mod storing;
 

@@ -3,7 +3,7 @@
 //! The walk goes down the type, whose depth is bounded; long lists are loops.
 ghost use Rattle.std.specs.Prelude.{◌≡◌, ◌≢◌, Err, IfOk, ◌+◌, ◌*◌, ◌<◌, ◌≤◌, ◌^◌, length, map};
 ghost use Rattle.canonical_abi.specs.Types.{IsPlain, AllPlain, variant_cases, field_count, case_count, prim_type};
-ghost use Rattle.canonical_abi.specs.Types.{variant_type};
+ghost use Rattle.canonical_abi.specs.Types.{variant_type, record_fields};
 ghost use Rattle.canonical_abi.specs.Values.{HasType, values_of, list_value};
 ghost use Rattle.canonical_abi.specs.Layout.{size, align, payload_place, end_from, field_extents};
 ghost use Rattle.canonical_abi.specs.Memory.{HoldsInBlock, FaultyInBlock};
@@ -21,6 +21,7 @@ ghost use Rattle.values.specs.Val.{value_of};
 
 use crate::guest_blocks::aligned;
 use crate::no_value::NoValue;
+use crate::record_fields::field_at;
 use crate::scalar_lists::load_scalars;
 use canonical_abi::{Fault, Guest, Step, TrapKind};
 use layout::{Layouts, Shape};
@@ -136,8 +137,7 @@ fn load_compound(
             Ok(Val::List(items))
         }
         Shape::Record(count) => {
-            let members = Members::Of(ty);
-            let fields = load_fields(alloc, table, &members, count, memory, at)?;
+            let fields = load_record(alloc, table, ty, count, memory, at)?;
             Ok(Val::Record(fields))
         }
         Shape::Variant(count) => load_variant(alloc, table, ty, count, memory, at),
@@ -180,7 +180,6 @@ pub(crate) fn load_list(
 }
 
 /// The members of a record, each at the next multiple of its alignment.
-#[cycle(load)]
 pub(crate) fn load_fields(
     alloc: Global,
     table: &Types,
@@ -195,6 +194,9 @@ pub(crate) fn load_fields(
     ensures { AnswersAs (λ v. map value_of v.items) result
         (reading_fields (members_fields table.now members.now) memory.now at 0) }
 {
+    if let Members::Of(ty) = members {
+        return load_record(alloc, table, *ty, count, memory, at);
+    }
     let mut fields = Vec::new(alloc);
     fields.reserve(count)?;
     let mut end: usize = 0;
@@ -206,6 +208,35 @@ pub(crate) fn load_fields(
         let field = load_at(alloc, table, member, memory, at + place)?;
         fields.push(field)?;
         end = place + table.size_of(member);
+    }
+    Ok(fields)
+}
+
+/// The fields of a record, each at the place that the layout table tells.
+#[cycle(load)]
+fn load_record(
+    alloc: Global,
+    table: &Types,
+    ty: ValType,
+    count: usize,
+    memory: &[u8],
+    at: usize,
+) -> Result<Vec<Val>, NoValue>
+    requires inside { IsInside table.now ty }
+    requires counted { field_count (record_fields (closed_type table.now ty)) ≡ count }
+    requires fits { at + end_from 0 (field_extents (record_fields (closed_type table.now ty))) ≤ length memory.now }
+    ensures { AnswersAs (λ v. map value_of v.items) result
+        (reading_fields (record_fields (closed_type table.now ty)) memory.now at 0) }
+{
+    let mut fields = Vec::new(alloc);
+    fields.reserve(count)?;
+    for index in 0..count {
+        let Some(field) = field_at(table, ty, index) else {
+            unreachable!()
+        };
+        let place = at + field.offset as usize;
+        let value = load_at(alloc, table, field.ty, memory, place)?;
+        fields.push(value)?;
     }
     Ok(fields)
 }

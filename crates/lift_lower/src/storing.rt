@@ -4,7 +4,7 @@
 //! asked for and bytes are written in the order of the nodes, and the first request that fails ends it.
 ghost use Rattle.std.specs.Prelude.{◌≡◌, ◌+◌, ◌*◌, ◌^◌, ◌<◌, ◌≤◌, length, map, IfOk, IfErr, OnOk};
 ghost use Rattle.std.specs.List.{AllByRecursion};
-ghost use Rattle.canonical_abi.specs.Types.{IsStandard, AreStandardFields, string_type, list_type};
+ghost use Rattle.canonical_abi.specs.Types.{IsStandard, AreStandardFields, string_type, list_type, record_fields};
 ghost use Rattle.canonical_abi.specs.Values.{HasType, HaveTypes, string_value, list_value, values_of};
 ghost use Rattle.canonical_abi.specs.Layout.{size, align, end_from, field_extents};
 ghost use Rattle.canonical_abi.specs.Storing.{Stores, EachStores, FieldsStore};
@@ -21,6 +21,7 @@ ghost use Rattle.values.specs.Val.{value_of, variant_value, IsCompound};
 use crate::guest_blocks::{
     aligned, ask_block, put_scalar_at, put_text, write_header, write_number,
 };
+use crate::record_fields::field_at;
 use crate::scalar_lists::store_scalars;
 use canonical_abi::{Fault, Guest, Step, Trap, TrapKind};
 use layout::{Layouts, Shape};
@@ -142,9 +143,8 @@ fn store_compound<G: Guest>(
             store_list(table, limit, element, items, guest, at)
         }
         Val::Record(fields) => {
-            let members = Members::Of(ty);
             let fields = fields.as_slice();
-            store_fields(table, limit, &members, fields, guest, at)
+            store_record(table, limit, ty, fields, guest, at)
         }
         Val::Variant(case, payload) => {
             let chosen = Chosen {
@@ -308,7 +308,6 @@ pub(crate) fn store_items<G: Guest>(
 }
 
 /// Stores the members of a record, each at the next multiple of its alignment.
-#[cycle(store)]
 pub(crate) fn store_fields<G: Guest>(
     table: &Types,
     limit: u32,
@@ -330,6 +329,9 @@ pub(crate) fn store_fields<G: Guest>(
         (FieldsStore (members_fields table.now members.now) at 0 (map value_of values.now))
         (G.memory guest.old) k (G.memory guest.new)) }
 {
+    if let Members::Of(ty) = members {
+        return store_record(table, limit, *ty, values, guest, at);
+    }
     let mut end: usize = 0;
     for index in 0..values.len() {
         let Some(member) = table.member_type(members, index) else {
@@ -339,6 +341,39 @@ pub(crate) fn store_fields<G: Guest>(
         let value = &values[index];
         store_at(table, limit, member, value, guest, at + place)?;
         end = place + table.size_of(member);
+    }
+    Ok(())
+}
+
+/// Stores the fields of a record, each at the place that the layout table tells.
+#[cycle(store)]
+fn store_record<G: Guest>(
+    table: &Types,
+    limit: u32,
+    ty: ValType,
+    values: &[Val],
+    guest: &mut G,
+    at: usize,
+) -> Result<(), TrapKind>
+    requires inside { IsInside table.now ty }
+    requires standard { AreStandardFields (record_fields (closed_type table.now ty)) }
+    requires typed { HaveTypes (map value_of values.now) (record_fields (closed_type table.now ty)) }
+    requires room { at + end_from 0 (field_extents (record_fields (closed_type table.now ty)))
+        ≤ length (G.memory guest.old).bytes }
+    requires small { at + end_from 0 (field_extents (record_fields (closed_type table.now ty))) < 2 ^ 32 }
+    ensures ok { OnOk result (IsDone limit G.allocates
+        (FieldsStore (record_fields (closed_type table.now ty)) at 0 (map value_of values.now))
+        (G.memory guest.old) (G.memory guest.new)) }
+    ensures fault { IfErr result (λ k. HasEnded limit G.allocates
+        (FieldsStore (record_fields (closed_type table.now ty)) at 0 (map value_of values.now))
+        (G.memory guest.old) k (G.memory guest.new)) }
+{
+    for index in 0..values.len() {
+        let Some(field) = field_at(table, ty, index) else {
+            unreachable!()
+        };
+        let place = at + field.offset as usize;
+        store_at(table, limit, field.ty, &values[index], guest, place)?;
     }
     Ok(())
 }

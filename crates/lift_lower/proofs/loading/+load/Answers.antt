@@ -1,19 +1,18 @@
 use Rattle.std.proofs.Common.{◌≡◌, ◌+◌, map, Some, None, Ok, option_map, ap, sym, ◌∙◌, subst, arith}
 use Rattle.std.proofs.lemmas.Result.{err_from_is_err_and}
 use Rattle.std.proofs.lemmas.List.{map-append}
-use Rattle.std.specs.Int.{next_multiple_of}
-use Rattle.canonical_abi.specs.Types.{ClosedType, prim_type, boolean, variant_cases, nth_case}
+use Rattle.canonical_abi.specs.Types.{ClosedType, prim_type, boolean, record_fields, variant_cases, nth_case}
 use Rattle.canonical_abi.specs.Values.{payload_value, values_of, list_value}
 use Rattle.canonical_abi.specs.Layout.{size, align, discriminant_size, payload_place}
 use Rattle.canonical_abi.specs.Reading.{reading, each_at, number_at, byte_width, case_number, ◌>>=◌}
 use Rattle.tables.specs.Closed.{closed_type, prim_of}
-use Rattle.values.specs.Members.{members_fields}
 use Rattle.values.specs.Val.{value_of}
 use Rattle.lift_lower.specs.NoValue.{AnswersAs}
 use Rattle.values.proofs.TypesExtents.{member-depth, case-depth, payload-place, payload-fits}
 use Rattle.lift_lower.proofs.ListsAreLoaded.{fails-pass, listed, list-opened, read-list, as-listed}
 use Rattle.lift_lower.proofs.ReadingStepByStep.{each-more, each-fault, fields-more, fields-fault, fields-done, case-none, case-plain, case-payload, plain-none}
-use Rattle.values.proofs.FieldsFromAPlace.{fields-end, fields-inside, nth_field-some}
+use Rattle.values.proofs.FieldsFromAPlace.{nth_field-some}
+use Rattle.lift_lower.proofs.PlacesOfFields.{end_before, end-next, place-of-field, field-fits}
 use Rattle.values.proofs.ValueOfEachVariant.{value_of-List, value_of-None, value_of-Some}
 use Rattle.lift_lower.proofs.loading.+load.Goals as goal
 
@@ -59,63 +58,50 @@ load_list-loop-index-preserved t c =
     let f = reading (closed_type c.args.table.now c.args.element) c.args.memory.now in
     rw (c.in_ok-push.ensures.items, map-append) (each-more f c.size_of-step.result c.args.start c.args.count c.loop-index.index _ _ (omega arith) c.loop-index.invariant (value_of c.in_ok-item.item) c.in_ok-item.ensures.value)
 
-pub load_fields-unreachable-requires : goal.load_fields-unreachable-requires
-load_fields-unreachable-requires t c =
-    nth_field-some (members_fields c.args.table.now c.args.members.now) c.loop-index.index (omega (arith, c.requires.counted)) (sym c.in_default.ensures.found)
+pub load_record-unreachable-requires : goal.load_record-unreachable-requires
+load_record-unreachable-requires t c =
+    nth_field-some (record_fields (closed_type c.args.table.now c.args.ty)) c.loop-index.index (omega (arith, c.requires.counted)) (sym c.in_default.ensures.found)
 
-pub load_fields-aligned-place-requires-clause-fits : goal.load_fields-aligned-place-requires-clause-fits
-load_fields-aligned-place-requires-clause-fits t c =
-    let fs = members_fields c.args.table.now c.args.members.now in
-    let h = fields-inside fs c.loop-index.index (closed_type c.args.table.now c.in-Some.member) c.loop-index.end _ (sym c.in-Some.ensures.found) c.loop-index.invariant.1 in
-    rw c.align_of.ensures.value (omega arith)
-
-pub load_fields-overflow_add-at : goal.load_fields-overflow_add-at
-load_fields-overflow_add-at t c =
-    let fs = members_fields c.args.table.now c.args.members.now in
-    let h = fields-inside fs c.loop-index.index (closed_type c.args.table.now c.in-Some.member) c.loop-index.end _ (sym c.in-Some.ensures.found) c.loop-index.invariant.1 in
-    let g = rw (← c.align_of.ensures.value, ← c.aligned-place.ensures.value) at h in
+pub load_record-overflow_add-place : goal.load_record-overflow_add-place
+load_record-overflow_add-place t c =
+    let fs = record_fields (closed_type c.args.table.now c.args.ty) in
+    let h = field-fits fs c.loop-index.index (closed_type c.args.table.now c.in-Some.field.ty) c.in-Some.field.offset (sym c.in-Some.ensures.found) c.in-Some.ensures.place in
     omega arith
 
-pub load_fields-load_at-requires : goal.load_fields-load_at-requires
-load_fields-load_at-requires t c =
-    let fs = members_fields c.args.table.now c.args.members.now in
-    let u = closed_type c.args.table.now c.in-Some.member in
-    let h = fields-inside fs c.loop-index.index u c.loop-index.end _ (sym c.in-Some.ensures.found) c.loop-index.invariant.1 in
-    let g = rw (← c.align_of.ensures.value, ← c.aligned-place.ensures.value) at h in
-    (omega (arith, member-depth fs c.loop-index.index u (sym c.in-Some.ensures.found), c.decreases), (c.in-Some.ensures.inside, omega arith))
+pub load_record-load_at-requires : goal.load_record-load_at-requires
+load_record-load_at-requires t c =
+    let fs = record_fields (closed_type c.args.table.now c.args.ty) in
+    let u = closed_type c.args.table.now c.in-Some.field.ty in
+    let found = sym c.in-Some.ensures.found in
+    let h = field-fits fs c.loop-index.index u c.in-Some.field.offset found c.in-Some.ensures.place in
+    (omega (arith, member-depth fs c.loop-index.index u found, c.decreases), (c.in-Some.ensures.inside, omega arith))
 
-pub load_fields-returns-in_err-field : goal.load_fields-returns-in_err-field
-load_fields-returns-in_err-field t c =
-    let fs = members_fields c.args.table.now c.args.members.now in
-    let u = closed_type c.args.table.now c.in-Some.member in
-    let place : c.aligned-place.result ≡ next_multiple_of c.loop-index.end (align u) = c.aligned-place.ensures.value ∙ ap (next_multiple_of c.loop-index.end) c.align_of.ensures.value in
-    let p = err_from_is_err_and c.from_residual-in_err-field.result c.from_residual-in_err-field.ensures.1 in
-    rw (p.1, p.2) (fails-pass c.in_err-field.field-0.0 _ _ c.in_err-field.ensures.value (λ k e.
-    fields-fault fs c.args.memory.now c.args.at c.loop-index.end c.loop-index.index u _ _ (sym c.in-Some.ensures.found) c.loop-index.invariant.0 k (ap (λ x. reading u c.args.memory.now (c.args.at + x)) (sym place) ∙ e)))
+pub load_record-returns-in_err-value : goal.load_record-returns-in_err-value
+load_record-returns-in_err-value t c =
+    let fs = record_fields (closed_type c.args.table.now c.args.ty) in
+    let i = c.loop-index.index in
+    let u = closed_type c.args.table.now c.in-Some.field.ty in
+    let found = sym c.in-Some.ensures.found in
+    let place = place-of-field fs i u c.in-Some.field.offset found c.in-Some.ensures.place in
+    let p = err_from_is_err_and c.from_residual-in_err-value.result c.from_residual-in_err-value.ensures.1 in
+    rw (p.1, p.2) (fails-pass c.in_err-value.field-0.0 _ _ c.in_err-value.ensures.value (λ k e.
+    fields-fault fs c.args.memory.now c.args.at (end_before 0 i fs) i u _ _ found c.loop-index.invariant k (ap (λ x. reading u c.args.memory.now (c.args.at + x)) (sym place) ∙ e)))
 
-pub load_fields-overflow_add-end : goal.load_fields-overflow_add-end
-load_fields-overflow_add-end t c =
-    let fs = members_fields c.args.table.now c.args.members.now in
-    let h = fields-inside fs c.loop-index.index (closed_type c.args.table.now c.in-Some.member) c.loop-index.end _ (sym c.in-Some.ensures.found) c.loop-index.invariant.1 in
-    let g = rw (← c.align_of.ensures.value, ← c.aligned-place.ensures.value) at h in
-    omega (arith, c.size_of.ensures.value)
+pub load_record-loop-index-preserved : goal.load_record-loop-index-preserved
+load_record-loop-index-preserved t c =
+    let fs = record_fields (closed_type c.args.table.now c.args.ty) in
+    let i = c.loop-index.index in
+    let u = closed_type c.args.table.now c.in-Some.field.ty in
+    let found = sym c.in-Some.ensures.found in
+    let place = place-of-field fs i u c.in-Some.field.offset found c.in-Some.ensures.place in
+    rw (end-next 0 i fs u found, c.in_ok-push.ensures.items, map-append)
+    (fields-more fs c.args.memory.now c.args.at (end_before 0 i fs) i u _ _ found c.loop-index.invariant (value_of c.in_ok-value.value) (ap (λ x. reading u c.args.memory.now (c.args.at + x)) (sym place) ∙ c.in_ok-value.ensures.value))
 
-pub load_fields-loop-index-preserved : goal.load_fields-loop-index-preserved
-load_fields-loop-index-preserved t c =
-    let fs = members_fields c.args.table.now c.args.members.now in
-    let u = closed_type c.args.table.now c.in-Some.member in
-    let place : c.aligned-place.result ≡ next_multiple_of c.loop-index.end (align u) = c.aligned-place.ensures.value ∙ ap (next_multiple_of c.loop-index.end) c.align_of.ensures.value in
-    rw (place, c.size_of.ensures.value, c.in_ok-push.ensures.items, map-append) (
-      fields-more fs c.args.memory.now c.args.at c.loop-index.end c.loop-index.index u _ _ (sym c.in-Some.ensures.found) c.loop-index.invariant.0 (value_of c.in_ok-field.field) (ap (λ x. reading u c.args.memory.now (c.args.at + x)) (sym place) ∙ c.in_ok-field.ensures.value),
-      sym (fields-end fs c.loop-index.end c.loop-index.index u (sym c.in-Some.ensures.found)) ∙ c.loop-index.invariant.1,
-    )
-
-pub load_fields-returns : goal.load_fields-returns
-load_fields-returns t c =
-    let w = c.loop-index.invariant.0 in
+pub load_record-returns : goal.load_record-returns
+load_record-returns t c =
+    let fs = record_fields (closed_type c.args.table.now c.args.ty) in
     let i : c.args.count ≡ c.loop-index.index = omega arith in
-    let fs = members_fields c.args.table.now c.args.members.now in
-    fields-done fs c.args.memory.now c.args.at c.loop-index.end c.loop-index.index (prim_type boolean) _ _ (c.requires.counted ∙ i) w
+    fields-done fs c.args.memory.now c.args.at (end_before 0 c.loop-index.index fs) c.loop-index.index (prim_type boolean) _ _ (c.requires.counted ∙ i) c.loop-index.invariant
 
 pub load_variant-returns-in_default-clause-value : goal.load_variant-returns-in_default-clause-value
 load_variant-returns-in_default-clause-value t c =

@@ -1,21 +1,21 @@
 use Rattle.std.proofs.Common.{◌≡◌, ℕ, suc, ◌+◌, ◌*◌, ◌<◌, ◌≤◌, List, length, map, Some, None, option_map, refl, sym, ap, ◌∙◌, subst, arith}
 use Rattle.std.proofs.lemmas.List.{length-map, get_or-map, drop_all}
 use Rattle.std.proofs.lemmas.Result.{err_from_is_err_and}
-use Rattle.std.specs.Int.{next_multiple_of, byte_len}
+use Rattle.std.specs.Int.{byte_len}
 use Rattle.std.specs.List.{AllByRecursion}
 use Rattle.canonical_abi.specs.Types.{ClosedType, IsStandard, list_type, record_type, variant_type, flags_type, record_fields, variant_cases, nth_case, case_count, depth}
 use Rattle.canonical_abi.specs.Values.{Value, HasType, HaveTypes, values_of, list_value, record_value, plain_value, payload_value, flags_value}
 use Rattle.canonical_abi.specs.Layout.{size, align, prim_width, discriminant_size, payload_place}
 use Rattle.canonical_abi.specs.Storing.{EachStores, Stores, FieldsStore, CaseStores}
 use Rattle.tables.specs.Closed.{closed_type, closed_types, prim_of}
-use Rattle.values.specs.Members.{members_fields}
 use Rattle.values.specs.Scalar.{prim_in, value_in}
 use Rattle.values.specs.Val.{value_of}
 use Rattle.values.proofs.TypesExtents.{member-depth, case-depth, payload-place, payload-fits, fields-fit}
 use Rattle.lift_lower.proofs.ScriptPartsInOrder.{begun, begun-as, begun-done, done-as, ended-as}
 use Rattle.lift_lower.proofs.ScalarListBytes.{scalars-stored}
 use Rattle.values.proofs.WeakerAnswers.{if-err-as, on-ok-as}
-use Rattle.values.proofs.FieldsFromAPlace.{fields-inside, fields-end, nth_field-some}
+use Rattle.values.proofs.FieldsFromAPlace.{nth_field-some}
+use Rattle.lift_lower.proofs.PlacesOfFields.{end_before, end-next, place-of-field, field-fits}
 use Rattle.lift_lower.proofs.StoredFromParts.{ItemsFrom, items-first, items-none, item-inside, item-done, item-ended, FieldsFrom, stored-none, field-done, field-ended, list-done, list-ended, list-refused, record-done, record-ended, plain-stored, payload-stored, case-done, case-ended, plain-done, scalar-done, flags-done}
 use Rattle.values.proofs.ValuesOfTypesByShape.{not-list, not-flags, is-list, is-record, type-of-scalar, type-of-text, type-of-record, typed-flags, is-plain, is-payload, no-payload, no-case, typed-count, all-at, have-first, have-rest, field-standard, case-standard}
 use Rattle.values.proofs.ValueOfEachVariant.{value_of-List, value_of-Record, value_of-String, value_of-Flags}
@@ -53,8 +53,8 @@ store_compound-store_list-requires g t c κs within =
     let items = subst P (sym (ap (map value_of) c.as_slice-items.ensures.value)) typed in
     (omega (arith, deep, c.decreases), (within, (c.in-List-shape_of.ensures.shape.1, (subst IsStandard e c.requires.standard, (items, (omega (arith, wide, c.requires.room), omega (arith, wide, c.requires.small)))))))
 
-pub store_compound-store_fields-requires : goal.store_compound-store_fields-requires
-store_compound-store_fields-requires g t c κs within =
+pub store_compound-store_record-requires : goal.store_compound-store_record-requires
+store_compound-store_record-requires g t c κs within =
     let r = c.args.table.now in
     let T = closed_type r c.args.ty in
     let F = closed_type r c.args.ty in
@@ -109,9 +109,9 @@ store_compound-returns-in-Record-clause-ok g t c =
     let typed : P F = subst P same (rw (c.in-Record.is, value_of-Record) at c.requires.typed) in
     let e : T ≡ record_type (record_fields F) = same ∙ type-of-record F (values_of vs) typed in
     let old = g.G.Guest.memory c.args.guest.now in
-    let new = g.G.Guest.memory c.store_fields.new.guest in
-    let given = rw c.as_slice-fields.ensures.value at c.store_fields.ensures.ok in
-    rw (c.in-Record.is, value_of-Record, e) (on-ok-as c.store_fields.result _ _ (record-done c.args.limit g.G.Guest.allocates (record_fields F) c.args.at vs old new) given)
+    let new = g.G.Guest.memory c.store_record.new.guest in
+    let given = rw c.as_slice-fields.ensures.value at c.store_record.ensures.ok in
+    rw (c.in-Record.is, value_of-Record, e) (on-ok-as c.store_record.result _ _ (record-done c.args.limit g.G.Guest.allocates (record_fields F) c.args.at vs old new) given)
 
 pub store_compound-returns-in-Record-clause-fault : goal.store_compound-returns-in-Record-clause-fault
 store_compound-returns-in-Record-clause-fault g t c =
@@ -124,9 +124,9 @@ store_compound-returns-in-Record-clause-fault g t c =
     let typed : P F = subst P same (rw (c.in-Record.is, value_of-Record) at c.requires.typed) in
     let e : T ≡ record_type (record_fields F) = same ∙ type-of-record F (values_of vs) typed in
     let old = g.G.Guest.memory c.args.guest.now in
-    let new = g.G.Guest.memory c.store_fields.new.guest in
-    let given = rw c.as_slice-fields.ensures.value at c.store_fields.ensures.fault in
-    rw (c.in-Record.is, value_of-Record, e) (if-err-as c.store_fields.result _ _ (λ k h. record-ended c.args.limit g.G.Guest.allocates (record_fields F) c.args.at vs old k new h) given)
+    let new = g.G.Guest.memory c.store_record.new.guest in
+    let given = rw c.as_slice-fields.ensures.value at c.store_record.ensures.fault in
+    rw (c.in-Record.is, value_of-Record, e) (if-err-as c.store_record.result _ _ (λ k h. record-ended c.args.limit g.G.Guest.allocates (record_fields F) c.args.at vs old k new h) given)
 
 pub store_compound-returns-in-Flags-shape_of-clause-ok : goal.store_compound-returns-in-Flags-shape_of-clause-ok
 store_compound-returns-in-Flags-shape_of-clause-ok g t c =
@@ -149,91 +149,81 @@ store_at-returns-in-Some g t c =
     let done = scalar-done c.args.limit g.G.Guest.allocates (prim_in s) c.args.at (value_in s) (g.G.Guest.memory c.args.guest.now) (g.G.Guest.memory c.put_scalar_at.new.guest) c.in-Some.ensures.typed c.put_scalar_at.ensures.led c.put_scalar_at.ensures.same_length in
     record { ok = rw (e, ← c.in-Some.ensures.value) done; fault = tt }
 
--- ---- the members of a record
+-- ---- the fields of a record
 
-pub store_fields-unreachable-requires : goal.store_fields-unreachable-requires
-store_fields-unreachable-requires g t c =
-    let fs = members_fields c.args.table.now c.args.members.now in
+pub store_record-loop-index-init : goal.store_record-loop-index-init
+store_record-loop-index-init g t c =
+    let fs = record_fields (closed_type c.args.table.now c.args.ty) in
+    let m = g.G.Guest.memory c.args.guest.now in
+    (begun c.args.limit g.G.Guest.allocates (FieldsStore fs c.args.at 0 (map value_of c.args.values.now)) m, c.requires.typed)
+
+pub store_record-unreachable-requires : goal.store_record-unreachable-requires
+store_record-unreachable-requires g t c =
+    let fs = record_fields (closed_type c.args.table.now c.args.ty) in
     let count = typed-count fs (map value_of c.args.values.now) c.requires.typed in
     let n = length-map c.args.values.now value_of in
     nth_field-some fs c.loop-index.index (omega (arith, count, n, c.loop-index-test.true)) (sym c.in_default.ensures.found)
 
-pub store_fields-aligned-place-requires-clause-fits : goal.store_fields-aligned-place-requires-clause-fits
-store_fields-aligned-place-requires-clause-fits g t c =
-    let fs = members_fields c.args.table.now c.args.members.now in
-    let h = fields-inside fs c.loop-index.index (closed_type c.args.table.now c.in-Some.member) c.loop-index.end _ (sym c.in-Some.ensures.found) c.loop-index.invariant.1 in
-    rw c.align_of.ensures.value (omega (arith, h, c.requires.small))
+pub store_record-overflow_add-place : goal.store_record-overflow_add-place
+store_record-overflow_add-place g t c =
+    let fs = record_fields (closed_type c.args.table.now c.args.ty) in
+    let h = field-fits fs c.loop-index.index (closed_type c.args.table.now c.in-Some.field.ty) c.in-Some.field.offset (sym c.in-Some.ensures.found) c.in-Some.ensures.place in
+    omega (arith, h, c.requires.small)
 
-pub store_fields-overflow_add-at : goal.store_fields-overflow_add-at
-store_fields-overflow_add-at g t c =
-    let fs = members_fields c.args.table.now c.args.members.now in
-    let h = fields-inside fs c.loop-index.index (closed_type c.args.table.now c.in-Some.member) c.loop-index.end _ (sym c.in-Some.ensures.found) c.loop-index.invariant.1 in
-    let k = rw (← c.align_of.ensures.value, ← c.aligned-place.ensures.value) at h in
-    omega (arith, k, c.requires.small)
-
-pub store_fields-store_at-requires : goal.store_fields-store_at-requires
-store_fields-store_at-requires g t c κs within =
-    let fs = members_fields c.args.table.now c.args.members.now in
+pub store_record-store_at-requires : goal.store_record-store_at-requires
+store_record-store_at-requires g t c κs within =
+    let fs = record_fields (closed_type c.args.table.now c.args.ty) in
     let vs = map value_of c.args.values.now in
     let i = c.loop-index.index in
-    let u = closed_type c.args.table.now c.in-Some.member in
+    let u = closed_type c.args.table.now c.in-Some.field.ty in
     let found = sym c.in-Some.ensures.found in
     let v = c.index-values-index.result in
-    let h = fields-inside fs i u c.loop-index.end _ found c.loop-index.invariant.1 in
-    let k = rw (← c.align_of.ensures.value, ← c.aligned-place.ensures.value) at h in
+    let h = field-fits fs i u c.in-Some.field.offset found c.in-Some.ensures.place in
     let here = get_or-map value_of c.args.values.now i v (value_of v) c.loop-index-test.true ∙ ap value_of (sym c.index-values-index.is) in
     let below : i < length vs = omega (arith, length-map c.args.values.now value_of, c.loop-index-test.true) in
     let P : Value → Type 0 = λ w. HasType w u in
-    let typed = subst P here (have-first fs vs i u (value_of v) found below c.loop-index.invariant.2) in
-    (omega (arith, member-depth fs i u found, c.decreases), (within, (c.in-Some.ensures.inside, (field-standard fs i u found c.requires.standard, (typed, (omega (arith, k, c.requires.room, c.loop-index.invariant.0.no_shorter), omega (arith, k, c.requires.small)))))))
+    let typed = subst P here (have-first fs vs i u (value_of v) found below c.loop-index.invariant.1) in
+    (omega (arith, member-depth fs i u found, c.decreases), (within, (c.in-Some.ensures.inside, (field-standard fs i u found c.requires.standard, (typed, (omega (arith, h, c.requires.room, c.loop-index.invariant.0.no_shorter), omega (arith, h, c.requires.small)))))))
 
-pub store_fields-returns-in_err-store_at-clause-fault : goal.store_fields-returns-in_err-store_at-clause-fault
-store_fields-returns-in_err-store_at-clause-fault g t c =
-    let fs = members_fields c.args.table.now c.args.members.now in
+pub store_record-returns-in_err-store_at-clause-fault : goal.store_record-returns-in_err-store_at-clause-fault
+store_record-returns-in_err-store_at-clause-fault g t c =
+    let fs = record_fields (closed_type c.args.table.now c.args.ty) in
     let vs = map value_of c.args.values.now in
     let i = c.loop-index.index in
-    let u = closed_type c.args.table.now c.in-Some.member in
-    let v = c.index-values-index.result in
-    let here = get_or-map value_of c.args.values.now i v (value_of v) c.loop-index-test.true ∙ ap value_of (sym c.index-values-index.is) in
-    let below : i < length vs = omega (arith, length-map c.args.values.now value_of, c.loop-index-test.true) in
-    let place : c.aligned-place.result ≡ next_multiple_of c.loop-index.end (align u) = c.aligned-place.ensures.value ∙ ap (next_multiple_of c.loop-index.end) c.align_of.ensures.value in
-    let p = err_from_is_err_and c.from_residual.result c.from_residual.ensures.1 in
-    rw (p.1, p.2) (field-ended c.args.limit g.G.Guest.allocates fs c.args.at vs i c.loop-index.end u (value_of v) c.aligned-place.result (size u) (sym c.in-Some.ensures.found) below here place refl
-    (g.G.Guest.memory c.args.guest.now) (g.G.Guest.memory c.loop-index.guest) c.in_err-store_at.field-0.0 (g.G.Guest.memory c.store_at.new.guest) c.loop-index.invariant.2 c.loop-index.invariant.0 c.in_err-store_at.ensures.fault)
-
-pub store_fields-overflow_add-end : goal.store_fields-overflow_add-end
-store_fields-overflow_add-end g t c =
-    let fs = members_fields c.args.table.now c.args.members.now in
-    let h = fields-inside fs c.loop-index.index (closed_type c.args.table.now c.in-Some.member) c.loop-index.end _ (sym c.in-Some.ensures.found) c.loop-index.invariant.1 in
-    let k = rw (← c.align_of.ensures.value, ← c.aligned-place.ensures.value) at h in
-    omega (arith, k, c.size_of.ensures.value, c.requires.small)
-
-pub store_fields-loop-index-preserved : goal.store_fields-loop-index-preserved
-store_fields-loop-index-preserved g t c =
-    let fs = members_fields c.args.table.now c.args.members.now in
-    let vs = map value_of c.args.values.now in
-    let i = c.loop-index.index in
-    let u = closed_type c.args.table.now c.in-Some.member in
+    let u = closed_type c.args.table.now c.in-Some.field.ty in
     let found = sym c.in-Some.ensures.found in
     let v = c.index-values-index.result in
     let here = get_or-map value_of c.args.values.now i v (value_of v) c.loop-index-test.true ∙ ap value_of (sym c.index-values-index.is) in
     let below : i < length vs = omega (arith, length-map c.args.values.now value_of, c.loop-index-test.true) in
-    let place : c.aligned-place.result ≡ next_multiple_of c.loop-index.end (align u) = c.aligned-place.ensures.value ∙ ap (next_multiple_of c.loop-index.end) c.align_of.ensures.value in (
-      field-done c.args.limit g.G.Guest.allocates fs c.args.at vs i c.loop-index.end u (value_of v) c.aligned-place.result c.size_of.result found below here place c.size_of.ensures.value
-          (g.G.Guest.memory c.args.guest.now) (g.G.Guest.memory c.loop-index.guest) (g.G.Guest.memory c.store_at.new.guest) c.loop-index.invariant.0 c.in_ok-store_at.ensures.ok,
-      rw (place, c.size_of.ensures.value) (sym (fields-end fs c.loop-index.end i u found) ∙ c.loop-index.invariant.1),
-      have-rest fs vs i u (value_of v) found below c.loop-index.invariant.2,
-    )
+    let place = place-of-field fs i u c.in-Some.field.offset found c.in-Some.ensures.place in
+    let p = err_from_is_err_and c.from_residual.result c.from_residual.ensures.1 in
+    rw (p.1, p.2) (field-ended c.args.limit g.G.Guest.allocates fs c.args.at vs i (end_before 0 i fs) u (value_of v) c.in-Some.field.offset (size u) found below here place refl
+    (g.G.Guest.memory c.args.guest.now) (g.G.Guest.memory c.loop-index.guest) c.in_err-store_at.field-0.0 (g.G.Guest.memory c.store_at.new.guest) c.loop-index.invariant.1 c.loop-index.invariant.0 c.in_err-store_at.ensures.fault)
 
-pub store_fields-returns-clause-ok : goal.store_fields-returns-clause-ok
-store_fields-returns-clause-ok g t c =
-    let fs = members_fields c.args.table.now c.args.members.now in
+pub store_record-loop-index-preserved : goal.store_record-loop-index-preserved
+store_record-loop-index-preserved g t c =
+    let fs = record_fields (closed_type c.args.table.now c.args.ty) in
+    let vs = map value_of c.args.values.now in
+    let i = c.loop-index.index in
+    let u = closed_type c.args.table.now c.in-Some.field.ty in
+    let found = sym c.in-Some.ensures.found in
+    let v = c.index-values-index.result in
+    let here = get_or-map value_of c.args.values.now i v (value_of v) c.loop-index-test.true ∙ ap value_of (sym c.index-values-index.is) in
+    let below : i < length vs = omega (arith, length-map c.args.values.now value_of, c.loop-index-test.true) in
+    let place = place-of-field fs i u c.in-Some.field.offset found c.in-Some.ensures.place in
+    let done = field-done c.args.limit g.G.Guest.allocates fs c.args.at vs i (end_before 0 i fs) u (value_of v) c.in-Some.field.offset (size u) found below here place refl
+    (g.G.Guest.memory c.args.guest.now) (g.G.Guest.memory c.loop-index.guest) (g.G.Guest.memory c.store_at.new.guest) c.loop-index.invariant.0 c.in_ok-store_at.ensures.ok in
+    (rw (end-next 0 i fs u found, ← place) done, have-rest fs vs i u (value_of v) found below c.loop-index.invariant.1)
+
+pub store_record-returns-clause-ok : goal.store_record-returns-clause-ok
+store_record-returns-clause-ok g t c =
+    let fs = record_fields (closed_type c.args.table.now c.args.ty) in
     let vs = map value_of c.args.values.now in
     let i = c.loop-index.index in
     let count = typed-count fs vs c.requires.typed in
     let n = length-map c.args.values.now value_of in
-    begun-done c.args.limit g.G.Guest.allocates (FieldsStore fs c.args.at 0 vs) (FieldsFrom fs c.args.at vs i c.loop-index.end) (g.G.Guest.memory c.args.guest.now) (g.G.Guest.memory c.loop-index.guest) c.loop-index.invariant.0
-    (stored-none fs c.args.at vs c.loop-index.end i (omega (arith, count, n, c.loop-index-test.false)) (drop_all i vs (omega (arith, n, c.loop-index-test.false))))
+    begun-done c.args.limit g.G.Guest.allocates (FieldsStore fs c.args.at 0 vs) (FieldsFrom fs c.args.at vs i (end_before 0 i fs)) (g.G.Guest.memory c.args.guest.now) (g.G.Guest.memory c.loop-index.guest) c.loop-index.invariant.0
+    (stored-none fs c.args.at vs (end_before 0 i fs) i (omega (arith, count, n, c.loop-index-test.false)) (drop_all i vs (omega (arith, n, c.loop-index-test.false))))
 
 -- ---- the elements of a list
 
