@@ -194,6 +194,8 @@ fn entry_list<'a>(
     'list: loop {
         let (brace, rest) = peek(source, left, close);
         if let Some(_) = brace {
+            // A list has room for four from its first on, and most interfaces have fewer.
+            list.shrink_to_fit();
             return Ok((list, rest));
         }
         let (entry, rest) = entry(alloc, source, rest)?;

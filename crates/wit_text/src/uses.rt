@@ -102,7 +102,8 @@ pub fn use_item<'a>(
     let (interface, tokens) = path(alloc, source, first, tokens)?;
     let (_, tokens) = path_end(source, &interface, Punctuation::Dot, tokens)?;
     let (_, tokens) = punctuation(source, tokens, Punctuation::OpenBrace)?;
-    let (names, tokens) = comma_list(&UsedNames, alloc, source, tokens)?;
+    let (mut names, tokens) = comma_list(&UsedNames, alloc, source, tokens)?;
+    names.shrink_to_fit();
     let (_, tokens) = punctuation(source, tokens, Punctuation::Semicolon)?;
     let item = Use {
         span,

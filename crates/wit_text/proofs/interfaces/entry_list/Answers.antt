@@ -23,7 +23,7 @@ returns-in-Some-clause-gives c =
     let source = c.args.source.now in
     let end = length source in
     let before = c.list.list.items in
-    many_closes (is close_brace) (fault end) (entry end nesting) (map entry_view before) (limit - length before) _ (lexemes source c.list.left.now) (lexeme source c.in-Some.field-0) _ _ (room (length before) (omega (arith, c.requires, c.list.invariant.shrinks))) (peeked source _ _ _ _ c.in-Some.is c.peek-brace.ensures.gives) c.list.invariant.so_far
+    rw c.shrink_to_fit.ensures.items (many_closes (is close_brace) (fault end) (entry end nesting) (map entry_view before) (limit - length before) _ (lexemes source c.list.left.now) (lexeme source c.in-Some.field-0) _ _ (room (length before) (omega (arith, c.requires, c.list.invariant.shrinks))) (peeked source _ _ _ _ c.in-Some.is c.peek-brace.ensures.gives) c.list.invariant.so_far)
 
 pub returns-in_err-entry-clause-gives : goal.returns-in_err-entry-clause-gives
 returns-in_err-entry-clause-gives c =
