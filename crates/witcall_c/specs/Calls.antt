@@ -106,10 +106,10 @@ TellsOf old new status Comes = (held : Option Held) × (old ≡ held) × (new �
 abbrev pub CallsOf : Option Held → Option Held → ℕ → Status → (FunctionType → Result ℕ CallError → Type 0) → Type 0 → Type 0
 CallsOf old new number status Tells unchanged = TellsOf old new status (λ held done. CallsFunction (held_package held) number Tells unchanged done)
 
--- a handle holds this, and the status is that of its opening; or nothing, if there was no memory for it
-abbrev pub IsHeld : Held → Option Held → Status → Type 0
-IsHeld held None status = status ≡ no_memory
-IsHeld held (Some new) status = (new ≡ held) × (status ≡ opening_status held.opened)
+-- a handle holds this opening, and the status is that of it; or nothing, if there was no memory for it
+abbrev pub IsHeld : Opening → Option Held → Status → Type 0
+IsHeld opened None status = status ≡ no_memory
+IsHeld opened (Some held) status = (held.opened ≡ opened) × (status ≡ opening_status opened)
 
 -- a handle stands for what the inputs are opened as, and the status tells which; or for nothing, where there was no memory for it
 abbrev pub Opens : List (List ℕ) → Option Held → Status → Type 0

@@ -29,10 +29,11 @@ use crate::calls::{NumberedHalf, SignaturePart};
 use crate::handle::Handle;
 use crate::held::{Held, find, find_of_world, line_of, package, types};
 use adapter::Request;
-use c_border::{Call, JsonCall, pieces, tell_line};
+use c_border::{Call, JsonCall, open_module, pieces, tell_line};
 use host_calls::host_lists::{MemberInfo, RowInfo, tell_bytes};
 use host_calls::{CallError, Part, Status, Value};
 use memory::Block;
+use opening::{IndexedPackage, OpenError, open_indexed};
 use std::alloc::Global;
 use tables::Direction;
 
@@ -61,9 +62,10 @@ pub extern "C" fn witcall_version(bytes: &mut [u8]) -> Status
 }
 
 /// Lets a handle hold what was opened, or nothing if there is no memory for it.
-fn hold(alloc: Global, held: Held, handle: &mut Handle) -> Status
-    ensures { IsHeld held (stands_for handle.new) result }
+fn hold(alloc: Global, opened: Result<IndexedPackage, OpenError>, handle: &mut Handle) -> Status
+    ensures { IsHeld opened (stands_for handle.new) result }
 {
+    let held = Held { opened };
     let status = held.status();
     match Box::new(alloc, held) {
         Ok(held) => {
@@ -82,7 +84,7 @@ fn open(alloc: Global, inputs: &[&[u8]], handle: &mut Handle) -> Status
     requires { 0 < length inputs.now }
     ensures { Opens (all_bytes inputs.now) (stands_for handle.new) result }
 {
-    hold(alloc, Held::open(alloc, inputs), handle)
+    hold(alloc, open_indexed(alloc, inputs), handle)
 }
 
 /// Opens a package. The handle is written in any case; after 66 no memory it holds nothing. It does not free what the
@@ -119,7 +121,7 @@ pub extern "C" fn witcall_open_set(
 pub extern "C" fn witcall_open_module(alloc: Global, bytes: &[u8], handle: &mut Handle) -> Status
     ensures { OpensModule (stands_for handle.new) result }
 {
-    hold(alloc, Held::open_module(alloc, bytes), handle)
+    hold(alloc, open_module(alloc, bytes), handle)
 }
 
 /// Frees what a handle stands for, if anything, so that it stands for nothing.

@@ -1,46 +1,24 @@
 //! What a handle stands for.
-ghost use Rattle.std.specs.Prelude.{◌≡◌, ◌<◌, IfOk, IfErr, length};
+ghost use Rattle.std.specs.Prelude.{◌≡◌, IfOk, IfErr};
 ghost use Rattle.std.specs.Option.{option_map};
-ghost use Rattle.opening.specs.Sets.{all_bytes};
 ghost use Rattle.c_border.specs.Functions.{HasNoFunction};
-ghost use Rattle.c_border.specs.Modules.{OpensCarried};
-ghost use Rattle.witcall_c.specs.Calls.{IsOpening, opening_status, FindsFunction, FindsOfWorld, HasFunction, LineOf};
+ghost use Rattle.witcall_c.specs.Calls.{opening_status, FindsFunction, FindsOfWorld, HasFunction, LineOf};
 ghost use Rattle.witcall_c.specs.Calls.{held_indexed, held_package, held_table};
 
-use c_border::{open_module, tell_line};
+use c_border::tell_line;
 use error_numbers::Numbered;
 use host_calls::{CallError, Status, out_of_memory, refused};
 use lift_lower::Types;
-use opening::{IndexedPackage, OpenError, Package, is_out_of_memory, open_indexed};
-use std::alloc::Global;
+use opening::{IndexedPackage, OpenError, Package, is_out_of_memory};
 use tables::{Direction, FunctionId};
 
 /// A package with an index of its functions, or why the bytes are none.
 #[derive(Drop)]
 pub struct Held {
-    opened: Result<IndexedPackage, OpenError>,
+    pub opened: Result<IndexedPackage, OpenError>,
 }
 
 impl Held {
-    /// What these inputs are opened as: the last, behind those before it.
-    pub fn open(alloc: Global, inputs: &[&[u8]]) -> Held
-        requires { 0 < length inputs.now }
-        ensures { IsOpening (all_bytes inputs.now) result.opened }
-    {
-        Held {
-            opened: open_indexed(alloc, inputs),
-        }
-    }
-
-    /// What the packages that a binary carries are opened as.
-    pub fn open_module(alloc: Global, bytes: &[u8]) -> Held
-        ensures { OpensCarried result.opened }
-    {
-        Held {
-            opened: open_module(alloc, bytes),
-        }
-    }
-
     /// The status of the opening.
     pub fn status(&self) -> Status
         ensures { result ≡ opening_status self.now.opened }
