@@ -23,7 +23,7 @@ from opening import SHAPES, component_ld, shapes_table, times_table
 sys.path.insert(0, str(pathlib.Path(__file__).resolve().parent.parent))
 
 from tools.measure import times  # noqa: E402
-from tools.measure.harness import INSTRUCTIONS, TIME, Growth  # noqa: E402
+from tools.measure.harness import INSTRUCTIONS, TIME, Growth, millions  # noqa: E402
 from tools.repository import PROGRAM, ROOT, crate_lines, crates_below  # noqa: E402
 
 LIBRARIES = ["atoms", "canonical_abi", "tables", "table_building", "layout", "memory"]
@@ -181,6 +181,18 @@ def host(given):
     print(f"| a `list<u8>` of 1 MiB, first half, ns | {cells} |")
 
 
+# ---- calls of a session
+
+
+def session(given):
+    """The instructions of one call more of a `u32` by `Session::call`, by callgrind."""
+    libraries = ["canonical_abi", "tables", "values", "opening", "words", "witcall"]
+    program = program_of(given.folder, libraries, "session.rt.in", needs_words=True)
+    with machine(("valgrind", "--version")):
+        once, twice = (round(1e6 * millions([program, word])) for word in ("once", "twice"))
+    print(f"\n{(twice - once) / 1000:.0f} instructions, and some for what makes the calls")
+
+
 # ---- JSON
 
 
@@ -231,7 +243,7 @@ def shapes(given):
     print("\n".join(["", *lines]))
 
 
-BENCHMARKS = (values, calls, holes, host, json, opening, shapes)
+BENCHMARKS = (values, calls, holes, host, session, json, opening, shapes)
 
 
 def outside(folder):

@@ -93,7 +93,7 @@ def summed(rows, key_of):
 
 
 def table(rows):
-    """The table's lines, of three crates each: those of the left third come first in the order in which the proofs
+    """The table's lines, of four crates each: those of the left quarter come first in the order in which the proofs
     began. At the end are the sums of the seconds as they are shown."""
     seconds = summed(rows, lambda row: (row["crate"], row["kind"]))
     names = list(dict.fromkeys(crate for crate, _ in seconds))
@@ -104,9 +104,9 @@ def table(rows):
     for name in [*names, "all"]:
         cells = [f"{shown[name, kind]:,}" if (name, kind) in shown else "" for kind in KINDS]
         found.append(f"| {name if name == 'all' else f'`{name}`'} | {' | '.join(cells)} |")
-    third = (len(found) + 2) // 3
-    groups = [found[begin:begin + third] for begin in (0, third, 2 * third)]
-    lines = ["|" + " crate | proof | tests | edits | builds |" * 3, "|---" * 15 + "|"]
+    height = (len(found) + 3) // 4
+    groups = [found[begin:begin + height] for begin in range(0, len(found), height)]
+    lines = ["|" + " crate | proof | tests | edits | builds |" * 4, "|---" * 20 + "|"]
     lines += ["|" + "".join(cells.removeprefix("|") for cells in line)
               for line in itertools.zip_longest(*groups, fillvalue="| | | | | |")]
     whole, edits = sum(sums.values()), sums["edits"]
