@@ -3,6 +3,7 @@ ghost use Rattle.std.specs.Prelude.{◌≡◌};
 ghost use Rattle.std.specs.Hash.DefaultHasher.{initial, write};
 ghost use Rattle.atoms.specs.Key.{keyed_by};
 
+use crate::hasher::NameHasher;
 use std::hash::{BuildHasher, DefaultHasher, Hasher};
 
 /// What was written of an input's names.
@@ -35,10 +36,10 @@ impl NameKey {
         let low = self.written.finish();
         let mut behind = self.written;
         behind.write_u64(low);
-        let high = behind.finish();
-        let mut first = DefaultHasher::new();
-        first.write_u64(low);
-        first.write_u64(high);
+        let first = NameHasher {
+            state: low,
+            multiplier: behind.finish(),
+        };
         KeyedState { first }
     }
 }
@@ -46,15 +47,15 @@ impl NameKey {
 /// Makes hashers that begin with a key.
 #[derive(Clone, Copy)]
 pub struct KeyedState {
-    pub first: DefaultHasher,
+    pub first: NameHasher,
 }
 
 impl BuildHasher for KeyedState {
-    type Hasher = DefaultHasher;
+    type Hasher = NameHasher;
 
     ghost build_hasher = { λ s. s.first };
 
-    fn build_hasher(&self) -> DefaultHasher {
+    fn build_hasher(&self) -> NameHasher {
         self.first
     }
 }

@@ -3,6 +3,7 @@
 
 mod error;
 mod full_name;
+mod hasher;
 mod key;
 mod label;
 mod leb128;
@@ -14,6 +15,7 @@ mod writing;
 
 pub use error::AtomError;
 pub use full_name::{FullName, is_package_label, is_version};
+pub use hasher::NameHasher;
 pub use key::{KeyedState, NameKey};
 pub use label::{Label, is_label};
 pub use leb128::{read_s33, read_u32, write_s33, write_u32};
