@@ -1,7 +1,8 @@
 -- Each keyword is found by its place, and by its spelling.
-use Rattle.std.proofs.Common.{◌≡◌, ℕ, ◌+◌, ◌-◌, ◌*◌, ◌%◌, List, [], ◌∷◌, length, get_or, Option, Some, None, refl, ap, ◌∙◌, inl, inr}
+use Rattle.std.proofs.Common.{◌≡◌, ℕ, ◌+◌, ◌-◌, ◌*◌, ◌%◌, ◌<◌, true, List, [], ◌∷◌, length, get_or, Option, Some, None, refl, ap, ◌∙◌, inl, inr, arith}
+use Rattle.std.specs.Prelude.{nat_le}
 use Rattle.std.specs.Str.{bytes_eq}
-use Rattle.std.proofs.lemmas.Bool.{cases_Bool}
+use Rattle.std.proofs.lemmas.Bool.{cases_Bool, leb-true}
 use Rattle.std.proofs.lemmas.Slice.Eq.{bytes_eq-Decides}
 use Rattle.wit_tokens.specs.declared.token.Keyword.{Keyword}
 use Rattle.wit_tokens.specs.declared.token.Keyword.TheVariants as kw
@@ -11,60 +12,63 @@ use Rattle.wit_tokens.specs.Keywords.{spelling, keywords, keyword_in, keyword_of
 abbrev place_by : List ℕ → ℕ
 place_by word = (23 * get_or word 0 0 + 29 * get_or word (length word - 1) 0 + length word) % 128
 
-abbrev Both : Keyword → Type 0
-Both k = (keyword_at (place_by (spelling k)) ≡ Some k) × (keyword_of (spelling k) ≡ Some k)
+abbrev Facts : Keyword → Type 0
+Facts k = (keyword_at (place_by (spelling k)) ≡ Some k) × (keyword_of (spelling k) ≡ Some k) × (nat_le (length (spelling k)) 13 ≡ true)
 
-both : (k : Keyword) → Both k
+facts : (k : Keyword) → Facts k
 unfolding keywords
-both kw.As = (refl, refl)
-both kw.Async = (refl, refl)
-both kw.Bool = (refl, refl)
-both kw.Borrow = (refl, refl)
-both kw.Char = (refl, refl)
-both kw.Constructor = (refl, refl)
-both kw.Enum = (refl, refl)
-both kw.ErrorContext = (refl, refl)
-both kw.Export = (refl, refl)
-both kw.F32 = (refl, refl)
-both kw.F64 = (refl, refl)
-both kw.Flags = (refl, refl)
-both kw.From = (refl, refl)
-both kw.Func = (refl, refl)
-both kw.Future = (refl, refl)
-both kw.Import = (refl, refl)
-both kw.Include = (refl, refl)
-both kw.Interface = (refl, refl)
-both kw.List = (refl, refl)
-both kw.Map = (refl, refl)
-both kw.Option = (refl, refl)
-both kw.Own = (refl, refl)
-both kw.Package = (refl, refl)
-both kw.Record = (refl, refl)
-both kw.Resource = (refl, refl)
-both kw.Result = (refl, refl)
-both kw.S16 = (refl, refl)
-both kw.S32 = (refl, refl)
-both kw.S64 = (refl, refl)
-both kw.S8 = (refl, refl)
-both kw.Static = (refl, refl)
-both kw.Stream = (refl, refl)
-both kw.String = (refl, refl)
-both kw.Tuple = (refl, refl)
-both kw.«Type» = (refl, refl)
-both kw.U16 = (refl, refl)
-both kw.U32 = (refl, refl)
-both kw.U64 = (refl, refl)
-both kw.U8 = (refl, refl)
-both kw.Use = (refl, refl)
-both kw.Variant = (refl, refl)
-both kw.With = (refl, refl)
-both kw.World = (refl, refl)
+facts kw.As = (refl, refl, refl)
+facts kw.Async = (refl, refl, refl)
+facts kw.Bool = (refl, refl, refl)
+facts kw.Borrow = (refl, refl, refl)
+facts kw.Char = (refl, refl, refl)
+facts kw.Constructor = (refl, refl, refl)
+facts kw.Enum = (refl, refl, refl)
+facts kw.ErrorContext = (refl, refl, refl)
+facts kw.Export = (refl, refl, refl)
+facts kw.F32 = (refl, refl, refl)
+facts kw.F64 = (refl, refl, refl)
+facts kw.Flags = (refl, refl, refl)
+facts kw.From = (refl, refl, refl)
+facts kw.Func = (refl, refl, refl)
+facts kw.Future = (refl, refl, refl)
+facts kw.Import = (refl, refl, refl)
+facts kw.Include = (refl, refl, refl)
+facts kw.Interface = (refl, refl, refl)
+facts kw.List = (refl, refl, refl)
+facts kw.Map = (refl, refl, refl)
+facts kw.Option = (refl, refl, refl)
+facts kw.Own = (refl, refl, refl)
+facts kw.Package = (refl, refl, refl)
+facts kw.Record = (refl, refl, refl)
+facts kw.Resource = (refl, refl, refl)
+facts kw.Result = (refl, refl, refl)
+facts kw.S16 = (refl, refl, refl)
+facts kw.S32 = (refl, refl, refl)
+facts kw.S64 = (refl, refl, refl)
+facts kw.S8 = (refl, refl, refl)
+facts kw.Static = (refl, refl, refl)
+facts kw.Stream = (refl, refl, refl)
+facts kw.String = (refl, refl, refl)
+facts kw.Tuple = (refl, refl, refl)
+facts kw.«Type» = (refl, refl, refl)
+facts kw.U16 = (refl, refl, refl)
+facts kw.U32 = (refl, refl, refl)
+facts kw.U64 = (refl, refl, refl)
+facts kw.U8 = (refl, refl, refl)
+facts kw.Use = (refl, refl, refl)
+facts kw.Variant = (refl, refl, refl)
+facts kw.With = (refl, refl, refl)
+facts kw.World = (refl, refl, refl)
 
 pub placed : (word : List ℕ) (k : Keyword) → word ≡ spelling k → keyword_at (place_by word) ≡ Some k
-placed word k h = rw h (both k).0
+placed word k h = rw h (facts k).0
 
 pub spelled : (word : List ℕ) (k : Keyword) → word ≡ spelling k → keyword_of word ≡ Some k
-spelled word k h = rw h (both k).1
+spelled word k h = rw h (facts k).1
+
+pub too_long : (word : List ℕ) (k : Keyword) → word ≡ spelling k → 13 < length word → ⊥
+too_long word k h long = let short = leb-true (length (spelling k)) 13 (facts k).2 in omega (arith, short, ap length h)
 
 found_is_spelled : (ks : List Keyword) (word : List ℕ) (k : Keyword) → keyword_in ks word ≡ Some k → word ≡ spelling k
 found_is_spelled [] word k h = absurd cc

@@ -1,9 +1,12 @@
 pub mod BlankRuns
 pub mod OpenComments
+pub mod IdentifiersAreLabels
 pub mod Examples
 pub mod MarksAtTheFront
 pub mod FullNames
 pub mod LowerWords
+pub mod LanesOfWords
+pub mod WordsByLanes
 pub mod KeywordsBySpelling
 pub mod TextsHaveOneReading
 pub mod TokensStepByStep

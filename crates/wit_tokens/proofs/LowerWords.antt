@@ -1,14 +1,14 @@
 -- Words of lower-case letters and digits, by one way over them.
-use Rattle.std.proofs.Common.{◌≡◌, ℕ, suc, ◌<◌, ◌≤◌, ◌==◌, Bool, true, false, not, List, [], ◌∷◌, length, take, drop, get_or, Option, Some, None, if◌then◌else◌, refl, sym, ap, ◌∙◌, inl, inr, arith}
-use Rattle.std.proofs.Math.ListN.{drop_of_length-le}
-use Rattle.std.proofs.lemmas.List.{drop_more, length-take}
+use Rattle.std.proofs.Common.{◌≡◌, ℕ, suc, ◌<◌, ◌≤◌, ◌==◌, Bool, true, false, not, List, [], ◌∷◌, length, take, Option, Some, None, if◌then◌else◌, refl, sym, ap, ◌∙◌, inl, inr, arith}
+use Rattle.std.proofs.lemmas.List.{length-take}
 use Rattle.std.proofs.lemmas.Bool.{cases_Bool}
 use Rattle.std.proofs.lemmas.Bool.Decides.{nat_tests}
 use Rattle.atoms.specs.Label.{is_lower, is_upper, is_digit, is_label, are_words}
 use Rattle.atoms.specs.declared.label.Place.{Place}
 use Rattle.atoms.specs.declared.label.Place.TheVariants as place
 use Rattle.atoms.proofs.LabelsInOnePass.{label_from, words_by, short_label}
-use Rattle.wit_tokens.specs.Lexing.{word_run, plus, begins_with, token, word_kind, word_front}
+use Rattle.wit_tokens.specs.LowerWords.{begins_lower}
+use Rattle.wit_tokens.specs.Lexing.{is_blank, is_letter, word_run, plus, begins_with, token, word_kind, word_front, front_of}
 
 -- the length of the word, of which a part may have begun
 abbrev pub lower_from : Bool → List ℕ → Option ℕ
@@ -105,21 +105,22 @@ found_run cs n h = (found false cs n h).run
 pub found_words : (cs : List ℕ) (n : ℕ) → lower_from false cs ≡ Some n → are_words (take n cs) ≡ true
 found_words cs n h = sym (words_by (take n cs)) ∙ (found false cs n h).words
 
--- where the way over the bytes stopped
-pub stopped : (text : List ℕ) (i n : ℕ) (begun : Bool) → begun ≡ true → plus n (lower_from begun (drop i text)) ≡ lower_from false text → i < length text → is_lower (get_or text i 0) ≡ false → (get_or text i 0 == 45) ≡ false → is_digit (get_or text i 0) ≡ false → is_upper (get_or text i 0) ≡ false → lower_from false text ≡ Some n
-stopped text i n begun b so_far within low hyphen digit up =
-    let e : lower_from begun (drop i text) ≡ Some 0 = rw (drop_more text i 0 within, b, low, hyphen, digit, up) refl in
-    sym so_far ∙ rw e (ap Some (omega arith))
-
-pub ended : (text : List ℕ) (i n : ℕ) (begun : Bool) → begun ≡ true → plus n (lower_from begun (drop i text)) ≡ lower_from false text → length text ≤ i → lower_from false text ≡ Some n
-ended text i n begun b so_far past =
-    let e : lower_from begun (drop i text) ≡ Some 0 = rw (drop_of_length-le text past, b) refl in
-    sym so_far ∙ rw e (ap Some (omega arith))
-
--- a short one is the front of its text
-pub label_front : (text : List ℕ) (n : ℕ) → n ≡ word_run text → are_words (take n text) ≡ true → n ≤ 255 → token (word_kind (take n text)) n ≡ word_front text
+-- a short one is a word
+label_word : (text : List ℕ) (n : ℕ) → n ≡ word_run text → are_words (take n text) ≡ true → n ≤ 255 → token (word_kind (take n text)) n ≡ word_front text
 unfolding word_front
-label_front text n run words short =
+label_word text n run words short =
     let l : true ≡ is_label (take n text) = short_label (take n text) true (omega (arith, length-take n text)) (sym words) in
     let label : is_label (take (word_run text) text) ≡ true = sym (rw run at l) in
     rw (run, label) refl
+
+-- what begins with a letter is a word
+letter_front : (text : List ℕ) → begins_lower text ≡ true → word_front text ≡ front_of text
+unfolding front_of
+letter_front [] low = absurd cc
+letter_front (c ∷ cs) low =
+    let blank : is_blank c ≡ false = grind (arith, nat_tests) in
+    let letter : is_letter c ≡ true = rw low refl in
+    rw (blank, letter) refl
+
+pub label_front : (text : List ℕ) (n : ℕ) → begins_lower text ≡ true → n ≡ word_run text → are_words (take n text) ≡ true → n ≤ 255 → token (word_kind (take n text)) n ≡ front_of text
+label_front text n low run words short = label_word text n run words short ∙ letter_front text low

@@ -1,6 +1,7 @@
 pub mod Keywords
 pub mod Marks
 pub mod Lexing
+pub mod LowerWords
 pub mod Tokens
 pub mod Laws
 pub mod Syntax

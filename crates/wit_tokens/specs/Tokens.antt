@@ -1,6 +1,7 @@
 -- Tokens as the grammar sees them, and when two kinds are one.
-use Rattle.std.specs.Prelude.{ℕ, List, [], ◌∷◌, map, Option, Some, None, Bool, ◌==◌, ◌&&◌, ◌||◌, nat_le, slice_range, length, if◌then◌else◌}
+use Rattle.std.specs.Prelude.{◌≡◌, ℕ, List, [], ◌∷◌, map, Option, Some, None, Bool, ◌==◌, ◌&&◌, ◌||◌, nat_le, slice_range, length, if◌then◌else◌}
 use denote.Enum.Declared.{tag_of}
+use Rattle.atoms.specs.Label.{is_label}
 use Rattle.wit_tokens.specs.contracts.token.Keyword as keyword_type
 use Rattle.wit_tokens.specs.contracts.token.Punctuation as mark_type
 use Rattle.wit_tokens.specs.contracts.token.TokenKind as kind_type
@@ -49,3 +50,7 @@ abbrev pub same_kind : TokenKind → TokenKind → Bool
 same_kind (kind.Keyword a) (kind.Keyword b) = tag_of keyword_type.the_type a == tag_of keyword_type.the_type b
 same_kind (kind.Punctuation a) (kind.Punctuation b) = tag_of mark_type.the_type a == tag_of mark_type.the_type b
 same_kind a b = tag_of kind_type.the_type a == tag_of kind_type.the_type b
+
+-- an identifier of this text is a label
+abbrev pub IsNamed : List ℕ → Token → Type 0
+IsNamed text t = (same_kind t.kind kind.Identifier && is_label (token_name text t)) ≡ same_kind t.kind kind.Identifier

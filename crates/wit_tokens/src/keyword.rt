@@ -6,6 +6,9 @@ ghost use Rattle.wit_tokens.specs.declared.token.Keyword.{Keyword};
 use crate::token::Keyword;
 use std::fmt;
 
+/// The bytes of the longest keyword.
+const LONGEST: usize = 13;
+
 /// The keyword's word.
 pub fn spelling(keyword: Keyword) -> &'static str
     ensures { result.now ≡ spelling keyword }
@@ -65,6 +68,7 @@ impl fmt::Display for Keyword {
 
 /// The keyword with this place. Each keyword has a place of its own, from 0 to 127.
 #[tactic(auto, unfolding(crate::specs::Keywords::keywords))]
+#[inline(always)]
 fn keyword_at(place: usize) -> Option<Keyword>
     ensures { result ≡ keyword_at place }
 {
@@ -117,6 +121,7 @@ fn keyword_at(place: usize) -> Option<Keyword>
 }
 
 /// The one keyword that the word can be, by its first byte, its last byte and its length.
+#[inline(always)]
 fn candidate(word: &[u8]) -> Option<Keyword>
     ensures { (k : Keyword) → word.now ≡ spelling k → result ≡ Some k }
 {
@@ -128,9 +133,13 @@ fn candidate(word: &[u8]) -> Option<Keyword>
 }
 
 /// The keyword that is spelled so.
+#[inline(always)]
 pub fn keyword_of(word: &[u8]) -> Option<Keyword>
     ensures { result ≡ keyword_of word.now }
 {
+    if word.len() > LONGEST {
+        return None;
+    }
     match candidate(word) {
         Some(keyword) if word == spelling(keyword).as_bytes() => Some(keyword),
         _ => None,

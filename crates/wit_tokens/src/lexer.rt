@@ -1,18 +1,21 @@
 //! From text to tokens.
-ghost use Rattle.std.specs.Prelude.{◌≡◌, ◌<◌, ◌≤◌, ◌+◌, ◌^◌, ◌∷◌, IsTrue, false, length, take, drop, if◌then◌else◌};
-ghost use Rattle.std.specs.Prelude.{IfOk, IfErr, IfSome, IfNone, None};
+ghost use Rattle.std.specs.Prelude.{◌≡◌, ◌<◌, ◌≤◌, ◌+◌, ◌-◌, ◌^◌, ◌∷◌, IsTrue, false, length, take, drop};
+ghost use Rattle.std.specs.Prelude.{if◌then◌else◌, IfOk, IfErr, IfSome, IfNone, None, All};
 ghost use Rattle.atoms.specs.Label.{are_words};
 ghost use Rattle.wit_tokens.specs.Lexing.{is_letter, is_blank, is_in_version, blank_run, word_run, digit_run};
 ghost use Rattle.wit_tokens.specs.Lexing.{version_run, line_run, comment_run, plus, begins_with, begins_pair};
 ghost use Rattle.wit_tokens.specs.Lexing.{begins_letter, begins_digit, mark_of, char_len, token, slash_front};
 ghost use Rattle.wit_tokens.specs.Lexing.{word_kind, word_front, escape_front, at_front, front_of, Takes, limit, Lexes};
-ghost use Rattle.wit_tokens.specs.Lexing.{LexFault};
+ghost use Rattle.wit_tokens.specs.Lexing.{LexFault, token_from};
+ghost use Rattle.wit_tokens.specs.LowerWords.{begins_lower};
+ghost use Rattle.wit_tokens.specs.Tokens.{IsNamed};
 ghost use Rattle.wit_tokens.specs.declared.lexer.Front.TheVariants as front;
 ghost use Rattle.wit_tokens.specs.declared.token.Punctuation.TheVariants as mark;
 ghost use Rattle.wit_tokens.specs.declared.token.TokenKind.TheVariants as kind;
 
 use crate::error::TextError;
 use crate::keyword::keyword_of;
+use crate::lanes::{LANES, lanes_on};
 use crate::token::{Punctuation, Span, Token, TokenKind};
 use atoms::is_label;
 use std::alloc::Global;
@@ -27,6 +30,13 @@ pub enum Front {
     Token(TokenKind, usize),
     Bad(usize),
     OpenComment,
+}
+
+/// A token's kind, and how many bytes it takes.
+#[derive(Clone, Copy, Debug)]
+struct Piece {
+    kind: TokenKind,
+    len: usize,
 }
 
 fn is_blank(byte: u8) -> bool
@@ -83,46 +93,39 @@ fn begins_pair(text: &[u8], first: u8, second: u8) -> bool
     }
 }
 
-fn blank_len(text: &[u8]) -> usize
-    ensures is { result ≡ blank_run text.now }
+/// Where the run of blanks ends that begins at a place.
+fn blank_end(text: &[u8], from: usize) -> usize
+    requires { from ≤ length text.now }
+    ensures is { result ≡ from + blank_run (drop from text.now) }
     ensures within { result ≤ length text.now }
 {
-    let mut len = 0;
-    for byte in text {
-        if !is_blank(*byte) {
-            return len;
-        }
-        len += 1;
+    let mut at = from;
+    while at < text.len() && is_blank(text[at]) {
+        at += 1;
     }
-    len
+    at
 }
 
-/// The length of the word at the front, if it is a label of lower-case letters and digits, of any length. Most words
-/// are such, and one way over their bytes finds them. `None` says nothing.
+/// The length of the word at the front, if it is a label of lower-case letters and digits, of any length, as most are.
+/// It goes over sixteen bytes at a time, and says nothing by `None`, as of a word at the end of the text.
 fn lower_word_len(text: &[u8]) -> Option<usize>
+    requires { IsTrue (begins_lower text.now) }
     ensures is { IfSome result (λ n. n ≡ word_run text.now) }
     ensures words { IfSome result (λ n. IsTrue (are_words (take n text.now))) }
     ensures within { IfSome result (λ n. (0 < n) × (n ≤ length text.now)) }
 {
-    let mut len = 0;
-    let mut begun = false;
-    for byte in text {
-        if byte.is_ascii_lowercase() {
-            begun = true;
-        } else if !begun {
-            return None;
-        } else if *byte == b'-' {
-            begun = false;
-        } else if !byte.is_ascii_digit() {
-            return if byte.is_ascii_uppercase() {
-                None
-            } else {
-                Some(len)
-            };
+    let mut last = 0;
+    while text.len() - last > LANES {
+        let run = lanes_on(text, last);
+        last += run;
+        if run < LANES {
+            if text[last] == b'-' || text[last + 1].is_ascii_uppercase() {
+                return None;
+            }
+            return Some(last + 1);
         }
-        len += 1;
     }
-    if begun { Some(len) } else { None }
+    None
 }
 
 /// The length of the longest word at the front.
@@ -228,6 +231,7 @@ fn comment_len(text: &[u8]) -> Option<usize>
     Some(len)
 }
 
+#[inline(always)]
 fn mark_of(byte: u8) -> Option<Punctuation>
     ensures { result ≡ mark_of byte }
 {
@@ -278,6 +282,7 @@ fn slash_front(text: &[u8]) -> Front
 }
 
 /// The kind of a word.
+#[inline(always)]
 fn word_kind(word: &[u8]) -> TokenKind
     ensures { result ≡ word_kind word.now }
 {
@@ -287,10 +292,9 @@ fn word_kind(word: &[u8]) -> TokenKind
     }
 }
 
-/// The word at the front, whatever its letters.
-#[cold]
+/// The word at the front.
 #[tactic(auto, unfolding(crate::specs::Lexing::word_front))]
-fn any_word_front(text: &[u8]) -> Front
+fn word_front(text: &[u8]) -> Front
     requires { IsTrue (begins_letter text.now) }
     ensures is { result ≡ word_front text.now }
     ensures within { Takes result (length text.now) }
@@ -301,17 +305,6 @@ fn any_word_front(text: &[u8]) -> Front
         Front::Token(word_kind(word), len)
     } else {
         Front::Bad(len)
-    }
-}
-
-fn word_front(text: &[u8]) -> Front
-    requires { IsTrue (begins_letter text.now) }
-    ensures is { result ≡ word_front text.now }
-    ensures within { Takes result (length text.now) }
-{
-    match lower_word_len(text) {
-        Some(len) if len <= 255 => Front::Token(word_kind(&text[..len]), len),
-        _ => any_word_front(text),
     }
 }
 
@@ -379,7 +372,7 @@ fn other_front(first: u8, rest: &[u8]) -> Front
     }
 }
 
-/// What stands at the front of the text: first what is there most often.
+/// What stands at the front of the text.
 #[tactic(auto, unfolding(crate::specs::Lexing::front_of))]
 fn front_of(text: &[u8]) -> Front
     requires { length text.now < 2 ^ 60 }
@@ -402,35 +395,92 @@ fn front_of(text: &[u8]) -> Front
     }
 }
 
+/// What stands at a place of the text.
+#[cold]
+fn front_at(text: &[u8], at: usize) -> Front
+    requires within { at < length text.now }
+    requires small { length text.now < 2 ^ 60 }
+    ensures is { result ≡ front_of (drop at text.now) }
+    ensures within { Takes result (length text.now - at) }
+{
+    front_of(&text[at..])
+}
+
+/// The word at the front, if it is a label of lower-case letters and digits. `None` says nothing.
+fn lower_word(text: &[u8]) -> Option<Piece>
+    requires { IsTrue (begins_lower text.now) }
+    ensures is { IfSome result (λ p. token p.kind p.len ≡ front_of text.now) }
+    ensures within { IfSome result (λ p. (0 < p.len) × (p.len ≤ length text.now)) }
+{
+    match lower_word_len(text) {
+        Some(len) if len <= 255 => Some(Piece {
+            kind: word_kind(&text[..len]),
+            len,
+        }),
+        _ => None,
+    }
+}
+
+/// The token at the front, if it is one of those that most texts are made of. `None` says nothing.
+fn common_front(text: &[u8]) -> Option<Piece>
+    ensures is { IfSome result (λ p. token p.kind p.len ≡ front_of text.now) }
+    ensures within { IfSome result (λ p. (0 < p.len) × (p.len ≤ length text.now)) }
+{
+    let [first, ..] = text else {
+        return None;
+    };
+    if first.is_ascii_lowercase() {
+        return lower_word(text);
+    }
+    match mark_of(*first) {
+        Some(mark) => Some(Piece {
+            kind: TokenKind::Punctuation(mark),
+            len: 1,
+        }),
+        None => None,
+    }
+}
+
+/// The token of a kind and a length that stands at a place.
+fn token_from(kind: TokenKind, at: usize, len: usize) -> Token
+    requires { at + len < 2 ^ 32 }
+    ensures { result ≡ token_from kind at len }
+{
+    Token {
+        kind,
+        start: at as u32,
+        end: (at + len) as u32,
+    }
+}
+
 /// The tokens of a text: 36 where it is too long, else 30 or 31 for the first character, word or comment that is
 /// neither token nor blank.
+#[inline(never)]
 #[tactic(auto, unfolding(crate::specs::Lexing::limit))]
 pub fn lex(alloc: Global, text: &str) -> Result<Vec<Token>, TextError>
     ensures ok { IfOk result (λ ts. (length text.now ≤ limit) × Lexes text.now ts.items) }
     ensures few { IfOk result (λ ts. length ts.items ≤ length text.now) }
+    ensures named { IfOk result (λ ts. All (IsNamed text.now) ts.items) }
     ensures err { IfErr result (λ e. LexFault text.now e) }
 {
     let bytes = text.as_bytes();
     if bytes.len() > LIMIT {
         return Err(TextError::Limit);
     }
-    // In most texts a token takes five bytes or more, with the blanks around it.
-    let mut tokens = Vec::with_capacity(alloc, bytes.len() / 5)?;
+    // In most texts a token takes four bytes or more, with the blanks around it.
+    let mut tokens = Vec::with_capacity(alloc, bytes.len() / 4)?;
     let mut at = 0;
     while at < bytes.len() {
-        match front_of(&bytes[at..]) {
-            Front::Blank(len) => {
-                let end = at + len;
-                at = end + blank_len(&bytes[end..]);
-            }
+        if let Some(piece) = common_front(&bytes[at..]) {
+            tokens.push(token_from(piece.kind, at, piece.len))?;
+            at = blank_end(bytes, at + piece.len);
+            continue;
+        }
+        match front_at(bytes, at) {
+            Front::Blank(len) => at = blank_end(bytes, at + len),
             Front::Token(kind, len) => {
-                let end = at + len;
-                tokens.push(Token {
-                    kind,
-                    start: at as u32,
-                    end: end as u32,
-                })?;
-                at = end;
+                tokens.push(token_from(kind, at, len))?;
+                at += len;
             }
             Front::Bad(len) => {
                 let end = at + len;

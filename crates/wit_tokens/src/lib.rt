@@ -5,6 +5,7 @@
 
 mod error;
 mod keyword;
+mod lanes;
 mod laws;
 mod lexer;
 mod mark;

@@ -1,9 +1,12 @@
-use Rattle.std.proofs.Common.{◌≡◌, ap, sym, ◌∙◌}
+use Rattle.std.proofs.Common.{◌≡◌, None, ap, sym, ◌∙◌}
 use Rattle.std.proofs.lemmas.Bool.Decides.{Decides-eqb}
 use Rattle.std.proofs.lemmas.Slice.Eq.{slice_eq-Decides}
 use Rattle.wit_tokens.specs.Keywords.{spelling}
-use Rattle.wit_tokens.proofs.KeywordsBySpelling.{spelled, no_keyword}
+use Rattle.wit_tokens.proofs.KeywordsBySpelling.{spelled, too_long, no_keyword}
 use Rattle.wit_tokens.proofs.keyword.keyword_of.Goals as goal
+
+pub returns-then-word-gt-LONGEST : goal.returns-then-word-gt-LONGEST
+returns-then-word-gt-LONGEST c = no_keyword c.args.word.now None (λ k w. absurd (too_long c.args.word.now k w c.if-word-gt-LONGEST.true)) (λ k found w. cc)
 
 pub returns-in-Some : goal.returns-in-Some
 returns-in-Some c =
