@@ -3,3 +3,4 @@ pub mod TypesByFirstToken
 pub mod ViewsOfResults
 pub mod BytesOfVersions
 pub mod LowerNamesAreNames
+pub mod TokensFromAnIndex

@@ -1,3 +1,4 @@
 pub mod Faults
 pub mod Lookahead
 pub mod Grammar
+pub mod Left

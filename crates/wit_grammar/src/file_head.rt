@@ -1,14 +1,16 @@
 //! The package's name and version.
-ghost use Rattle.std.specs.Prelude.{◌≡◌, ◌<◌, ◌≤◌, ℕ, List, length, is_some, IfOk, IfSome};
+ghost use Rattle.std.specs.Prelude.{◌≡◌, ◌<◌, ◌≤◌, is_some, IfOk, IfSome};
 ghost use Rattle.std.specs.String.{string_bytes};
-ghost use Rattle.wit_tokens.specs.Tokens.{lexeme, lexemes};
+ghost use Rattle.wit_tokens.specs.Tokens.{lexeme};
 ghost use Rattle.wit_tokens.specs.View.{version_view, header_view};
 ghost use Rattle.wit_grammar.specs.Faults.{AnswersRead};
+ghost use Rattle.wit_grammar.specs.Left.{tokens_from, count_from, text_end};
 ghost use Rattle.wit_grammar.specs.Grammar.{is_version_text, is_version_token, version, is_lower_name, lower_id, gate};
 ghost use Rattle.wit_grammar.specs.Grammar.{first_feature, first_fault, package_word, version_or, header_fault};
 ghost use Rattle.wit_grammar.specs.Grammar.{header_end, header};
 
 use crate::parser::{feature_or, label_of, met, name_of, punctuation, same};
+use crate::tokens::Tokens;
 use atoms::{Label, is_package_label, is_version};
 use std::alloc::{AllocError, Global};
 use wit_tokens::wit_syntax::PackageId;
@@ -31,28 +33,28 @@ fn version_text(alloc: Global, text: &[u8]) -> Result<Option<String>, AllocError
 }
 
 #[tactic(auto, unfolding(crate::specs::Grammar::is_lower_name))]
-fn is_lower_name(source: &[u8], token: Token) -> bool
-    ensures { result ≡ is_lower_name (lexeme source.now token) }
+fn is_lower_name(tokens: &Tokens<'_>, token: Token) -> bool
+    ensures { result ≡ is_lower_name (lexeme tokens.now.text.now token) }
 {
-    same(token.kind, TokenKind::Identifier) && is_package_label(name_of(source, token))
+    same(token.kind, TokenKind::Identifier) && is_package_label(name_of(tokens, token))
 }
 
 /// Takes a name in lower case.
 #[tactic(auto, using(crate::proofs::LowerNamesAreNames::named), unfolding(crate::specs::Grammar::lower_id))]
-fn lower_identifier<'a>(
+fn lower_identifier(
     alloc: Global,
-    source: &[u8],
-    tokens: &'a [Token],
-) -> Result<(Label, &'a [Token]), TextError>
-    ensures gives { AnswersRead (λ x. (x.0, lexemes source.now x.1.now)) result
-        ((lower_id (length source.now)).read (lexemes source.now tokens.now)) }
-    ensures shorter { IfOk result (λ x. length x.1.now < length tokens.now) }
+    tokens: &Tokens<'_>,
+    at: usize,
+) -> Result<(Label, usize), TextError>
+    ensures gives { AnswersRead (λ x. (x.0, tokens_from tokens.now x.1)) result
+        ((lower_id (text_end tokens.now)).read (tokens_from tokens.now at)) }
+    ensures shorter { IfOk result (λ x. count_from tokens.now x.1 < count_from tokens.now at) }
 {
-    match tokens {
-        [first, rest @ ..] if is_lower_name(source, *first) => {
-            Ok((label_of(alloc, source, *first)?, rest))
+    match tokens.next(at) {
+        Some((first, rest)) if is_lower_name(tokens, first) => {
+            Ok((label_of(alloc, tokens, first)?, rest))
         }
-        _ => Err(TextError::Expected(Expected::Identifier, met(source, tokens))),
+        _ => Err(TextError::Expected(Expected::Identifier, met(tokens, at))),
     }
 }
 
@@ -76,46 +78,49 @@ pub fn first_feature(kind: TokenKind) -> Option<Feature>
 
 /// What is answered where a text doesn't begin with `package`.
 #[tactic(auto, unfolding(crate::specs::Grammar::first_fault))]
-fn first_fault(source: &[u8], tokens: &[Token]) -> TextError
-    ensures { result ≡ first_fault (length source.now) (lexemes source.now tokens.now) }
+fn first_fault(tokens: &Tokens<'_>, at: usize) -> TextError
+    ensures { result ≡ first_fault (text_end tokens.now) (tokens_from tokens.now at) }
 {
-    let feature = match tokens {
-        [first, ..] => first_feature(first.kind),
-        [] => None,
+    let feature = match tokens.next(at) {
+        Some((first, _)) => first_feature(first.kind),
+        None => None,
     };
-    feature_or(source, tokens, feature, Expected::Keyword(Keyword::Package))
+    feature_or(tokens, at, feature, Expected::Keyword(Keyword::Package))
 }
 
 /// The version behind the name of a package or of its interface, if a well-formed one stands there.
 #[tactic(auto, unfolding(crate::specs::Grammar::version, crate::specs::Grammar::is_version_token))]
-pub fn version<'a>(
+pub fn version(
     alloc: Global,
-    source: &[u8],
-    tokens: &'a [Token],
-) -> Result<(Option<String>, &'a [Token]), TextError>
-    ensures gives { AnswersRead (λ x. (version_view x.0, lexemes source.now x.1.now)) result
-        (version.read (lexemes source.now tokens.now)) }
-    ensures shorter { IfOk result (λ x. length x.1.now ≤ length tokens.now) }
+    tokens: &Tokens<'_>,
+    at: usize,
+) -> Result<(Option<String>, usize), TextError>
+    ensures gives { AnswersRead (λ x. (version_view x.0, tokens_from tokens.now x.1)) result
+        (version.read (tokens_from tokens.now at)) }
+    ensures shorter { IfOk result (λ x. count_from tokens.now x.1 ≤ count_from tokens.now at) }
 {
-    let [first, rest @ ..] = tokens else {
-        return Ok((None, tokens));
+    let Some((first, rest)) = tokens.next(at) else {
+        return Ok((None, at));
     };
     if !same(first.kind, TokenKind::Version) {
-        return Ok((None, tokens));
+        return Ok((None, at));
     }
-    match version_text(alloc, name_of(source, *first))? {
+    match version_text(alloc, name_of(tokens, first))? {
         Some(version) => Ok((Some(version), rest)),
-        None => Ok((None, tokens)),
+        None => Ok((None, at)),
     }
 }
 
-/// What is wanted behind a version that may be left out, before this mark, where a token of this kind stands.
-pub fn version_or(version: &Option<String>, mark: Punctuation, kind: TokenKind) -> Expected
-    ensures { (start end : ℕ) → (text : List ℕ)
-        → result ≡ version_or (version_view version.now) mark
-        (record { token = record { kind = kind; start = start; end = end }; text = text }) }
+/// What is wanted behind a version that may be left out, before this mark, where this token stands.
+pub fn version_or(
+    tokens: &Tokens<'_>,
+    version: &Option<String>,
+    mark: Punctuation,
+    token: Token,
+) -> Expected
+    ensures { result ≡ version_or (version_view version.now) mark (lexeme tokens.now.text.now token) }
 {
-    if version.is_none() && same(kind, TokenKind::Version) {
+    if version.is_none() && same(token.kind, TokenKind::Version) {
         Expected::Version
     } else {
         Expected::Punctuation(mark)
@@ -124,76 +129,76 @@ pub fn version_or(version: &Option<String>, mark: Punctuation, kind: TokenKind) 
 
 /// What is answered where no `;` stands behind the package's name.
 #[tactic(auto, unfolding(crate::specs::Grammar::header_fault))]
-fn header_fault(source: &[u8], version: &Option<String>, tokens: &[Token]) -> TextError
-    ensures { result ≡ header_fault (length source.now) (version_view version.now) (lexemes source.now tokens.now) }
+fn header_fault(tokens: &Tokens<'_>, version: &Option<String>, at: usize) -> TextError
+    ensures { result ≡ header_fault (text_end tokens.now) (version_view version.now) (tokens_from tokens.now at) }
 {
     let brace = TokenKind::Punctuation(Punctuation::OpenBrace);
-    match tokens {
-        [first, ..] if same(first.kind, brace) => {
+    match tokens.next(at) {
+        Some((first, _)) if same(first.kind, brace) => {
             TextError::Unsupported(Feature::NestedPackage, first.span())
         }
-        [first, ..] => {
-            let wanted = version_or(version, Punctuation::Semicolon, first.kind);
+        Some((first, _)) => {
+            let wanted = version_or(tokens, version, Punctuation::Semicolon, first);
             TextError::Expected(wanted, first.span())
         }
-        [] => {
+        None => {
             let semicolon = Expected::Punctuation(Punctuation::Semicolon);
-            TextError::Expected(semicolon, met(source, tokens))
+            TextError::Expected(semicolon, met(tokens, at))
         }
     }
 }
 
 #[tactic(auto, unfolding(crate::specs::Grammar::header_end))]
-fn header_end<'a>(
-    source: &[u8],
+fn header_end(
+    tokens: &Tokens<'_>,
     version: &Option<String>,
-    tokens: &'a [Token],
-) -> Result<(Token, &'a [Token]), TextError>
-    ensures gives { AnswersRead (λ x. (lexeme source.now x.0, lexemes source.now x.1.now)) result
-        ((header_end (length source.now) (version_view version.now)).read (lexemes source.now tokens.now)) }
-    ensures shorter { IfOk result (λ x. length x.1.now < length tokens.now) }
+    at: usize,
+) -> Result<(Token, usize), TextError>
+    ensures gives { AnswersRead (λ x. (lexeme tokens.now.text.now x.0, tokens_from tokens.now x.1)) result
+        ((header_end (text_end tokens.now) (version_view version.now)).read (tokens_from tokens.now at)) }
+    ensures shorter { IfOk result (λ x. count_from tokens.now x.1 < count_from tokens.now at) }
 {
     let semicolon = TokenKind::Punctuation(Punctuation::Semicolon);
-    match tokens {
-        [first, rest @ ..] if same(first.kind, semicolon) => Ok((*first, rest)),
-        _ => Err(header_fault(source, version, tokens)),
+    match tokens.next(at) {
+        Some((first, rest)) if same(first.kind, semicolon) => Ok((first, rest)),
+        _ => Err(header_fault(tokens, version, at)),
     }
 }
 
 #[tactic(auto, unfolding(crate::specs::Grammar::package_word))]
-fn package_word<'a>(source: &[u8], tokens: &'a [Token]) -> Result<(Token, &'a [Token]), TextError>
-    ensures gives { AnswersRead (λ x. (lexeme source.now x.0, lexemes source.now x.1.now)) result
-        ((package_word (length source.now)).read (lexemes source.now tokens.now)) }
-    ensures shorter { IfOk result (λ x. length x.1.now < length tokens.now) }
+fn package_word(tokens: &Tokens<'_>, at: usize) -> Result<(Token, usize), TextError>
+    ensures gives { AnswersRead (λ x. (lexeme tokens.now.text.now x.0, tokens_from tokens.now x.1)) result
+        ((package_word (text_end tokens.now)).read (tokens_from tokens.now at)) }
+    ensures shorter { IfOk result (λ x. count_from tokens.now x.1 < count_from tokens.now at) }
 {
     let package = TokenKind::Keyword(Keyword::Package);
-    match tokens {
-        [first, rest @ ..] if same(first.kind, package) => Ok((*first, rest)),
-        _ => Err(first_fault(source, tokens)),
+    match tokens.next(at) {
+        Some((first, rest)) if same(first.kind, package) => Ok((first, rest)),
+        _ => Err(first_fault(tokens, at)),
     }
 }
 
 /// `package`, its name, its version if it has one, and `;`.
 #[tactic(auto, unfolding(crate::specs::Grammar::header))]
-pub fn header<'a>(
+pub fn header(
     alloc: Global,
-    source: &[u8],
-    tokens: &'a [Token],
-) -> Result<(PackageId, &'a [Token]), TextError>
-    ensures gives { AnswersRead (λ x. (header_view x.0, lexemes source.now x.1.now)) result
-        ((header (length source.now)).read (lexemes source.now tokens.now)) }
-    ensures shorter { IfOk result (λ x. length x.1.now < length tokens.now) }
+    tokens: &Tokens<'_>,
+    at: usize,
+) -> Result<(PackageId, usize), TextError>
+    ensures gives { AnswersRead (λ x. (header_view x.0, tokens_from tokens.now x.1)) result
+        ((header (text_end tokens.now)).read (tokens_from tokens.now at)) }
+    ensures shorter { IfOk result (λ x. count_from tokens.now x.1 < count_from tokens.now at) }
 {
-    let (_, tokens) = package_word(source, tokens)?;
-    let (namespace, tokens) = lower_identifier(alloc, source, tokens)?;
-    let (_, tokens) = punctuation(source, tokens, Punctuation::Colon)?;
-    let (name, tokens) = lower_identifier(alloc, source, tokens)?;
-    let (version, tokens) = version(alloc, source, tokens)?;
-    let (_, tokens) = header_end(source, &version, tokens)?;
+    let (_, at) = package_word(tokens, at)?;
+    let (namespace, at) = lower_identifier(alloc, tokens, at)?;
+    let (_, at) = punctuation(tokens, at, Punctuation::Colon)?;
+    let (name, at) = lower_identifier(alloc, tokens, at)?;
+    let (version, at) = version(alloc, tokens, at)?;
+    let (_, at) = header_end(tokens, &version, at)?;
     let id = PackageId {
         namespace,
         name,
         version,
     };
-    Ok((id, tokens))
+    Ok((id, at))
 }

@@ -8,6 +8,7 @@ mod lists;
 mod parser;
 mod paths;
 mod starts;
+mod tokens;
 mod types;
 
 pub use file_head::{first_feature, gate, header};
@@ -18,4 +19,5 @@ pub use parser::{
 };
 pub use paths::{foreign, path, path_end};
 pub use starts::{ItemStart, is_item_start, item_kind};
+pub use tokens::Tokens;
 pub use types::{Start, begins_type, type_at, type_behind, type_fault};

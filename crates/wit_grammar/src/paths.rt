@@ -1,12 +1,14 @@
 //! Paths: the interfaces that uses and items of worlds name.
-ghost use Rattle.std.specs.Prelude.{◌≡◌, ◌<◌, ◌≤◌, length, IfOk};
-ghost use Rattle.wit_tokens.specs.Tokens.{lexeme, lexemes};
+ghost use Rattle.std.specs.Prelude.{◌≡◌, ◌<◌, ◌≤◌, IfOk};
+ghost use Rattle.wit_tokens.specs.Tokens.{lexeme};
 ghost use Rattle.wit_tokens.specs.View.{path_view};
 ghost use Rattle.wit_grammar.specs.Faults.{AnswersRead};
+ghost use Rattle.wit_grammar.specs.Left.{tokens_from, count_from, text_end};
 ghost use Rattle.wit_grammar.specs.Grammar.{foreign, behind_namespace, path, path_fault, path_end};
 
 use crate::file_head::{version, version_or};
 use crate::parser::{identifier, met, punctuation, same};
+use crate::tokens::Tokens;
 use atoms::Label;
 use std::alloc::Global;
 use wit_tokens::wit_syntax::{PackageId, Path};
@@ -14,98 +16,101 @@ use wit_tokens::{Expected, Punctuation, TextError, Token, TokenKind};
 
 /// Another package's interface, behind the names of its package.
 #[tactic(auto, unfolding(crate::specs::Grammar::foreign))]
-pub fn foreign<'a>(
+pub fn foreign(
     alloc: Global,
-    source: &[u8],
+    tokens: &Tokens<'_>,
     namespace: Label,
     name: Label,
-    tokens: &'a [Token],
-) -> Result<(Path, &'a [Token]), TextError>
-    ensures gives { AnswersRead (λ x. (path_view x.0, lexemes source.now x.1.now)) result
-        ((foreign (length source.now) namespace name).read (lexemes source.now tokens.now)) }
-    ensures shorter { IfOk result (λ x. length x.1.now < length tokens.now) }
+    at: usize,
+) -> Result<(Path, usize), TextError>
+    ensures gives { AnswersRead (λ x. (path_view x.0, tokens_from tokens.now x.1)) result
+        ((foreign (text_end tokens.now) namespace name).read (tokens_from tokens.now at)) }
+    ensures shorter { IfOk result (λ x. count_from tokens.now x.1 < count_from tokens.now at) }
 {
-    let (_, tokens) = punctuation(source, tokens, Punctuation::Slash)?;
-    let (interface, tokens) = identifier(alloc, source, tokens)?;
-    let (version, tokens) = version(alloc, source, tokens)?;
+    let (_, at) = punctuation(tokens, at, Punctuation::Slash)?;
+    let (interface, at) = identifier(alloc, tokens, at)?;
+    let (version, at) = version(alloc, tokens, at)?;
     let package = PackageId {
         namespace,
         name,
         version,
     };
-    Ok((Path::Foreign { package, interface }, tokens))
+    Ok((Path::Foreign { package, interface }, at))
 }
 
 /// The same behind the `:` of its package's name.
 #[tactic(auto, unfolding(crate::specs::Grammar::behind_namespace))]
-fn behind_namespace<'a>(
+fn behind_namespace(
     alloc: Global,
-    source: &[u8],
+    tokens: &Tokens<'_>,
     namespace: Label,
-    tokens: &'a [Token],
-) -> Result<(Path, &'a [Token]), TextError>
-    ensures gives { AnswersRead (λ x. (path_view x.0, lexemes source.now x.1.now)) result
-        ((behind_namespace (length source.now) namespace).read (lexemes source.now tokens.now)) }
-    ensures shorter { IfOk result (λ x. length x.1.now < length tokens.now) }
+    at: usize,
+) -> Result<(Path, usize), TextError>
+    ensures gives { AnswersRead (λ x. (path_view x.0, tokens_from tokens.now x.1)) result
+        ((behind_namespace (text_end tokens.now) namespace).read (tokens_from tokens.now at)) }
+    ensures shorter { IfOk result (λ x. count_from tokens.now x.1 < count_from tokens.now at) }
 {
-    let (name, tokens) = identifier(alloc, source, tokens)?;
-    foreign(alloc, source, namespace, name, tokens)
+    let (name, at) = identifier(alloc, tokens, at)?;
+    foreign(alloc, tokens, namespace, name, at)
 }
 
 /// A path behind its first name.
 #[tactic(auto, unfolding(crate::specs::Grammar::path))]
-pub fn path<'a>(
+pub fn path(
     alloc: Global,
-    source: &[u8],
+    tokens: &Tokens<'_>,
     first: Label,
-    tokens: &'a [Token],
-) -> Result<(Path, &'a [Token]), TextError>
-    ensures gives { AnswersRead (λ x. (path_view x.0, lexemes source.now x.1.now)) result
-        ((path (length source.now) first).read (lexemes source.now tokens.now)) }
-    ensures shorter { IfOk result (λ x. length x.1.now ≤ length tokens.now) }
+    at: usize,
+) -> Result<(Path, usize), TextError>
+    ensures gives { AnswersRead (λ x. (path_view x.0, tokens_from tokens.now x.1)) result
+        ((path (text_end tokens.now) first).read (tokens_from tokens.now at)) }
+    ensures shorter { IfOk result (λ x. count_from tokens.now x.1 ≤ count_from tokens.now at) }
 {
     let colon = TokenKind::Punctuation(Punctuation::Colon);
-    match tokens {
-        [mark, rest @ ..] if same(mark.kind, colon) => {
-            behind_namespace(alloc, source, first, rest)
+    match tokens.next(at) {
+        Some((mark, rest)) if same(mark.kind, colon) => {
+            behind_namespace(alloc, tokens, first, rest)
         }
-        _ => Ok((Path::Local(first), tokens)),
+        _ => Ok((Path::Local(first), at)),
     }
 }
 
 /// What is answered where this mark doesn't stand behind a path.
 #[tactic(auto, unfolding(crate::specs::Grammar::path_fault))]
-fn path_fault(source: &[u8], path: &Path, mark: Punctuation, tokens: &[Token]) -> TextError
-    ensures { result ≡ path_fault (length source.now) (path_view path.now) mark (lexemes source.now tokens.now) }
+fn path_fault(tokens: &Tokens<'_>, path: &Path, mark: Punctuation, at: usize) -> TextError
+    ensures { result ≡ path_fault (text_end tokens.now) (path_view path.now) mark (tokens_from tokens.now at) }
 {
     match path {
         Path::Local(_) => {
             let colon = Expected::Punctuation(Punctuation::Colon);
-            TextError::Expected(colon, met(source, tokens))
+            TextError::Expected(colon, met(tokens, at))
         }
-        Path::Foreign { package, .. } => match tokens {
-            [first, ..] => {
-                TextError::Expected(version_or(&package.version, mark, first.kind), first.span())
+        Path::Foreign { package, .. } => match tokens.next(at) {
+            Some((first, _)) => {
+                TextError::Expected(
+                    version_or(tokens, &package.version, mark, first),
+                    first.span(),
+                )
             }
-            [] => TextError::Expected(Expected::Punctuation(mark), met(source, tokens)),
+            None => TextError::Expected(Expected::Punctuation(mark), met(tokens, at)),
         },
     }
 }
 
 /// The mark behind a path.
 #[tactic(auto, unfolding(crate::specs::Grammar::path_end))]
-pub fn path_end<'a>(
-    source: &[u8],
+pub fn path_end(
+    tokens: &Tokens<'_>,
     path: &Path,
     mark: Punctuation,
-    tokens: &'a [Token],
-) -> Result<(Token, &'a [Token]), TextError>
-    ensures gives { AnswersRead (λ x. (lexeme source.now x.0, lexemes source.now x.1.now)) result
-        ((path_end (length source.now) (path_view path.now) mark).read (lexemes source.now tokens.now)) }
-    ensures shorter { IfOk result (λ x. length x.1.now < length tokens.now) }
+    at: usize,
+) -> Result<(Token, usize), TextError>
+    ensures gives { AnswersRead (λ x. (lexeme tokens.now.text.now x.0, tokens_from tokens.now x.1)) result
+        ((path_end (text_end tokens.now) (path_view path.now) mark).read (tokens_from tokens.now at)) }
+    ensures shorter { IfOk result (λ x. count_from tokens.now x.1 < count_from tokens.now at) }
 {
-    match tokens {
-        [first, rest @ ..] if same(first.kind, TokenKind::Punctuation(mark)) => Ok((*first, rest)),
-        _ => Err(path_fault(source, path, mark, tokens)),
+    match tokens.next(at) {
+        Some((first, rest)) if same(first.kind, TokenKind::Punctuation(mark)) => Ok((first, rest)),
+        _ => Err(path_fault(tokens, path, mark, at)),
     }
 }

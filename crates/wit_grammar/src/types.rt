@@ -1,16 +1,18 @@
 //! Types.
-ghost use Rattle.std.specs.Prelude.{◌≡◌, ◌<◌, ◌≤◌, length, map, IfOk};
+ghost use Rattle.std.specs.Prelude.{◌≡◌, ◌<◌, ◌≤◌, map, IfOk};
 ghost use Rattle.wit_tokens.specs.Lexing.{limit};
-ghost use Rattle.wit_tokens.specs.Tokens.{lexeme, lexemes};
+ghost use Rattle.wit_tokens.specs.Tokens.{IsNamed, lexeme};
 ghost use Rattle.wit_tokens.specs.View.{ty_view, boxed_view};
 ghost use Rattle.wit_tokens.specs.Syntax.{ResultOf};
 ghost use Rattle.wit_grammar.specs.Faults.{AnswersRead};
+ghost use Rattle.wit_grammar.specs.Left.{tokens_from, count_from, text_end};
 ghost use Rattle.wit_grammar.specs.Grammar.{keyword_start, kind_start, is_start, begins_type, type_fault, begun};
 ghost use Rattle.wit_grammar.specs.Grammar.{type_behind, type_phrase, is_bare, greater_wanted, close_list, close_angle};
 ghost use Rattle.wit_grammar.specs.Grammar.{list, option, members, tuple, error_type, result_error, result_ok};
 ghost use Rattle.wit_grammar.specs.Grammar.{result_parts, result_type, ty};
 
 use crate::parser::{is_name, label_of, met, punctuation, same, separator};
+use crate::tokens::Tokens;
 use std::alloc::Global;
 use wit_tokens::wit_syntax::{Primitive, TypeExpression};
 use wit_tokens::{Expected, Feature, Keyword, Punctuation, TextError, Token, TokenKind};
@@ -75,21 +77,22 @@ fn is_start(start: Start) -> bool
 }
 
 #[tactic(auto, unfolding(crate::specs::Grammar::begins_type))]
-pub fn begins_type(source: &[u8], token: Token) -> bool
-    ensures { result ≡ begins_type (lexeme source.now token) }
+pub fn begins_type(tokens: &Tokens<'_>, token: Token) -> bool
+    requires named { IsNamed tokens.now.text.now token }
+    ensures { result ≡ begins_type (lexeme tokens.now.text.now token) }
 {
-    is_name(source, token) || is_start(kind_start(token.kind))
+    is_name(tokens, token) || is_start(kind_start(token.kind))
 }
 
 /// What is answered where a type is wanted, or no deeper nesting is allowed.
 #[tactic(auto, unfolding(crate::specs::Grammar::type_fault))]
-pub fn type_fault(source: &[u8], tokens: &[Token]) -> TextError
-    ensures { result ≡ type_fault (length source.now) (lexemes source.now tokens.now) }
+pub fn type_fault(tokens: &Tokens<'_>, at: usize) -> TextError
+    ensures { result ≡ type_fault (text_end tokens.now) (tokens_from tokens.now at) }
 {
-    let [first, ..] = tokens else {
-        return TextError::Expected(Expected::Identifier, met(source, tokens));
+    let Some((first, _)) = tokens.next(at) else {
+        return TextError::Expected(Expected::Identifier, met(tokens, at));
     };
-    if is_name(source, *first) {
+    if is_name(tokens, first) {
         return TextError::Depth(first.span());
     }
     match kind_start(first.kind) {
@@ -131,214 +134,207 @@ fn greater_wanted(ty: &TypeExpression) -> Expected
 
 /// The `>` behind the type of a list.
 #[tactic(auto, unfolding(crate::specs::Grammar::close_list))]
-fn close_list<'a>(
-    source: &[u8],
+fn close_list(
+    tokens: &Tokens<'_>,
     ty: &TypeExpression,
-    tokens: &'a [Token],
-) -> Result<(Token, &'a [Token]), TextError>
-    ensures gives { AnswersRead (λ x. (lexeme source.now x.0, lexemes source.now x.1.now)) result
-        ((close_list (length source.now) (ty_view ty.now)).read (lexemes source.now tokens.now)) }
-    ensures shorter { IfOk result (λ x. length x.1.now < length tokens.now) }
+    at: usize,
+) -> Result<(Token, usize), TextError>
+    ensures gives { AnswersRead (λ x. (lexeme tokens.now.text.now x.0, tokens_from tokens.now x.1)) result
+        ((close_list (text_end tokens.now) (ty_view ty.now)).read (tokens_from tokens.now at)) }
+    ensures shorter { IfOk result (λ x. count_from tokens.now x.1 < count_from tokens.now at) }
 {
     let greater = TokenKind::Punctuation(Punctuation::Greater);
     let comma = TokenKind::Punctuation(Punctuation::Comma);
-    match tokens {
-        [first, rest @ ..] if same(first.kind, greater) => Ok((*first, rest)),
-        [first, ..] if same(first.kind, comma) => {
+    match tokens.next(at) {
+        Some((first, rest)) if same(first.kind, greater) => Ok((first, rest)),
+        Some((first, _)) if same(first.kind, comma) => {
             let feature = Feature::FixedLengthList;
             Err(TextError::Unsupported(feature, first.span()))
         }
-        _ => Err(TextError::Expected(greater_wanted(ty), met(source, tokens))),
+        _ => Err(TextError::Expected(greater_wanted(ty), met(tokens, at))),
     }
 }
 
 /// The `>` behind another type.
 #[tactic(auto, unfolding(crate::specs::Grammar::close_angle))]
-fn close_angle<'a>(
-    source: &[u8],
+fn close_angle(
+    tokens: &Tokens<'_>,
     ty: &TypeExpression,
-    tokens: &'a [Token],
-) -> Result<(Token, &'a [Token]), TextError>
-    ensures gives { AnswersRead (λ x. (lexeme source.now x.0, lexemes source.now x.1.now)) result
-        ((close_angle (length source.now) (ty_view ty.now)).read (lexemes source.now tokens.now)) }
-    ensures shorter { IfOk result (λ x. length x.1.now < length tokens.now) }
+    at: usize,
+) -> Result<(Token, usize), TextError>
+    ensures gives { AnswersRead (λ x. (lexeme tokens.now.text.now x.0, tokens_from tokens.now x.1)) result
+        ((close_angle (text_end tokens.now) (ty_view ty.now)).read (tokens_from tokens.now at)) }
+    ensures shorter { IfOk result (λ x. count_from tokens.now x.1 < count_from tokens.now at) }
 {
     let greater = TokenKind::Punctuation(Punctuation::Greater);
-    match tokens {
-        [first, rest @ ..] if same(first.kind, greater) => Ok((*first, rest)),
-        _ => Err(TextError::Expected(greater_wanted(ty), met(source, tokens))),
+    match tokens.next(at) {
+        Some((first, rest)) if same(first.kind, greater) => Ok((first, rest)),
+        _ => Err(TextError::Expected(greater_wanted(ty), met(tokens, at))),
     }
 }
 
 /// A type with at most `nesting` levels.
 #[cycle(types)]
 #[tactic(auto, using(crate::proofs::TypesByFirstToken::type_step, crate::proofs::TypesByFirstToken::type_stops))]
-pub fn type_at<'a>(
+pub fn type_at(
     alloc: Global,
-    source: &[u8],
+    tokens: &Tokens<'_>,
     nesting: u32,
-    tokens: &'a [Token],
-) -> Result<(TypeExpression, &'a [Token]), TextError>
-    requires { length tokens.now ≤ limit }
-    ensures gives { AnswersRead (λ x. (ty_view x.0, lexemes source.now x.1.now)) result
-        ((ty (length source.now) nesting).read (lexemes source.now tokens.now)) }
-    ensures shorter { IfOk result (λ x. length x.1.now < length tokens.now) }
+    at: usize,
+) -> Result<(TypeExpression, usize), TextError>
+    ensures gives { AnswersRead (λ x. (ty_view x.0, tokens_from tokens.now x.1)) result
+        ((ty (text_end tokens.now) nesting).read (tokens_from tokens.now at)) }
+    ensures shorter { IfOk result (λ x. count_from tokens.now x.1 < count_from tokens.now at) }
 {
     if nesting == 0 {
-        return Err(type_fault(source, tokens));
+        return Err(type_fault(tokens, at));
     }
-    type_of(alloc, source, nesting - 1, tokens)
+    type_of(alloc, tokens, nesting - 1, at)
 }
 
 /// A type that may hold types of `nesting` levels.
 #[cycle(types)]
 #[tactic(auto, unfolding(crate::specs::Grammar::type_phrase))]
-fn type_of<'a>(
+fn type_of(
     alloc: Global,
-    source: &[u8],
+    tokens: &Tokens<'_>,
     nesting: u32,
-    tokens: &'a [Token],
-) -> Result<(TypeExpression, &'a [Token]), TextError>
-    requires { length tokens.now ≤ limit }
-    ensures gives { AnswersRead (λ x. (ty_view x.0, lexemes source.now x.1.now)) result
-        ((type_phrase (length source.now) (ty (length source.now) nesting)).read (lexemes source.now tokens.now)) }
-    ensures shorter { IfOk result (λ x. length x.1.now < length tokens.now) }
+    at: usize,
+) -> Result<(TypeExpression, usize), TextError>
+    ensures gives { AnswersRead (λ x. (ty_view x.0, tokens_from tokens.now x.1)) result
+        ((type_phrase (text_end tokens.now) (ty (text_end tokens.now) nesting)).read (tokens_from tokens.now at)) }
+    ensures shorter { IfOk result (λ x. count_from tokens.now x.1 < count_from tokens.now at) }
 {
-    match tokens {
-        [first, rest @ ..] if begins_type(source, *first) => {
-            type_behind(alloc, source, nesting, *first, rest)
+    match tokens.next(at) {
+        Some((first, rest)) if begins_type(tokens, first) => {
+            type_behind(alloc, tokens, nesting, first, rest)
         }
-        _ => Err(type_fault(source, tokens)),
+        _ => Err(type_fault(tokens, at)),
     }
 }
 
 /// A type behind its first token, which may hold types of `nesting` levels.
 #[cycle(types)]
 #[tactic(auto, unfolding(crate::specs::Grammar::type_behind))]
-pub fn type_behind<'a>(
+pub fn type_behind(
     alloc: Global,
-    source: &[u8],
+    tokens: &Tokens<'_>,
     nesting: u32,
     first: Token,
-    tokens: &'a [Token],
-) -> Result<(TypeExpression, &'a [Token]), TextError>
-    requires { length tokens.now ≤ limit }
-    ensures gives { AnswersRead (λ x. (ty_view x.0, lexemes source.now x.1.now)) result
-        ((type_behind (length source.now) (ty (length source.now) nesting) (lexeme source.now first)).read
-        (lexemes source.now tokens.now)) }
-    ensures shorter { IfOk result (λ x. length x.1.now ≤ length tokens.now) }
+    at: usize,
+) -> Result<(TypeExpression, usize), TextError>
+    requires named { IsNamed tokens.now.text.now first }
+    ensures gives { AnswersRead (λ x. (ty_view x.0, tokens_from tokens.now x.1)) result
+        ((type_behind (text_end tokens.now) (ty (text_end tokens.now) nesting) (lexeme tokens.now.text.now first)).read
+        (tokens_from tokens.now at)) }
+    ensures shorter { IfOk result (λ x. count_from tokens.now x.1 ≤ count_from tokens.now at) }
 {
-    if is_name(source, first) {
-        let name = label_of(alloc, source, first)?;
-        return Ok((TypeExpression::Named(name), tokens));
+    if is_name(tokens, first) {
+        let name = label_of(alloc, tokens, first)?;
+        return Ok((TypeExpression::Named(name), at));
     }
-    begun(alloc, source, nesting, kind_start(first.kind), tokens)
+    begun(alloc, tokens, nesting, kind_start(first.kind), at)
 }
 
 /// A type behind its keyword.
 #[cycle(types)]
 #[tactic(auto, unfolding(crate::specs::Grammar::begun))]
-fn begun<'a>(
+fn begun(
     alloc: Global,
-    source: &[u8],
+    tokens: &Tokens<'_>,
     nesting: u32,
     start: Start,
-    tokens: &'a [Token],
-) -> Result<(TypeExpression, &'a [Token]), TextError>
-    requires { length tokens.now ≤ limit }
-    ensures gives { AnswersRead (λ x. (ty_view x.0, lexemes source.now x.1.now)) result
-        ((begun (length source.now) (ty (length source.now) nesting) start).read (lexemes source.now tokens.now)) }
-    ensures shorter { IfOk result (λ x. length x.1.now ≤ length tokens.now) }
+    at: usize,
+) -> Result<(TypeExpression, usize), TextError>
+    ensures gives { AnswersRead (λ x. (ty_view x.0, tokens_from tokens.now x.1)) result
+        ((begun (text_end tokens.now) (ty (text_end tokens.now) nesting) start).read (tokens_from tokens.now at)) }
+    ensures shorter { IfOk result (λ x. count_from tokens.now x.1 ≤ count_from tokens.now at) }
 {
     match start {
-        Start::Plain(primitive) => Ok((TypeExpression::Primitive(primitive), tokens)),
-        Start::List => list_type(alloc, source, nesting, tokens),
-        Start::Option => option_type(alloc, source, nesting, tokens),
-        Start::Tuple => tuple_type(alloc, source, nesting, tokens),
-        Start::Result => result_type(alloc, source, nesting, tokens),
-        Start::LeftOut(_) | Start::Nothing => Err(type_fault(source, tokens)),
+        Start::Plain(primitive) => Ok((TypeExpression::Primitive(primitive), at)),
+        Start::List => list_type(alloc, tokens, nesting, at),
+        Start::Option => option_type(alloc, tokens, nesting, at),
+        Start::Tuple => tuple_type(alloc, tokens, nesting, at),
+        Start::Result => result_type(alloc, tokens, nesting, at),
+        Start::LeftOut(_) | Start::Nothing => Err(type_fault(tokens, at)),
     }
 }
 
 /// Behind `list`.
 #[cycle(types)]
 #[tactic(auto, unfolding(crate::specs::Grammar::list))]
-fn list_type<'a>(
+fn list_type(
     alloc: Global,
-    source: &[u8],
+    tokens: &Tokens<'_>,
     nesting: u32,
-    tokens: &'a [Token],
-) -> Result<(TypeExpression, &'a [Token]), TextError>
-    requires { length tokens.now ≤ limit }
-    ensures gives { AnswersRead (λ x. (ty_view x.0, lexemes source.now x.1.now)) result
-        ((list (length source.now) (ty (length source.now) nesting)).read (lexemes source.now tokens.now)) }
-    ensures shorter { IfOk result (λ x. length x.1.now < length tokens.now) }
+    at: usize,
+) -> Result<(TypeExpression, usize), TextError>
+    ensures gives { AnswersRead (λ x. (ty_view x.0, tokens_from tokens.now x.1)) result
+        ((list (text_end tokens.now) (ty (text_end tokens.now) nesting)).read (tokens_from tokens.now at)) }
+    ensures shorter { IfOk result (λ x. count_from tokens.now x.1 < count_from tokens.now at) }
 {
-    let (_, tokens) = punctuation(source, tokens, Punctuation::Less)?;
-    let (inner, tokens) = type_at(alloc, source, nesting, tokens)?;
-    let (_, tokens) = close_list(source, &inner, tokens)?;
-    Ok((TypeExpression::List(Box::new(alloc, inner)?), tokens))
+    let (_, at) = punctuation(tokens, at, Punctuation::Less)?;
+    let (inner, at) = type_at(alloc, tokens, nesting, at)?;
+    let (_, at) = close_list(tokens, &inner, at)?;
+    Ok((TypeExpression::List(Box::new(alloc, inner)?), at))
 }
 
 /// Behind `option`.
 #[cycle(types)]
 #[tactic(auto, unfolding(crate::specs::Grammar::option))]
-fn option_type<'a>(
+fn option_type(
     alloc: Global,
-    source: &[u8],
+    tokens: &Tokens<'_>,
     nesting: u32,
-    tokens: &'a [Token],
-) -> Result<(TypeExpression, &'a [Token]), TextError>
-    requires { length tokens.now ≤ limit }
-    ensures gives { AnswersRead (λ x. (ty_view x.0, lexemes source.now x.1.now)) result
-        ((option (length source.now) (ty (length source.now) nesting)).read (lexemes source.now tokens.now)) }
-    ensures shorter { IfOk result (λ x. length x.1.now < length tokens.now) }
+    at: usize,
+) -> Result<(TypeExpression, usize), TextError>
+    ensures gives { AnswersRead (λ x. (ty_view x.0, tokens_from tokens.now x.1)) result
+        ((option (text_end tokens.now) (ty (text_end tokens.now) nesting)).read (tokens_from tokens.now at)) }
+    ensures shorter { IfOk result (λ x. count_from tokens.now x.1 < count_from tokens.now at) }
 {
-    let (_, tokens) = punctuation(source, tokens, Punctuation::Less)?;
-    let (inner, tokens) = type_at(alloc, source, nesting, tokens)?;
-    let (_, tokens) = close_angle(source, &inner, tokens)?;
-    Ok((TypeExpression::Option(Box::new(alloc, inner)?), tokens))
+    let (_, at) = punctuation(tokens, at, Punctuation::Less)?;
+    let (inner, at) = type_at(alloc, tokens, nesting, at)?;
+    let (_, at) = close_angle(tokens, &inner, at)?;
+    Ok((TypeExpression::Option(Box::new(alloc, inner)?), at))
 }
 
 /// Behind `tuple`.
 #[cycle(types)]
 #[tactic(auto, unfolding(crate::specs::Grammar::tuple))]
-fn tuple_type<'a>(
+fn tuple_type(
     alloc: Global,
-    source: &[u8],
+    tokens: &Tokens<'_>,
     nesting: u32,
-    tokens: &'a [Token],
-) -> Result<(TypeExpression, &'a [Token]), TextError>
-    requires { length tokens.now ≤ limit }
-    ensures gives { AnswersRead (λ x. (ty_view x.0, lexemes source.now x.1.now)) result
-        ((tuple (length source.now) (ty (length source.now) nesting)).read (lexemes source.now tokens.now)) }
-    ensures shorter { IfOk result (λ x. length x.1.now < length tokens.now) }
+    at: usize,
+) -> Result<(TypeExpression, usize), TextError>
+    ensures gives { AnswersRead (λ x. (ty_view x.0, tokens_from tokens.now x.1)) result
+        ((tuple (text_end tokens.now) (ty (text_end tokens.now) nesting)).read (tokens_from tokens.now at)) }
+    ensures shorter { IfOk result (λ x. count_from tokens.now x.1 < count_from tokens.now at) }
 {
-    let (_, tokens) = punctuation(source, tokens, Punctuation::Less)?;
-    let (members, tokens) = member_list(alloc, source, nesting, tokens)?;
-    Ok((TypeExpression::Tuple(members), tokens))
+    let (_, at) = punctuation(tokens, at, Punctuation::Less)?;
+    let (members, at) = member_list(alloc, tokens, nesting, at)?;
+    Ok((TypeExpression::Tuple(members), at))
 }
 
 /// Behind `tuple <`, up to the `>` and with it.
 #[cycle(types)]
-fn member_list<'a>(
+fn member_list(
     alloc: Global,
-    source: &[u8],
+    tokens: &Tokens<'_>,
     nesting: u32,
-    tokens: &'a [Token],
-) -> Result<(Vec<TypeExpression>, &'a [Token]), TextError>
-    requires { length tokens.now ≤ limit }
-    ensures gives { AnswersRead (λ x. (map ty_view x.0.items, lexemes source.now x.1.now)) result
-        ((members (length source.now) (ty (length source.now) nesting) limit).read (lexemes source.now tokens.now)) }
-    ensures shorter { IfOk result (λ x. length x.1.now < length tokens.now) }
+    at: usize,
+) -> Result<(Vec<TypeExpression>, usize), TextError>
+    ensures gives { AnswersRead (λ x. (map ty_view x.0.items, tokens_from tokens.now x.1)) result
+        ((members (text_end tokens.now) (ty (text_end tokens.now) nesting) limit).read (tokens_from tokens.now at)) }
+    ensures shorter { IfOk result (λ x. count_from tokens.now x.1 < count_from tokens.now at) }
 {
     let mut list = Vec::new(alloc);
-    let mut left = tokens;
+    let mut left = at;
     'list: loop {
-        let (entry, after) = type_at(alloc, source, nesting, left)?;
+        let (entry, after) = type_at(alloc, tokens, nesting, left)?;
         list.push(entry)?;
         let comma = Expected::Punctuation(Punctuation::Comma);
-        let (more, after) = separator(source, after, Punctuation::Greater, comma)?;
+        let (more, after) = separator(tokens, after, Punctuation::Greater, comma)?;
         if !more {
             return Ok((list, after));
         }
@@ -349,116 +345,111 @@ fn member_list<'a>(
 /// Behind `result`.
 #[cycle(types)]
 #[tactic(auto, unfolding(crate::specs::Grammar::result_type))]
-fn result_type<'a>(
+fn result_type(
     alloc: Global,
-    source: &[u8],
+    tokens: &Tokens<'_>,
     nesting: u32,
-    tokens: &'a [Token],
-) -> Result<(TypeExpression, &'a [Token]), TextError>
-    requires { length tokens.now ≤ limit }
-    ensures gives { AnswersRead (λ x. (ty_view x.0, lexemes source.now x.1.now)) result
-        ((result_type (length source.now) (ty (length source.now) nesting)).read (lexemes source.now tokens.now)) }
-    ensures shorter { IfOk result (λ x. length x.1.now ≤ length tokens.now) }
+    at: usize,
+) -> Result<(TypeExpression, usize), TextError>
+    ensures gives { AnswersRead (λ x. (ty_view x.0, tokens_from tokens.now x.1)) result
+        ((result_type (text_end tokens.now) (ty (text_end tokens.now) nesting)).read (tokens_from tokens.now at)) }
+    ensures shorter { IfOk result (λ x. count_from tokens.now x.1 ≤ count_from tokens.now at) }
 {
     let less = TokenKind::Punctuation(Punctuation::Less);
-    match tokens {
-        [first, rest @ ..] if same(first.kind, less) => {
-            result_parts(alloc, source, nesting, rest)
+    match tokens.next(at) {
+        Some((first, rest)) if same(first.kind, less) => {
+            result_parts(alloc, tokens, nesting, rest)
         }
-        _ => Ok((result_of(None, None), tokens)),
+        _ => Ok((result_of(None, None), at)),
     }
 }
 
 /// Behind `result <`.
 #[cycle(types)]
 #[tactic(auto, unfolding(crate::specs::Grammar::result_parts))]
-fn result_parts<'a>(
+fn result_parts(
     alloc: Global,
-    source: &[u8],
+    tokens: &Tokens<'_>,
     nesting: u32,
-    tokens: &'a [Token],
-) -> Result<(TypeExpression, &'a [Token]), TextError>
-    requires { length tokens.now ≤ limit }
-    ensures gives { AnswersRead (λ x. (ty_view x.0, lexemes source.now x.1.now)) result
-        ((result_parts (length source.now) (ty (length source.now) nesting)).read (lexemes source.now tokens.now)) }
-    ensures shorter { IfOk result (λ x. length x.1.now ≤ length tokens.now) }
+    at: usize,
+) -> Result<(TypeExpression, usize), TextError>
+    ensures gives { AnswersRead (λ x. (ty_view x.0, tokens_from tokens.now x.1)) result
+        ((result_parts (text_end tokens.now) (ty (text_end tokens.now) nesting)).read (tokens_from tokens.now at)) }
+    ensures shorter { IfOk result (λ x. count_from tokens.now x.1 ≤ count_from tokens.now at) }
 {
     let underscore = TokenKind::Punctuation(Punctuation::Underscore);
-    match tokens {
-        [first, rest @ ..] if same(first.kind, underscore) => {
-            result_error(alloc, source, nesting, rest)
+    match tokens.next(at) {
+        Some((first, rest)) if same(first.kind, underscore) => {
+            result_error(alloc, tokens, nesting, rest)
         }
-        _ => result_ok(alloc, source, nesting, tokens),
+        _ => result_ok(alloc, tokens, nesting, at),
     }
 }
 
 /// Behind `result < _`.
 #[cycle(types)]
 #[tactic(auto, unfolding(crate::specs::Grammar::result_error))]
-fn result_error<'a>(
+fn result_error(
     alloc: Global,
-    source: &[u8],
+    tokens: &Tokens<'_>,
     nesting: u32,
-    tokens: &'a [Token],
-) -> Result<(TypeExpression, &'a [Token]), TextError>
-    requires { length tokens.now ≤ limit }
-    ensures gives { AnswersRead (λ x. (ty_view x.0, lexemes source.now x.1.now)) result
-        ((result_error (length source.now) (ty (length source.now) nesting)).read (lexemes source.now tokens.now)) }
-    ensures shorter { IfOk result (λ x. length x.1.now ≤ length tokens.now) }
+    at: usize,
+) -> Result<(TypeExpression, usize), TextError>
+    ensures gives { AnswersRead (λ x. (ty_view x.0, tokens_from tokens.now x.1)) result
+        ((result_error (text_end tokens.now) (ty (text_end tokens.now) nesting)).read (tokens_from tokens.now at)) }
+    ensures shorter { IfOk result (λ x. count_from tokens.now x.1 ≤ count_from tokens.now at) }
 {
-    let (_, tokens) = punctuation(source, tokens, Punctuation::Comma)?;
-    let (error, tokens) = error_type(alloc, source, nesting, tokens)?;
+    let (_, at) = punctuation(tokens, at, Punctuation::Comma)?;
+    let (error, at) = error_type(alloc, tokens, nesting, at)?;
     let error = Some(Box::new(alloc, error)?);
-    Ok((result_of(None, error), tokens))
+    Ok((result_of(None, error), at))
 }
 
 /// The last type of a result, and its `>`.
 #[cycle(types)]
 #[tactic(auto, unfolding(crate::specs::Grammar::error_type))]
-fn error_type<'a>(
+fn error_type(
     alloc: Global,
-    source: &[u8],
+    tokens: &Tokens<'_>,
     nesting: u32,
-    tokens: &'a [Token],
-) -> Result<(TypeExpression, &'a [Token]), TextError>
-    requires { length tokens.now ≤ limit }
-    ensures gives { AnswersRead (λ x. (ty_view x.0, lexemes source.now x.1.now)) result
-        ((error_type (length source.now) (ty (length source.now) nesting)).read (lexemes source.now tokens.now)) }
-    ensures shorter { IfOk result (λ x. length x.1.now ≤ length tokens.now) }
+    at: usize,
+) -> Result<(TypeExpression, usize), TextError>
+    ensures gives { AnswersRead (λ x. (ty_view x.0, tokens_from tokens.now x.1)) result
+        ((error_type (text_end tokens.now) (ty (text_end tokens.now) nesting)).read (tokens_from tokens.now at)) }
+    ensures shorter { IfOk result (λ x. count_from tokens.now x.1 ≤ count_from tokens.now at) }
 {
-    let (error, tokens) = type_at(alloc, source, nesting, tokens)?;
-    let (_, tokens) = close_angle(source, &error, tokens)?;
-    Ok((error, tokens))
+    let (error, at) = type_at(alloc, tokens, nesting, at)?;
+    let (_, at) = close_angle(tokens, &error, at)?;
+    Ok((error, at))
 }
 
 /// Behind `result <`, where a type begins.
 #[cycle(types)]
 #[tactic(auto, unfolding(crate::specs::Grammar::result_ok, crate::specs::Grammar::result_rest))]
-fn result_ok<'a>(
+fn result_ok(
     alloc: Global,
-    source: &[u8],
+    tokens: &Tokens<'_>,
     nesting: u32,
-    tokens: &'a [Token],
-) -> Result<(TypeExpression, &'a [Token]), TextError>
-    requires { length tokens.now ≤ limit }
-    ensures gives { AnswersRead (λ x. (ty_view x.0, lexemes source.now x.1.now)) result
-        ((result_ok (length source.now) (ty (length source.now) nesting)).read (lexemes source.now tokens.now)) }
-    ensures shorter { IfOk result (λ x. length x.1.now ≤ length tokens.now) }
+    at: usize,
+) -> Result<(TypeExpression, usize), TextError>
+    ensures gives { AnswersRead (λ x. (ty_view x.0, tokens_from tokens.now x.1)) result
+        ((result_ok (text_end tokens.now) (ty (text_end tokens.now) nesting)).read (tokens_from tokens.now at)) }
+    ensures shorter { IfOk result (λ x. count_from tokens.now x.1 ≤ count_from tokens.now at) }
 {
     let greater = TokenKind::Punctuation(Punctuation::Greater);
     let comma = TokenKind::Punctuation(Punctuation::Comma);
-    let (ok, tokens) = type_at(alloc, source, nesting, tokens)?;
+    let (ok, at) = type_at(alloc, tokens, nesting, at)?;
     let ok = Some(Box::new(alloc, ok)?);
-    match tokens {
-        [first, rest @ ..] if same(first.kind, greater) => Ok((result_of(ok, None), rest)),
-        [first, rest @ ..] if same(first.kind, comma) => {
-            let (error, tokens) = error_type(alloc, source, nesting, rest)?;
+    match tokens.next(at) {
+        Some((first, rest)) if same(first.kind, greater) => Ok((result_of(ok, None), rest)),
+        Some((first, rest)) if same(first.kind, comma) => {
+            let (error, at) = error_type(alloc, tokens, nesting, rest)?;
             let error = Some(Box::new(alloc, error)?);
-            Ok((result_of(ok, error), tokens))
+            Ok((result_of(ok, error), at))
         }
         _ => {
             let comma = Expected::Punctuation(Punctuation::Comma);
-            Err(TextError::Expected(comma, met(source, tokens)))
+            Err(TextError::Expected(comma, met(tokens, at)))
         }
     }
 }

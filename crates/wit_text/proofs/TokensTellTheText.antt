@@ -12,6 +12,8 @@ use Rattle.wit_tokens.specs.Syntax.{File}
 use Rattle.wit_grammar.specs.Faults.{StandsAt, Fails, AnswersRead}
 use Rattle.wit_tokens.specs.View.{file_view}
 use Rattle.wit_tokens.specs.declared.wit_syntax.ast.Ast.{Ast}
+use Rattle.wit_grammar.specs.declared.tokens.Tokens.{Tokens}
+use Rattle.wit_grammar.specs.Left.{tokens_from, text_end}
 use Rattle.wit_grammar.specs.Lookahead.{NoneBegins}
 use Rattle.wit_text.specs.Reading.{IsRead, IsFile, IsDepth, GrammarFault, FaultyText}
 use Rattle.wit_grammar.specs.Grammar.{nesting, file}
@@ -38,6 +40,15 @@ lex_refuses text error.NoMemory bad unclosed h f r = tt
 lex_refuses text (error.Expected k s) bad unclosed h f r = absurd h
 lex_refuses text (error.Unsupported k s) bad unclosed h f r = absurd h
 lex_refuses text (error.Depth s) bad unclosed h f r = absurd h
+
+-- what reading the tokens of a text answers
+abbrev Answered : List ℕ → List Token → Result Ast TextError → Type 0
+Answered text ts r = AnswersRead (λ a. let pair : File × List Lexeme = (file_view a, []) in pair) r ((file (length text) nesting).read (lexemes text ts))
+
+pub of_all : (tokens : Tokens) (text : List ℕ) (ts : List Token) (r : Result Ast TextError) → tokens.text.now ≡ text → tokens.list.now ≡ ts
+    → AnswersRead (λ a. let pair : File × List Lexeme = (file_view a, []) in pair) r ((file (text_end tokens) nesting).read (tokens_from tokens 0)) → Answered text ts r
+unfolding tokens_from
+of_all tokens text ts r same all h = subst (λ (us : List Token). Answered text us r) all (subst (λ (t : List ℕ). Answered t tokens.list.now r) same h)
 
 module _ (text : List ℕ) (ts : List Token) (short : length text ≤ limit) (lexed : Lexes text ts) (one : OneLexing text) where
   abbrev answer : Result (File × List Lexeme) TextError
@@ -83,17 +94,14 @@ module _ (text : List ℕ) (ts : List Token) (short : length text ≤ limit) (le
   is_faulty (error.Unsupported k s) h = anyhow (error.Unsupported k s) (λ d. let e : error.Unsupported k s ≡ error.Depth d.0 = d.1 in cc) h
   is_faulty (error.Depth s) h = refused (error.Depth s) h (within (error.Depth s) h)
 
-  abbrev Answered : Result Ast TextError → Type 0
-  Answered r = AnswersRead (λ a. let pair : File × List Lexeme = (file_view a, []) in pair) r answer
-
-  pub all_found : (r : Result Ast TextError) → Answered r → IfOk r (λ a. IsRead text (file_view a))
+  pub all_found : (r : Result Ast TextError) → Answered text ts r → IfOk r (λ a. IsRead text (file_view a))
   all_found (Ok a) h = is_found (file_view a) h
   all_found (Err e) h = tt
 
-  pub only_those : (r : Result Ast TextError) → Answered r → (f : File) → IsRead text f → AnswersRead file_view r (Ok f)
+  pub only_those : (r : Result Ast TextError) → Answered text ts r → (f : File) → IsRead text f → AnswersRead file_view r (Ok f)
   only_those (Ok a) h f i = only_that (file_view a) f h i
   only_those (Err e) h f i = none_read e f h i
 
-  pub all_faulty : (r : Result Ast TextError) → Answered r → IfErr r (λ e. FaultyText text e)
+  pub all_faulty : (r : Result Ast TextError) → Answered text ts r → IfErr r (λ e. FaultyText text e)
   all_faulty (Ok a) h = tt
   all_faulty (Err e) h = is_faulty e h

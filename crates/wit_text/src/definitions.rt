@@ -1,9 +1,8 @@
 //! Definitions of types.
-ghost use Rattle.std.specs.Prelude.{◌≡◌, ◌<◌, ◌≤◌, length, IfOk};
-ghost use Rattle.wit_tokens.specs.Lexing.{limit};
-ghost use Rattle.wit_tokens.specs.Tokens.{lexemes};
+ghost use Rattle.std.specs.Prelude.{◌≡◌, ◌<◌, ◌≤◌, IfOk};
 ghost use Rattle.wit_tokens.specs.View.{ty_view, optional_view, case_view, definition_view};
 ghost use Rattle.wit_grammar.specs.Faults.{AnswersRead};
+ghost use Rattle.wit_grammar.specs.Left.{tokens_from, count_from, text_end};
 ghost use Rattle.wit_grammar.specs.Grammar.{nesting, alias, record_body, payload, optional_payload, case_fault};
 ghost use Rattle.wit_grammar.specs.Grammar.{case_id, variant_case, variant_body, enum_cases, flag_names};
 
@@ -11,28 +10,27 @@ use crate::functions::{NESTING, field};
 use atoms::Label;
 use std::alloc::Global;
 use wit_grammar::{
-    EntryReader, comma_list, feature_or, first_feature, identifier, is_name, label_of, punctuation,
-    same, type_at,
+    EntryReader, Tokens, comma_list, feature_or, first_feature, identifier, is_name, label_of,
+    punctuation, same, type_at,
 };
 use wit_tokens::wit_syntax::{Case, Field, TypeDefKind, TypeExpression};
-use wit_tokens::{Expected, Punctuation, TextError, Token, TokenKind};
+use wit_tokens::{Expected, Punctuation, TextError, TokenKind};
 
 /// `=`, a type and `;`.
 #[tactic(auto, unfolding(wit_grammar::specs::Grammar::alias))]
-pub fn alias<'a>(
+pub fn alias(
     alloc: Global,
-    source: &[u8],
-    tokens: &'a [Token],
-) -> Result<(TypeDefKind, &'a [Token]), TextError>
-    requires { length tokens.now ≤ limit }
-    ensures gives { AnswersRead (λ x. (definition_view x.0, lexemes source.now x.1.now)) result
-        ((alias (length source.now) nesting).read (lexemes source.now tokens.now)) }
-    ensures shorter { IfOk result (λ x. length x.1.now < length tokens.now) }
+    tokens: &Tokens<'_>,
+    at: usize,
+) -> Result<(TypeDefKind, usize), TextError>
+    ensures gives { AnswersRead (λ x. (definition_view x.0, tokens_from tokens.now x.1)) result
+        ((alias (text_end tokens.now) nesting).read (tokens_from tokens.now at)) }
+    ensures shorter { IfOk result (λ x. count_from tokens.now x.1 < count_from tokens.now at) }
 {
-    let (_, tokens) = punctuation(source, tokens, Punctuation::Equals)?;
-    let (ty, tokens) = type_at(alloc, source, NESTING, tokens)?;
-    let (_, tokens) = punctuation(source, tokens, Punctuation::Semicolon)?;
-    Ok((TypeDefKind::Alias(ty), tokens))
+    let (_, at) = punctuation(tokens, at, Punctuation::Equals)?;
+    let (ty, at) = type_at(alloc, tokens, NESTING, at)?;
+    let (_, at) = punctuation(tokens, at, Punctuation::Semicolon)?;
+    Ok((TypeDefKind::Alias(ty), at))
 }
 
 /// The fields of a record.
@@ -55,13 +53,13 @@ impl EntryReader for Fields {
 
     ghost wanted_behind = { λ _. want.Punctuation Comma };
 
-    fn read<'a>(
+    fn read(
         &self,
         alloc: Global,
-        source: &[u8],
-        tokens: &'a [Token],
-    ) -> Result<(Field, &'a [Token]), TextError> {
-        field(alloc, source, tokens)
+        tokens: &Tokens<'_>,
+        at: usize,
+    ) -> Result<(Field, usize), TextError> {
+        field(alloc, tokens, at)
     }
 
     fn wanted_behind(&self, _field: &Field) -> Expected {
@@ -71,106 +69,94 @@ impl EntryReader for Fields {
 
 /// The fields of a record in their braces.
 #[tactic(auto, unfolding(wit_grammar::specs::Grammar::record_body))]
-pub fn record_fields<'a>(
+pub fn record_fields(
     alloc: Global,
-    source: &[u8],
-    tokens: &'a [Token],
-) -> Result<(TypeDefKind, &'a [Token]), TextError>
-    requires { length tokens.now ≤ limit }
-    ensures gives { AnswersRead (λ x. (definition_view x.0, lexemes source.now x.1.now)) result
-        ((record_body (length source.now) nesting).read (lexemes source.now tokens.now)) }
-    ensures shorter { IfOk result (λ x. length x.1.now < length tokens.now) }
+    tokens: &Tokens<'_>,
+    at: usize,
+) -> Result<(TypeDefKind, usize), TextError>
+    ensures gives { AnswersRead (λ x. (definition_view x.0, tokens_from tokens.now x.1)) result
+        ((record_body (text_end tokens.now) nesting).read (tokens_from tokens.now at)) }
+    ensures shorter { IfOk result (λ x. count_from tokens.now x.1 < count_from tokens.now at) }
 {
-    let (_, tokens) = punctuation(source, tokens, Punctuation::OpenBrace)?;
-    let (fields, tokens) = comma_list(&Fields, alloc, source, tokens)?;
-    Ok((TypeDefKind::Record(fields), tokens))
+    let (_, at) = punctuation(tokens, at, Punctuation::OpenBrace)?;
+    let (fields, at) = comma_list(&Fields, alloc, tokens, at)?;
+    Ok((TypeDefKind::Record(fields), at))
 }
 
 /// A type behind `(`, with the `)`.
 #[tactic(auto, unfolding(wit_grammar::specs::Grammar::payload))]
-fn payload<'a>(
+fn payload(
     alloc: Global,
-    source: &[u8],
-    tokens: &'a [Token],
-) -> Result<(TypeExpression, &'a [Token]), TextError>
-    requires { length tokens.now ≤ limit }
-    ensures gives { AnswersRead (λ x. (ty_view x.0, lexemes source.now x.1.now)) result
-        ((payload (length source.now) nesting).read (lexemes source.now tokens.now)) }
-    ensures shorter { IfOk result (λ x. length x.1.now < length tokens.now) }
+    tokens: &Tokens<'_>,
+    at: usize,
+) -> Result<(TypeExpression, usize), TextError>
+    ensures gives { AnswersRead (λ x. (ty_view x.0, tokens_from tokens.now x.1)) result
+        ((payload (text_end tokens.now) nesting).read (tokens_from tokens.now at)) }
+    ensures shorter { IfOk result (λ x. count_from tokens.now x.1 < count_from tokens.now at) }
 {
-    let (ty, tokens) = type_at(alloc, source, NESTING, tokens)?;
-    let (_, tokens) = punctuation(source, tokens, Punctuation::CloseParenthesis)?;
-    Ok((ty, tokens))
+    let (ty, at) = type_at(alloc, tokens, NESTING, at)?;
+    let (_, at) = punctuation(tokens, at, Punctuation::CloseParenthesis)?;
+    Ok((ty, at))
 }
 
 /// A type in parentheses, or nothing.
 #[tactic(auto, unfolding(wit_grammar::specs::Grammar::optional_payload))]
-fn optional_payload<'a>(
+fn optional_payload(
     alloc: Global,
-    source: &[u8],
-    tokens: &'a [Token],
-) -> Result<(Option<TypeExpression>, &'a [Token]), TextError>
-    requires { length tokens.now ≤ limit }
-    ensures gives { AnswersRead (λ x. (optional_view x.0, lexemes source.now x.1.now)) result
-        ((optional_payload (length source.now) nesting).read (lexemes source.now tokens.now)) }
-    ensures shorter { IfOk result (λ x. length x.1.now ≤ length tokens.now) }
+    tokens: &Tokens<'_>,
+    at: usize,
+) -> Result<(Option<TypeExpression>, usize), TextError>
+    ensures gives { AnswersRead (λ x. (optional_view x.0, tokens_from tokens.now x.1)) result
+        ((optional_payload (text_end tokens.now) nesting).read (tokens_from tokens.now at)) }
+    ensures shorter { IfOk result (λ x. count_from tokens.now x.1 ≤ count_from tokens.now at) }
 {
     let open = TokenKind::Punctuation(Punctuation::OpenParenthesis);
-    match tokens {
-        [first, rest @ ..] if same(first.kind, open) => {
-            let (ty, tokens) = payload(alloc, source, rest)?;
-            Ok((Some(ty), tokens))
+    match tokens.next(at) {
+        Some((first, rest)) if same(first.kind, open) => {
+            let (ty, at) = payload(alloc, tokens, rest)?;
+            Ok((Some(ty), at))
         }
-        _ => Ok((None, tokens)),
+        _ => Ok((None, at)),
     }
 }
 
 /// What is answered where no case begins.
 #[tactic(auto, unfolding(wit_grammar::specs::Grammar::case_fault))]
-fn case_fault(source: &[u8], tokens: &[Token]) -> TextError
-    ensures { result ≡ case_fault (length source.now) (lexemes source.now tokens.now) }
+fn case_fault(tokens: &Tokens<'_>, at: usize) -> TextError
+    ensures { result ≡ case_fault (text_end tokens.now) (tokens_from tokens.now at) }
 {
-    let feature = match tokens {
-        [first, ..] => first_feature(first.kind),
-        [] => None,
+    let feature = match tokens.next(at) {
+        Some((first, _)) => first_feature(first.kind),
+        None => None,
     };
-    feature_or(source, tokens, feature, Expected::Identifier)
+    feature_or(tokens, at, feature, Expected::Identifier)
 }
 
 /// A case's name.
 #[tactic(auto, unfolding(wit_grammar::specs::Grammar::case_id))]
-fn case_id<'a>(
-    alloc: Global,
-    source: &[u8],
-    tokens: &'a [Token],
-) -> Result<(Label, &'a [Token]), TextError>
-    ensures gives { AnswersRead (λ x. (x.0, lexemes source.now x.1.now)) result
-        ((case_id (length source.now)).read (lexemes source.now tokens.now)) }
-    ensures shorter { IfOk result (λ x. length x.1.now < length tokens.now) }
+fn case_id(alloc: Global, tokens: &Tokens<'_>, at: usize) -> Result<(Label, usize), TextError>
+    ensures gives { AnswersRead (λ x. (x.0, tokens_from tokens.now x.1)) result
+        ((case_id (text_end tokens.now)).read (tokens_from tokens.now at)) }
+    ensures shorter { IfOk result (λ x. count_from tokens.now x.1 < count_from tokens.now at) }
 {
-    match tokens {
-        [first, rest @ ..] if is_name(source, *first) => {
-            Ok((label_of(alloc, source, *first)?, rest))
+    match tokens.next(at) {
+        Some((first, rest)) if is_name(tokens, first) => {
+            Ok((label_of(alloc, tokens, first)?, rest))
         }
-        _ => Err(case_fault(source, tokens)),
+        _ => Err(case_fault(tokens, at)),
     }
 }
 
 /// A case of a variant.
 #[tactic(auto, unfolding(wit_grammar::specs::Grammar::variant_case))]
-fn variant_case<'a>(
-    alloc: Global,
-    source: &[u8],
-    tokens: &'a [Token],
-) -> Result<(Case, &'a [Token]), TextError>
-    requires { length tokens.now ≤ limit }
-    ensures gives { AnswersRead (λ x. (case_view x.0, lexemes source.now x.1.now)) result
-        ((variant_case (length source.now) nesting).read (lexemes source.now tokens.now)) }
-    ensures shorter { IfOk result (λ x. length x.1.now < length tokens.now) }
+fn variant_case(alloc: Global, tokens: &Tokens<'_>, at: usize) -> Result<(Case, usize), TextError>
+    ensures gives { AnswersRead (λ x. (case_view x.0, tokens_from tokens.now x.1)) result
+        ((variant_case (text_end tokens.now) nesting).read (tokens_from tokens.now at)) }
+    ensures shorter { IfOk result (λ x. count_from tokens.now x.1 < count_from tokens.now at) }
 {
-    let (name, tokens) = case_id(alloc, source, tokens)?;
-    let (payload, tokens) = optional_payload(alloc, source, tokens)?;
-    Ok((Case { name, payload }, tokens))
+    let (name, at) = case_id(alloc, tokens, at)?;
+    let (payload, at) = optional_payload(alloc, tokens, at)?;
+    Ok((Case { name, payload }, at))
 }
 
 /// The cases of a variant.
@@ -193,13 +179,13 @@ impl EntryReader for Cases {
 
     ghost wanted_behind = { λ _. want.Punctuation Comma };
 
-    fn read<'a>(
+    fn read(
         &self,
         alloc: Global,
-        source: &[u8],
-        tokens: &'a [Token],
-    ) -> Result<(Case, &'a [Token]), TextError> {
-        variant_case(alloc, source, tokens)
+        tokens: &Tokens<'_>,
+        at: usize,
+    ) -> Result<(Case, usize), TextError> {
+        variant_case(alloc, tokens, at)
     }
 
     fn wanted_behind(&self, _case: &Case) -> Expected {
@@ -209,19 +195,18 @@ impl EntryReader for Cases {
 
 /// The cases of a variant in their braces.
 #[tactic(auto, unfolding(wit_grammar::specs::Grammar::variant_body))]
-pub fn variant_cases<'a>(
+pub fn variant_cases(
     alloc: Global,
-    source: &[u8],
-    tokens: &'a [Token],
-) -> Result<(TypeDefKind, &'a [Token]), TextError>
-    requires { length tokens.now ≤ limit }
-    ensures gives { AnswersRead (λ x. (definition_view x.0, lexemes source.now x.1.now)) result
-        ((variant_body (length source.now) nesting).read (lexemes source.now tokens.now)) }
-    ensures shorter { IfOk result (λ x. length x.1.now < length tokens.now) }
+    tokens: &Tokens<'_>,
+    at: usize,
+) -> Result<(TypeDefKind, usize), TextError>
+    ensures gives { AnswersRead (λ x. (definition_view x.0, tokens_from tokens.now x.1)) result
+        ((variant_body (text_end tokens.now) nesting).read (tokens_from tokens.now at)) }
+    ensures shorter { IfOk result (λ x. count_from tokens.now x.1 < count_from tokens.now at) }
 {
-    let (_, tokens) = punctuation(source, tokens, Punctuation::OpenBrace)?;
-    let (cases, tokens) = comma_list(&Cases, alloc, source, tokens)?;
-    Ok((TypeDefKind::Variant(cases), tokens))
+    let (_, at) = punctuation(tokens, at, Punctuation::OpenBrace)?;
+    let (cases, at) = comma_list(&Cases, alloc, tokens, at)?;
+    Ok((TypeDefKind::Variant(cases), at))
 }
 
 /// The names of an enum's cases, where `@` may gate one, or of flags.
@@ -246,16 +231,16 @@ impl EntryReader for Names {
     ghost wanted_behind = { λ _. want.Punctuation Comma };
 
     #[tactic(auto, unfolding(wit_grammar::specs::Grammar::name_of_case))]
-    fn read<'a>(
+    fn read(
         &self,
         alloc: Global,
-        source: &[u8],
-        tokens: &'a [Token],
-    ) -> Result<(Label, &'a [Token]), TextError> {
+        tokens: &Tokens<'_>,
+        at: usize,
+    ) -> Result<(Label, usize), TextError> {
         if self.gated {
-            case_id(alloc, source, tokens)
+            case_id(alloc, tokens, at)
         } else {
-            identifier(alloc, source, tokens)
+            identifier(alloc, tokens, at)
         }
     }
 
@@ -266,34 +251,32 @@ impl EntryReader for Names {
 
 /// The cases of an enum in their braces.
 #[tactic(auto, using(crate::proofs::IdentityMaps::same_items), unfolding(wit_grammar::specs::Grammar::enum_cases))]
-pub fn enum_cases<'a>(
+pub fn enum_cases(
     alloc: Global,
-    source: &[u8],
-    tokens: &'a [Token],
-) -> Result<(TypeDefKind, &'a [Token]), TextError>
-    requires { length tokens.now ≤ limit }
-    ensures gives { AnswersRead (λ x. (definition_view x.0, lexemes source.now x.1.now)) result
-        ((enum_cases (length source.now)).read (lexemes source.now tokens.now)) }
-    ensures shorter { IfOk result (λ x. length x.1.now < length tokens.now) }
+    tokens: &Tokens<'_>,
+    at: usize,
+) -> Result<(TypeDefKind, usize), TextError>
+    ensures gives { AnswersRead (λ x. (definition_view x.0, tokens_from tokens.now x.1)) result
+        ((enum_cases (text_end tokens.now)).read (tokens_from tokens.now at)) }
+    ensures shorter { IfOk result (λ x. count_from tokens.now x.1 < count_from tokens.now at) }
 {
-    let (_, tokens) = punctuation(source, tokens, Punctuation::OpenBrace)?;
-    let (names, tokens) = comma_list(&Names { gated: true }, alloc, source, tokens)?;
-    Ok((TypeDefKind::Enum(names), tokens))
+    let (_, at) = punctuation(tokens, at, Punctuation::OpenBrace)?;
+    let (names, at) = comma_list(&Names { gated: true }, alloc, tokens, at)?;
+    Ok((TypeDefKind::Enum(names), at))
 }
 
 /// The names of flags in their braces.
 #[tactic(auto, using(crate::proofs::IdentityMaps::same_items), unfolding(wit_grammar::specs::Grammar::flag_names))]
-pub fn flag_names<'a>(
+pub fn flag_names(
     alloc: Global,
-    source: &[u8],
-    tokens: &'a [Token],
-) -> Result<(TypeDefKind, &'a [Token]), TextError>
-    requires { length tokens.now ≤ limit }
-    ensures gives { AnswersRead (λ x. (definition_view x.0, lexemes source.now x.1.now)) result
-        ((flag_names (length source.now)).read (lexemes source.now tokens.now)) }
-    ensures shorter { IfOk result (λ x. length x.1.now < length tokens.now) }
+    tokens: &Tokens<'_>,
+    at: usize,
+) -> Result<(TypeDefKind, usize), TextError>
+    ensures gives { AnswersRead (λ x. (definition_view x.0, tokens_from tokens.now x.1)) result
+        ((flag_names (text_end tokens.now)).read (tokens_from tokens.now at)) }
+    ensures shorter { IfOk result (λ x. count_from tokens.now x.1 < count_from tokens.now at) }
 {
-    let (_, tokens) = punctuation(source, tokens, Punctuation::OpenBrace)?;
-    let (names, tokens) = comma_list(&Names { gated: false }, alloc, source, tokens)?;
-    Ok((TypeDefKind::Flags(names), tokens))
+    let (_, at) = punctuation(tokens, at, Punctuation::OpenBrace)?;
+    let (names, at) = comma_list(&Names { gated: false }, alloc, tokens, at)?;
+    Ok((TypeDefKind::Flags(names), at))
 }

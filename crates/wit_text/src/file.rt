@@ -1,12 +1,13 @@
 //! Whole texts.
-ghost use Rattle.std.specs.Prelude.{◌≡◌, ◌<◌, ◌≤◌, [], length, map, Ok, IfOk, IfErr, IfSome};
+ghost use Rattle.std.specs.Prelude.{◌≡◌, ◌<◌, [], map, Ok, IfOk, IfErr, IfSome};
 ghost use Rattle.std.specs.Option.{option_map};
 ghost use Rattle.atoms.specs.Production.{at_end};
 ghost use Rattle.wit_tokens.specs.Lexing.{limit};
-ghost use Rattle.wit_tokens.specs.Tokens.{lexeme, lexemes};
+ghost use Rattle.wit_tokens.specs.Tokens.{lexeme};
 ghost use Rattle.wit_tokens.specs.Syntax.{File};
 ghost use Rattle.wit_tokens.specs.View.{item_view, file_view};
 ghost use Rattle.wit_grammar.specs.Faults.{AnswersRead};
+ghost use Rattle.wit_grammar.specs.Left.{tokens_from, count_from, text_end};
 ghost use Rattle.wit_grammar.specs.Grammar.{nesting, file_keyword, file_feature, file_fault, begins_item, item};
 ghost use Rattle.wit_grammar.specs.Grammar.{optional_item, items, file};
 ghost use Rattle.wit_text.specs.Reading.{IsRead, FaultyText};
@@ -14,7 +15,7 @@ ghost use Rattle.wit_text.specs.Reading.{IsRead, FaultyText};
 use crate::interfaces::interface;
 use crate::worlds::world;
 use std::alloc::Global;
-use wit_grammar::{feature_or, gate, header, same};
+use wit_grammar::{Tokens, feature_or, gate, header, same};
 use wit_tokens::wit_syntax::{Ast, Item};
 use wit_tokens::{
     Expected, Feature, Keyword, TextError, Token, TokenKind, lex, texts_have_one_lexing,
@@ -42,19 +43,14 @@ fn file_feature(kind: TokenKind) -> Option<Feature>
 
 /// What is answered where no item of a file begins.
 #[tactic(auto, unfolding(wit_grammar::specs::Grammar::file_fault))]
-fn file_fault(source: &[u8], tokens: &[Token]) -> TextError
-    ensures { result ≡ file_fault (length source.now) (lexemes source.now tokens.now) }
+fn file_fault(tokens: &Tokens<'_>, at: usize) -> TextError
+    ensures { result ≡ file_fault (text_end tokens.now) (tokens_from tokens.now at) }
 {
-    let feature = match tokens {
-        [first, ..] => file_feature(first.kind),
-        [] => None,
+    let feature = match tokens.next(at) {
+        Some((first, _)) => file_feature(first.kind),
+        None => None,
     };
-    feature_or(
-        source,
-        tokens,
-        feature,
-        Expected::Keyword(Keyword::Interface),
-    )
+    feature_or(tokens, at, feature, Expected::Keyword(Keyword::Interface))
 }
 
 fn begins_item(token: Token) -> bool
@@ -66,68 +62,66 @@ fn begins_item(token: Token) -> bool
 
 /// An interface or a world behind its first token.
 #[tactic(auto, unfolding(wit_grammar::specs::Grammar::item))]
-fn item<'a>(
+fn item(
     alloc: Global,
-    source: &[u8],
+    tokens: &Tokens<'_>,
     first: Token,
-    tokens: &'a [Token],
-) -> Result<(Item, &'a [Token]), TextError>
-    requires { length tokens.now ≤ limit }
-    ensures gives { AnswersRead (λ x. (item_view x.0, lexemes source.now x.1.now)) result
-        ((item (length source.now) nesting (lexeme source.now first)).read (lexemes source.now tokens.now)) }
-    ensures shorter { IfOk result (λ x. length x.1.now < length tokens.now) }
+    at: usize,
+) -> Result<(Item, usize), TextError>
+    ensures gives { AnswersRead (λ x. (item_view x.0, tokens_from tokens.now x.1)) result
+        ((item (text_end tokens.now) nesting (lexeme tokens.now.text.now first)).read (tokens_from tokens.now at)) }
+    ensures shorter { IfOk result (λ x. count_from tokens.now x.1 < count_from tokens.now at) }
 {
     if same(first.kind, TokenKind::Keyword(Keyword::Interface)) {
-        interface(alloc, source, tokens)
+        interface(alloc, tokens, at)
     } else {
-        world(alloc, source, first.span(), tokens)
+        world(alloc, tokens, first.span(), at)
     }
 }
 
 /// An interface or a world, or nothing.
 #[tactic(auto, unfolding(wit_grammar::specs::Grammar::optional_item))]
-fn optional_item<'a>(
+fn optional_item(
     alloc: Global,
-    source: &[u8],
-    tokens: &'a [Token],
-) -> Result<(Option<Item>, &'a [Token]), TextError>
-    requires { length tokens.now ≤ limit }
-    ensures gives { AnswersRead (λ x. (option_map item_view x.0, lexemes source.now x.1.now)) result
-        ((optional_item (length source.now) nesting).read (lexemes source.now tokens.now)) }
-    ensures shorter { IfOk result (λ x. IfSome x.0 (λ i. length x.1.now < length tokens.now)) }
+    tokens: &Tokens<'_>,
+    at: usize,
+) -> Result<(Option<Item>, usize), TextError>
+    ensures gives { AnswersRead (λ x. (option_map item_view x.0, tokens_from tokens.now x.1)) result
+        ((optional_item (text_end tokens.now) nesting).read (tokens_from tokens.now at)) }
+    ensures shorter { IfOk result (λ x. IfSome x.0 (λ i. count_from tokens.now x.1 < count_from tokens.now at)) }
 {
-    match tokens {
-        [first, rest @ ..] if begins_item(*first) => {
-            let (item, tokens) = item(alloc, source, *first, rest)?;
-            Ok((Some(item), tokens))
+    match tokens.next(at) {
+        Some((first, rest)) if begins_item(first) => {
+            let (item, at) = item(alloc, tokens, first, rest)?;
+            Ok((Some(item), at))
         }
-        _ => Ok((None, tokens)),
+        _ => Ok((None, at)),
     }
 }
 
 /// Nothing more stands there.
-fn ended(source: &[u8], tokens: &[Token]) -> Result<(), TextError>
+fn ended(tokens: &Tokens<'_>, at: usize) -> Result<(), TextError>
     ensures { AnswersRead (λ _. (0, [])) result
-        ((at_end (file_fault (length source.now))).read (lexemes source.now tokens.now)) }
+        ((at_end (file_fault (text_end tokens.now))).read (tokens_from tokens.now at)) }
 {
-    match tokens {
-        [] => Ok(()),
-        _ => Err(file_fault(source, tokens)),
+    match tokens.next(at) {
+        None => Ok(()),
+        _ => Err(file_fault(tokens, at)),
     }
 }
 
 /// What stands behind the package, to the end.
-fn items(alloc: Global, source: &[u8], tokens: &[Token]) -> Result<Vec<Item>, TextError>
-    requires { length tokens.now < limit }
+fn items(alloc: Global, tokens: &Tokens<'_>, at: usize) -> Result<Vec<Item>, TextError>
+    requires { count_from tokens.now at < limit }
     ensures { AnswersRead (λ x. (map item_view x.items, [])) result
-        ((items (length source.now) nesting limit).read (lexemes source.now tokens.now)) }
+        ((items (text_end tokens.now) nesting limit).read (tokens_from tokens.now at)) }
 {
     let mut list = Vec::new(alloc);
-    let mut left = tokens;
+    let mut left = at;
     'list: loop {
-        let (entry, after) = optional_item(alloc, source, left)?;
+        let (entry, after) = optional_item(alloc, tokens, left)?;
         let Some(entry) = entry else {
-            ended(source, after)?;
+            ended(tokens, after)?;
             return Ok(list);
         };
         list.push(entry)?;
@@ -136,13 +130,12 @@ fn items(alloc: Global, source: &[u8], tokens: &[Token]) -> Result<Vec<Item>, Te
 }
 
 #[tactic(auto, unfolding(wit_grammar::specs::Grammar::file))]
-fn file(alloc: Global, source: &[u8], tokens: &[Token]) -> Result<Ast, TextError>
-    requires { length tokens.now ≤ limit }
+fn file(alloc: Global, tokens: &Tokens<'_>, at: usize) -> Result<Ast, TextError>
     ensures { AnswersRead (λ a. (file_view a, [])) result
-        ((file (length source.now) nesting).read (lexemes source.now tokens.now)) }
+        ((file (text_end tokens.now) nesting).read (tokens_from tokens.now at)) }
 {
-    let (package, tokens) = header(alloc, source, tokens)?;
-    let items = items(alloc, source, tokens)?;
+    let (package, at) = header(alloc, tokens, at)?;
+    let items = items(alloc, tokens, at)?;
     Ok(Ast { package, items })
 }
 
@@ -154,6 +147,10 @@ pub fn parse(alloc: Global, text: &str) -> Result<Ast, TextError>
     ensures fault { IfErr result (λ e. FaultyText text.now e) }
 {
     texts_have_one_lexing();
-    let tokens = lex(alloc, text)?;
-    file(alloc, text.as_bytes(), tokens.as_slice())
+    let list = lex(alloc, text)?;
+    let tokens = Tokens {
+        text: text.as_bytes(),
+        list: list.as_slice(),
+    };
+    file(alloc, &tokens, 0)
 }

@@ -1,9 +1,10 @@
 //! Interfaces.
-ghost use Rattle.std.specs.Prelude.{◌≡◌, ◌<◌, ◌≤◌, length, map, IfOk};
+ghost use Rattle.std.specs.Prelude.{◌≡◌, ◌<◌, map, IfOk};
 ghost use Rattle.wit_tokens.specs.Lexing.{limit};
-ghost use Rattle.wit_tokens.specs.Tokens.{lexeme, lexemes};
+ghost use Rattle.wit_tokens.specs.Tokens.{IsNamed, lexeme};
 ghost use Rattle.wit_tokens.specs.View.{definition_view, entry_view, item_view};
 ghost use Rattle.wit_grammar.specs.Faults.{AnswersRead};
+ghost use Rattle.wit_grammar.specs.Left.{tokens_from, count_from, text_end};
 ghost use Rattle.wit_grammar.specs.Grammar.{nesting, item_kind, is_item_start, begins_entry, item_feature, entry_fault};
 ghost use Rattle.wit_grammar.specs.Grammar.{definition, defined, declared, keyword_entry, entry_behind, entry};
 ghost use Rattle.wit_grammar.specs.Grammar.{entry_list, interface};
@@ -14,17 +15,18 @@ use crate::uses::use_item;
 use atoms::Label;
 use std::alloc::Global;
 use wit_grammar::{
-    ItemStart, feature_or, identifier, is_item_start, is_name, item_kind, label_of, peek,
+    ItemStart, Tokens, feature_or, identifier, is_item_start, is_name, item_kind, label_of, peek,
     punctuation,
 };
 use wit_tokens::wit_syntax::{Func, Interface, InterfaceItem, Item, TypeDef, TypeDefKind};
-use wit_tokens::{Expected, Feature, Keyword, Punctuation, Span, TextError, Token, TokenKind};
+use wit_tokens::{Expected, Feature, Punctuation, Span, TextError, Token, TokenKind};
 
 #[tactic(auto, unfolding(wit_grammar::specs::Grammar::begins_entry))]
-fn begins_entry(source: &[u8], token: Token) -> bool
-    ensures { result ≡ begins_entry (lexeme source.now token) }
+fn begins_entry(tokens: &Tokens<'_>, token: Token) -> bool
+    requires named { IsNamed tokens.now.text.now token }
+    ensures { result ≡ begins_entry (lexeme tokens.now.text.now token) }
 {
-    is_name(source, token) || is_item_start(item_kind(token.kind))
+    is_name(tokens, token) || is_item_start(item_kind(token.kind))
 }
 
 fn item_feature(start: ItemStart) -> Option<Feature>
@@ -38,167 +40,159 @@ fn item_feature(start: ItemStart) -> Option<Feature>
 
 /// What is answered where no item of an interface begins.
 #[tactic(auto, unfolding(wit_grammar::specs::Grammar::entry_fault))]
-fn entry_fault(source: &[u8], tokens: &[Token]) -> TextError
-    ensures { result ≡ entry_fault (length source.now) (lexemes source.now tokens.now) }
+fn entry_fault(tokens: &Tokens<'_>, at: usize) -> TextError
+    ensures { result ≡ entry_fault (text_end tokens.now) (tokens_from tokens.now at) }
 {
-    let feature = match tokens {
-        [first, ..] => item_feature(item_kind(first.kind)),
-        [] => None,
+    let feature = match tokens.next(at) {
+        Some((first, _)) => item_feature(item_kind(first.kind)),
+        None => None,
     };
-    feature_or(source, tokens, feature, Expected::Identifier)
+    feature_or(tokens, at, feature, Expected::Identifier)
 }
 
 /// What a type definition has behind its name.
 #[tactic(auto, unfolding(wit_grammar::specs::Grammar::definition))]
-fn definition<'a>(
+fn definition(
     alloc: Global,
-    source: &[u8],
+    tokens: &Tokens<'_>,
     start: ItemStart,
-    tokens: &'a [Token],
-) -> Result<(TypeDefKind, &'a [Token]), TextError>
-    requires { length tokens.now ≤ limit }
-    ensures gives { AnswersRead (λ x. (definition_view x.0, lexemes source.now x.1.now)) result
-        ((definition (length source.now) nesting start).read (lexemes source.now tokens.now)) }
-    ensures shorter { IfOk result (λ x. length x.1.now < length tokens.now) }
+    at: usize,
+) -> Result<(TypeDefKind, usize), TextError>
+    ensures gives { AnswersRead (λ x. (definition_view x.0, tokens_from tokens.now x.1)) result
+        ((definition (text_end tokens.now) nesting start).read (tokens_from tokens.now at)) }
+    ensures shorter { IfOk result (λ x. count_from tokens.now x.1 < count_from tokens.now at) }
 {
     match start {
-        ItemStart::Alias => alias(alloc, source, tokens),
-        ItemStart::Record => record_fields(alloc, source, tokens),
-        ItemStart::Variant => variant_cases(alloc, source, tokens),
-        ItemStart::Enum => enum_cases(alloc, source, tokens),
-        ItemStart::Flags => flag_names(alloc, source, tokens),
+        ItemStart::Alias => alias(alloc, tokens, at),
+        ItemStart::Record => record_fields(alloc, tokens, at),
+        ItemStart::Variant => variant_cases(alloc, tokens, at),
+        ItemStart::Enum => enum_cases(alloc, tokens, at),
+        ItemStart::Flags => flag_names(alloc, tokens, at),
         ItemStart::Use | ItemStart::LeftOut(_) | ItemStart::Nothing => {
-            Err(entry_fault(source, tokens))
+            Err(entry_fault(tokens, at))
         }
     }
 }
 
 /// A type definition behind its keyword, which stands at `span`.
 #[tactic(auto, unfolding(wit_grammar::specs::Grammar::defined))]
-fn defined<'a>(
+fn defined(
     alloc: Global,
-    source: &[u8],
+    tokens: &Tokens<'_>,
     start: ItemStart,
     span: Span,
-    tokens: &'a [Token],
-) -> Result<(InterfaceItem, &'a [Token]), TextError>
-    requires { length tokens.now ≤ limit }
-    ensures gives { AnswersRead (λ x. (entry_view x.0, lexemes source.now x.1.now)) result
-        ((defined (length source.now) nesting start span).read (lexemes source.now tokens.now)) }
-    ensures shorter { IfOk result (λ x. length x.1.now < length tokens.now) }
+    at: usize,
+) -> Result<(InterfaceItem, usize), TextError>
+    ensures gives { AnswersRead (λ x. (entry_view x.0, tokens_from tokens.now x.1)) result
+        ((defined (text_end tokens.now) nesting start span).read (tokens_from tokens.now at)) }
+    ensures shorter { IfOk result (λ x. count_from tokens.now x.1 < count_from tokens.now at) }
 {
-    let (name, tokens) = identifier(alloc, source, tokens)?;
-    let (kind, tokens) = definition(alloc, source, start, tokens)?;
-    Ok((InterfaceItem::TypeDef(TypeDef { span, name, kind }), tokens))
+    let (name, at) = identifier(alloc, tokens, at)?;
+    let (kind, at) = definition(alloc, tokens, start, at)?;
+    Ok((InterfaceItem::TypeDef(TypeDef { span, name, kind }), at))
 }
 
 /// Behind a function's name, which stands at `span`.
 #[tactic(auto, unfolding(wit_grammar::specs::Grammar::declared))]
-fn declared<'a>(
+fn declared(
     alloc: Global,
-    source: &[u8],
+    tokens: &Tokens<'_>,
     span: Span,
     name: Label,
-    tokens: &'a [Token],
-) -> Result<(InterfaceItem, &'a [Token]), TextError>
-    requires { length tokens.now ≤ limit }
-    ensures gives { AnswersRead (λ x. (entry_view x.0, lexemes source.now x.1.now)) result
-        ((declared (length source.now) nesting span name).read (lexemes source.now tokens.now)) }
-    ensures shorter { IfOk result (λ x. length x.1.now < length tokens.now) }
+    at: usize,
+) -> Result<(InterfaceItem, usize), TextError>
+    ensures gives { AnswersRead (λ x. (entry_view x.0, tokens_from tokens.now x.1)) result
+        ((declared (text_end tokens.now) nesting span name).read (tokens_from tokens.now at)) }
+    ensures shorter { IfOk result (λ x. count_from tokens.now x.1 < count_from tokens.now at) }
 {
-    let (_, tokens) = punctuation(source, tokens, Punctuation::Colon)?;
-    let (_, tokens) = func_word(source, tokens)?;
-    let (ty, tokens) = whole_function(alloc, source, tokens)?;
-    Ok((InterfaceItem::Func(Func { span, name, ty }), tokens))
+    let (_, at) = punctuation(tokens, at, Punctuation::Colon)?;
+    let (_, at) = func_word(tokens, at)?;
+    let (ty, at) = whole_function(alloc, tokens, at)?;
+    Ok((InterfaceItem::Func(Func { span, name, ty }), at))
 }
 
 /// An item behind its keyword, which stands at `span`.
 #[tactic(auto, unfolding(wit_grammar::specs::Grammar::keyword_entry))]
-fn keyword_entry<'a>(
+fn keyword_entry(
     alloc: Global,
-    source: &[u8],
+    tokens: &Tokens<'_>,
     start: ItemStart,
     span: Span,
-    tokens: &'a [Token],
-) -> Result<(InterfaceItem, &'a [Token]), TextError>
-    requires { length tokens.now ≤ limit }
-    ensures gives { AnswersRead (λ x. (entry_view x.0, lexemes source.now x.1.now)) result
-        ((keyword_entry (length source.now) nesting start span).read (lexemes source.now tokens.now)) }
-    ensures shorter { IfOk result (λ x. length x.1.now < length tokens.now) }
+    at: usize,
+) -> Result<(InterfaceItem, usize), TextError>
+    ensures gives { AnswersRead (λ x. (entry_view x.0, tokens_from tokens.now x.1)) result
+        ((keyword_entry (text_end tokens.now) nesting start span).read (tokens_from tokens.now at)) }
+    ensures shorter { IfOk result (λ x. count_from tokens.now x.1 < count_from tokens.now at) }
 {
     match start {
-        ItemStart::Use => use_item(alloc, source, span, tokens),
+        ItemStart::Use => use_item(alloc, tokens, span, at),
         ItemStart::Alias
         | ItemStart::Record
         | ItemStart::Variant
         | ItemStart::Enum
-        | ItemStart::Flags => defined(alloc, source, start, span, tokens),
-        ItemStart::LeftOut(_) | ItemStart::Nothing => Err(entry_fault(source, tokens)),
+        | ItemStart::Flags => defined(alloc, tokens, start, span, at),
+        ItemStart::LeftOut(_) | ItemStart::Nothing => Err(entry_fault(tokens, at)),
     }
 }
 
 /// An item behind its first token.
 #[tactic(auto, unfolding(wit_grammar::specs::Grammar::entry_behind))]
-fn entry_behind<'a>(
+fn entry_behind(
     alloc: Global,
-    source: &[u8],
+    tokens: &Tokens<'_>,
     first: Token,
-    tokens: &'a [Token],
-) -> Result<(InterfaceItem, &'a [Token]), TextError>
-    requires { length tokens.now ≤ limit }
-    ensures gives { AnswersRead (λ x. (entry_view x.0, lexemes source.now x.1.now)) result
-        ((entry_behind (length source.now) nesting (lexeme source.now first)).read (lexemes source.now tokens.now)) }
-    ensures shorter { IfOk result (λ x. length x.1.now < length tokens.now) }
+    at: usize,
+) -> Result<(InterfaceItem, usize), TextError>
+    requires named { IsNamed tokens.now.text.now first }
+    ensures gives { AnswersRead (λ x. (entry_view x.0, tokens_from tokens.now x.1)) result
+        ((entry_behind (text_end tokens.now) nesting (lexeme tokens.now.text.now first)).read
+        (tokens_from tokens.now at)) }
+    ensures shorter { IfOk result (λ x. count_from tokens.now x.1 < count_from tokens.now at) }
 {
-    if is_name(source, first) {
-        let name = label_of(alloc, source, first)?;
-        return declared(alloc, source, first.span(), name, tokens);
+    if is_name(tokens, first) {
+        let name = label_of(alloc, tokens, first)?;
+        return declared(alloc, tokens, first.span(), name, at);
     }
-    keyword_entry(alloc, source, item_kind(first.kind), first.span(), tokens)
+    keyword_entry(alloc, tokens, item_kind(first.kind), first.span(), at)
 }
 
 /// An item of an interface.
 #[tactic(auto, unfolding(wit_grammar::specs::Grammar::entry))]
-fn entry<'a>(
-    alloc: Global,
-    source: &[u8],
-    tokens: &'a [Token],
-) -> Result<(InterfaceItem, &'a [Token]), TextError>
-    requires { length tokens.now ≤ limit }
-    ensures gives { AnswersRead (λ x. (entry_view x.0, lexemes source.now x.1.now)) result
-        ((entry (length source.now) nesting).read (lexemes source.now tokens.now)) }
-    ensures shorter { IfOk result (λ x. length x.1.now < length tokens.now) }
+fn entry(alloc: Global, tokens: &Tokens<'_>, at: usize) -> Result<(InterfaceItem, usize), TextError>
+    ensures gives { AnswersRead (λ x. (entry_view x.0, tokens_from tokens.now x.1)) result
+        ((entry (text_end tokens.now) nesting).read (tokens_from tokens.now at)) }
+    ensures shorter { IfOk result (λ x. count_from tokens.now x.1 < count_from tokens.now at) }
 {
-    match tokens {
-        [first, rest @ ..] if begins_entry(source, *first) => {
-            entry_behind(alloc, source, *first, rest)
+    match tokens.next(at) {
+        Some((first, rest)) if begins_entry(tokens, first) => {
+            entry_behind(alloc, tokens, first, rest)
         }
-        _ => Err(entry_fault(source, tokens)),
+        _ => Err(entry_fault(tokens, at)),
     }
 }
 
 /// The items of an interface, up to the `}` and with it.
-fn entry_list<'a>(
+fn entry_list(
     alloc: Global,
-    source: &[u8],
-    tokens: &'a [Token],
-) -> Result<(Vec<InterfaceItem>, &'a [Token]), TextError>
-    requires { length tokens.now < limit }
-    ensures gives { AnswersRead (λ x. (map entry_view x.0.items, lexemes source.now x.1.now)) result
-        ((entry_list (length source.now) nesting limit).read (lexemes source.now tokens.now)) }
-    ensures shorter { IfOk result (λ x. length x.1.now < length tokens.now) }
+    tokens: &Tokens<'_>,
+    at: usize,
+) -> Result<(Vec<InterfaceItem>, usize), TextError>
+    requires { count_from tokens.now at < limit }
+    ensures gives { AnswersRead (λ x. (map entry_view x.0.items, tokens_from tokens.now x.1)) result
+        ((entry_list (text_end tokens.now) nesting limit).read (tokens_from tokens.now at)) }
+    ensures shorter { IfOk result (λ x. count_from tokens.now x.1 < count_from tokens.now at) }
 {
     let close = TokenKind::Punctuation(Punctuation::CloseBrace);
     let mut list = Vec::new(alloc);
-    let mut left = tokens;
+    let mut left = at;
     'list: loop {
-        let (brace, rest) = peek(source, left, close);
+        let (brace, rest) = peek(tokens, left, close);
         if let Some(_) = brace {
             // A list has room for four from its first on, and most interfaces have fewer.
             list.shrink_to_fit();
             return Ok((list, rest));
         }
-        let (entry, rest) = entry(alloc, source, rest)?;
+        let (entry, rest) = entry(alloc, tokens, rest)?;
         list.push(entry)?;
         left = rest;
     }
@@ -206,18 +200,13 @@ fn entry_list<'a>(
 
 /// Behind `interface`.
 #[tactic(auto, unfolding(wit_grammar::specs::Grammar::interface))]
-pub fn interface<'a>(
-    alloc: Global,
-    source: &[u8],
-    tokens: &'a [Token],
-) -> Result<(Item, &'a [Token]), TextError>
-    requires { length tokens.now ≤ limit }
-    ensures gives { AnswersRead (λ x. (item_view x.0, lexemes source.now x.1.now)) result
-        ((interface (length source.now) nesting).read (lexemes source.now tokens.now)) }
-    ensures shorter { IfOk result (λ x. length x.1.now < length tokens.now) }
+pub fn interface(alloc: Global, tokens: &Tokens<'_>, at: usize) -> Result<(Item, usize), TextError>
+    ensures gives { AnswersRead (λ x. (item_view x.0, tokens_from tokens.now x.1)) result
+        ((interface (text_end tokens.now) nesting).read (tokens_from tokens.now at)) }
+    ensures shorter { IfOk result (λ x. count_from tokens.now x.1 < count_from tokens.now at) }
 {
-    let (name, tokens) = identifier(alloc, source, tokens)?;
-    let (_, tokens) = punctuation(source, tokens, Punctuation::OpenBrace)?;
-    let (items, tokens) = entry_list(alloc, source, tokens)?;
-    Ok((Item::Interface(Interface { name, items }), tokens))
+    let (name, at) = identifier(alloc, tokens, at)?;
+    let (_, at) = punctuation(tokens, at, Punctuation::OpenBrace)?;
+    let (items, at) = entry_list(alloc, tokens, at)?;
+    Ok((Item::Interface(Interface { name, items }), at))
 }

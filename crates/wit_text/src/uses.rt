@@ -1,52 +1,47 @@
 //! Uses of other interfaces' types.
-ghost use Rattle.std.specs.Prelude.{◌≡◌, ◌<◌, ◌≤◌, length, IfOk};
-ghost use Rattle.wit_tokens.specs.Lexing.{limit};
-ghost use Rattle.wit_tokens.specs.Tokens.{lexemes};
+ghost use Rattle.std.specs.Prelude.{◌<◌, ◌≤◌, IfOk};
 ghost use Rattle.wit_tokens.specs.View.{used_view, entry_view};
 ghost use Rattle.wit_grammar.specs.Faults.{AnswersRead};
+ghost use Rattle.wit_grammar.specs.Left.{tokens_from, count_from, text_end};
 ghost use Rattle.wit_grammar.specs.Grammar.{local_alias, used, use_item};
 
 use atoms::Label;
 use std::alloc::Global;
-use wit_grammar::{EntryReader, comma_list, identifier, path, path_end, punctuation, same};
+use wit_grammar::{EntryReader, Tokens, comma_list, identifier, path, path_end, punctuation, same};
 use wit_tokens::wit_syntax::{InterfaceItem, Use, UsedName};
-use wit_tokens::{Expected, Keyword, Punctuation, Span, TextError, Token, TokenKind};
+use wit_tokens::{Expected, Keyword, Punctuation, Span, TextError, TokenKind};
 
 /// `as` and a name, or nothing.
 #[tactic(auto, unfolding(wit_grammar::specs::Grammar::local_alias))]
-fn local_name<'a>(
+fn local_name(
     alloc: Global,
-    source: &[u8],
-    tokens: &'a [Token],
-) -> Result<(Option<Label>, &'a [Token]), TextError>
-    ensures gives { AnswersRead (λ x. (x.0, lexemes source.now x.1.now)) result
-        ((local_alias (length source.now)).read (lexemes source.now tokens.now)) }
-    ensures shorter { IfOk result (λ x. length x.1.now ≤ length tokens.now) }
+    tokens: &Tokens<'_>,
+    at: usize,
+) -> Result<(Option<Label>, usize), TextError>
+    ensures gives { AnswersRead (λ x. (x.0, tokens_from tokens.now x.1)) result
+        ((local_alias (text_end tokens.now)).read (tokens_from tokens.now at)) }
+    ensures shorter { IfOk result (λ x. count_from tokens.now x.1 ≤ count_from tokens.now at) }
 {
     let word = TokenKind::Keyword(Keyword::As);
-    match tokens {
-        [first, rest @ ..] if same(first.kind, word) => {
-            let (name, tokens) = identifier(alloc, source, rest)?;
-            Ok((Some(name), tokens))
+    match tokens.next(at) {
+        Some((first, rest)) if same(first.kind, word) => {
+            let (name, at) = identifier(alloc, tokens, rest)?;
+            Ok((Some(name), at))
         }
-        _ => Ok((None, tokens)),
+        _ => Ok((None, at)),
     }
 }
 
 /// A used name, and its local name if it has one.
 #[tactic(auto, unfolding(wit_grammar::specs::Grammar::used))]
-fn used<'a>(
-    alloc: Global,
-    source: &[u8],
-    tokens: &'a [Token],
-) -> Result<(UsedName, &'a [Token]), TextError>
-    ensures gives { AnswersRead (λ x. (used_view x.0, lexemes source.now x.1.now)) result
-        ((used (length source.now)).read (lexemes source.now tokens.now)) }
-    ensures shorter { IfOk result (λ x. length x.1.now < length tokens.now) }
+fn used(alloc: Global, tokens: &Tokens<'_>, at: usize) -> Result<(UsedName, usize), TextError>
+    ensures gives { AnswersRead (λ x. (used_view x.0, tokens_from tokens.now x.1)) result
+        ((used (text_end tokens.now)).read (tokens_from tokens.now at)) }
+    ensures shorter { IfOk result (λ x. count_from tokens.now x.1 < count_from tokens.now at) }
 {
-    let (name, tokens) = identifier(alloc, source, tokens)?;
-    let (local, tokens) = local_name(alloc, source, tokens)?;
-    Ok((UsedName { name, local }, tokens))
+    let (name, at) = identifier(alloc, tokens, at)?;
+    let (local, at) = local_name(alloc, tokens, at)?;
+    Ok((UsedName { name, local }, at))
 }
 
 /// Used names.
@@ -67,13 +62,13 @@ impl EntryReader for UsedNames {
 
     ghost wanted_behind = { after_used };
 
-    fn read<'a>(
+    fn read(
         &self,
         alloc: Global,
-        source: &[u8],
-        tokens: &'a [Token],
-    ) -> Result<(UsedName, &'a [Token]), TextError> {
-        used(alloc, source, tokens)
+        tokens: &Tokens<'_>,
+        at: usize,
+    ) -> Result<(UsedName, usize), TextError> {
+        used(alloc, tokens, at)
     }
 
     fn wanted_behind(&self, name: &UsedName) -> Expected {
@@ -87,28 +82,27 @@ impl EntryReader for UsedNames {
 
 /// Behind `use`, which stands at `span`.
 #[tactic(auto, unfolding(wit_grammar::specs::Grammar::use_item))]
-pub fn use_item<'a>(
+pub fn use_item(
     alloc: Global,
-    source: &[u8],
+    tokens: &Tokens<'_>,
     span: Span,
-    tokens: &'a [Token],
-) -> Result<(InterfaceItem, &'a [Token]), TextError>
-    requires { length tokens.now ≤ limit }
-    ensures gives { AnswersRead (λ x. (entry_view x.0, lexemes source.now x.1.now)) result
-        ((use_item (length source.now) span).read (lexemes source.now tokens.now)) }
-    ensures shorter { IfOk result (λ x. length x.1.now < length tokens.now) }
+    at: usize,
+) -> Result<(InterfaceItem, usize), TextError>
+    ensures gives { AnswersRead (λ x. (entry_view x.0, tokens_from tokens.now x.1)) result
+        ((use_item (text_end tokens.now) span).read (tokens_from tokens.now at)) }
+    ensures shorter { IfOk result (λ x. count_from tokens.now x.1 < count_from tokens.now at) }
 {
-    let (first, tokens) = identifier(alloc, source, tokens)?;
-    let (interface, tokens) = path(alloc, source, first, tokens)?;
-    let (_, tokens) = path_end(source, &interface, Punctuation::Dot, tokens)?;
-    let (_, tokens) = punctuation(source, tokens, Punctuation::OpenBrace)?;
-    let (mut names, tokens) = comma_list(&UsedNames, alloc, source, tokens)?;
+    let (first, at) = identifier(alloc, tokens, at)?;
+    let (interface, at) = path(alloc, tokens, first, at)?;
+    let (_, at) = path_end(tokens, &interface, Punctuation::Dot, at)?;
+    let (_, at) = punctuation(tokens, at, Punctuation::OpenBrace)?;
+    let (mut names, at) = comma_list(&UsedNames, alloc, tokens, at)?;
     names.shrink_to_fit();
-    let (_, tokens) = punctuation(source, tokens, Punctuation::Semicolon)?;
+    let (_, at) = punctuation(tokens, at, Punctuation::Semicolon)?;
     let item = Use {
         span,
         interface,
         names,
     };
-    Ok((InterfaceItem::Use(Box::new(alloc, item)?), tokens))
+    Ok((InterfaceItem::Use(Box::new(alloc, item)?), at))
 }

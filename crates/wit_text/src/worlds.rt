@@ -1,9 +1,10 @@
 //! Worlds.
-ghost use Rattle.std.specs.Prelude.{◌≡◌, ◌<◌, ◌≤◌, length, map, IfOk};
+ghost use Rattle.std.specs.Prelude.{◌≡◌, ◌<◌, map, IfOk};
 ghost use Rattle.wit_tokens.specs.Lexing.{limit};
-ghost use Rattle.wit_tokens.specs.Tokens.{lexeme, lexemes};
+ghost use Rattle.wit_tokens.specs.Tokens.{IsNamed, lexeme};
 ghost use Rattle.wit_tokens.specs.View.{world_entry_view, item_view};
 ghost use Rattle.wit_grammar.specs.Faults.{AnswersRead};
+ghost use Rattle.wit_grammar.specs.Left.{tokens_from, count_from, text_end};
 ghost use Rattle.wit_grammar.specs.Grammar.{nesting, keyword_direction, direction_of, world_keyword, world_feature};
 ghost use Rattle.wit_grammar.specs.Grammar.{world_fault, single_keyword, single_kind, single_fault};
 ghost use Rattle.wit_grammar.specs.Grammar.{begins_behind_colon, whole_foreign, single, colon_behind, world_colon};
@@ -13,7 +14,8 @@ use crate::functions::whole_function;
 use atoms::Label;
 use std::alloc::Global;
 use wit_grammar::{
-    feature_or, foreign, gate, identifier, is_name, label_of, path_end, peek, punctuation, same,
+    Tokens, feature_or, foreign, gate, identifier, is_name, label_of, path_end, peek, punctuation,
+    same,
 };
 use wit_tokens::wit_syntax::{Direction, Func, Item, Path, World, WorldItem, WorldItemKind};
 use wit_tokens::{Expected, Feature, Keyword, Punctuation, Span, TextError, Token, TokenKind};
@@ -65,14 +67,14 @@ fn world_feature(kind: TokenKind) -> Option<Feature>
 
 /// What is answered where no item of a world begins.
 #[tactic(auto, unfolding(wit_grammar::specs::Grammar::world_fault))]
-fn world_fault(source: &[u8], tokens: &[Token]) -> TextError
-    ensures { result ≡ world_fault (length source.now) (lexemes source.now tokens.now) }
+fn world_fault(tokens: &Tokens<'_>, at: usize) -> TextError
+    ensures { result ≡ world_fault (text_end tokens.now) (tokens_from tokens.now at) }
 {
-    let feature = match tokens {
-        [first, ..] => world_feature(first.kind),
-        [] => None,
+    let feature = match tokens.next(at) {
+        Some((first, _)) => world_feature(first.kind),
+        None => None,
     };
-    feature_or(source, tokens, feature, Expected::Keyword(Keyword::Export))
+    feature_or(tokens, at, feature, Expected::Keyword(Keyword::Export))
 }
 
 fn single_keyword(keyword: Keyword) -> Option<Feature>
@@ -96,177 +98,174 @@ fn single_kind(kind: TokenKind) -> Option<Feature>
 
 /// What is answered where neither a name nor `func` stands.
 #[tactic(auto, unfolding(wit_grammar::specs::Grammar::single_fault))]
-fn single_fault(source: &[u8], tokens: &[Token]) -> TextError
-    ensures { result ≡ single_fault (length source.now) (lexemes source.now tokens.now) }
+fn single_fault(tokens: &Tokens<'_>, at: usize) -> TextError
+    ensures { result ≡ single_fault (text_end tokens.now) (tokens_from tokens.now at) }
 {
-    let feature = match tokens {
-        [first, ..] => single_kind(first.kind),
-        [] => None,
+    let feature = match tokens.next(at) {
+        Some((first, _)) => single_kind(first.kind),
+        None => None,
     };
-    feature_or(source, tokens, feature, Expected::Identifier)
+    feature_or(tokens, at, feature, Expected::Identifier)
 }
 
 #[tactic(auto, unfolding(wit_grammar::specs::Grammar::begins_behind_colon))]
-fn begins_behind_colon(source: &[u8], token: Token) -> bool
-    ensures { result ≡ begins_behind_colon (lexeme source.now token) }
+fn begins_behind_colon(tokens: &Tokens<'_>, token: Token) -> bool
+    requires named { IsNamed tokens.now.text.now token }
+    ensures { result ≡ begins_behind_colon (lexeme tokens.now.text.now token) }
 {
-    is_name(source, token) || same(token.kind, TokenKind::Keyword(Keyword::Func))
+    is_name(tokens, token) || same(token.kind, TokenKind::Keyword(Keyword::Func))
 }
 
 /// Another package's interface in a world, behind the names of its package.
 #[tactic(auto, unfolding(wit_grammar::specs::Grammar::whole_foreign))]
-fn whole_foreign<'a>(
+fn whole_foreign(
     alloc: Global,
-    source: &[u8],
+    tokens: &Tokens<'_>,
     direction: Direction,
     namespace: Label,
     name: Label,
-    tokens: &'a [Token],
-) -> Result<(WorldItem, &'a [Token]), TextError>
-    ensures gives { AnswersRead (λ x. (world_entry_view x.0, lexemes source.now x.1.now)) result
-        ((whole_foreign (length source.now) direction namespace name).read (lexemes source.now tokens.now)) }
-    ensures shorter { IfOk result (λ x. length x.1.now < length tokens.now) }
+    at: usize,
+) -> Result<(WorldItem, usize), TextError>
+    ensures gives { AnswersRead (λ x. (world_entry_view x.0, tokens_from tokens.now x.1)) result
+        ((whole_foreign (text_end tokens.now) direction namespace name).read (tokens_from tokens.now at)) }
+    ensures shorter { IfOk result (λ x. count_from tokens.now x.1 < count_from tokens.now at) }
 {
-    let (path, tokens) = foreign(alloc, source, namespace, name, tokens)?;
-    let (_, tokens) = path_end(source, &path, Punctuation::Semicolon, tokens)?;
+    let (path, at) = foreign(alloc, tokens, namespace, name, at)?;
+    let (_, at) = path_end(tokens, &path, Punctuation::Semicolon, at)?;
     let kind = WorldItemKind::Interface(path);
-    Ok((WorldItem { direction, kind }, tokens))
+    Ok((WorldItem { direction, kind }, at))
 }
 
 /// A function of a world behind `func`; the item stands at `span`.
 #[tactic(auto, unfolding(wit_grammar::specs::Grammar::single))]
-fn single<'a>(
+fn single(
     alloc: Global,
-    source: &[u8],
+    tokens: &Tokens<'_>,
     direction: Direction,
     span: Span,
     name: Label,
-    tokens: &'a [Token],
-) -> Result<(WorldItem, &'a [Token]), TextError>
-    requires { length tokens.now ≤ limit }
-    ensures gives { AnswersRead (λ x. (world_entry_view x.0, lexemes source.now x.1.now)) result
-        ((single (length source.now) nesting direction span name).read (lexemes source.now tokens.now)) }
-    ensures shorter { IfOk result (λ x. length x.1.now < length tokens.now) }
+    at: usize,
+) -> Result<(WorldItem, usize), TextError>
+    ensures gives { AnswersRead (λ x. (world_entry_view x.0, tokens_from tokens.now x.1)) result
+        ((single (text_end tokens.now) nesting direction span name).read (tokens_from tokens.now at)) }
+    ensures shorter { IfOk result (λ x. count_from tokens.now x.1 < count_from tokens.now at) }
 {
-    let (ty, tokens) = whole_function(alloc, source, tokens)?;
+    let (ty, at) = whole_function(alloc, tokens, at)?;
     let kind = WorldItemKind::Func(Func { span, name, ty });
-    Ok((WorldItem { direction, kind }, tokens))
+    Ok((WorldItem { direction, kind }, at))
 }
 
 /// An item of a world behind the `:` and the token behind it.
 #[tactic(auto, unfolding(wit_grammar::specs::Grammar::colon_behind))]
-fn colon_behind<'a>(
+fn colon_behind(
     alloc: Global,
-    source: &[u8],
+    tokens: &Tokens<'_>,
     direction: Direction,
     span: Span,
     name: Label,
     first: Token,
-    tokens: &'a [Token],
-) -> Result<(WorldItem, &'a [Token]), TextError>
-    requires { length tokens.now ≤ limit }
-    ensures gives { AnswersRead (λ x. (world_entry_view x.0, lexemes source.now x.1.now)) result
-        ((colon_behind (length source.now) nesting direction span name (lexeme source.now first)).read
-        (lexemes source.now tokens.now)) }
-    ensures shorter { IfOk result (λ x. length x.1.now < length tokens.now) }
+    at: usize,
+) -> Result<(WorldItem, usize), TextError>
+    requires named { IsNamed tokens.now.text.now first }
+    ensures gives { AnswersRead (λ x. (world_entry_view x.0, tokens_from tokens.now x.1)) result
+        ((colon_behind (text_end tokens.now) nesting direction span name (lexeme tokens.now.text.now first)).read
+        (tokens_from tokens.now at)) }
+    ensures shorter { IfOk result (λ x. count_from tokens.now x.1 < count_from tokens.now at) }
 {
-    if is_name(source, first) {
-        let package = label_of(alloc, source, first)?;
-        return whole_foreign(alloc, source, direction, name, package, tokens);
+    if is_name(tokens, first) {
+        let package = label_of(alloc, tokens, first)?;
+        return whole_foreign(alloc, tokens, direction, name, package, at);
     }
-    single(alloc, source, direction, span, name, tokens)
+    single(alloc, tokens, direction, span, name, at)
 }
 
 /// An item of a world from the `:` behind its name on; the item stands at `span`.
 #[tactic(auto, unfolding(wit_grammar::specs::Grammar::world_colon))]
-fn world_colon<'a>(
+fn world_colon(
     alloc: Global,
-    source: &[u8],
+    tokens: &Tokens<'_>,
     direction: Direction,
     span: Span,
     name: Label,
-    tokens: &'a [Token],
-) -> Result<(WorldItem, &'a [Token]), TextError>
-    requires { length tokens.now ≤ limit }
-    ensures gives { AnswersRead (λ x. (world_entry_view x.0, lexemes source.now x.1.now)) result
-        ((world_colon (length source.now) nesting direction span name).read (lexemes source.now tokens.now)) }
-    ensures shorter { IfOk result (λ x. length x.1.now < length tokens.now) }
+    at: usize,
+) -> Result<(WorldItem, usize), TextError>
+    ensures gives { AnswersRead (λ x. (world_entry_view x.0, tokens_from tokens.now x.1)) result
+        ((world_colon (text_end tokens.now) nesting direction span name).read (tokens_from tokens.now at)) }
+    ensures shorter { IfOk result (λ x. count_from tokens.now x.1 < count_from tokens.now at) }
 {
-    let (_, tokens) = punctuation(source, tokens, Punctuation::Colon)?;
-    match tokens {
-        [first, rest @ ..] if begins_behind_colon(source, *first) => {
-            colon_behind(alloc, source, direction, span, name, *first, rest)
+    let (_, at) = punctuation(tokens, at, Punctuation::Colon)?;
+    match tokens.next(at) {
+        Some((first, rest)) if begins_behind_colon(tokens, first) => {
+            colon_behind(alloc, tokens, direction, span, name, first, rest)
         }
-        _ => Err(single_fault(source, tokens)),
+        _ => Err(single_fault(tokens, at)),
     }
 }
 
 /// An item of a world behind its direction, which stands at `span`.
 #[tactic(auto, unfolding(wit_grammar::specs::Grammar::world_entry_behind))]
-fn world_entry_behind<'a>(
+fn world_entry_behind(
     alloc: Global,
-    source: &[u8],
+    tokens: &Tokens<'_>,
     direction: Direction,
     span: Span,
-    tokens: &'a [Token],
-) -> Result<(WorldItem, &'a [Token]), TextError>
-    requires { length tokens.now ≤ limit }
-    ensures gives { AnswersRead (λ x. (world_entry_view x.0, lexemes source.now x.1.now)) result
-        ((world_entry_behind (length source.now) nesting direction span).read (lexemes source.now tokens.now)) }
-    ensures shorter { IfOk result (λ x. length x.1.now < length tokens.now) }
+    at: usize,
+) -> Result<(WorldItem, usize), TextError>
+    ensures gives { AnswersRead (λ x. (world_entry_view x.0, tokens_from tokens.now x.1)) result
+        ((world_entry_behind (text_end tokens.now) nesting direction span).read (tokens_from tokens.now at)) }
+    ensures shorter { IfOk result (λ x. count_from tokens.now x.1 < count_from tokens.now at) }
 {
     let semicolon = TokenKind::Punctuation(Punctuation::Semicolon);
-    let (name, tokens) = identifier(alloc, source, tokens)?;
-    match tokens {
-        [first, rest @ ..] if same(first.kind, semicolon) => {
+    let (name, at) = identifier(alloc, tokens, at)?;
+    match tokens.next(at) {
+        Some((first, rest)) if same(first.kind, semicolon) => {
             let kind = WorldItemKind::Interface(Path::Local(name));
             Ok((WorldItem { direction, kind }, rest))
         }
-        _ => world_colon(alloc, source, direction, span, name, tokens),
+        _ => world_colon(alloc, tokens, direction, span, name, at),
     }
 }
 
 /// An item of a world.
 #[tactic(auto, unfolding(wit_grammar::specs::Grammar::world_entry))]
-fn world_entry<'a>(
+fn world_entry(
     alloc: Global,
-    source: &[u8],
-    tokens: &'a [Token],
-) -> Result<(WorldItem, &'a [Token]), TextError>
-    requires { length tokens.now ≤ limit }
-    ensures gives { AnswersRead (λ x. (world_entry_view x.0, lexemes source.now x.1.now)) result
-        ((world_entry (length source.now) nesting).read (lexemes source.now tokens.now)) }
-    ensures shorter { IfOk result (λ x. length x.1.now < length tokens.now) }
+    tokens: &Tokens<'_>,
+    at: usize,
+) -> Result<(WorldItem, usize), TextError>
+    ensures gives { AnswersRead (λ x. (world_entry_view x.0, tokens_from tokens.now x.1)) result
+        ((world_entry (text_end tokens.now) nesting).read (tokens_from tokens.now at)) }
+    ensures shorter { IfOk result (λ x. count_from tokens.now x.1 < count_from tokens.now at) }
 {
-    let [first, rest @ ..] = tokens else {
-        return Err(world_fault(source, tokens));
+    let Some((first, rest)) = tokens.next(at) else {
+        return Err(world_fault(tokens, at));
     };
     match direction_of(first.kind) {
-        Some(direction) => world_entry_behind(alloc, source, direction, first.span(), rest),
-        None => Err(world_fault(source, tokens)),
+        Some(direction) => world_entry_behind(alloc, tokens, direction, first.span(), rest),
+        None => Err(world_fault(tokens, at)),
     }
 }
 
 /// The items of a world, up to the `}` and with it.
-fn world_list<'a>(
+fn world_list(
     alloc: Global,
-    source: &[u8],
-    tokens: &'a [Token],
-) -> Result<(Vec<WorldItem>, &'a [Token]), TextError>
-    requires { length tokens.now < limit }
-    ensures gives { AnswersRead (λ x. (map world_entry_view x.0.items, lexemes source.now x.1.now)) result
-        ((world_list (length source.now) nesting limit).read (lexemes source.now tokens.now)) }
-    ensures shorter { IfOk result (λ x. length x.1.now < length tokens.now) }
+    tokens: &Tokens<'_>,
+    at: usize,
+) -> Result<(Vec<WorldItem>, usize), TextError>
+    requires { count_from tokens.now at < limit }
+    ensures gives { AnswersRead (λ x. (map world_entry_view x.0.items, tokens_from tokens.now x.1)) result
+        ((world_list (text_end tokens.now) nesting limit).read (tokens_from tokens.now at)) }
+    ensures shorter { IfOk result (λ x. count_from tokens.now x.1 < count_from tokens.now at) }
 {
     let close = TokenKind::Punctuation(Punctuation::CloseBrace);
     let mut list = Vec::new(alloc);
-    let mut left = tokens;
+    let mut left = at;
     'list: loop {
-        let (brace, rest) = peek(source, left, close);
+        let (brace, rest) = peek(tokens, left, close);
         if let Some(_) = brace {
             return Ok((list, rest));
         }
-        let (entry, rest) = world_entry(alloc, source, rest)?;
+        let (entry, rest) = world_entry(alloc, tokens, rest)?;
         list.push(entry)?;
         left = rest;
     }
@@ -274,19 +273,18 @@ fn world_list<'a>(
 
 /// Behind `world`, which stands at `span`.
 #[tactic(auto, unfolding(wit_grammar::specs::Grammar::world))]
-pub fn world<'a>(
+pub fn world(
     alloc: Global,
-    source: &[u8],
+    tokens: &Tokens<'_>,
     span: Span,
-    tokens: &'a [Token],
-) -> Result<(Item, &'a [Token]), TextError>
-    requires { length tokens.now ≤ limit }
-    ensures gives { AnswersRead (λ x. (item_view x.0, lexemes source.now x.1.now)) result
-        ((world (length source.now) nesting span).read (lexemes source.now tokens.now)) }
-    ensures shorter { IfOk result (λ x. length x.1.now < length tokens.now) }
+    at: usize,
+) -> Result<(Item, usize), TextError>
+    ensures gives { AnswersRead (λ x. (item_view x.0, tokens_from tokens.now x.1)) result
+        ((world (text_end tokens.now) nesting span).read (tokens_from tokens.now at)) }
+    ensures shorter { IfOk result (λ x. count_from tokens.now x.1 < count_from tokens.now at) }
 {
-    let (name, tokens) = identifier(alloc, source, tokens)?;
-    let (_, tokens) = punctuation(source, tokens, Punctuation::OpenBrace)?;
-    let (items, tokens) = world_list(alloc, source, tokens)?;
-    Ok((Item::World(World { span, name, items }), tokens))
+    let (name, at) = identifier(alloc, tokens, at)?;
+    let (_, at) = punctuation(tokens, at, Punctuation::OpenBrace)?;
+    let (items, at) = world_list(alloc, tokens, at)?;
+    Ok((Item::World(World { span, name, items }), at))
 }

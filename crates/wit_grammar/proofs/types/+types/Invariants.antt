@@ -1,7 +1,7 @@
 use Rattle.std.proofs.Common.{◌≡◌, ◌≤◌, ◌+◌, ◌*◌, ◌-◌, length, map}
 use Rattle.atoms.proofs.productions.ListLoops.{with_front}
 use Rattle.wit_tokens.specs.Lexing.{limit}
-use Rattle.wit_tokens.specs.Tokens.{lexemes}
+use Rattle.wit_grammar.specs.Left.{tokens_from, count_from, text_end}
 use Rattle.wit_tokens.specs.View.{ty_view}
 use Rattle.wit_grammar.specs.Grammar.{ty, members}
 use Rattle.wit_grammar.proofs.types.+types.Given as goal
@@ -47,9 +47,9 @@ decreases-type_of l = 8 * l.nesting + 7
 
 abbrev pub invariant-member_list-list : goal.invariant-member_list-list
 invariant-member_list-list l = record {
-  so_far : with_front (map ty_view l.list.items) ((members (length l.source) (ty (length l.source) l.nesting) (limit - length l.list.items)).read (lexemes l.source l.left)) ≡ (members (length l.source) (ty (length l.source) l.nesting) limit).read (lexemes l.source l.tokens);
-  shrinks : length l.list.items + length l.left ≤ length l.tokens;
+  so_far : with_front (map ty_view l.list.items) ((members (text_end l.tokens) (ty (text_end l.tokens) l.nesting) (limit - length l.list.items)).read (tokens_from l.tokens l.left)) ≡ (members (text_end l.tokens) (ty (text_end l.tokens) l.nesting) limit).read (tokens_from l.tokens l.at);
+  shrinks : length l.list.items + count_from l.tokens l.left ≤ count_from l.tokens l.at;
 }
 
 abbrev pub decreases-member_list-list : goal.decreases-member_list-list
-decreases-member_list-list l = length l.left
+decreases-member_list-list l = count_from l.tokens l.left

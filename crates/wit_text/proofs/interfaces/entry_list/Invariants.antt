@@ -1,16 +1,16 @@
 use Rattle.std.proofs.Common.{◌≡◌, ◌≤◌, ◌+◌, ◌-◌, length, map}
 use Rattle.atoms.proofs.productions.ListLoops.{with_front}
 use Rattle.wit_tokens.specs.Lexing.{limit}
-use Rattle.wit_tokens.specs.Tokens.{lexemes}
 use Rattle.wit_tokens.specs.View.{entry_view}
+use Rattle.wit_grammar.specs.Left.{tokens_from, count_from, text_end}
 use Rattle.wit_grammar.specs.Grammar.{nesting, entry_list}
 use Rattle.wit_text.proofs.interfaces.entry_list.Given as goal
 
 abbrev pub invariant-list : goal.invariant-list
 invariant-list l = record {
-  so_far : with_front (map entry_view l.list.items) ((entry_list (length l.source) nesting (limit - length l.list.items)).read (lexemes l.source l.left)) ≡ (entry_list (length l.source) nesting limit).read (lexemes l.source l.tokens);
-  shrinks : length l.list.items + length l.left ≤ length l.tokens;
+  so_far : with_front (map entry_view l.list.items) ((entry_list (text_end l.tokens) nesting (limit - length l.list.items)).read (tokens_from l.tokens l.left)) ≡ (entry_list (text_end l.tokens) nesting limit).read (tokens_from l.tokens l.at);
+  shrinks : length l.list.items + count_from l.tokens l.left ≤ count_from l.tokens l.at;
 }
 
 abbrev pub decreases-list : goal.decreases-list
-decreases-list l = length l.left
+decreases-list l = count_from l.tokens l.left
