@@ -174,6 +174,11 @@ impl Label {
     pub fn copy(&self, alloc: Global) -> Result<Label, AllocError>
         ensures { IfOk result (λ l. l ≡ self.now) }
     {
-        Label::from_bytes(alloc, self.as_bytes())
+        match &self.bytes {
+            Bytes::Inline(inline) => Ok(Label {
+                bytes: Bytes::Inline(*inline),
+            }),
+            Bytes::Heap(bytes) => Label::from_bytes(alloc, bytes.as_slice()),
+        }
     }
 }

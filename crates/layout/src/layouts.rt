@@ -51,7 +51,7 @@ fn lay_all(alloc: Global, resolve: &Resolve, steps: &mut Steps) -> Result<Tables
 {
     let count = resolve.definitions.len();
     let mut rows = Vec::with_capacity(alloc, count)?;
-    let mut parts = PartsTable::with_capacity(alloc, count)?;
+    let mut parts = PartsTable::with_room(alloc, resolve)?;
     for definition in resolve.definitions.as_slice() {
         let row = parts.lay_definition(rows.as_slice(), definition, steps)?;
         rows.push(row)?;

@@ -21,7 +21,7 @@ use crate::rows::{
 use crate::work::Steps;
 use std::alloc::Global;
 use std::marker::Model;
-use tables::{Choice, Definition, Member, TypeDefKind, ValType};
+use tables::{Choice, Definition, Member, Resolve, TypeDefKind, ValType};
 
 /// What stands directly in a type, whose fields or payloads lie among those of all types.
 #[derive(Debug, Drop)]
@@ -60,16 +60,48 @@ impl Model for PartsTable {
     ghost invariant = { λ t. All (LiesWithin (length t.fields.items) (length t.payloads.items)) t.heads.items };
 }
 
+/// How many fields and how many payloads stand directly in a definition.
+fn counts(definition: &Definition) -> (usize, usize) {
+    match definition {
+        Definition::Type(definition) => match &definition.kind {
+            TypeDefKind::Use(_)
+            | TypeDefKind::Alias(_)
+            | TypeDefKind::List(_)
+            | TypeDefKind::Flags(_) => (0, 0),
+            TypeDefKind::Option(_) | TypeDefKind::Result(_, _) => (0, 2),
+            TypeDefKind::Tuple(types) => (types.len(), 0),
+            TypeDefKind::Record(fields) => (fields.len(), 0),
+            TypeDefKind::Variant(cases) => (0, cases.len()),
+            TypeDefKind::Enum(names) => (0, names.len()),
+        },
+        Definition::Function(function) => (function.params.len(), 0),
+    }
+}
+
+/// How many stand directly in all definitions.
+fn all_counts(definitions: &[Definition]) -> (usize, usize) {
+    let mut fields: usize = 0;
+    let mut payloads: usize = 0;
+    for definition in definitions {
+        let more = counts(definition);
+        fields = fields.saturating_add(more.0);
+        payloads = payloads.saturating_add(more.1);
+    }
+    (fields, payloads)
+}
+
 impl PartsTable {
-    /// Nothing, with room for so many definitions.
-    pub(crate) fn with_capacity(alloc: Global, count: usize) -> Result<PartsTable, LayoutError>
+    /// Nothing, with room for what stands in a package.
+    pub(crate) fn with_room(alloc: Global, resolve: &Resolve) -> Result<PartsTable, LayoutError>
         ensures ok { IfOk result (λ t. t ≡ []) }
         ensures err { IfErr result (λ e. e ≡ LayoutError.NoMemory) }
     {
+        let definitions = resolve.definitions.as_slice();
+        let (fields, payloads) = all_counts(definitions);
         Ok(PartsTable {
-            heads: Vec::with_capacity(alloc, count)?,
-            fields: Vec::new(alloc),
-            payloads: Vec::new(alloc),
+            heads: Vec::with_capacity(alloc, definitions.len())?,
+            fields: Vec::with_capacity(alloc, fields)?,
+            payloads: Vec::with_capacity(alloc, payloads)?,
         })
     }
 

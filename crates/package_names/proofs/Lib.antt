@@ -1,5 +1,5 @@
-mod NamesMetBefore
-mod NamesOfOneScope
+pub mod NamesMetBefore
+pub mod NamesOfOneScope
 pub mod WorldItemNamesAreMet
 mod InterfacesIndexedByName
 mod NamesAskedOfPackages

@@ -83,12 +83,11 @@ impl NameTable {
 fn is_lower(name: &str) -> bool
     ensures { result ≡ true → lowered name.now ≡ name.now }
 {
+    let mut is_lower = true;
     for byte in name.as_bytes() {
-        if byte.is_ascii_uppercase() {
-            return false;
-        }
+        is_lower &= !byte.is_ascii_uppercase();
     }
-    true
+    is_lower
 }
 
 /// Names that were met, in lower case, in tables: lent up to the first that isn't in lower case, copied from there on.
@@ -140,6 +139,13 @@ impl<'a> LentTable<'a> {
         self.copied.insert(name)
     }
 
+    /// Makes room for so many names.
+    fn reserve(&mut self, room: usize) -> Result<(), AllocError>
+        ensures { OnOk result (self.new ≡ self.old) }
+    {
+        self.lent.reserve(room)
+    }
+
     /// Puts in names that all are new. No memory, too, where one isn't.
     fn insert_all(&mut self, alloc: Global, names: &[&'a str]) -> Result<(), ResolveError>
         ensures ok { OnOk result (self.new ≡ self.old ++ map lowered_name names.now) }
@@ -172,6 +178,8 @@ fn is_among(names: &[&str], name: &str) -> bool
 pub struct Scope<'a> {
     few: ArrayVec<&'a str, FEW>,
     many: LentTable<'a>,
+    /// How many names are awaited, for which the table gets room.
+    room: usize,
 }
 
 impl<'a> Model for Scope<'a> {
@@ -188,9 +196,17 @@ impl<'a> Scope<'a> {
     pub fn new(alloc: Global, keyed: KeyedState) -> Scope<'a>
         ensures { result ≡ [] }
     {
+        Scope::with_room(alloc, keyed, 0)
+    }
+
+    /// No names, where about so many are awaited: where these are more than a few, all go into the table.
+    pub fn with_room(alloc: Global, keyed: KeyedState, room: usize) -> Scope<'a>
+        ensures { result ≡ [] }
+    {
         Scope {
             few: ArrayVec::new(),
             many: LentTable::new(alloc, keyed),
+            room,
         }
     }
 
@@ -221,11 +237,12 @@ impl<'a> Scope<'a> {
         if !self.many.is_empty() {
             return self.many.insert(alloc, name);
         }
-        if self.few.len() < FEW {
+        if self.few.len() < FEW && self.room <= FEW {
             self.few.push(name);
             return Ok(true);
         }
         let few = replace(&mut self.few, ArrayVec::new());
+        self.many.reserve(self.room)?;
         self.many.insert_all(alloc, few.as_slice())?;
         self.many.insert(alloc, name)
     }

@@ -12,6 +12,7 @@ ghost use Rattle.package_form.specs.Distinct.{AreMet, RefusesNames, RefusesScope
 ghost use Rattle.package_names.specs.Sides.{AreMetOnSides, RefusesSides};
 ghost use Rattle.package_form.specs.Scope.{AreDistinct};
 
+use crate::members::distinct_members;
 use atoms::{KeyedState, Label};
 use package_names::{Scope, Sides};
 use std::alloc::{AllocError, Global};
@@ -25,33 +26,21 @@ fn distinct_labels(alloc: Global, keyed: KeyedState, labels: &[Label]) -> Result
     ensures ok { OnOk result (AreDistinct labels.now) }
     ensures err { IfErr result (RefusesNames labels.now) }
 {
-    let mut scope = Scope::new(alloc, keyed);
-    for label in labels {
-        scope.meet(alloc, label)?;
-    }
-    Ok(())
+    distinct_members(alloc, keyed, labels)
 }
 
 fn distinct_fields(alloc: Global, keyed: KeyedState, fields: &[Field]) -> Result<(), ResolveError>
     ensures ok { OnOk result (AreDistinct (map member_name (map field_view fields.now))) }
     ensures err { IfErr result (RefusesNames (map member_name (map field_view fields.now))) }
 {
-    let mut scope = Scope::new(alloc, keyed);
-    for field in fields {
-        scope.meet(alloc, &field.name)?;
-    }
-    Ok(())
+    distinct_members(alloc, keyed, fields)
 }
 
 fn distinct_cases(alloc: Global, keyed: KeyedState, cases: &[Case]) -> Result<(), ResolveError>
     ensures ok { OnOk result (AreDistinct (map tree_case_name (map case_view cases.now))) }
     ensures err { IfErr result (RefusesNames (map tree_case_name (map case_view cases.now))) }
 {
-    let mut scope = Scope::new(alloc, keyed);
-    for case in cases {
-        scope.meet(alloc, &case.name)?;
-    }
-    Ok(())
+    distinct_members(alloc, keyed, cases)
 }
 
 fn distinct_parts(alloc: Global, keyed: KeyedState, kind: &TypeDefKind) -> Result<(), ResolveError>
@@ -120,7 +109,7 @@ fn distinct_items(
     ensures ok { OnOk result (All AreDistinct (item_scopes (map entry_view items.now))) }
     ensures err { IfErr result (RefusesScopes (item_scopes (map entry_view items.now))) }
 {
-    let mut scope = Scope::new(alloc, keyed);
+    let mut scope = Scope::with_room(alloc, keyed, items.len());
     for item in items {
         distinct_item(alloc, keyed, &mut scope, item)?;
     }
@@ -228,7 +217,7 @@ pub fn distinct_names(
     ensures ok { OnOk result (All AreDistinct (scopes_in «package».now (map item_view items.now))) }
     ensures err { IfErr result (RefusesScopes (scopes_in «package».now (map item_view items.now))) }
 {
-    let mut scope = Scope::new(alloc, keyed);
+    let mut scope = Scope::with_room(alloc, keyed, items.len());
     for item in items {
         scope.meet(alloc, file_name(item))?;
         distinct_inside(alloc, keyed, package, item)?;

@@ -50,7 +50,7 @@ fn interface_graph(
     ensures { IfOk result (λ g. g.items ≡ interface_uses (map declared_tree all.now)) }
 {
     let names = interface_names(alloc, keyed, all)?;
-    let mut graph = Vec::new(alloc);
+    let mut graph = Vec::with_capacity(alloc, all.len())?;
     let mut used = Vec::new(alloc);
     for declared in all {
         used.clear();
@@ -64,7 +64,7 @@ fn interface_graph(
 fn type_graph(alloc: Global, declared: &Declarations) -> Result<Vec<Sequence<usize>>, AllocError>
     ensures { IfOk result (λ g. g.items ≡ type_uses (declared_tree declared.now)) }
 {
-    let mut graph = Vec::new(alloc);
+    let mut graph = Vec::with_capacity(alloc, declared.types.len())?;
     let mut named = Vec::new(alloc);
     for definition in &declared.types {
         list_definition(&mut named, &definition.kind)?;
@@ -123,7 +123,7 @@ pub fn type_orders(
         × ((i : InterfaceTree) × Contains (map declared_tree all.now) i
         × ((group : ℕ → Bool) × IsCycle (type_uses i) group)))) }
 {
-    let mut orders = Vec::new(alloc);
+    let mut orders = Vec::with_capacity(alloc, all.len())?;
     for declared in all {
         orders.push(type_order(alloc, declared)?)?;
     }

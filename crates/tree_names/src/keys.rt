@@ -47,24 +47,45 @@ fn write_parts(key: &mut NameKey, kind: &TypeDefKind) {
     }
 }
 
-/// Writes the names that an item defines, and those of its members.
+/// How many names items define.
+fn name_count(items: &[InterfaceItem]) -> usize {
+    let mut count: usize = 0;
+    for item in items {
+        let names = match item {
+            InterfaceItem::Use(used) => used.names.len(),
+            InterfaceItem::TypeDef(_) | InterfaceItem::Func(_) => 1,
+        };
+        count = count.saturating_add(names);
+    }
+    count
+}
+
+/// Writes the names that an item defines.
 fn write_item(key: &mut NameKey, item: &InterfaceItem) {
     match item {
         InterfaceItem::Use(used) => write_used(key, &used.names),
-        InterfaceItem::TypeDef(definition) => {
-            key.write(definition.name.as_bytes());
-            write_parts(key, &definition.kind);
-        }
-        InterfaceItem::Func(function) => {
-            key.write(function.name.as_bytes());
-            write_fields(key, &function.ty.params);
-        }
+        InterfaceItem::TypeDef(definition) => key.write(definition.name.as_bytes()),
+        InterfaceItem::Func(function) => key.write(function.name.as_bytes()),
     }
 }
 
+/// Writes the names of an item's members.
+fn write_members(key: &mut NameKey, item: &InterfaceItem) {
+    match item {
+        InterfaceItem::Use(_) => {}
+        InterfaceItem::TypeDef(definition) => write_parts(key, &definition.kind),
+        InterfaceItem::Func(function) => write_fields(key, &function.ty.params),
+    }
+}
+
+/// Writes the names that items define, where they are more than a few, and those of their members.
 fn write_items(key: &mut NameKey, items: &[InterfaceItem]) {
+    let is_table = name_count(items) > FEW;
     for item in items {
-        write_item(key, item);
+        if is_table {
+            write_item(key, item);
+        }
+        write_members(key, item);
     }
 }
 
@@ -111,8 +132,8 @@ fn write_imports(key: &mut NameKey, rows: &[Definition]) {
     }
 }
 
-/// Hashers of names, with a key made of all names in the scopes of a tree and of its imports but for members so few
-/// that none stands in a scope's table.
+/// Hashers of names, with a key made of all names in the scopes of a tree and of its imports but for those of scopes
+/// with so few that none stands in a table.
 pub fn keyed_by_tree(ast: &Ast, imports: &Resolve) -> KeyedState {
     let mut key = NameKey::new();
     write_package(&mut key, &ast.package);

@@ -8,6 +8,7 @@
 mod duplicates;
 mod graphs;
 mod keys;
+mod members;
 mod named;
 mod nested;
 mod packages;

@@ -22,7 +22,7 @@ pub fn ordered_names(
     requires { All (λ k. k < length all.now) order.now }
     ensures { IfOk result (λ ns. ns.items ≡ names_in_order (map declared_tree all.now) order.now) }
 {
-    let mut names = Vec::new(alloc);
+    let mut names = Vec::with_capacity(alloc, order.len())?;
     for place in order {
         names.push(all[*place].name.copy(alloc)?)?;
     }
@@ -39,7 +39,7 @@ pub fn ordered_index<'a>(
     requires { All (λ k. k < length all.now) order.now }
     ensures { IfOk result (λ ns. ns ≡ names_in_order (map declared_tree all.now) order.now) }
 {
-    let mut names = Vec::new(alloc);
+    let mut names = Vec::with_capacity(alloc, order.len())?;
     for place in order {
         names.push(all[*place].name)?;
     }
@@ -60,6 +60,7 @@ pub fn define_package<'a>(
     ensures { OnOk result (DefinesPackage (start_table plan.now.imports.now plan.now.names.now) (planned_trees plan.now)
         plan.now.order.now plan.now.types.now builder.new) }
 {
+    scopes.reserve_exact(plan.order.len())?;
     for (place, index) in plan.order.iter().enumerate() {
         let id = interface_id(place_behind(plan.imports, place)?)?;
         let types = plan.types[*index].as_slice();

@@ -12,7 +12,6 @@ ghost use Rattle.tree_meaning.specs.WorldRows.{worlds_stand, with_worlds};
 
 use crate::builder::Builder;
 use crate::plan::Plan;
-use atoms::Label;
 use package_form::passes_entries;
 use package_names::IndexedTable;
 use std::alloc::{AllocError, Global};
@@ -67,40 +66,42 @@ fn push_id(interface: &mut Interface, place: usize, row: &Definition) -> Result<
     Ok(())
 }
 
-/// Interfaces of these names in this package, without definitions. The first of them stands at this place.
+/// Interfaces of a plan's names in this package, without definitions, for which there is room. The first of them stands
+/// at this place.
 fn empty_interfaces(
     alloc: Global,
+    plan: &Plan<'_>,
     package: PackageId,
     first: usize,
-    names: &[Label],
 ) -> Result<Vec<Interface>, AllocError>
-    ensures { IfOk result (λ is. is.items ≡ interfaces_behind «package».0 first [] names.now) }
+    ensures { IfOk result (λ is. is.items ≡ interfaces_behind «package».0 first [] plan.now.labels.now) }
 {
-    let mut interfaces = Vec::new(alloc);
-    for name in names {
+    let mut interfaces = Vec::with_capacity(alloc, plan.labels.len())?;
+    for (place, name) in plan.labels.iter().enumerate() {
+        let counts = plan.counts(place);
         interfaces.push(Interface {
             package,
             name: name.copy(alloc)?,
-            uses: Sequence::new(Vec::new(alloc)),
-            types: Sequence::new(Vec::new(alloc)),
-            functions: Sequence::new(Vec::new(alloc)),
+            uses: Sequence::new(Vec::with_capacity(alloc, counts.uses)?),
+            types: Sequence::new(Vec::with_capacity(alloc, counts.types)?),
+            functions: Sequence::new(Vec::with_capacity(alloc, counts.functions)?),
         })?;
     }
     Ok(interfaces)
 }
 
-/// The interfaces of these names, with the ids of their definitions.
+/// The interfaces of a plan's names, with the ids of their definitions.
 fn interfaces_in(
     alloc: Global,
+    plan: &Plan<'_>,
     rows: &[Definition],
     package: PackageId,
     first: usize,
-    names: &[Label],
 ) -> Result<Vec<Interface>, AllocError>
     requires { length rows.now ≤ 65535 }
-    ensures { IfOk result (λ is. is.items ≡ interfaces_behind «package».0 first rows.now names.now) }
+    ensures { IfOk result (λ is. is.items ≡ interfaces_behind «package».0 first rows.now plan.now.labels.now) }
 {
-    let mut interfaces = empty_interfaces(alloc, package, first, names)?;
+    let mut interfaces = empty_interfaces(alloc, plan, package, first)?;
     for (place, row) in rows.iter().enumerate() {
         if let Some(index) = own_place(first, interfaces.len(), row) {
             push_id(&mut interfaces[index], place, row)?;
@@ -120,10 +121,12 @@ fn passes_limit(interfaces: usize, worlds: &[World], rows: &[Definition]) -> boo
     passes_entries(interfaces, worlds, rows)
 }
 
-/// The parts of a copy of the imports: their packages, their interfaces and their definitions.
+/// The parts of a copy of the imports: their packages, their interfaces and their definitions, which have room for so
+/// many more.
 pub fn copied_parts(
     alloc: Global,
     imports: &IndexedTable<'_>,
+    room: usize,
 ) -> Result<(Vec<PackageName>, Vec<Interface>, Vec<Definition>), AllocError>
     ensures packages { IfOk result (λ r. r.0.items ≡ imports.now.packages) }
     ensures interfaces { IfOk result (λ r. r.1.items ≡ imports.now.interfaces) }
@@ -135,11 +138,9 @@ pub fn copied_parts(
         worlds: _,
         definitions,
     } = copy_of(alloc, imports.table())?;
-    Ok((
-        packages.into_vec(),
-        interfaces.into_vec(),
-        definitions.into_vec(),
-    ))
+    let mut rows = definitions.into_vec();
+    rows.reserve_exact(room)?;
+    Ok((packages.into_vec(), interfaces.into_vec(), rows))
 }
 
 /// The id of the package behind those of the imports. No memory where an id can't tell it.
@@ -180,7 +181,7 @@ pub fn finish(
         return Err(ResolveError::Limit);
     }
     let id = package_id(plan.imports)?;
-    let mut own = interfaces_in(alloc, &rows, id, interfaces.len(), plan.labels)?;
+    let mut own = interfaces_in(alloc, plan, &rows, id, interfaces.len())?;
     interfaces.append(&mut own)?;
     packages.push(package_name(alloc, &plan.ast.package)?)?;
     Ok(Resolve {

@@ -197,11 +197,13 @@ pub fn define_interface<'a>(
     ensures { IfOk result (λ scope. DefinesInterface builder.old builder.new scope own.now.id
         (declared_tree own.now.declared.now) own.now.types.now) }
 {
+    let declared = own.declared;
+    let room = declared.uses.len().saturating_add(declared.types.len());
+    let entries = TypeIds::with_room(alloc, plan.keyed, room)?;
     let mut scope = KnownTypes {
         interface: own.id,
-        entries: TypeIds::new(alloc, plan.keyed),
+        entries,
     };
-    let declared = own.declared;
     define_uses(alloc, plan, builder, scopes, &mut scope, &declared.uses)?;
     define_types(alloc, builder, &mut scope, &declared.types, own.types)?;
     define_functions(alloc, builder, &scope, &declared.functions)?;

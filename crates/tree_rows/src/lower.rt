@@ -31,39 +31,39 @@ fn lower_primitive(primitive: wit_tokens::wit_syntax::Primitive) -> ValType
     }
 }
 
-/// What an expression is: types that stand inside it get rows of their own.
+/// The type that an expression stands for: a row of its own, but for a name or a primitive.
 #[cycle(lower)]
 #[tactic(auto, using(crate::proofs::LoweredTypesStay::lowering))]
-pub fn lower_kind(
+pub fn lower_type(
     alloc: Global,
     builder: &mut Builder,
     scope: &KnownTypes,
     expression: &TypeExpression,
-) -> Result<TypeDefKind, AllocError>
+) -> Result<ValType, AllocError>
     requires known { KnowsNames scope.now (named (ty_view expression.now)) }
     requires scoped { IsScope builder.old scope.now }
-    ensures { IfOk result (λ k. LowersInner builder.old builder.new k
+    ensures { IfOk result (λ v. LowersType builder.old builder.new v
         (resolved (scope_name builder.old scope.now) (ty_view expression.now))) }
 {
     match expression {
-        TypeExpression::Primitive(primitive) => Ok(TypeDefKind::Alias(lower_primitive(*primitive))),
-        TypeExpression::Named(name) => Ok(TypeDefKind::Alias(ValType::Id(scope.entries.get(name)))),
+        TypeExpression::Primitive(primitive) => Ok(lower_primitive(*primitive)),
+        TypeExpression::Named(name) => Ok(ValType::Id(scope.entries.get(name))),
         TypeExpression::List(element) => {
-            let element = lower_kind(alloc, builder, scope, element)?;
-            Ok(TypeDefKind::List(builder.inner(element)?))
+            let element = lower_type(alloc, builder, scope, element)?;
+            builder.inner(TypeDefKind::List(element))
         }
         TypeExpression::Option(payload) => {
-            let payload = lower_kind(alloc, builder, scope, payload)?;
-            Ok(TypeDefKind::Option(builder.inner(payload)?))
+            let payload = lower_type(alloc, builder, scope, payload)?;
+            builder.inner(TypeDefKind::Option(payload))
         }
         TypeExpression::Tuple(members) => {
             let members = lower_all(alloc, builder, scope, members)?;
-            Ok(TypeDefKind::Tuple(members))
+            builder.inner(TypeDefKind::Tuple(members))
         }
         TypeExpression::Result { ok, error } => {
             let ok = lower_boxed(alloc, builder, scope, ok)?;
             let error = lower_boxed(alloc, builder, scope, error)?;
-            Ok(TypeDefKind::Result(ok, error))
+            builder.inner(TypeDefKind::Result(ok, error))
         }
     }
 }
@@ -83,8 +83,8 @@ fn lower_boxed(
     match expression {
         None => Ok(None),
         Some(expression) => {
-            let kind = lower_kind(alloc, builder, scope, expression)?;
-            Ok(Some(builder.inner(kind)?))
+            let ty = lower_type(alloc, builder, scope, expression)?;
+            Ok(Some(ty))
         }
     }
 }
@@ -104,26 +104,45 @@ fn lower_all(
 {
     let mut types = Vec::with_capacity(alloc, expressions.len())?;
     for expression in expressions {
-        let kind = lower_kind(alloc, builder, scope, expression)?;
-        types.push(builder.inner(kind)?)?;
+        let ty = lower_type(alloc, builder, scope, expression)?;
+        types.push(ty)?;
     }
     Ok(Sequence::new(types))
 }
 
-/// The type that an expression stands for.
-pub fn lower_type(
+/// What an expression is: types that stand inside it get rows of their own.
+pub fn lower_kind(
     alloc: Global,
     builder: &mut Builder,
     scope: &KnownTypes,
     expression: &TypeExpression,
-) -> Result<ValType, AllocError>
+) -> Result<TypeDefKind, AllocError>
     requires known { KnowsNames scope.now (named (ty_view expression.now)) }
     requires scoped { IsScope builder.old scope.now }
-    ensures { IfOk result (λ v. LowersType builder.old builder.new v
+    ensures { IfOk result (λ k. LowersInner builder.old builder.new k
         (resolved (scope_name builder.old scope.now) (ty_view expression.now))) }
 {
-    let kind = lower_kind(alloc, builder, scope, expression)?;
-    builder.inner(kind)
+    match expression {
+        TypeExpression::Primitive(primitive) => Ok(TypeDefKind::Alias(lower_primitive(*primitive))),
+        TypeExpression::Named(name) => Ok(TypeDefKind::Alias(ValType::Id(scope.entries.get(name)))),
+        TypeExpression::List(element) => {
+            let element = lower_type(alloc, builder, scope, element)?;
+            Ok(TypeDefKind::List(element))
+        }
+        TypeExpression::Option(payload) => {
+            let payload = lower_type(alloc, builder, scope, payload)?;
+            Ok(TypeDefKind::Option(payload))
+        }
+        TypeExpression::Tuple(members) => {
+            let members = lower_all(alloc, builder, scope, members)?;
+            Ok(TypeDefKind::Tuple(members))
+        }
+        TypeExpression::Result { ok, error } => {
+            let ok = lower_boxed(alloc, builder, scope, ok)?;
+            let error = lower_boxed(alloc, builder, scope, error)?;
+            Ok(TypeDefKind::Result(ok, error))
+        }
+    }
 }
 
 pub fn lower_optional(

@@ -32,3 +32,53 @@ pub struct Own<'a> {
     /// The order of its types.
     pub types: &'a [usize],
 }
+
+/// How many definitions of each kind have their names in an interface.
+#[derive(Clone, Copy)]
+pub struct Counts {
+    pub uses: usize,
+    pub types: usize,
+    pub functions: usize,
+}
+
+impl Counts {
+    /// How many an interface declares.
+    fn of(declared: &Declarations) -> Counts {
+        Counts {
+            uses: declared.uses.len(),
+            types: declared.types.len(),
+            functions: declared.functions.len(),
+        }
+    }
+}
+
+impl Plan<'_> {
+    /// How many definitions the interface at this place has.
+    pub fn counts(&self, place: usize) -> Counts {
+        let declared = match self.order.get(place) {
+            Some(index) => self.all.get(*index),
+            None => None,
+        };
+        match declared {
+            Some(declared) => Counts::of(declared),
+            None => Counts {
+                uses: 0,
+                types: 0,
+                functions: 0,
+            },
+        }
+    }
+
+    /// How many definitions have their names in an interface.
+    pub fn named_count(&self) -> usize {
+        let mut count: usize = 0;
+        for declared in self.all {
+            let counts = Counts::of(declared);
+            count = count
+                .saturating_add(counts.uses)
+                .saturating_add(counts.types)
+                .saturating_add(counts.functions);
+        }
+        count
+    }
+}

@@ -37,7 +37,7 @@ fn planned<'a>(
     ensures ok { IfOk result (IsClosedPackageOf (imported plan.now) (planned_file plan.now)) }
     ensures err { IfErr result (ResolveRefusesOf (imports_of (imported plan.now)) (planned_file plan.now)) }
 {
-    let (packages, interfaces, rows) = copied_parts(alloc, plan.imports)?;
+    let (packages, interfaces, rows) = copied_parts(alloc, plan.imports, plan.named_count())?;
     let mut builder = Builder::new(plan.imports, plan.labels, rows);
     define_package(alloc, plan, &mut builder, scopes)?;
     let worlds = define_worlds(alloc, plan, &mut builder, &plan.ast.items)?;

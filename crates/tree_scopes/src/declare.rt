@@ -82,6 +82,20 @@ fn push_names<'a>(names: &mut Vec<&'a Label>, all: &[Declarations<'a>]) -> Resul
     Ok(())
 }
 
+/// How many types and how many functions stand among these items.
+fn counts(items: &[InterfaceItem]) -> (usize, usize) {
+    let mut types: usize = 0;
+    let mut functions: usize = 0;
+    for item in items {
+        match item {
+            InterfaceItem::Use(_) => {}
+            InterfaceItem::TypeDef(_) => types = types.saturating_add(1),
+            InterfaceItem::Func(_) => functions = functions.saturating_add(1),
+        }
+    }
+    (types, functions)
+}
+
 /// The names of the interfaces.
 pub fn interface_names<'a>(
     alloc: Global,
@@ -91,7 +105,7 @@ pub fn interface_names<'a>(
     ensures names { IfOk result (λ ns. ns ≡ names_of_trees (map declared_tree all.now)) }
     ensures labels { IfOk result (λ ns. All IsLabel ns) }
 {
-    let mut names = Vec::new(alloc);
+    let mut names = Vec::with_capacity(alloc, all.len())?;
     push_names(&mut names, all)?;
     Names::of(alloc, keyed, names)
 }
@@ -106,9 +120,10 @@ impl<'a> Declarations<'a> {
         ensures { IfOk result (λ d. declared_tree d
             ≡ interface_tree interface.now.name (map entry_view interface.now.items.items)) }
     {
+        let (type_count, function_count) = counts(&interface.items);
         let mut uses = Vec::new(alloc);
-        let mut types = Vec::new(alloc);
-        let mut functions = Vec::new(alloc);
+        let mut types = Vec::with_capacity(alloc, type_count)?;
+        let mut functions = Vec::with_capacity(alloc, function_count)?;
         for item in &interface.items {
             match item {
                 InterfaceItem::Use(used) => push_use(&mut uses, used)?,
@@ -116,9 +131,9 @@ impl<'a> Declarations<'a> {
                 InterfaceItem::Func(function) => functions.push(function)?,
             }
         }
-        let mut locals = Vec::new(alloc);
+        let mut locals = Vec::with_capacity(alloc, uses.len())?;
         push_locals(&mut locals, &uses)?;
-        let mut own = Vec::new(alloc);
+        let mut own = Vec::with_capacity(alloc, types.len())?;
         push_types(&mut own, &types)?;
         Ok(Declarations {
             name: &interface.name,

@@ -123,9 +123,11 @@ fn import_scope<'a>(
     ensures place { IfOk result (λ s. s.interface ≡ place) }
     ensures scoped { IfOk result (λ s. (t : Table) → t.rows ≡ rows.now → IsScope t s) }
 {
+    let room = interface.uses.len().saturating_add(interface.types.len());
+    let entries = TypeIds::with_room(alloc, keyed, room)?;
     let mut scope = KnownTypes {
         interface: place,
-        entries: TypeIds::new(alloc, keyed),
+        entries,
     };
     push_types(rows, interface.uses.as_slice(), &mut scope)?;
     push_types(rows, interface.types.as_slice(), &mut scope)?;

@@ -1,5 +1,5 @@
 //! The types that an interface's names stand for while its table is made.
-ghost use Rattle.std.specs.Prelude.{◌≡◌, ◌↔◌, ◌++◌, ◌∷◌, [], map, Contains, OnOk, IsTrue};
+ghost use Rattle.std.specs.Prelude.{◌≡◌, ◌↔◌, ◌++◌, ◌∷◌, [], map, Contains, OnOk, IfOk, IsTrue};
 ghost use Rattle.std.specs.Prelude.{IfSome, IfNone};
 ghost use Rattle.std.specs.Map.{lookup};
 ghost use Rattle.std.specs.Str.{bytes_eq};
@@ -15,7 +15,7 @@ use tables::{InterfaceId, TypeId};
 /// them are found in a table.
 #[derive(Drop)]
 pub struct TypeIds<'a> {
-    few: Vec<(&'a Label, TypeId)>,
+    few: Vec<(&'a str, TypeId)>,
     many: IndexMap<&'a str, TypeId, KeyedState>,
 }
 
@@ -30,7 +30,7 @@ impl<'a> Model for TypeIds<'a> {
 }
 
 /// The type of a name among these.
-fn id_among(few: &[(&Label, TypeId)], name: &Label) -> Option<TypeId>
+fn id_among(few: &[(&str, TypeId)], name: &Label) -> Option<TypeId>
     ensures { result ≡ lookup (λ s. bytes_eq name.now s.now) few.now }
 {
     for (other, id) in few {
@@ -62,16 +62,28 @@ impl<'a> TypeIds<'a> {
         }
     }
 
+    /// No types, with room for so many; their names are told apart by hashers with this key.
+    pub fn with_room(alloc: Global, keyed: KeyedState, room: usize) -> Result<Self, AllocError>
+        ensures { IfOk result (λ t. t ≡ []) }
+    {
+        let behind = room.saturating_sub(FEW);
+        Ok(TypeIds {
+            few: Vec::with_capacity(alloc, room.min(FEW))?,
+            many: IndexMap::with_capacity_and_hasher(alloc, behind, keyed)?,
+        })
+    }
+
     /// Puts a type at the end, under a name. No memory, too, where the name is there already, as no name of a
     /// scope is.
     pub fn push(&mut self, name: &'a Label, id: TypeId) -> Result<(), AllocError>
         ensures { OnOk result (self.new ≡ self.old ++ record { name = name.now; id = id } ∷ []) }
     {
+        let name = name.as_str();
         if self.few.len() < FEW && self.many.is_empty() {
             self.few.push((name, id))?;
             return Ok(());
         }
-        match self.many.insert(name.as_str(), id)? {
+        match self.many.insert(name, id)? {
             None => Ok(()),
             Some(_) => Err(AllocError),
         }

@@ -1,26 +1,13 @@
-use Rattle.std.proofs.Common.{List, ℕ, map, subst, sym, arith}
-use Rattle.std.proofs.lemmas.Result.{err_from_is_err_and}
+use Rattle.std.proofs.Common.{List, ℕ, OnOk, IfErr, sym, subst}
+use Rattle.std.proofs.lemmas.Simd.{map-map}
 use Rattle.wit_tokens.specs.View.{field_view}
-use Rattle.wit_tokens.specs.declared.wit_syntax.ast.Field.{Field}
 use Rattle.tree_meaning.specs.Declarations.{member_name}
 use Rattle.package_form.specs.Scope.{AreDistinct}
-use Rattle.package_form.specs.Distinct.{AreMet}
-use Rattle.package_form.proofs.AllAndContains.{map_map-more}
-use Rattle.package_form.proofs.NamesMetOneByOne.{met-none, met-push, refuses-at, all-taken}
+use Rattle.package_form.specs.Distinct.{RefusesNames}
 use Rattle.tree_names.proofs.duplicates.distinct_fields.Goals as goal
 
-pub loop-field-init : goal.loop-field-init
-loop-field-init c = met-none _ c.new-scope.ensures
-
-pub loop-field-preserved : goal.loop-field-preserved
-loop-field-preserved c =
-    subst (λ (ns : List (List ℕ)). AreMet ns c.meet.new.self) (sym (map_map-more member_name field_view c.args.fields.now c.loop-field.field-index c.field-item.result (omega arith) c.field-item.is))
-    (met-push _ c.field-item.result.name c.loop-field.scope _ c.loop-field.invariant c.in_ok-meet.ensures.new c.in_ok-meet.ensures.ok)
-
-pub returns-in_err-meet-clause-err : goal.returns-in_err-meet-clause-err
-returns-in_err-meet-clause-err c =
-    let p = err_from_is_err_and c.from_residual.result c.from_residual.ensures.1 in
-    rw (p.1, p.2) (refuses-at member_name field_view c.args.fields.now c.loop-field.field-index c.field-item.result (omega arith) c.field-item.is c.loop-field.scope _ c.loop-field.invariant c.in_err-meet.ensures.err)
-
 pub returns-clause-ok : goal.returns-clause-ok
-returns-clause-ok c = all-taken (λ (xs : List Field). AreDistinct (map member_name (map field_view xs))) c.args.fields.now c.loop-field.field-index (omega arith) c.loop-field.invariant.distinct
+returns-clause-ok c = subst (λ (ns : List (List ℕ)). OnOk c.distinct_members.result (AreDistinct ns)) (sym (map-map member_name field_view c.args.fields.now)) c.distinct_members.ensures.ok
+
+pub returns-clause-err : goal.returns-clause-err
+returns-clause-err c = subst (λ (ns : List (List ℕ)). IfErr c.distinct_members.result (RefusesNames ns)) (sym (map-map member_name field_view c.args.fields.now)) c.distinct_members.ensures.err

@@ -10,7 +10,7 @@ use Rattle.package_form.proofs.NamesMetOneByOne.{met-none, refuses-item, all-tak
 use Rattle.tree_names.proofs.duplicates.distinct_items.Goals as goal
 
 pub loop-item-init : goal.loop-item-init
-loop-item-init c = record { names = met-none _ c.new-scope.ensures; parts = all-none AreDistinct }
+loop-item-init c = record { names = met-none _ c.with_room-scope.ensures; parts = all-none AreDistinct }
 
 pub returns-in_err-distinct_item-clause-err : goal.returns-in_err-distinct_item-clause-err
 returns-in_err-distinct_item-clause-err c =

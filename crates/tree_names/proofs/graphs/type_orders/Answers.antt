@@ -12,7 +12,7 @@ loop-declared-preserved c =
 
 pub returns-in_err-type_order-clause-err : goal.returns-in_err-type_order-clause-err
 returns-in_err-type_order-clause-err c =
-    let p = err_from_is_err_and c.from_residual.result c.from_residual.ensures.1 in
+    let p = err_from_is_err_and c.from_residual-in_err-type_order.result c.from_residual-in_err-type_order.ensures.1 in
     let d = c.declared-item.result in
     rw (p.1, p.2) (elim c.in_err-type_order.ensures.err [
       | inl q ↦ inl q

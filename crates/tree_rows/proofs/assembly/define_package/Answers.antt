@@ -7,7 +7,7 @@ use Rattle.tree_meaning.specs.Resolves.{type_uses, HasKnownNamesOf}
 use Rattle.tree_scopes.specs.Sources.{declared_tree}
 use Rattle.tree_rows.specs.Defining.{CanUse}
 use Rattle.tree_rows.specs.Planning.{planned_trees}
-use Rattle.tree_scopes.specs.KnownScopes.{IsScope, ArePlaced}
+use Rattle.tree_scopes.specs.KnownScopes.{IsScope, ArePlaced, AreImportScopes}
 use Rattle.tree_meaning.specs.Building.{label_at}
 use Rattle.tree_scopes.specs.declared.known.KnownTypes.{KnownTypes}
 use Rattle.tree_scopes.specs.declared.declared.Declarations.{Declarations}
@@ -18,7 +18,8 @@ use Rattle.tree_rows.proofs.assembly.define_package.Goals as goal
 pub loop-place-init : goal.loop-place-init
 loop-place-init c =
     let p = c.args.plan.now in
-    none-defined p.imports.now (planned_trees p) p.order.now p.types.now p.names.now c.args.builder.now c.args.scopes.items c.requires.starts c.requires.scopes
+    none-defined p.imports.now (planned_trees p) p.order.now p.types.now p.names.now c.args.builder.now c.reserve_exact.new.self.items c.requires.starts
+    (subst (AreImportScopes p.imports.now) (sym c.reserve_exact.ensures.items) c.requires.scopes)
 
 pub bounds-plan-index : goal.bounds-plan-index
 bounds-plan-index c = omega (arith, below c.args.plan.now c.requires.plan c.loop-place.place (omega arith), c.requires.plan.count)

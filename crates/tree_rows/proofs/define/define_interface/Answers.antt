@@ -21,10 +21,10 @@ define_uses-requires-clause-known c =
 pub define_types-requires-clause-earlier : goal.define_types-requires-clause-earlier
 define_types-requires-clause-earlier c =
     let i = declared_tree c.args.own.now.declared.now in
-    let s0 : KnownTypes = record { interface = c.args.own.now.id; entries = c.new.result } in
+    let s0 : KnownTypes = record { interface = c.args.own.now.id; entries = c.in_ok-entries.entries } in
     let names : scope_names c.define_uses.new.scope ≡ used_names i =
     first_names c.args.builder.now c.define_uses.new.builder s0 c.define_uses.new.scope _ (map used_item_of c.deref.result.now) i.uses
-    (ap (map used_item_of) c.deref.ensures.value) c.new.ensures c.in_ok-define_uses.ensures in
+    (ap (map used_item_of) c.deref.ensures.value) c.in_ok-entries.ensures c.in_ok-define_uses.ensures in
     let placed = placed-earlier i c.args.own.now.types.now c.requires.placed c.requires.types in
     subst (λ (ns : List (List ℕ)). NamesEarlier ns (map declared_type c.deref-2.result.now) c.args.own.now.types.now) (sym names)
     (subst (λ (ts : List (Bor TypeDef)). NamesEarlier (used_names i) (map declared_type ts) c.args.own.now.types.now) (sym c.deref-2.ensures.value) placed)
@@ -32,10 +32,10 @@ define_types-requires-clause-earlier c =
 pub define_functions-requires-clause-known : goal.define_functions-requires-clause-known
 define_functions-requires-clause-known c =
     let i = declared_tree c.args.own.now.declared.now in
-    let s0 : KnownTypes = record { interface = c.args.own.now.id; entries = c.new.result } in
+    let s0 : KnownTypes = record { interface = c.args.own.now.id; entries = c.in_ok-entries.entries } in
     let names : scope_names c.define_uses.new.scope ≡ used_names i =
     first_names c.args.builder.now c.define_uses.new.builder s0 c.define_uses.new.scope _ (map used_item_of c.deref.result.now) i.uses
-    (ap (map used_item_of) c.deref.ensures.value) c.new.ensures c.in_ok-define_uses.ensures in
+    (ap (map used_item_of) c.deref.ensures.value) c.in_ok-entries.ensures c.in_ok-define_uses.ensures in
     let all : scope_names c.define_types.new.scope ≡ used_names i ++ ordered_names i.types c.args.own.now.types.now =
     both_names c.define_uses.new.builder c.define_types.new.builder c.define_uses.new.scope c.define_types.new.scope _ (used_names i) (map declared_type c.deref-2.result.now) i.types c.args.own.now.types.now
     (ap (map declared_type) c.deref-2.ensures.value) names c.in_ok-define_types.ensures in
@@ -46,8 +46,8 @@ define_functions-requires-clause-known c =
 pub returns : goal.returns
 returns c =
     let i = declared_tree c.args.own.now.declared.now in
-    let s0 : KnownTypes = record { interface = c.args.own.now.id; entries = c.new.result } in
+    let s0 : KnownTypes = record { interface = c.args.own.now.id; entries = c.in_ok-entries.entries } in
     defines-interface c.args.builder.now c.define_uses.new.builder c.define_types.new.builder c.define_functions.new.builder s0 c.define_uses.new.scope c.define_types.new.scope
     c.args.own.now.id i c.args.own.now.types.now (map used_item_of c.deref.result.now) (map declared_type c.deref-2.result.now) (map declared_function c.deref-3.result.now)
     (ap (map used_item_of) c.deref.ensures.value) (ap (map declared_type) c.deref-2.ensures.value) (ap (map declared_function) c.deref-3.ensures.value)
-    refl c.new.ensures c.requires.named c.in_ok-define_uses.ensures c.in_ok-define_types.ensures c.in_ok-define_functions.ensures
+    refl c.in_ok-entries.ensures c.requires.named c.in_ok-define_uses.ensures c.in_ok-define_types.ensures c.in_ok-define_functions.ensures

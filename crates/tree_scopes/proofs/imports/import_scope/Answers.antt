@@ -16,7 +16,7 @@ returns-clause-names c =
     let i = c.args.interface.now in
     let k = c.args.place.0 in
     let within : InterfaceId → List TypeId → List (List ℕ) = λ p ts. filter_map (type_within rows p.0) ts in
-    let none : scope_names (record { interface = c.args.place; entries = c.new.result }) ≡ [] = ap (λ (es : List NameEntry). map (λ (e : NameEntry). e.name) es) c.new.ensures in
+    let none : scope_names (record { interface = c.args.place; entries = c.in_ok-entries.entries }) ≡ [] = ap (λ (es : List NameEntry). map (λ (e : NameEntry). e.name) es) c.in_ok-entries.ensures in
     let uses : scope_names c.push_types.new.scope ≡ within c.args.place i.uses =
     c.in_ok-push_types.ensures.names ∙ ap (λ (ns : List (List ℕ)). ns ++ within c.args.place c.as_slice.result.now) none ∙ ap (within c.args.place) c.as_slice.ensures in
     let types : within c.push_types.new.scope.interface c.as_slice-2.result.now ≡ within c.args.place i.types =
@@ -26,6 +26,6 @@ returns-clause-names c =
 
 pub returns-clause-scoped : goal.returns-clause-scoped
 returns-clause-scoped c = λ t e.
-    let empty : IsScope t (record { interface = c.args.place; entries = c.new.result }) =
-    record { each = subst (λ (es : List NameEntry). All (IsEntry t (label_at t c.args.place.0)) es) (sym c.new.ensures) (all-none (IsEntry t (label_at t c.args.place.0))) } in
+    let empty : IsScope t (record { interface = c.args.place; entries = c.in_ok-entries.entries }) =
+    record { each = subst (λ (es : List NameEntry). All (IsEntry t (label_at t c.args.place.0)) es) (sym c.in_ok-entries.ensures) (all-none (IsEntry t (label_at t c.args.place.0))) } in
     c.in_ok-push_types-2.ensures.scoped t e (c.in_ok-push_types.ensures.scoped t e empty)

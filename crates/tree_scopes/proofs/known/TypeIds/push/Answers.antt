@@ -14,9 +14,9 @@ returns c =
     elim c.match-branch-3.branch [
       | in-None w ↦ rw w.result-is
           (ap (λ (es : List (Bor (List ℕ) × TypeId)). map (mapped_entry lent_name) (few ++ es))
-          (c.in_ok-insert.ensures.entries ∙ insert_entry-new _ c.self.inside.many c.as_str.result c.args.id (sym c.in_ok-insert.ensures.old ∙ w.in-None.is))
-          ∙ ap (map (mapped_entry lent_name)) (sym (append_assoc few many ((c.as_str.result, c.args.id) ∷ [])))
-          ∙ map-append (mapped_entry lent_name) (few ++ many) ((c.as_str.result, c.args.id) ∷ [])
-          ∙ rw (c.self.view_is, c.as_str.ensures.is) refl)
+          (c.in_ok-insert.ensures.entries ∙ insert_entry-new _ c.self.inside.many c.as_str-name.result c.args.id (sym c.in_ok-insert.ensures.old ∙ w.in-None.is))
+          ∙ ap (map (mapped_entry lent_name)) (sym (append_assoc few many ((c.as_str-name.result, c.args.id) ∷ [])))
+          ∙ map-append (mapped_entry lent_name) (few ++ many) ((c.as_str-name.result, c.args.id) ∷ [])
+          ∙ rw (c.self.view_is, c.as_str-name.ensures.is) refl)
       | in-Some w ↦ rw w.result-is tt
     ]

@@ -1,6 +1,0 @@
-use Rattle.std.proofs.Common.{take}
-use Rattle.package_form.specs.Distinct.{AreMet}
-use Rattle.tree_names.proofs.duplicates.distinct_labels.Given as goal
-
-abbrev pub invariant-loop-label : goal.invariant-loop-label
-invariant-loop-label l = AreMet (take l.label-index l.labels) l.scope
