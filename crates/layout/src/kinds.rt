@@ -1,7 +1,9 @@
 //! The flat kinds of types side by side.
-ghost use Rattle.std.specs.Prelude.{◌≡◌, ◌+◌, ◌≤◌, ◌∷◌, [], ◌++◌};
+ghost use Rattle.std.specs.Prelude.{◌≡◌, ◌+◌, ◌≤◌, List, ◌∷◌, [], ◌++◌, length};
+ghost use Rattle.canonical_abi.specs.declared.flat.CoreKind.{CoreKind};
+ghost use Rattle.canonical_abi.specs.declared.flat.CoreKind.TheVariants.{I32};
 ghost use Rattle.canonical_abi.specs.Layout.{join_kind, join};
-ghost use Rattle.layout.specs.Kinds.{kinds_of, count_of, append_kinds, join_kinds};
+ghost use Rattle.layout.specs.Kinds.{kinds_of, count_of, append_kinds, join_kinds, passed};
 ghost use Rattle.arrayvec.specs.ArrayVec.{array_vec_len};
 
 use crate::kind_list::KindList;
@@ -26,29 +28,37 @@ fn joined_kind(left: CoreKind, right: CoreKind) -> CoreKind
     }
 }
 
-/// The kinds of `left` and then those of `right`.
-fn appended(mut left: KindList, right: &KindList) -> KindList
-    requires { array_vec_len left + array_vec_len right.now ≤ 17 }
-    ensures { result.items ≡ left.items ++ right.now.items }
+/// Puts these kinds behind the others; most types have one or two.
+fn append_all(kinds: &mut KindList, more: &KindList)
+    requires { array_vec_len kinds.old + array_vec_len more.now ≤ 17 }
+    ensures { kinds.new.items ≡ kinds.old.items ++ more.now.items }
 {
-    for kind in right.as_slice() {
-        left.push(*kind);
-    }
-    left
-}
-
-/// The place-wise join of two lists of kinds.
-fn joined(mut left: KindList, right: &KindList) -> KindList
-    ensures { result.items ≡ join left.items right.now.items }
-{
-    for (i, kind) in right.as_slice().iter().enumerate() {
-        if i < left.len() {
-            left.set(i, joined_kind(left.as_slice()[i], *kind));
-        } else {
-            left.push(*kind);
+    match more.as_slice() {
+        [kind] => kinds.push(*kind),
+        [first, second] => {
+            kinds.push(*first);
+            kinds.push(*second);
+        }
+        many => {
+            for kind in many {
+                kinds.push(*kind);
+            }
         }
     }
-    left
+}
+
+/// Joins the kinds of a payload, place by place, with those behind the discriminant's.
+fn join_all(kinds: &mut KindList, payload: &KindList)
+    requires { length payload.now.items ≤ 16 }
+    ensures { (ks : List CoreKind) → kinds.old.items ≡ I32 ∷ ks → kinds.new.items ≡ I32 ∷ join ks payload.now.items }
+{
+    for (i, kind) in payload.as_slice().iter().enumerate() {
+        if i + 1 < kinds.len() {
+            kinds.set(i + 1, joined_kind(kinds.as_slice()[i + 1], *kind));
+        } else {
+            kinds.push(*kind);
+        }
+    }
 }
 
 impl Kinds {
@@ -86,32 +96,32 @@ impl Kinds {
         }
     }
 
-    /// These kinds and then those.
-    pub(crate) fn append(self, more: &Kinds) -> Kinds
-        ensures { result ≡ append_kinds self more.now }
+    /// Puts those kinds behind these.
+    pub(crate) fn append(&mut self, more: &Kinds)
+        ensures { self.new ≡ append_kinds self.old more.now }
     {
-        match (self, more) {
-            (Kinds::Flat(left), Kinds::Flat(right)) if left.len() + right.len() <= MAX_FLAT => {
-                Kinds::Flat(appended(left, right))
+        match (&mut *self, more) {
+            (Kinds::Flat(kinds), Kinds::Flat(more)) if kinds.len() + more.len() <= MAX_FLAT => {
+                append_all(kinds, more)
             }
-            _ => Kinds::Spilled,
+            _ => *self = Kinds::Spilled,
         }
     }
 
-    /// The place-wise join.
-    pub(crate) fn join(self, other: &Kinds) -> Kinds
-        ensures { result ≡ join_kinds self other.now }
+    /// Joins the kinds of a payload, place by place, with those behind the discriminant's.
+    pub(crate) fn join(&mut self, payload: &Kinds)
+        requires { length (passed payload.now) ≤ 16 }
+        ensures { (ks : Kinds) → self.old ≡ append_kinds (kinds_of (I32 ∷ [])) ks
+            → self.new ≡ append_kinds (kinds_of (I32 ∷ [])) (join_kinds ks payload.now) }
     {
-        match (self, other) {
-            (Kinds::Flat(left), Kinds::Flat(right)) => {
-                let kinds = joined(left, right);
+        match (&mut *self, payload) {
+            (Kinds::Flat(kinds), Kinds::Flat(payload)) => {
+                join_all(kinds, payload);
                 if kinds.len() > MAX_FLAT {
-                    Kinds::Spilled
-                } else {
-                    Kinds::Flat(kinds)
+                    *self = Kinds::Spilled;
                 }
             }
-            _ => Kinds::Spilled,
+            _ => *self = Kinds::Spilled,
         }
     }
 }

@@ -1,6 +1,6 @@
 //! The layout table of a package.
-ghost use Rattle.std.specs.Prelude.{◌≡◌, ◌+◌, ◌↔◌, ◌<◌, [], length, map, option_map, slice_get, All, IsTrue, IfOk};
-ghost use Rattle.std.specs.Prelude.{IfErr, Some};
+ghost use Rattle.std.specs.Prelude.{◌≡◌, ◌+◌, ◌↔◌, ◌<◌, ◌++◌, ◌∷◌, [], length, map, option_map, slice_get};
+ghost use Rattle.std.specs.Prelude.{All, IsTrue, IfOk, IfErr, Some};
 ghost use Rattle.tables.specs.declared.tables.Resolve.{Resolve};
 ghost use Rattle.tables.specs.Closed.{closed_types, closed_type, function_type, IsFunction};
 ghost use Rattle.tables.specs.Tables.{is_below};
@@ -21,7 +21,7 @@ use crate::error::LayoutError;
 use crate::kinds::Kinds;
 use crate::parts::PartsTable;
 use crate::queries::{CaseInfo, FieldInfo, Shape};
-use crate::rows::{Row, count_in, extent_in, look, row_in};
+use crate::rows::{Row, append_type, count_in, measures_in, row_in};
 use crate::signature::{
     CoreSignature, are_lowered, lifted_of, lowered_of, passed_count, result_of,
 };
@@ -53,26 +53,36 @@ fn lay_all(alloc: Global, resolve: &Resolve, steps: &mut Steps) -> Result<Tables
     let mut rows = Vec::with_capacity(alloc, count)?;
     let mut parts = PartsTable::with_room(alloc, resolve)?;
     for definition in resolve.definitions.as_slice() {
-        let row = parts.lay_definition(rows.as_slice(), definition, steps)?;
-        rows.push(row)?;
+        parts.lay_definition(&mut rows, definition, steps)?;
     }
     Ok(Tables { rows, parts })
 }
 
-/// The kinds of a function's result, and none of a type.
-fn result_kinds(rows: &[Row], definition: &Definition, steps: &mut Steps) -> Kinds
+/// Puts the kinds of a function's result behind the others, and none of a type.
+fn push_result(
+    results: &mut Vec<Kinds>,
+    rows: &[Row],
+    definition: &Definition,
+    steps: &mut Steps,
+) -> Result<(), LayoutError>
     requires below { IsTrue (result_below (length rows.now) definition.now) }
     requires sound { All IsSound rows.now }
-    ensures value { result ≡ definition_result rows.now definition.now }
-    ensures steps { steps.new.count ≡ saturated (steps.old.count + results_in definition.now) }
+    ensures ok { IfOk result (λ _. results.new.items
+        ≡ results.old.items ++ definition_result rows.now definition.now ∷ []) }
+    ensures steps { IfOk result (λ _. steps.new.count ≡ saturated (steps.old.count + results_in definition.now)) }
+    ensures err { IfErr result (λ e. e ≡ LayoutError.NoMemory) }
 {
     match definition {
-        Definition::Type(_) => Kinds::none(),
+        Definition::Type(_) => results.push(Kinds::none())?,
         Definition::Function(function) => match function.result {
-            Some(ty) => look(rows, ty, steps).kinds,
-            None => Kinds::none(),
+            Some(ty) => {
+                steps.take_one();
+                results.push(row_in(rows, ty).kinds)?
+            }
+            None => results.push(Kinds::none())?,
         },
     }
+    Ok(())
 }
 
 /// The kinds of the results of a package's functions.
@@ -92,7 +102,7 @@ fn all_results(
 {
     let mut results = Vec::with_capacity(alloc, rows.len())?;
     for definition in resolve.definitions.as_slice() {
-        results.push(result_kinds(rows, definition, steps))?;
+        push_result(&mut results, rows, definition, steps)?;
     }
     Ok(results)
 }
@@ -133,7 +143,7 @@ impl Layouts {
         ensures within { IfOk result (λ _. AreWithin resolve.now) }
         ensures err { IfErr result (λ e. RefusesFirst e resolve.now) }
     {
-        let mut steps = Steps::none();
+        let mut steps = Steps { count: 0 };
         let tables = lay_all(alloc, resolve, &mut steps)?;
         let results = all_results(alloc, resolve, tables.rows.as_slice(), &mut steps)?;
         Ok(Layouts {
@@ -166,7 +176,7 @@ impl Layouts {
         requires { IsTrue (is_below (length self.now.rows) ty) }
         ensures { (r : Resolve) → self.now ≡ layouts_of r → result ≡ size (closed_type r ty) }
     {
-        extent_in(self.rows.as_slice(), ty).0
+        measures_in(self.rows.as_slice(), ty).size
     }
 
     /// The alignment of a type of the package, in bytes.
@@ -174,7 +184,7 @@ impl Layouts {
         requires { IsTrue (is_below (length self.now.rows) ty) }
         ensures { (r : Resolve) → self.now ≡ layouts_of r → result ≡ align (closed_type r ty) }
     {
-        extent_in(self.rows.as_slice(), ty).1
+        measures_in(self.rows.as_slice(), ty).align
     }
 
     /// The flat kinds of these types side by side, where they are at most sixteen.
@@ -186,7 +196,7 @@ impl Layouts {
         let rows = self.rows.as_slice();
         let mut kinds = Kinds::none();
         for ty in types {
-            kinds = kinds.append(&row_in(rows, *ty).kinds);
+            append_type(&mut kinds, rows, *ty);
         }
         kinds
     }

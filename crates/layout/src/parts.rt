@@ -2,7 +2,7 @@
 ghost use Rattle.std.specs.Prelude.{◌≡◌, ◌+◌, ◌<◌, ◌≤◌, ◌++◌, ◌∷◌, [], length, map, All, IsTrue, IfOk, IfErr};
 ghost use Rattle.tables.specs.Tables.{is_below, option_below, kind_below, definition_below};
 ghost use Rattle.canonical_abi.specs.Types.{flags_type};
-ghost use Rattle.layout.specs.Layout.{row_of, IsSound, max_size};
+ghost use Rattle.layout.specs.Layout.{row_of, IsSound};
 ghost use Rattle.layout.specs.Standing as parts;
 ghost use Rattle.layout.specs.Heads.{standing};
 ghost use Rattle.layout.specs.Parts.{payloads, final_type, record_parts, variant_parts, kind_parts, definition_parts};
@@ -16,7 +16,7 @@ ghost use Rattle.layout.specs.Work.{direct_types, laid_in, saturated};
 use crate::error::LayoutError;
 use crate::queries::{CaseInfo, FieldInfo, Shape};
 use crate::rows::{
-    MAX_DEPTH, Row, block_row, deeper, flags_row, limited, look, record_row, variant_row,
+    MAX_DEPTH, Row, block_row, deeper, flags_row, limited, look, record_row, row_in, variant_row,
 };
 use crate::work::Steps;
 use std::alloc::Global;
@@ -163,128 +163,139 @@ impl PartsTable {
         }
     }
 
-    /// The members of a record, a tuple or a function, whose depth is at most `most`.
+    /// Lays out the members of a record, a tuple or a function, whose depth is at most `most`.
     fn lay_members<M: Member>(
         &mut self,
-        rows: &[Row],
+        rows: &mut Vec<Row>,
         members: &[M],
         most: u32,
         steps: &mut Steps,
-    ) -> Result<Row, LayoutError>
-        requires below { All (λ m. IsTrue (is_below (length rows.now) (M.type_of m))) members.now }
-        requires sound { All IsSound rows.now }
+    ) -> Result<(), LayoutError>
+        requires below { All (λ m. IsTrue (is_below (length rows.old.items) (M.type_of m))) members.now }
+        requires sound { All IsSound rows.old.items }
         requires most { most ≤ 65 }
-        ensures row { IfOk result (λ x. x ≡ record_row (rows_at rows.now M.type_of members.now)) }
+        ensures row { IfOk result (λ _. rows.new.items
+            ≡ rows.old.items ++ record_row (rows_at rows.old.items M.type_of members.now) ∷ []) }
         ensures parts { IfOk result (λ _. self.new
-            ≡ self.old ++ record_parts (extent_at rows.now) (map M.type_of members.now) ∷ []) }
-        ensures sound { IfOk result IsSound }
-        ensures within { IfOk result (λ x. (x.depth ≤ most) × (x.size ≤ max_size)) }
+            ≡ self.old ++ record_parts (extent_at rows.old.items) (map M.type_of members.now) ∷ []) }
+        ensures sound { IfOk result (λ _. IsSound (record_row (rows_at rows.old.items M.type_of members.now))) }
+        ensures depth { IfOk result (λ _. (record_row (rows_at rows.old.items M.type_of members.now)).depth ≤ most) }
         ensures steps { IfOk result (λ _. steps.new.count ≡ saturated (steps.old.count + length members.now)) }
-        ensures err { IfErr result (λ e. RefusesDeeper most e (record_row (rows_at rows.now M.type_of members.now))) }
+        ensures err { IfErr result (λ e. RefusesDeeper most e
+            (record_row (rows_at rows.old.items M.type_of members.now))) }
     {
         let first = self.fields.len();
-        let row = record_row(&mut self.fields, rows, members, most, steps)?;
+        record_row(&mut self.fields, rows, members, most, steps)?;
         self.heads.push(Head::Record(first, members.len()))?;
-        Ok(row)
+        Ok(())
     }
 
-    /// A variant, an enum, an option or a result.
+    /// Lays out a variant, an enum, an option or a result.
+    #[inline(always)]
     fn lay_variant<C: Choice>(
         &mut self,
-        rows: &[Row],
+        rows: &mut Vec<Row>,
         cases: &[C],
         steps: &mut Steps,
-    ) -> Result<Row, LayoutError>
-        requires below { All (λ c. IsTrue (option_below (length rows.now) (C.payload_of c))) cases.now }
-        requires sound { All IsSound rows.now }
-        ensures row { IfOk result (λ x. x ≡ variant_row (choices_at rows.now C.payload_of cases.now)) }
+    ) -> Result<(), LayoutError>
+        requires below { All (λ c. IsTrue (option_below (length rows.old.items) (C.payload_of c))) cases.now }
+        requires sound { All IsSound rows.old.items }
+        ensures row { IfOk result (λ _. rows.new.items
+            ≡ rows.old.items ++ variant_row (choices_at rows.old.items C.payload_of cases.now) ∷ []) }
         ensures parts { IfOk result (λ _. self.new
-            ≡ self.old ++ variant_parts (extent_at rows.now) (map C.payload_of cases.now) ∷ []) }
-        ensures sound { IfOk result IsSound }
-        ensures within { IfOk result IsLimitedRow }
+            ≡ self.old ++ variant_parts (extent_at rows.old.items) (map C.payload_of cases.now) ∷ []) }
+        ensures sound { IfOk result (λ _. IsSound (variant_row (choices_at rows.old.items C.payload_of cases.now))) }
+        ensures within { IfOk result (λ _. IsLimitedRow
+            (variant_row (choices_at rows.old.items C.payload_of cases.now))) }
         ensures steps { IfOk result (λ _. steps.new.count
-            ≡ saturated (steps.old.count + length (payloads (choices_at rows.now C.payload_of cases.now)))) }
-        ensures err { IfErr result (λ e. RefusesRow e (variant_row (choices_at rows.now C.payload_of cases.now))) }
+            ≡ saturated (steps.old.count + length (payloads (choices_at rows.old.items C.payload_of cases.now)))) }
+        ensures err { IfErr result (λ e. RefusesRow e
+            (variant_row (choices_at rows.old.items C.payload_of cases.now))) }
     {
         let first = self.payloads.len();
-        let variant = variant_row(&mut self.payloads, rows, cases, steps)?;
-        let row = limited(variant.row)?;
-        self.heads
-            .push(Head::Variant(variant.payload, first, cases.len()))?;
-        Ok(row)
+        let payload = variant_row(&mut self.payloads, rows, cases, steps)?;
+        self.heads.push(Head::Variant(payload, first, cases.len()))?;
+        Ok(())
     }
 
     /// A used name or a new name.
     fn lay_name(
         &mut self,
-        rows: &[Row],
+        rows: &mut Vec<Row>,
         target: ValType,
         steps: &mut Steps,
-    ) -> Result<Row, LayoutError>
-        requires below { IsTrue (is_below (length rows.now) target) }
-        requires same { length self.old ≡ length rows.now }
-        requires sound { All IsSound rows.now }
-        ensures row { IfOk result (λ x. x ≡ row_in rows.now target) }
+    ) -> Result<(), LayoutError>
+        requires below { IsTrue (is_below (length rows.old.items) target) }
+        requires same { length self.old ≡ length rows.old.items }
+        requires sound { All IsSound rows.old.items }
+        ensures row { IfOk result (λ _. rows.new.items ≡ rows.old.items ++ row_in rows.old.items target ∷ []) }
         ensures parts { IfOk result (λ _. self.new ≡ self.old ++ parts.Same (final_type self.old target) ∷ []) }
-        ensures sound { IfOk result IsSound }
-        ensures within { IfOk result IsLimitedRow }
+        ensures sound { IfOk result (λ _. IsSound (row_in rows.old.items target)) }
+        ensures within { IfOk result (λ _. IsLimitedRow (row_in rows.old.items target)) }
         ensures steps { steps.new.count ≡ saturated (steps.old.count + 1) }
-        ensures err { IfErr result (λ e. RefusesRow e (row_in rows.now target)) }
+        ensures err { IfErr result (λ e. RefusesRow e (row_in rows.old.items target)) }
     {
-        let row = limited(look(rows, target, steps))?;
+        steps.take_one();
+        let row = row_in(rows.as_slice(), target);
+        limited(&row)?;
+        rows.push(row)?;
         let end = self.final_type(target);
         self.heads.push(Head::Same(end))?;
-        Ok(row)
+        Ok(())
     }
 
     /// A list of these elements.
     fn lay_list(
         &mut self,
-        rows: &[Row],
+        rows: &mut Vec<Row>,
         element: ValType,
         steps: &mut Steps,
-    ) -> Result<Row, LayoutError>
-        requires below { IsTrue (is_below (length rows.now) element) }
-        requires sound { All IsSound rows.now }
-        ensures row { IfOk result (λ x. x ≡ list_row (row_in rows.now element)) }
+    ) -> Result<(), LayoutError>
+        requires below { IsTrue (is_below (length rows.old.items) element) }
+        requires sound { All IsSound rows.old.items }
+        ensures row { IfOk result (λ _. rows.new.items
+            ≡ rows.old.items ++ list_row (row_in rows.old.items element) ∷ []) }
         ensures parts { IfOk result (λ _. self.new ≡ self.old ++ parts.List element ∷ []) }
-        ensures sound { IfOk result IsSound }
-        ensures within { IfOk result IsLimitedRow }
+        ensures sound { IfOk result (λ _. IsSound (list_row (row_in rows.old.items element))) }
+        ensures within { IfOk result (λ _. IsLimitedRow (list_row (row_in rows.old.items element))) }
         ensures steps { steps.new.count ≡ saturated (steps.old.count + 1) }
-        ensures err { IfErr result (λ e. RefusesRow e (list_row (row_in rows.now element))) }
+        ensures err { IfErr result (λ e. RefusesRow e (list_row (row_in rows.old.items element))) }
     {
-        let row = limited(block_row(deeper(look(rows, element, steps).depth)))?;
+        let row = block_row(deeper(look(rows.as_slice(), element, steps).depth));
+        limited(&row)?;
+        rows.push(row)?;
         self.heads.push(Head::List(element))?;
-        Ok(row)
+        Ok(())
     }
 
     /// Flags of so many labels.
-    fn lay_flags(&mut self, labels: usize) -> Result<Row, LayoutError>
-        ensures row { IfOk result (λ x. x ≡ row_of (flags_type labels)) }
+    fn lay_flags(&mut self, rows: &mut Vec<Row>, labels: usize) -> Result<(), LayoutError>
+        ensures row { IfOk result (λ _. rows.new.items ≡ rows.old.items ++ row_of (flags_type labels) ∷ []) }
         ensures parts { IfOk result (λ _. self.new ≡ self.old ++ parts.Flags labels ∷ []) }
         ensures err { IfErr result (λ e. e ≡ LayoutError.NoMemory) }
     {
+        rows.push(flags_row(labels))?;
         self.heads.push(Head::Flags(labels))?;
-        Ok(flags_row(labels))
+        Ok(())
     }
 
     /// A type.
     fn lay_kind(
         &mut self,
-        rows: &[Row],
+        rows: &mut Vec<Row>,
         kind: &TypeDefKind,
         steps: &mut Steps,
-    ) -> Result<Row, LayoutError>
-        requires below { IsTrue (kind_below (length rows.now) kind.now) }
-        requires same { length self.old ≡ length rows.now }
-        requires sound { All IsSound rows.now }
-        ensures row { IfOk result (λ x. x ≡ kind_row rows.now kind.now) }
+    ) -> Result<(), LayoutError>
+        requires below { IsTrue (kind_below (length rows.old.items) kind.now) }
+        requires same { length self.old ≡ length rows.old.items }
+        requires sound { All IsSound rows.old.items }
+        ensures row { IfOk result (λ _. rows.new.items ≡ rows.old.items ++ kind_row rows.old.items kind.now ∷ []) }
         ensures parts { IfOk result (λ _. self.new
-            ≡ self.old ++ kind_parts (extent_at rows.now) self.old kind.now ∷ []) }
-        ensures sound { IfOk result IsSound }
-        ensures within { IfOk result IsLimitedRow }
+            ≡ self.old ++ kind_parts (extent_at rows.old.items) self.old kind.now ∷ []) }
+        ensures sound { IfOk result (λ _. IsSound (kind_row rows.old.items kind.now)) }
+        ensures within { IfOk result (λ _. IsLimitedRow (kind_row rows.old.items kind.now)) }
         ensures steps { IfOk result (λ _. steps.new.count ≡ saturated (steps.old.count + direct_types kind.now)) }
-        ensures err { IfErr result (λ e. RefusesRow e (kind_row rows.now kind.now)) }
+        ensures err { IfErr result (λ e. RefusesRow e (kind_row rows.old.items kind.now)) }
     {
         match kind {
             TypeDefKind::Use(target) => self.lay_name(rows, ValType::Id(*target), steps),
@@ -301,28 +312,32 @@ impl PartsTable {
             ),
             TypeDefKind::Variant(cases) => self.lay_variant(rows, cases.as_slice(), steps),
             TypeDefKind::Enum(names) => self.lay_variant(rows, names.as_slice(), steps),
-            TypeDefKind::Flags(labels) => self.lay_flags(labels.len()),
+            TypeDefKind::Flags(labels) => self.lay_flags(rows, labels.len()),
         }
     }
 
-    /// A definition; a function is laid out as the record of its parameters.
+    /// Lays out a definition: puts its row and what stands in it behind those before it. A function is laid out as the
+    /// record of its parameters.
     pub(crate) fn lay_definition(
         &mut self,
-        rows: &[Row],
+        rows: &mut Vec<Row>,
         definition: &Definition,
         steps: &mut Steps,
-    ) -> Result<Row, LayoutError>
-        requires below { IsTrue (definition_below (length rows.now) definition.now) }
-        requires same { length self.old ≡ length rows.now }
-        requires sound { All IsSound rows.now }
-        ensures row { IfOk result (λ x. x ≡ definition_row rows.now definition.now) }
+    ) -> Result<(), LayoutError>
+        requires below { IsTrue (definition_below (length rows.old.items) definition.now) }
+        requires same { length self.old ≡ length rows.old.items }
+        requires sound { All IsSound rows.old.items }
+        ensures row { IfOk result (λ _. rows.new.items
+            ≡ rows.old.items ++ definition_row rows.old.items definition.now ∷ []) }
         ensures parts { IfOk result (λ _. self.new
-            ≡ self.old ++ definition_parts (extent_at rows.now) self.old definition.now ∷ []) }
-        ensures sound { IfOk result IsSound }
-        ensures within { IfOk result (λ x. IsLimitedDefinition definition.now x) }
+            ≡ self.old ++ definition_parts (extent_at rows.old.items) self.old definition.now ∷ []) }
+        ensures sound { IfOk result (λ _. IsSound (definition_row rows.old.items definition.now)) }
+        ensures within { IfOk result (λ _. IsLimitedDefinition definition.now
+            (definition_row rows.old.items definition.now)) }
         ensures steps { IfOk result (λ _. steps.new.count
             ≡ saturated (steps.old.count + (1 + laid_in definition.now))) }
-        ensures err { IfErr result (λ e. RefusesDefinition e definition.now (definition_row rows.now definition.now)) }
+        ensures err { IfErr result (λ e. RefusesDefinition e definition.now
+            (definition_row rows.old.items definition.now)) }
     {
         steps.take_one();
         match definition {

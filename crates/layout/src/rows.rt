@@ -1,11 +1,13 @@
 //! The row of a definition, by the rows of the definitions before it.
-ghost use Rattle.std.specs.Prelude.{◌≡◌, ◌+◌, ◌≤◌, ◌++◌, map, length, All, IsTrue, IfOk, IfErr};
+ghost use Rattle.std.specs.Prelude.{◌≡◌, ◌+◌, ◌≤◌, ◌++◌, ◌∷◌, [], map, length, All, IsTrue, IfOk, IfErr};
 ghost use Rattle.std.specs.Int.{next_multiple_of};
 ghost use Rattle.canonical_abi.specs.Types.{prim_type, string_type, flags_type};
 ghost use Rattle.canonical_abi.specs.Layout.{size, align, discriminant_size, places_from, payload_at};
 ghost use Rattle.tables.specs.Closed.{prim_of};
 ghost use Rattle.tables.specs.Tables.{is_below, option_below};
-ghost use Rattle.layout.specs.Kinds.{count_of};
+ghost use Rattle.canonical_abi.specs.declared.flat.CoreKind.TheVariants.{I32};
+ghost use Rattle.layout.specs.Kinds.{kinds_of, count_of, append_kinds, join_kinds};
+ghost use Rattle.layout.specs.declared.kinds.Kinds.{Kinds};
 ghost use Rattle.layout.specs.Layout.{row_of, capped, IsSound, max_size};
 ghost use Rattle.layout.specs.Heads.{AreAdded};
 ghost use Rattle.layout.specs.Parts.{payloads};
@@ -97,11 +99,13 @@ fn primitive_row(primitive: Primitive) -> Row
 pub(crate) fn block_row(depth: u32) -> Row
     ensures { result ≡ record (row_of string_type) { depth = depth } }
 {
+    let mut kinds = Kinds::one(CoreKind::I32);
+    kinds.append(&Kinds::one(CoreKind::I32));
     Row {
         depth,
         size: 8,
         align: 4,
-        kinds: Kinds::one(CoreKind::I32).append(&Kinds::one(CoreKind::I32)),
+        kinds,
     }
 }
 
@@ -140,22 +144,60 @@ pub(crate) fn row_in(rows: &[Row], ty: ValType) -> Row
     }
 }
 
-/// The size and the alignment of a type, without its row.
-pub(crate) fn extent_in(rows: &[Row], ty: ValType) -> (u32, u32)
+/// What a row has beside its kinds.
+#[derive(Drop)]
+pub(crate) struct Measures {
+    pub(crate) depth: u32,
+    pub(crate) size: u32,
+    pub(crate) align: u32,
+}
+
+/// The measures of a type, without its row.
+pub(crate) fn measures_in(rows: &[Row], ty: ValType) -> Measures
     requires { IsTrue (is_below (length rows.now) ty) }
-    ensures size { result.0 ≡ (row_in rows.now ty).size }
-    ensures align { result.1 ≡ (row_in rows.now ty).align }
+    ensures depth { result.depth ≡ (row_in rows.now ty).depth }
+    ensures size { result.size ≡ (row_in rows.now ty).size }
+    ensures align { result.align ≡ (row_in rows.now ty).align }
 {
-    match ty {
+    let (depth, size, align) = match ty {
         ValType::Primitive(primitive) => {
             let bytes = primitive_bytes(primitive);
-            (bytes, bytes)
+            (1, bytes, bytes)
         }
-        ValType::String => (8, 4),
+        ValType::String => (1, 8, 4),
         ValType::Id(id) => {
             let row = &rows[id.0 as usize];
-            (row.size, row.align)
+            (row.depth, row.size, row.align)
         }
+    };
+    Measures { depth, size, align }
+}
+
+/// Puts the kinds of a type behind these, without its row.
+#[inline(always)]
+pub(crate) fn append_type(kinds: &mut Kinds, rows: &[Row], ty: ValType)
+    requires { IsTrue (is_below (length rows.now) ty) }
+    ensures { kinds.new ≡ append_kinds kinds.old (row_in rows.now ty).kinds }
+{
+    match ty {
+        ValType::Primitive(primitive) => kinds.append(&primitive_row(primitive).kinds),
+        ValType::String => kinds.append(&block_row(1).kinds),
+        ValType::Id(id) => kinds.append(&rows[id.0 as usize].kinds),
+    }
+}
+
+/// Joins the kinds of a payload with those of a variant, without its row.
+#[inline(always)]
+fn join_type(kinds: &mut Kinds, rows: &[Row], payload: ValType)
+    requires below { IsTrue (is_below (length rows.now) payload) }
+    requires sound { All IsSound rows.now }
+    ensures { (ks : Kinds) → kinds.old ≡ append_kinds (kinds_of (I32 ∷ [])) ks
+        → kinds.new ≡ append_kinds (kinds_of (I32 ∷ [])) (join_kinds ks (row_in rows.now payload).kinds) }
+{
+    match payload {
+        ValType::Primitive(primitive) => kinds.join(&primitive_row(primitive).kinds),
+        ValType::String => kinds.join(&block_row(1).kinds),
+        ValType::Id(id) => kinds.join(&rows[id.0 as usize].kinds),
     }
 }
 
@@ -171,51 +213,55 @@ pub(crate) fn count_in(rows: &[Row], ty: ValType) -> Option<usize>
     }
 }
 
-/// The row of a type that stands directly in a definition whose row is made, which is one step.
-pub(crate) fn look(rows: &[Row], ty: ValType, steps: &mut Steps) -> Row
+/// The measures of a type that stands directly in a definition whose row is made, which is one step.
+pub(crate) fn look(rows: &[Row], ty: ValType, steps: &mut Steps) -> Measures
     requires below { IsTrue (is_below (length rows.now) ty) }
     requires sound { All IsSound rows.now }
-    ensures value { result ≡ row_in rows.now ty }
-    ensures sound { IsSound result }
+    ensures depth { result.depth ≡ (row_in rows.now ty).depth }
+    ensures size { result.size ≡ (row_in rows.now ty).size }
+    ensures align { result.align ≡ (row_in rows.now ty).align }
+    ensures sound { IsSound (row_in rows.now ty) }
     ensures steps { steps.new.count ≡ saturated (steps.old.count + 1) }
 {
     steps.take_one();
-    row_in(rows, ty)
+    measures_in(rows, ty)
 }
 
-/// The row of a record, whose depth is at most `most`; puts its fields behind those that are there.
+/// Puts the row of a record, whose depth is at most `most`, and its fields behind those that are there.
 pub(crate) fn record_row<M: Member>(
     fields: &mut Vec<FieldInfo>,
-    rows: &[Row],
+    rows: &mut Vec<Row>,
     members: &[M],
     most: u32,
     steps: &mut Steps,
-) -> Result<Row, LayoutError>
-    requires below { All (λ m. IsTrue (is_below (length rows.now) (M.type_of m))) members.now }
-    requires sound { All IsSound rows.now }
+) -> Result<(), LayoutError>
+    requires below { All (λ m. IsTrue (is_below (length rows.old.items) (M.type_of m))) members.now }
+    requires sound { All IsSound rows.old.items }
     requires most { most ≤ 65 }
-    ensures row { IfOk result (λ x. x ≡ record_row (rows_at rows.now M.type_of members.now)) }
+    ensures row { IfOk result (λ _. rows.new.items
+        ≡ rows.old.items ++ record_row (rows_at rows.old.items M.type_of members.now) ∷ []) }
     ensures fields { IfOk result (λ _. AreAdded fields.old.items fields.new.items (map M.type_of members.now)
-        (places_from 0 (extents (rows_at rows.now M.type_of members.now)))) }
+        (places_from 0 (extents (rows_at rows.old.items M.type_of members.now)))) }
     ensures kept { length fields.old.items ≤ length fields.new.items }
-    ensures sound { IfOk result IsSound }
-    ensures within { IfOk result (λ x. (x.depth ≤ most) × (x.size ≤ max_size)) }
+    ensures sound { IfOk result (λ _. IsSound (record_row (rows_at rows.old.items M.type_of members.now))) }
+    ensures depth { IfOk result (λ _. (record_row (rows_at rows.old.items M.type_of members.now)).depth ≤ most) }
     ensures steps { IfOk result (λ _. steps.new.count ≡ saturated (steps.old.count + length members.now)) }
-    ensures err { IfErr result (λ e. RefusesDeeper most e (record_row (rows_at rows.now M.type_of members.now))) }
+    ensures err { IfErr result (λ e. RefusesDeeper most e (record_row (rows_at rows.old.items M.type_of members.now))) }
 {
+    let before = rows.as_slice();
     let mut depth = 0;
     let mut end = 0;
     let mut align = 1;
     let mut kinds = Kinds::none();
     for member in members {
         let ty = member.ty();
-        let row = look(rows, ty, steps);
+        let row = look(before, ty, steps);
         let offset = align_up(end, row.align);
         fields.push(FieldInfo { ty, offset })?;
         depth = depth.max(row.depth);
         end = (offset + row.size).min(MAX_SIZE + 1);
         align = align.max(row.align);
-        kinds = kinds.append(&row.kinds);
+        append_type(&mut kinds, before, ty);
     }
     let depth = deeper(depth);
     if depth > most {
@@ -225,12 +271,13 @@ pub(crate) fn record_row<M: Member>(
     if size > MAX_SIZE {
         return Err(LayoutError::TooLarge);
     }
-    Ok(Row {
+    rows.push(Row {
         depth,
         size,
         align,
         kinds,
-    })
+    })?;
+    Ok(())
 }
 
 /// The bytes of a discriminant of so many cases.
@@ -248,69 +295,65 @@ fn discriminant_size(cases: usize) -> u32
     }
 }
 
-/// A variant's row, which may be above the limits, and the place of its payload.
-#[derive(Drop)]
-pub(crate) struct VariantRow {
-    pub(crate) row: Row,
-    pub(crate) payload: u32,
-}
-
-/// The row of a variant; puts the payloads of its cases behind those that are there.
+/// Puts the row of a variant and the payloads of its cases behind those that are there; the place of its payload.
+#[inline(always)]
 pub(crate) fn variant_row<C: Choice>(
     all_payloads: &mut Vec<Option<ValType>>,
-    rows: &[Row],
+    rows: &mut Vec<Row>,
     cases: &[C],
     steps: &mut Steps,
-) -> Result<VariantRow, LayoutError>
-    requires below { All (λ c. IsTrue (option_below (length rows.now) (C.payload_of c))) cases.now }
-    requires sound { All IsSound rows.now }
-    ensures value { IfOk result (λ x. x.row ≡ variant_row (choices_at rows.now C.payload_of cases.now)) }
-    ensures place { IfOk result (λ x. x.payload ≡ payload_at (length cases.now)
-        (extents (payloads (choices_at rows.now C.payload_of cases.now)))) }
+) -> Result<u32, LayoutError>
+    requires below { All (λ c. IsTrue (option_below (length rows.old.items) (C.payload_of c))) cases.now }
+    requires sound { All IsSound rows.old.items }
+    ensures value { IfOk result (λ _. rows.new.items
+        ≡ rows.old.items ++ variant_row (choices_at rows.old.items C.payload_of cases.now) ∷ []) }
+    ensures place { IfOk result (λ x. x ≡ payload_at (length cases.now)
+        (extents (payloads (choices_at rows.old.items C.payload_of cases.now)))) }
     ensures payloads { IfOk result (λ _. all_payloads.new.items
         ≡ all_payloads.old.items ++ map C.payload_of cases.now) }
     ensures kept { length all_payloads.old.items ≤ length all_payloads.new.items }
-    ensures limits { IfOk result (λ x. IsKeptRow x.row) }
+    ensures sound { IfOk result (λ _. IsSound (variant_row (choices_at rows.old.items C.payload_of cases.now))) }
+    ensures within { IfOk result (λ _. IsLimitedRow (variant_row (choices_at rows.old.items C.payload_of cases.now))) }
     ensures steps { IfOk result (λ _. steps.new.count ≡ saturated
-        (steps.old.count + length (payloads (choices_at rows.now C.payload_of cases.now)))) }
-    ensures err { IfErr result (λ e. e ≡ LayoutError.NoMemory) }
+        (steps.old.count + length (payloads (choices_at rows.old.items C.payload_of cases.now)))) }
+    ensures err { IfErr result (λ e. RefusesRow e (variant_row (choices_at rows.old.items C.payload_of cases.now))) }
 {
     let discriminant = discriminant_size(cases.len());
+    let before = rows.as_slice();
     let mut depth = 0;
     let mut size = 0;
     let mut align = 1;
-    let mut kinds = Kinds::none();
+    let mut kinds = Kinds::one(CoreKind::I32);
     for case in cases {
         let payload = case.payload();
         all_payloads.push(payload)?;
         if let Some(payload) = payload {
-            let row = look(rows, payload, steps);
+            let row = look(before, payload, steps);
             depth = depth.max(row.depth);
             size = size.max(row.size);
             align = align.max(row.align);
-            kinds = kinds.join(&row.kinds);
+            join_type(&mut kinds, before, payload);
         }
     }
     let payload = align_up(discriminant, align);
     let align = discriminant.max(align);
-    Ok(VariantRow {
-        row: Row {
-            depth: deeper(depth),
-            size: align_up(payload + size, align),
-            align,
-            kinds: Kinds::one(CoreKind::I32).append(&kinds),
-        },
-        payload,
-    })
+    let row = Row {
+        depth: deeper(depth),
+        size: align_up(payload + size, align),
+        align,
+        kinds,
+    };
+    limited(&row)?;
+    rows.push(row)?;
+    Ok(payload)
 }
 
-/// The row, where it is within the limits of a type.
-pub(crate) fn limited(row: Row) -> Result<Row, LayoutError>
-    requires { IsKeptRow row }
-    ensures row { IfOk result (λ x. x ≡ row) }
-    ensures sound { IfOk result IsSound }
-    ensures within { IfOk result IsLimitedRow }
-    ensures err { IfErr result (λ e. RefusesRow e row) }
+/// Refuses a row that is not within the limits of a type.
+pub(crate) fn limited(row: &Row) -> Result<(), LayoutError>
+    requires { IsKeptRow row.now }
+    ensures sound { IfOk result (λ _. IsSound row.now) }
+    ensures within { IfOk result (λ _. IsLimitedRow row.now) }
+    ensures err { IfErr result (λ e. RefusesRow e row.now) }
 {
     if row.depth > MAX_DEPTH {
         return Err(LayoutError::TooDeep);
@@ -318,5 +361,5 @@ pub(crate) fn limited(row: Row) -> Result<Row, LayoutError>
     if row.size > MAX_SIZE {
         return Err(LayoutError::TooLarge);
     }
-    Ok(row)
+    Ok(())
 }

@@ -10,12 +10,6 @@ pub(crate) struct Steps {
 }
 
 impl Steps {
-    pub(crate) fn none() -> Steps
-        ensures { result.count ≡ 0 }
-    {
-        Steps { count: 0 }
-    }
-
     pub(crate) fn take_one(&mut self)
         ensures { self.new.count ≡ saturated (self.old.count + 1) }
     {

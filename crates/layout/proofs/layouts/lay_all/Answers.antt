@@ -7,7 +7,7 @@ use Rattle.tables.specs.Closed.{closed_type}
 use Rattle.tables.specs.declared.tables.Definition.{Definition}
 use Rattle.layout.specs.Work.{laid_in, laid_work}
 use Rattle.layout.specs.Parts.{definition_parts, parts_from}
-use Rattle.layout.specs.Rows.{extent_at}
+use Rattle.layout.specs.Rows.{extent_at, definition_row}
 use Rattle.layout.proofs.RowsSoFar.{length-rows, next-below, refuses-first, all-within, all-rows}
 use Rattle.layout.proofs.LaidSoFar.{laid-none, laid-more, length-laid}
 use Rattle.layout.proofs.layouts.lay_all.Goals as goal
@@ -21,30 +21,29 @@ loop-definition-init c = record {
 pub lay_definition-requires-clause-below : goal.lay_definition-requires-clause-below
 lay_definition-requires-clause-below c =
     let count = ap length c.as_slice-definition-items.ensures in
-    rw c.as_slice.ensures.value (next-below c.args.resolve.now c.loop-definition.definition-index c.loop-definition.rows.items c.definition-item.result (omega arith) (cc) c.loop-definition.invariant.laid.so_far)
+    next-below c.args.resolve.now c.loop-definition.definition-index c.loop-definition.rows.items c.definition-item.result (omega arith) (cc) c.loop-definition.invariant.laid.so_far
 
 pub lay_definition-requires-clause-same : goal.lay_definition-requires-clause-same
 lay_definition-requires-clause-same c =
     let count = ap length c.as_slice-definition-items.ensures in
     let rows = length-rows c.args.resolve.now c.loop-definition.definition-index c.loop-definition.rows.items (omega arith) c.loop-definition.invariant.laid.so_far in
     let parts = length-laid c.args.resolve.now c.loop-definition.definition-index c.loop-definition.rows.items c.loop-definition.parts (omega arith) c.loop-definition.invariant.laid in
-    parts ∙ sym rows ∙ sym (ap length c.as_slice.ensures.value)
+    parts ∙ sym rows
 
 pub lay_definition-requires-clause-sound : goal.lay_definition-requires-clause-sound
-lay_definition-requires-clause-sound c = rw c.as_slice.ensures.value c.loop-definition.invariant.laid.so_far.sound
+lay_definition-requires-clause-sound c = c.loop-definition.invariant.laid.so_far.sound
 
-pub returns-in_err-row-clause-err : goal.returns-in_err-row-clause-err
-returns-in_err-row-clause-err c =
+pub returns-in_err-lay_definition-clause-err : goal.returns-in_err-lay_definition-clause-err
+returns-in_err-lay_definition-clause-err c =
     let count = ap length c.as_slice-definition-items.ensures in
-    let refused = rw c.as_slice.ensures.value at c.in_err-row.ensures.err in
-    let p = err_from_is_err_and c.from_residual-in_err-row.result c.from_residual-in_err-row.ensures.1 in
+    let refused = c.in_err-lay_definition.ensures.err in
+    let p = err_from_is_err_and c.from_residual-in_err-lay_definition.result c.from_residual-in_err-lay_definition.ensures.1 in
     rw (p.1, p.2) (refuses-first c.args.resolve.now c.loop-definition.definition-index c.loop-definition.rows.items c.definition-item.result (omega arith) (cc) c.loop-definition.invariant.laid.so_far _ refused)
 
 pub loop-definition-preserved : goal.loop-definition-preserved
 loop-definition-preserved c =
     let count = ap length c.as_slice-definition-items.ensures in
-    let made = rw c.as_slice.ensures.value at c.in_ok-row.ensures.row in
-    let put = rw c.as_slice.ensures.value at c.in_ok-row.ensures.parts in
+    let made = c.in_ok-lay_definition.ensures in
     let items = c.as_slice-definition-items.result.now in
     let i = c.loop-definition.definition-index in
     let d = c.definition-item.result in
@@ -53,8 +52,8 @@ loop-definition-preserved c =
     rw is at (sum_by_more (λ (e : Definition). 1 + laid_in e) items i d (omega arith)) in
     record {
       laid = laid-more c.args.resolve.now i c.loop-definition.rows.items c.loop-definition.parts d (omega arith) (cc) c.loop-definition.invariant.laid
-          c.in_ok-row.row (definition_parts (extent_at c.loop-definition.rows.items) c.loop-definition.parts d) _ _ made refl c.in_ok-row.ensures.sound c.in_ok-row.ensures.within c.in_ok-push.ensures.items put;
-      steps_are = omega (arith, more, c.in_ok-row.ensures.steps, c.loop-definition.invariant.steps_are);
+          (definition_row c.loop-definition.rows.items d) (definition_parts (extent_at c.loop-definition.rows.items) c.loop-definition.parts d) _ _ refl refl made.sound made.within made.row made.parts;
+      steps_are = omega (arith, more, made.steps, c.loop-definition.invariant.steps_are);
     }
 
 pub returns-clause-within : goal.returns-clause-within

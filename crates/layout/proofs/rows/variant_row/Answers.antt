@@ -2,15 +2,15 @@ use Rattle.std.proofs.Common.{◌≡◌, ◌+◌, ◌∷◌, [], ◌++◌, None,
 use Rattle.std.proofs.lemmas.List.{length-append}
 use Rattle.layout.specs.declared.rows.Row.{Row}
 use Rattle.layout.specs.Parts.{payloads}
-use Rattle.layout.specs.Rows.{choices_at}
+use Rattle.layout.specs.Rows.{choices_at, row_in}
 use Rattle.layout.proofs.ElementsPutBehind.{put-more}
-use Rattle.layout.proofs.VariantLoop.{variant_more, choices_at-some, choices_at-none}
+use Rattle.layout.proofs.VariantLoop.{joined, variant_more, choices_at-some, choices_at-none}
 use Rattle.layout.proofs.rows.variant_row.Goals as goal
 use Rattle.layout.proofs.rows.variant_row.Goals.{in-Some, in_default}
 
 pub loop-case-preserved : goal.loop-case-preserved
 loop-case-preserved g c =
-    let rows = c.args.rows.now in
+    let rows = c.args.rows.now.items in
     let payload = g.C.Choice.payload_of in
     let cases = c.args.cases.now in
     let i = c.loop-case.case-index in
@@ -20,14 +20,21 @@ loop-case-preserved g c =
     (c.payload-payload.ensures ∙ ap payload c.case-item.is) c.loop-case.invariant.payloads_are c.in_ok-push.ensures.items in
     elim c.match-payload.branch [
       | in-Some w ↦
+          let row = row_in rows w.in-Some.payload in
+          let looked = w.look-row.ensures in
+          let same = c.as_slice-before.ensures.value in
+          let depth = rw same at looked.depth in
+          let size = rw same at looked.size in
+          let align = rw same at looked.align in
           let is : payload (get_or cases i d) ≡ Some w.in-Some.payload = cc in
-          let more : payloads (choices_at rows payload (take (i + 1) cases)) ≡ payloads (choices_at rows payload (take i cases)) ++ w.look-row.result ∷ [] =
-          rw w.look-row.ensures.value (choices_at-some rows payload cases i d w.in-Some.payload (omega arith) is) in
+          let more : payloads (choices_at rows payload (take (i + 1) cases)) ≡ payloads (choices_at rows payload (take i cases)) ++ row ∷ [] =
+          choices_at-some rows payload cases i d w.in-Some.payload (omega arith) is in
           record {
-            so_far = variant_more {rows = payloads (choices_at rows payload (take i cases))} {rows' = payloads (choices_at rows payload (take (i + 1) cases))} w.look-row.result so_far w.look-row.ensures.sound more
-                (rw (w.depth-is) (search rules)) (rw (w.size-is) (search rules)) (rw w.align-is (search rules)) (rw w.kinds-is w.join-kinds.ensures);
+            so_far = variant_more {rows = payloads (choices_at rows payload (take i cases))} {rows' = payloads (choices_at rows payload (take (i + 1) cases))} row so_far (rw same at looked.sound) more
+                (rw (w.depth-is, ← depth) (search rules)) (rw (w.size-is, ← size) (search rules)) (rw (w.align-is, ← align) (search rules))
+                (rw w.kinds-is ((rw same at w.join_type.ensures) (joined (payloads (choices_at rows payload (take i cases)))) so_far.kinds_is));
             payloads_are = put;
-            steps_are = rw (w.steps-is, more) (omega (arith, length-append {A = Row}, w.look-row.ensures.steps, c.loop-case.invariant.steps_are));
+            steps_are = rw (w.steps-is, more) (omega (arith, length-append {A = Row}, looked.steps, c.loop-case.invariant.steps_are));
           }
       | in_default w ↦
           let is : payload (get_or cases i d) ≡ None = cc in

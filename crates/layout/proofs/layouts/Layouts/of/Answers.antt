@@ -24,5 +24,5 @@ pub returns-clause-ok : goal.returns-clause-ok
 returns-clause-ok c =
     let r = c.args.resolve.now in
     let work : c.all_results.new.steps.count ≡ saturated (total_work r.definitions) =
-    omega (arith, work-split r.definitions, c.in_ok-tables.ensures.steps, c.in_ok-results.ensures.steps, c.none-steps.ensures) in
+    omega (arith, work-split r.definitions, c.in_ok-tables.ensures.steps, c.in_ok-results.ensures.steps) in
     rw (c.in_ok-tables.ensures.rows, c.in_ok-results.ensures.ok, c.in_ok-tables.ensures.parts, work) refl

@@ -13,13 +13,13 @@ pub returns-clause-parts : goal.returns-clause-parts
 returns-clause-parts g c =
     let ty = g.M.Member.type_of in
     let members = c.args.members.now in
-    let places = places_from 0 (extents (rows_at c.args.rows.now ty members)) in
+    let places = places_from 0 (extents (rows_at c.args.rows.now.items ty members)) in
     let heads = c.self.inside.heads.items in
     let fields = c.self.inside.fields.items in
     let at : c.len-first.result ≡ length fields = omega (arith, c.len-first.ensures) in
     let put : c.push.new.self.items ≡ heads ++ head.Record (length fields) (length members) ∷ [] =
     c.in_ok-push.ensures.items ∙ ap (λ (n : ℕ). heads ++ head.Record n (length members) ∷ []) at in
     record-put fields c.self.inside.payloads.items heads c.push.new.self.items c.self.invariant c.record_row.new.fields.items (map ty members) places
-    (length members) (sym (length-map members ty)) c.in_ok-row.ensures.fields put
+    (length members) (sym (length-map members ty)) c.in_ok-record_row.ensures.fields put
     ∙ ap (λ (ps : List Parts). ps ++ parts.Record (map ty members) places ∷ []) c.self.view_is
-    ∙ ap (λ (p : Parts). c.args.self.now ++ p ∷ []) (record-laid c.args.rows.now ty members (map ty members) places refl refl)
+    ∙ ap (λ (p : Parts). c.args.self.now ++ p ∷ []) (record-laid c.args.rows.now.items ty members (map ty members) places refl refl)
