@@ -1,4 +1,5 @@
 pub mod FullNamesAreTested
+mod IndicesOfOneByte
 pub mod ScopedTypeViews
 pub mod ShortestSpellings
 pub mod WrittenDeclarationsAsLists

@@ -119,6 +119,7 @@ fn name_of(bytes: &[u8]) -> Result<(&[u8], &[u8]), ItemError>
     Ok(rest.split_at(len))
 }
 
+#[inline(always)]
 #[tactic(auto, unfolding(crate::specs::Grammar::label))]
 pub fn label_of(alloc: Global, bytes: &[u8]) -> Result<(Label, &[u8]), ItemError>
     ensures { AnswersBytes (λ x. (x.0, x.1.now)) result (label.read bytes.now) }
@@ -203,6 +204,7 @@ fn s33_of(bytes: &[u8]) -> Result<(u32, &[u8]), ItemError>
     }
 }
 
+#[inline(never)]
 #[tactic(auto, unfolding(crate::specs::Grammar::type_index))]
 fn type_index_of(types: u32, bytes: &[u8]) -> Result<(RawValType, &[u8]), ItemError>
     ensures { AnswersBytes (λ x. (x.0, x.1.now)) result ((type_index types).read bytes.now) }
@@ -214,13 +216,17 @@ fn type_index_of(types: u32, bytes: &[u8]) -> Result<(RawValType, &[u8]), ItemEr
     Ok((RawValType::Index(index), rest))
 }
 
-/// A primitive, or an index below `types`.
+/// A primitive, or an index below `types`, which most often is one byte.
+#[inline(always)]
 #[tactic(auto, unfolding(crate::specs::Grammar::valtype))]
 pub fn valtype_of(types: u32, bytes: &[u8]) -> Result<(RawValType, &[u8]), ItemError>
     ensures { AnswersBytes (λ x. (x.0, x.1.now)) result ((valtype types).read bytes.now) }
 {
     match bytes {
         [] => Err(ItemError::Stuck(Stuck::End)),
+        [index, rest @ ..] if *index < 64 && (*index as u32) < types => {
+            Ok((RawValType::Index(*index as u32), rest))
+        }
         [64..128, ..] => primitive_valtype_of(bytes),
         [_, ..] => type_index_of(types, bytes),
     }
