@@ -293,6 +293,14 @@ impl Nesting<'_> {
     {
         let (opcode, rest) = type_opcode_of(self.depth, scope.entries, bytes)?;
         if is_nested(opcode) {
+            if let [outermost] = self.around {
+                let inner = Nesting {
+                    alloc: self.alloc,
+                    depth: self.depth - 1,
+                    around: &[*outermost, scope.types],
+                };
+                return inner.scope_of(opcode, scope.entries + 1, rest);
+            }
             let mut around = Vec::from_slice(self.alloc, self.around)?;
             around.push(scope.types)?;
             let inner = Nesting {

@@ -1,4 +1,4 @@
-use Rattle.std.proofs.Common.{◌≡◌, ℕ, List, ◌++◌, ◌∷◌, [], ◌∙◌, ap, map, arith, rules}
+use Rattle.std.proofs.Common.{◌≡◌, ◌<◌, ◌≤◌, ℕ, List, ◌++◌, ◌∷◌, [], length, slice_index_or, ◌∙◌, ap, refl, map, arith, rules}
 use Rattle.std.proofs.lemmas.Result.{err_from_is_err_and}
 use Rattle.std.proofs.lemmas.List.{map_push}
 use Rattle.ctype_format.specs.Grammar.{decl, type}
@@ -46,4 +46,15 @@ pub type_of-returns-then-is_nested-clause-reads : goal.type_of-returns-then-is_n
 type_of-returns-then-is_nested-clause-reads t c =
     let e = type_nested c.args.self.now.depth c.args.self.now.around.now c.args.scope c.args.bytes.now c.in_ok-opcode.opcode c.in_ok-opcode.rest.now (c.in_ok-opcode.ensures.nested (search rules)) c.in_ok-opcode.ensures.reads (search rules) in
     let inner : c.as_slice.result.now ≡ c.args.self.now.around.now ++ c.args.scope.types ∷ [] = c.as_slice.ensures.value ∙ c.in_ok-push.ensures.items ∙ ap (λ (l : List ℕ). l ++ c.args.scope.types ∷ []) c.in_ok-around.ensures.items in
+    rw e (rw inner at c.scope_of-then-is_nested.ensures.reads)
+
+behind_one : (around : List ℕ) (types : ℕ) → 1 ≤ length around → length around < 2 → slice_index_or around 0 0 ∷ types ∷ [] ≡ around ++ types ∷ []
+behind_one [] types low high = absurd (omega (arith, low))
+behind_one (a ∷ []) types low high = refl
+behind_one (a ∷ b ∷ bs) types low high = absurd (omega (arith, high))
+
+pub type_of-returns-in-len1-clause-reads : goal.type_of-returns-in-len1-clause-reads
+type_of-returns-in-len1-clause-reads t c =
+    let e = type_nested c.args.self.now.depth c.args.self.now.around.now c.args.scope c.args.bytes.now c.in_ok-opcode.opcode c.in_ok-opcode.rest.now (c.in_ok-opcode.ensures.nested (search rules)) c.in_ok-opcode.ensures.reads (search rules) in
+    let inner = behind_one c.args.self.now.around.now c.args.scope.types c.in-len1.len_at_least c.in-len1.len_below in
     rw e (rw inner at c.scope_of.ensures.reads)
