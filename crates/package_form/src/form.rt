@@ -150,17 +150,17 @@ fn is_local(
     Ok(are_own(rows, place, ids))
 }
 
+/// Whether each is a row of this interface that refers to its types alone. `ids` is a room to put them in.
 fn are_local(
-    alloc: Global,
+    ids: &mut Vec<TypeId>,
     rows: &[Definition],
     place: usize,
     own: &[Definition],
 ) -> Result<bool, AllocError>
     ensures { IfOk result (λ b. b ≡ list_all (is_local rows.now place) own.now) }
 {
-    let mut ids = Vec::new(alloc);
     for row in own {
-        if !is_local(&mut ids, rows, place, row)? {
+        if !is_local(ids, rows, place, row)? {
             return Ok(false);
         }
     }
@@ -176,31 +176,35 @@ fn push_types(ids: &mut Vec<u32>, types: &[TypeId]) -> Result<(), AllocError>
     Ok(())
 }
 
-/// An interface's ids: its uses, its types and its functions.
-fn ids_of(alloc: Global, interface: &Interface) -> Result<Vec<u32>, AllocError>
-    ensures { IfOk result (λ ids. ids.items ≡ ids_of interface.now) }
+/// Puts an interface's ids in place of what is in `ids`: its uses, its types and its functions.
+fn put_ids(ids: &mut Vec<u32>, interface: &Interface) -> Result<(), AllocError>
+    ensures { OnOk result (ids.new.items ≡ ids_of interface.now) }
 {
-    let mut ids = Vec::new(alloc);
-    push_types(&mut ids, interface.uses.as_slice())?;
-    push_types(&mut ids, interface.types.as_slice())?;
+    ids.clear();
+    push_types(ids, interface.uses.as_slice())?;
+    push_types(ids, interface.types.as_slice())?;
     for id in interface.functions.as_slice() {
         ids.push(id.0)?;
     }
-    Ok(ids)
+    Ok(())
 }
 
-/// The places of the rows with names, the first of which stands at `start`.
-fn named_places(alloc: Global, start: usize, rows: &[Definition]) -> Result<Vec<u32>, AllocError>
+/// Puts the places of the rows with names, the first of which stands at `start`, in place of what is in `places`.
+fn put_named_places(
+    places: &mut Vec<u32>,
+    start: usize,
+    rows: &[Definition],
+) -> Result<(), AllocError>
     requires { start + length rows.now ≤ 65535 }
-    ensures { IfOk result (λ places. places.items ≡ places_where is_named start rows.now) }
+    ensures { OnOk result (places.new.items ≡ places_where is_named start rows.now) }
 {
-    let mut places = Vec::new(alloc);
+    places.clear();
     for (offset, row) in rows.iter().enumerate() {
         if !is_unnamed(row) {
             places.push((start + offset) as u32)?;
         }
     }
-    Ok(places)
+    Ok(())
 }
 
 fn is_use_at(rows: &[Definition], id: TypeId) -> bool
@@ -234,9 +238,17 @@ fn are_no_uses(rows: &[Definition], ids: &[TypeId]) -> bool
     true
 }
 
+/// Lists that are filled anew for each interface, so that they are requested once.
+#[derive(Drop)]
+struct Lists {
+    ids: Vec<u32>,
+    places: Vec<u32>,
+    references: Vec<TypeId>,
+}
+
 /// Whether an interface's named rows are its uses, then its types, then its functions.
 fn has_ids(
-    alloc: Global,
+    lists: &mut Lists,
     rows: &[Definition],
     start: usize,
     end: usize,
@@ -248,10 +260,10 @@ fn has_ids(
     requires few { length rows.now ≤ 65535 }
     ensures { IfOk result (λ b. b ≡ has_ids rows.now start interface.now) }
 {
-    let ids = ids_of(alloc, interface)?;
-    let places = named_places(alloc, start, &rows[start..end])?;
+    put_ids(&mut lists.ids, interface)?;
+    put_named_places(&mut lists.places, start, &rows[start..end])?;
     Ok(
-        ids.as_slice() == places.as_slice()
+        lists.ids.as_slice() == lists.places.as_slice()
             && are_uses(rows, interface.uses.as_slice())
             && are_no_uses(rows, interface.types.as_slice()),
     )
@@ -299,13 +311,18 @@ fn are_interfaces(
     requires few { length rows.now ≤ 65535 }
     ensures { IfOk result (λ b. b ≡ are_interfaces rows.now 0 0 interfaces.now) }
 {
+    let mut lists = Lists {
+        ids: Vec::new(alloc),
+        places: Vec::new(alloc),
+        references: Vec::new(alloc),
+    };
     let mut start = 0;
     for (place, interface) in interfaces.iter().enumerate() {
         let end = end_of(start, interface);
-        if !has_ids(alloc, rows, start, end, interface)? {
+        if !has_ids(&mut lists, rows, start, end, interface)? {
             return Ok(false);
         }
-        if !are_local(alloc, rows, place, &rows[start..end])? {
+        if !are_local(&mut lists.references, rows, place, &rows[start..end])? {
             return Ok(false);
         }
         start = end;
@@ -397,7 +414,8 @@ fn has_items(
     ensures { IfOk result (λ b. b ≡ has_items rows.now start world.now) }
 {
     let ids = functions_of(alloc, world)?;
-    let places = named_places(alloc, start, &rows[start..end])?;
+    let mut places = Vec::new(alloc);
+    put_named_places(&mut places, start, &rows[start..end])?;
     Ok(places.as_slice() == ids.as_slice())
 }
 
