@@ -13,7 +13,7 @@ ghost use Rattle.package_form.specs.Naming.{row_names, rows_scopes, interfaces_s
 ghost use Rattle.package_form.specs.Naming.{item_parameters, world_scopes, interface_labels_of, world_labels_of};
 ghost use Rattle.package_form.specs.Naming.{of_each, package_scopes};
 
-use crate::keys::keyed_by_table;
+use crate::keys::{count_of_names, keyed_by_table};
 use crate::scope::{NameTable, Scope};
 use atoms::{KeyedState, Label};
 use package_form::end_of;
@@ -27,7 +27,7 @@ fn distinct_labels(alloc: Global, keyed: KeyedState, labels: &[Label]) -> Result
     ensures ok { OnOk result (AreDistinct labels.now) }
     ensures err { IfErr result (RefusesNames labels.now) }
 {
-    let mut scope = Scope::new(alloc, keyed);
+    let mut scope = Scope::with_room(alloc, keyed, labels.len());
     for label in labels {
         scope.meet(alloc, label)?;
     }
@@ -38,7 +38,7 @@ fn distinct_fields(alloc: Global, keyed: KeyedState, fields: &[Field]) -> Result
     ensures ok { OnOk result (AreDistinct (map field_name fields.now)) }
     ensures err { IfErr result (RefusesNames (map field_name fields.now)) }
 {
-    let mut scope = Scope::new(alloc, keyed);
+    let mut scope = Scope::with_room(alloc, keyed, fields.len());
     for field in fields {
         scope.meet(alloc, &field.name)?;
     }
@@ -49,7 +49,7 @@ fn distinct_cases(alloc: Global, keyed: KeyedState, cases: &[Case]) -> Result<()
     ensures ok { OnOk result (AreDistinct (map case_name cases.now)) }
     ensures err { IfErr result (RefusesNames (map case_name cases.now)) }
 {
-    let mut scope = Scope::new(alloc, keyed);
+    let mut scope = Scope::with_room(alloc, keyed, cases.len());
     for case in cases {
         scope.meet(alloc, &case.name)?;
     }
@@ -64,7 +64,10 @@ fn distinct_parameters(
     ensures ok { OnOk result (AreDistinct (map parameter_name params.now)) }
     ensures err { IfErr result (RefusesNames (map parameter_name params.now)) }
 {
-    let mut scope = Scope::new(alloc, keyed);
+    if params.len() < 2 {
+        return Ok(());
+    }
+    let mut scope = Scope::with_room(alloc, keyed, params.len());
     for param in params {
         scope.meet(alloc, &param.name)?;
     }
@@ -124,12 +127,18 @@ fn meet_row<'a>(
     }
 }
 
-/// 40 for the first name of an interface's rows that its scope has before, a row's members before its name.
-fn distinct_rows(alloc: Global, keyed: KeyedState, rows: &[Definition]) -> Result<(), ResolveError>
+/// 40 for the first name of an interface's rows that its scope has before, a row's members before its name. About
+/// `room` of the rows have names.
+fn distinct_rows(
+    alloc: Global,
+    keyed: KeyedState,
+    room: usize,
+    rows: &[Definition],
+) -> Result<(), ResolveError>
     ensures ok { OnOk result (All AreDistinct (rows_scopes rows.now)) }
     ensures err { IfErr result (RefusesScopes (rows_scopes rows.now)) }
 {
-    let mut scope = Scope::new(alloc, keyed);
+    let mut scope = Scope::with_room(alloc, keyed, room);
     for row in rows {
         distinct_members(alloc, keyed, row)?;
         meet_row(alloc, &mut scope, row)?;
@@ -193,7 +202,8 @@ fn meet_interfaces<'a>(
     let mut start = 0;
     for interface in interfaces {
         let end = end_of(start, interface);
-        distinct_rows(alloc, keyed, &rows[start..end])?;
+        let room = count_of_names(interface);
+        distinct_rows(alloc, keyed, room, &rows[start..end])?;
         meet_in(alloc, &mut scopes, interface.package, &interface.name)?;
         start = end;
     }

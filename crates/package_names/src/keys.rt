@@ -2,8 +2,18 @@
 use crate::scope::FEW;
 use atoms::{KeyedState, Label, NameKey};
 use tables::{
-    Case, Definition, Field, Interface, PackageName, Parameter, Resolve, TypeDefKind, World,
+    Case, Definition, Field, Interface, InterfaceId, Owner, PackageName, Parameter, Resolve,
+    TypeDefKind, World,
 };
+
+/// How many names an interface lists, if a number can tell it.
+pub fn count_of_names(interface: &Interface) -> usize {
+    interface
+        .uses
+        .len()
+        .saturating_add(interface.types.len())
+        .saturating_add(interface.functions.len())
+}
 
 fn write_labels(key: &mut NameKey, labels: &[Label]) {
     if labels.len() > FEW {
@@ -53,17 +63,41 @@ fn write_parts(key: &mut NameKey, kind: &TypeDefKind) {
     }
 }
 
+/// Whether the names of an interface's rows are so many that they stand in a scope's table.
+fn has_table(interfaces: &[Interface], id: InterfaceId) -> bool {
+    match interfaces.get(id.0 as usize) {
+        Some(interface) => count_of_names(interface) > FEW,
+        None => false,
+    }
+}
+
+/// Writes the name of a type or a function that may stand in a table.
+fn write_name(key: &mut NameKey, interfaces: &[Interface], owner: Owner, name: &Label) {
+    let in_table = match owner {
+        Owner::Interface(id) => has_table(interfaces, id),
+        Owner::World(_) => true,
+    };
+    if in_table {
+        key.write(name.as_bytes());
+    }
+}
+
 /// Writes the name of a row, if it has one, and those of its members.
-fn write_row(key: &mut NameKey, row: &Definition) {
+fn write_row(key: &mut NameKey, interfaces: &[Interface], row: &Definition) {
     match row {
         Definition::Type(definition) => {
             if let Some(name) = &definition.name {
-                key.write(name.name.as_bytes());
+                write_name(
+                    key,
+                    interfaces,
+                    Owner::Interface(name.interface),
+                    &name.name,
+                );
             }
             write_parts(key, &definition.kind);
         }
         Definition::Function(function) => {
-            key.write(function.name.as_bytes());
+            write_name(key, interfaces, function.owner, &function.name);
             write_parameters(key, function.params.as_slice());
         }
     }
@@ -88,15 +122,16 @@ fn write_worlds(key: &mut NameKey, worlds: &[World]) {
     }
 }
 
-/// Hashers of names, with a key made of all names in the scopes of a table but for members so few that none stands in
-/// a scope's table.
+/// Hashers of names, with a key made of all names in the scopes of a table but for members and rows of an interface so
+/// few that none stands in a scope's table.
 pub fn keyed_by_table(resolve: &Resolve) -> KeyedState {
     let mut key = NameKey::new();
     write_packages(&mut key, resolve.packages.as_slice());
-    write_interfaces(&mut key, resolve.interfaces.as_slice());
+    let interfaces = resolve.interfaces.as_slice();
+    write_interfaces(&mut key, interfaces);
     write_worlds(&mut key, resolve.worlds.as_slice());
     for row in resolve.definitions.as_slice() {
-        write_row(&mut key, row);
+        write_row(&mut key, interfaces, row);
     }
     key.state()
 }

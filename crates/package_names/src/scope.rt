@@ -211,7 +211,38 @@ impl<'a> Scope<'a> {
     }
 
     /// Meets a name. 40 where it was met before.
+    #[inline(always)]
     pub fn meet(&mut self, alloc: Global, name: &'a Label) -> Result<(), ResolveError>
+        ensures new { OnOk result (¬ Contains self.old (lowered name.now)) }
+        ensures ok { OnOk result (self.new ≡ self.old ++ lowered name.now ∷ []) }
+        ensures err { IfErr result (λ e. (e ≡ ResolveError.NoMemory)
+            ⊎ ((e ≡ ResolveError.Duplicate name.now) × Contains self.old (lowered name.now))) }
+    {
+        if self.is_new_of_few(name.as_str()) {
+            return Ok(());
+        }
+        self.meet_again_or_in_table(alloc, name)
+    }
+
+    /// Whether a name is new where a few stand without a table, and one more may; it is met then.
+    #[inline(always)]
+    fn is_new_of_few(&mut self, name: &'a str) -> bool
+        ensures new { result ≡ true → ¬ Contains self.old (lowered name.now) }
+        ensures after { result ≡ true → self.new ≡ self.old ++ lowered name.now ∷ [] }
+        ensures same { result ≡ false → self.new ≡ self.old }
+    {
+        if self.few.len() >= FEW || self.room > FEW || !self.many.is_empty() {
+            return false;
+        }
+        if is_among(self.few.as_slice(), name) {
+            return false;
+        }
+        self.few.push(name);
+        true
+    }
+
+    #[inline(never)]
+    fn meet_again_or_in_table(&mut self, alloc: Global, name: &'a Label) -> Result<(), ResolveError>
         ensures new { OnOk result (¬ Contains self.old (lowered name.now)) }
         ensures ok { OnOk result (self.new ≡ self.old ++ lowered name.now ∷ []) }
         ensures err { IfErr result (λ e. (e ≡ ResolveError.NoMemory)

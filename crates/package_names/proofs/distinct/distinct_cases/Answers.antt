@@ -10,7 +10,7 @@ use Rattle.package_names.proofs.NamesOfOneScope.{refuses-named}
 use Rattle.package_names.proofs.distinct.distinct_cases.Goals as goal
 
 pub loop-case-init : goal.loop-case-init
-loop-case-init c = met-none _ c.new-scope.ensures
+loop-case-init c = met-none _ c.with_room-scope.ensures
 
 pub loop-case-preserved : goal.loop-case-preserved
 loop-case-preserved c =

@@ -10,7 +10,7 @@ use Rattle.package_names.proofs.NamesOfOneScope.{refuses-named}
 use Rattle.package_names.proofs.distinct.distinct_fields.Goals as goal
 
 pub loop-field-init : goal.loop-field-init
-loop-field-init c = met-none _ c.new-scope.ensures
+loop-field-init c = met-none _ c.with_room-scope.ensures
 
 pub loop-field-preserved : goal.loop-field-preserved
 loop-field-preserved c =

@@ -6,7 +6,7 @@ use Rattle.package_form.proofs.NamesMetOneByOne.{met-none, met-push, refuses-end
 use Rattle.package_names.proofs.distinct.distinct_labels.Goals as goal
 
 pub loop-label-init : goal.loop-label-init
-loop-label-init c = met-none _ c.new-scope.ensures
+loop-label-init c = met-none _ c.with_room-scope.ensures
 
 pub loop-label-preserved : goal.loop-label-preserved
 loop-label-preserved c =

@@ -10,7 +10,7 @@ use Rattle.package_names.proofs.NamesOfOneScope.{refuses-named}
 use Rattle.package_names.proofs.distinct.distinct_parameters.Goals as goal
 
 pub loop-param-init : goal.loop-param-init
-loop-param-init c = met-none _ c.new-scope.ensures
+loop-param-init c = met-none _ c.with_room-scope.ensures
 
 pub loop-param-preserved : goal.loop-param-preserved
 loop-param-preserved c =
