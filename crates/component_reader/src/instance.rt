@@ -342,6 +342,7 @@ impl InstanceReader {
             (instance_read around.now place.0 (decls_of (map decl_view decls.now)) rows.old.items) result }
     {
         let mut reader = InstanceReader::new(alloc, keyed);
+        reader.indices.reserve(decls.len())?;
         for decl in decls {
             reader.read_decl(alloc, rows, place, around, decl)?;
         }

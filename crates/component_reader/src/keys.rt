@@ -1,21 +1,22 @@
-//! The key of the names that a component type exports.
+//! The key of the names of the types that a component type exports.
 use atoms::{KeyedState, NameKey};
-use ctype_bin::{ExternName, RawDecl, RawType};
+use ctype_bin::{ExternName, RawDecl, RawDescription, RawType};
 
-fn write_exports(key: &mut NameKey, decls: &[RawDecl]) {
+fn write_types(key: &mut NameKey, decls: &[RawDecl]) {
     for decl in decls {
-        if let RawDecl::Export(ExternName::Label(name), _) = decl {
+        if let RawDecl::Export(ExternName::Label(name), RawDescription::TypeEqual(_)) = decl {
             key.write(name.as_bytes());
         }
     }
 }
 
-/// Hashers of names, with a key made of all labels that the instance types among these declarations export.
+/// Hashers of names, with a key made of the labels of all types that the instance types among these declarations
+/// export.
 pub fn keyed_by_exports(decls: &[RawDecl]) -> KeyedState {
     let mut key = NameKey::new();
     for decl in decls {
         if let RawDecl::Type(RawType::Instance(own)) = decl {
-            write_exports(&mut key, own);
+            write_types(&mut key, own);
         }
     }
     key.state()

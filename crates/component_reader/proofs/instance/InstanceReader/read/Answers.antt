@@ -9,7 +9,7 @@ use Rattle.component_reader.proofs.instance.InstanceReader.read.Goals as goal
 
 pub loop-decl-init : goal.loop-decl-init
 loop-decl-init c =
-    ap (decls_read c.args.around.now c.args.place.0 (decls_of (map decl_view c.args.decls.now))) (c.new-reader.ensures c.args.rows.now.items)
+    rw c.reserve.ensures.items (ap (decls_read c.args.around.now c.args.place.0 (decls_of (map decl_view c.args.decls.now))) (c.new-reader.ensures c.args.rows.now.items))
 
 pub loop-decl-preserved : goal.loop-decl-preserved
 loop-decl-preserved c =
@@ -20,7 +20,7 @@ loop-decl-preserved c =
 
 pub returns-in_err-read_decl : goal.returns-in_err-read_decl
 returns-in_err-read_decl c =
-    let p = err_from_is_err_and c.from_residual.result c.from_residual.ensures.1 in
+    let p = err_from_is_err_and c.from_residual-in_err-read_decl.result c.from_residual-in_err-read_decl.ensures.1 in
     let read = decls_read c.args.around.now c.args.place.0 in
     let s = read_with c.loop-decl.rows.items c.loop-decl.reader in
     let all = read (decls_of (map decl_view c.args.decls.now)) (nothing_read c.args.rows.now.items) in
