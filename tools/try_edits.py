@@ -7,9 +7,11 @@ Of each crate named, or of all, the edits of crates/NAME/must-fail/ (which the g
 tried on a copy of the repository, over what the crate's checks have kept, or those edits alone. Each line has the edit,
 and the goal that the prover was left with: a clause of a contract (`returns-clause-..`), the condition of a callee, an
 invariant; or the goal that its proof by hand doesn't meet. Where an edit is let through, can't be applied or read, or
-is refused only since a proof names what is no more there, the line begins with `!` and the exit status is 1.
-`rt all check` beforehand saves most of the time.
+is refused only since a proof names what is no more there, the line begins with `!` and the exit status is 1. If
+tools/check_crate.py has built all libraries below the crate and has checked it, an edit takes seconds; otherwise
+`rt check` proves them first.
 """
+import os
 import pathlib
 import re
 import shutil
@@ -17,6 +19,7 @@ import subprocess
 import sys
 import tempfile
 
+import check_crate
 from repository import ROOT, crate_lines, crates, crates_below, edits
 
 GOAL = re.compile(r"note: (\S+?):\d+:\d+: (.*)")
@@ -84,9 +87,21 @@ def told(output, status):
     return True, f"{goal[1]}: {label[1] if label else goal[2]}"
 
 
-def check(folder):
-    """Checks the crate, and answers what it said and its status."""
-    ran = subprocess.run(["rt", "check", "--jobs", "1"], cwd=folder, capture_output=True, text=True, check=False)
+def command(room, name):
+    """The words that check the crate: over the libraries below it if all are built, otherwise by proving them first."""
+    rtlib = check_crate.toolchain()
+    crate = next(it for it in rtlib.crates_below(str(room)) if it.name == name)
+    if not all(os.path.isdir(it.rlib) for it in crate.below()):
+        return ["rt", "check", "--jobs", "1"]
+    with open(os.devnull, "w", encoding="utf-8") as crate.out:
+        words = crate.words(["--jobs", "1"], keeps=False)
+    return [*rtlib.guarded(), rtlib.RATTLE, "check", *words, "--incremental", "out/incremental"]
+
+
+def check(words, folder):
+    """Checks the crate by these words, and answers what was said and the status."""
+    (folder / "out" / "incremental").mkdir(parents=True, exist_ok=True)
+    ran = subprocess.run(words, cwd=folder, capture_output=True, text=True, check=False)
     return ran.stdout + ran.stderr, ran.returncode
 
 
@@ -99,12 +114,13 @@ def tried(name, names, only):
     with tempfile.TemporaryDirectory(prefix="edits-") as room:
         copied(pathlib.Path(room), name, names)
         folder = pathlib.Path(room) / "crates" / name
+        words = command(room, name)
         for edit in asked:
             texts = edited(edit, folder)
             before = {path: path.read_text() for path in texts or {}}
             for path, text in (texts or {}).items():
                 path.write_text(text)
-            shows, text = told(*check(folder)) if texts else (False, "can't be applied")
+            shows, text = told(*check(words, folder)) if texts else (False, "can't be applied")
             for path, whole in before.items():
                 path.write_text(whole)
             well &= shows
