@@ -241,6 +241,7 @@ impl<'a> Scope<'a> {
         true
     }
 
+    /// Meets a name that was met before, or that stands in the table now.
     #[inline(never)]
     fn meet_again_or_in_table(&mut self, alloc: Global, name: &'a Label) -> Result<(), ResolveError>
         ensures new { OnOk result (¬ Contains self.old (lowered name.now)) }
