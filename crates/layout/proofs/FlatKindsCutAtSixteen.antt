@@ -1,11 +1,10 @@
 -- Lists of flat kinds that are cut at sixteen.
-use Rattle.std.proofs.Common.{◌≡◌, ◌⊎◌, inl, inr, ℕ, ◌<◌, ◌≤◌, List, [], ◌∷◌, ◌++◌, length, refl, sym, ◌∙◌, arith}
+use Rattle.std.proofs.Common.{◌≡◌, ◌⊎◌, inl, inr, ℕ, ◌<◌, ◌≤◌, List, ◌++◌, length, refl, arith}
 use Rattle.std.proofs.lemmas.Bool.Decides.{nat_tests}
 use Rattle.std.proofs.lemmas.Bool.{cases_lt}
 use Rattle.std.proofs.lemmas.List.{length-append}
 use Rattle.canonical_abi.specs.Layout.{join}
 use Rattle.canonical_abi.specs.declared.flat.CoreKind.{CoreKind}
-use Rattle.canonical_abi.specs.declared.flat.CoreKind.TheVariants.{I32}
 use Rattle.layout.specs.Kinds.{kinds_of, passed, append_kinds, join_kinds}
 use Rattle.layout.specs.declared.kinds.Kinds.{Kinds}
 use Rattle.layout.specs.declared.kinds.Kinds.TheVariants.{Flat, Spilled}
@@ -48,19 +47,3 @@ pub fits-append : (js ks : Kinds) → length (passed (append_kinds js ks)) ≤ 1
 fits-append (Flat js) (Flat ks) = fits-kinds_of (js.items ++ ks.items)
 fits-append (Flat js) Spilled = omega arith
 fits-append Spilled ks = omega arith
-
--- where an i32 and these kinds spill, so do an i32 and their join with others
-pub join-spilled : (ks p : Kinds) → Spilled ≡ append_kinds (kinds_of (I32 ∷ [])) ks → Spilled ≡ append_kinds (kinds_of (I32 ∷ [])) (join_kinds ks p)
-join-spilled Spilled p e = refl
-join-spilled (Flat ks) Spilled e = refl
-join-spilled (Flat ks) (Flat ps) e =
-    let whole = append_kinds-of (I32 ∷ []) (join ks.items ps.items) in
-    elim (few-or-many (length (I32 ∷ ks.items))) [
-      | inl h ↦ let is = e ∙ kinds_of-flat (I32 ∷ ks.items) h in absurd (cc)
-      | inr h ↦ sym (whole ∙ kinds_of-spilled (I32 ∷ join ks.items ps.items) (omega (arith, length-join ks.items ps.items)))
-    ]
-
--- what is joined with kinds that spill does so too
-pub join-spilled-payload : (ks : Kinds) → Spilled ≡ append_kinds (kinds_of (I32 ∷ [])) (join_kinds ks Spilled)
-join-spilled-payload (Flat ks) = refl
-join-spilled-payload Spilled = refl

@@ -1,4 +1,5 @@
 pub mod JoinsOfFlatKinds
+pub mod KindsOfBits
 pub mod FlatKindsCutAtSixteen
 pub mod ElementsPutBehind
 pub mod RecordLoop

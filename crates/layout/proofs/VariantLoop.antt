@@ -6,8 +6,7 @@ use Rattle.std.proofs.lemmas.Grind.{take_at_read}
 use Rattle.std.specs.Option.{option_map}
 use Rattle.canonical_abi.specs.Layout.{Extent, greatest_size, greatest_align}
 use Rattle.tables.specs.declared.tables.ValType.{ValType}
-use Rattle.canonical_abi.specs.declared.flat.CoreKind.TheVariants.{I32}
-use Rattle.layout.specs.Kinds.{kinds_of, append_kinds, join_kinds}
+use Rattle.layout.specs.Kinds.{kinds_of, join_kinds}
 use Rattle.layout.specs.Layout.{IsSound}
 use Rattle.layout.specs.Parts.{payloads}
 use Rattle.layout.specs.Rows.{row_in, choices_at, deepest, extent_in, extents}
@@ -26,7 +25,7 @@ pub record VariantSoFar (rows : List Row) (depth size align : ℕ) (kinds : Kind
   pub align_is : align ≡ greatest_align (extents rows)
   pub least : 1 ≤ align
   pub most : align ≤ 8
-  pub kinds_is : kinds ≡ append_kinds (kinds_of (I32 ∷ [])) (joined rows)
+  pub kinds_is : kinds ≡ joined rows
 
 payloads-push : {A : Type 0} (cs : List (Option A)) (c : Option A) → payloads (cs ++ c ∷ []) ≡ payloads cs ++ payloads (c ∷ [])
 payloads-push [] c = refl
@@ -42,7 +41,7 @@ choices_at-more rows payload xs i d h =
 
 pub variant_more : {rows rows' : List Row} (r : Row) {depth depth' size size' align align' : ℕ} {kinds kinds' : Kinds}
     → VariantSoFar rows depth size align kinds → IsSound r → rows' ≡ rows ++ r ∷ []
-    → depth' ≡ max depth r.depth → size' ≡ max size r.size → align' ≡ max align r.align → kinds' ≡ append_kinds (kinds_of (I32 ∷ [])) (join_kinds (joined rows) r.kinds)
+    → depth' ≡ max depth r.depth → size' ≡ max size r.size → align' ≡ max align r.align → kinds' ≡ join_kinds kinds r.kinds
     → VariantSoFar rows' depth' size' align' kinds'
 variant_more {rows} {rows'} r so_far sound rows_are depth_is size_is align_is kinds_are =
     let split : extents rows' ≡ extents rows ++ extent_in r ∷ [] = rw rows_are (map-append extent_in rows (r ∷ [])) in
@@ -54,7 +53,7 @@ variant_more {rows} {rows'} r so_far sound rows_are depth_is size_is align_is ki
       align_is = rw (split, fold-append (λ (n : ℕ) (x : Extent). max n x.align) 1 (extents rows) (extent_in r ∷ []), ← so_far.align_is) align_is;
       least = omega (arith, so_far.least);
       most = omega (arith, so_far.most, sound.most_align);
-      kinds_is = rw (rows_are, fold-append (λ (ks : Kinds) (r : Row). join_kinds ks r.kinds) (kinds_of []) rows (r ∷ [])) kinds_are;
+      kinds_is = rw (rows_are, fold-append (λ (ks : Kinds) (r : Row). join_kinds ks r.kinds) (kinds_of []) rows (r ∷ []), ← so_far.kinds_is) kinds_are;
     }
 
 pub choices_at-some : {A : Type 0} (rows : List Row) (payload : A → Option ValType) (xs : List A) (i : ℕ) (d : A) (v : ValType) → i < length xs

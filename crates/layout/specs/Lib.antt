@@ -1,4 +1,5 @@
 pub mod Kinds
+pub mod Packed
 pub mod Layout
 pub mod Rows
 pub mod Work

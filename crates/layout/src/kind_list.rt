@@ -1,6 +1,5 @@
 //! Short lists of flat kinds.
 ghost use Rattle.std.specs.Prelude.{◌≡◌, ◌<◌, ◌≤◌, ◌++◌, ◌∷◌, [], length};
-ghost use Rattle.arrayvec.specs.ArrayVec.{with_item};
 
 use canonical_abi::CoreKind;
 use std::marker::Model;
@@ -70,13 +69,5 @@ impl KindList {
     {
         self.kinds[usize::from(self.len)] = kind;
         self.len += 1;
-    }
-
-    /// Puts a kind in the place of another.
-    pub(crate) fn set(&mut self, place: usize, kind: CoreKind)
-        requires { place < length self.old.items }
-        ensures { self.new ≡ with_item self.old place kind }
-    {
-        self.kinds[place] = kind;
     }
 }

@@ -1,5 +1,5 @@
 //! The layout table of a package.
-ghost use Rattle.std.specs.Prelude.{◌≡◌, ◌+◌, ◌↔◌, ◌<◌, ◌++◌, ◌∷◌, [], length, map, option_map, slice_get};
+ghost use Rattle.std.specs.Prelude.{◌≡◌, ◌+◌, ◌↔◌, ◌<◌, ◌++◌, ◌∷◌, [], length, map, fold, option_map, slice_get};
 ghost use Rattle.std.specs.Prelude.{All, IsTrue, IfOk, IfErr, Some};
 ghost use Rattle.tables.specs.declared.tables.Resolve.{Resolve};
 ghost use Rattle.tables.specs.Closed.{closed_types, closed_type, function_type, IsFunction};
@@ -8,20 +8,21 @@ ghost use Rattle.canonical_abi.specs.Types.{fields_of, record_fields};
 ghost use Rattle.canonical_abi.specs.Layout.{extent_of, size, align, field_kinds, field_places, lifted_signature};
 ghost use Rattle.canonical_abi.specs.Layout.{lowered_signature};
 ghost use Rattle.canonical_abi.specs.Reading.{kind_of};
-ghost use Rattle.layout.specs.Kinds.{kinds_of, count_of};
+ghost use Rattle.layout.specs.Kinds.{kinds_of, count_of, append_kinds};
 ghost use Rattle.layout.specs.Layout.{row_of, result_of, layouts_of, results_of, core_signature_of, RefusesFirst};
 ghost use Rattle.layout.specs.Layout.{AreWithin, IsSound};
 ghost use Rattle.layout.specs.Parts.{parts_from, AreEnded, final_type, is_end};
 ghost use Rattle.layout.specs.Named.{OfNamed, own_shape, own_member, own_case};
 ghost use Rattle.layout.specs.Queries.{shape_of, field_info_of, case_info_of, IsShaped, TellsField, TellsCase};
-ghost use Rattle.layout.specs.Rows.{definition_result, result_below};
+ghost use Rattle.layout.specs.Rows.{rows_at, definition_result, result_below};
 ghost use Rattle.layout.specs.Work.{laid_work, results_work, results_in, total_work, saturated};
 
 use crate::error::LayoutError;
 use crate::kinds::Kinds;
+use crate::packed_kinds::PackedKinds;
 use crate::parts::PartsTable;
 use crate::queries::{CaseInfo, FieldInfo, Shape};
-use crate::rows::{Row, append_type, count_in, measures_in, row_in};
+use crate::rows::{Row, count_in, primitive_kind, row_in};
 use crate::signature::{
     CoreSignature, are_lowered, lifted_of, lowered_of, passed_count, result_of,
 };
@@ -60,7 +61,7 @@ fn lay_all(alloc: Global, resolve: &Resolve, steps: &mut Steps) -> Result<Tables
 
 /// Puts the kinds of a function's result behind the others, and none of a type.
 fn push_result(
-    results: &mut Vec<Kinds>,
+    results: &mut Vec<PackedKinds>,
     rows: &[Row],
     definition: &Definition,
     steps: &mut Steps,
@@ -73,13 +74,13 @@ fn push_result(
     ensures err { IfErr result (λ e. e ≡ LayoutError.NoMemory) }
 {
     match definition {
-        Definition::Type(_) => results.push(Kinds::none())?,
+        Definition::Type(_) => results.push(PackedKinds::none())?,
         Definition::Function(function) => match function.result {
             Some(ty) => {
                 steps.take_one();
                 results.push(row_in(rows, ty).kinds)?
             }
-            None => results.push(Kinds::none())?,
+            None => results.push(PackedKinds::none())?,
         },
     }
     Ok(())
@@ -91,7 +92,7 @@ fn all_results(
     resolve: &Resolve,
     rows: &[Row],
     steps: &mut Steps,
-) -> Result<Vec<Kinds>, LayoutError>
+) -> Result<Vec<PackedKinds>, LayoutError>
     requires rows { rows.now ≡ map row_of (closed_types resolve.now) }
     requires sound { All IsSound rows.now }
     ensures ok { IfOk result (λ results. results.items
@@ -107,12 +108,25 @@ fn all_results(
     Ok(results)
 }
 
+/// The kinds of these types side by side.
+fn side_by_side(rows: &[Row], types: &[ValType]) -> PackedKinds
+    requires below { All (λ v. IsTrue (is_below (length rows.now) v)) types.now }
+    requires sound { All IsSound rows.now }
+    ensures { result ≡ fold (λ ks r. append_kinds ks r.kinds) (kinds_of []) (rows_at rows.now (λ v. v) types.now) }
+{
+    let mut kinds = PackedKinds::none();
+    for ty in types {
+        kinds.append(&row_in(rows, *ty).kinds);
+    }
+    kinds
+}
+
 /// The layout table of a package.
 #[derive(Debug, Drop)]
 pub struct Layouts {
     rows: Vec<Row>,
     /// The flat kinds of each function's result; none at a type's place.
-    results: Vec<Kinds>,
+    results: Vec<PackedKinds>,
     parts: PartsTable,
     work: u64,
 }
@@ -176,7 +190,7 @@ impl Layouts {
         requires { IsTrue (is_below (length self.now.rows) ty) }
         ensures { (r : Resolve) → self.now ≡ layouts_of r → result ≡ size (closed_type r ty) }
     {
-        measures_in(self.rows.as_slice(), ty).size
+        row_in(self.rows.as_slice(), ty).size
     }
 
     /// The alignment of a type of the package, in bytes.
@@ -184,7 +198,7 @@ impl Layouts {
         requires { IsTrue (is_below (length self.now.rows) ty) }
         ensures { (r : Resolve) → self.now ≡ layouts_of r → result ≡ align (closed_type r ty) }
     {
-        measures_in(self.rows.as_slice(), ty).align
+        row_in(self.rows.as_slice(), ty).align
     }
 
     /// The flat kinds of these types side by side, where they are at most sixteen.
@@ -193,12 +207,10 @@ impl Layouts {
         ensures { (r : Resolve) → self.now ≡ layouts_of r
             → result ≡ kinds_of (field_kinds (fields_of (map (closed_type r) types.now))) }
     {
-        let rows = self.rows.as_slice();
-        let mut kinds = Kinds::none();
-        for ty in types {
-            append_type(&mut kinds, rows, *ty);
+        match types {
+            [ValType::Primitive(primitive)] => Kinds::one(primitive_kind(*primitive)),
+            _ => side_by_side(self.rows.as_slice(), types).unpacked(),
         }
-        kinds
     }
 
     /// How many flat values carry these types side by side, where they are at most sixteen: those of `flat`, which this
@@ -211,7 +223,7 @@ impl Layouts {
         match types {
             [] => Some(0),
             [ty] => count_in(self.rows.as_slice(), *ty),
-            _ => self.flat(types).count(),
+            _ => side_by_side(self.rows.as_slice(), types).count(),
         }
     }
 

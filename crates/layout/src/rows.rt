@@ -2,12 +2,10 @@
 ghost use Rattle.std.specs.Prelude.{◌≡◌, ◌+◌, ◌≤◌, ◌++◌, ◌∷◌, [], map, length, All, IsTrue, IfOk, IfErr};
 ghost use Rattle.std.specs.Int.{next_multiple_of};
 ghost use Rattle.canonical_abi.specs.Types.{prim_type, string_type, flags_type};
-ghost use Rattle.canonical_abi.specs.Layout.{size, align, discriminant_size, places_from, payload_at};
+ghost use Rattle.canonical_abi.specs.Layout.{size, align, flat_kinds, discriminant_size, places_from, payload_at};
 ghost use Rattle.tables.specs.Closed.{prim_of};
 ghost use Rattle.tables.specs.Tables.{is_below, option_below};
-ghost use Rattle.canonical_abi.specs.declared.flat.CoreKind.TheVariants.{I32};
-ghost use Rattle.layout.specs.Kinds.{kinds_of, count_of, append_kinds, join_kinds};
-ghost use Rattle.layout.specs.declared.kinds.Kinds.{Kinds};
+ghost use Rattle.layout.specs.Kinds.{count_of};
 ghost use Rattle.layout.specs.Layout.{row_of, capped, IsSound, max_size};
 ghost use Rattle.layout.specs.Heads.{AreAdded};
 ghost use Rattle.layout.specs.Parts.{payloads};
@@ -16,7 +14,7 @@ ghost use Rattle.layout.specs.Rows.{IsKeptRow, IsLimitedRow, RefusesDeeper, Refu
 ghost use Rattle.layout.specs.Work.{saturated};
 
 use crate::error::LayoutError;
-use crate::kinds::Kinds;
+use crate::packed_kinds::PackedKinds;
 use crate::queries::FieldInfo;
 use crate::work::Steps;
 use canonical_abi::CoreKind;
@@ -38,7 +36,7 @@ pub struct Row {
     /// Its alignment in memory, in bytes.
     pub align: u32,
     /// The flat kinds that carry it.
-    pub kinds: Kinds,
+    pub kinds: PackedKinds,
 }
 
 /// The depth of what has something of this depth in it.
@@ -68,7 +66,7 @@ fn number_row(bytes: u32, kind: CoreKind) -> Row
         depth: 1,
         size: bytes,
         align: bytes,
-        kinds: Kinds::one(kind),
+        kinds: PackedKinds::one(kind),
     }
 }
 
@@ -85,22 +83,22 @@ fn primitive_bytes(primitive: Primitive) -> u32
     }
 }
 
-fn primitive_row(primitive: Primitive) -> Row
-    ensures { result ≡ row_of (prim_type (prim_of primitive)) }
+/// The flat kind that carries a number.
+pub(crate) fn primitive_kind(primitive: Primitive) -> CoreKind
+    ensures { result ∷ [] ≡ flat_kinds (prim_type (prim_of primitive)) }
 {
-    let kind = match primitive {
+    match primitive {
         Primitive::S64 | Primitive::U64 => CoreKind::I64,
         _ => CoreKind::I32,
-    };
-    number_row(primitive_bytes(primitive), kind)
+    }
 }
 
 /// An address and a length.
 pub(crate) fn block_row(depth: u32) -> Row
     ensures { result ≡ record (row_of string_type) { depth = depth } }
 {
-    let mut kinds = Kinds::one(CoreKind::I32);
-    kinds.append(&Kinds::one(CoreKind::I32));
+    let mut kinds = PackedKinds::one(CoreKind::I32);
+    kinds.append(&PackedKinds::one(CoreKind::I32));
     Row {
         depth,
         size: 8,
@@ -123,6 +121,7 @@ pub(crate) fn flags_row(labels: usize) -> Row
 }
 
 /// The row of a type.
+#[inline(always)]
 pub(crate) fn row_in(rows: &[Row], ty: ValType) -> Row
     requires below { IsTrue (is_below (length rows.now) ty) }
     requires sound { All IsSound rows.now }
@@ -130,7 +129,10 @@ pub(crate) fn row_in(rows: &[Row], ty: ValType) -> Row
     ensures sound { IsSound result }
 {
     match ty {
-        ValType::Primitive(primitive) => primitive_row(primitive),
+        ValType::Primitive(primitive) => number_row(
+            primitive_bytes(primitive),
+            primitive_kind(primitive),
+        ),
         ValType::String => block_row(1),
         ValType::Id(id) => {
             let row = &rows[id.0 as usize];
@@ -141,63 +143,6 @@ pub(crate) fn row_in(rows: &[Row], ty: ValType) -> Row
                 kinds: row.kinds.copy(),
             }
         }
-    }
-}
-
-/// What a row has beside its kinds.
-#[derive(Drop)]
-pub(crate) struct Measures {
-    pub(crate) depth: u32,
-    pub(crate) size: u32,
-    pub(crate) align: u32,
-}
-
-/// The measures of a type, without its row.
-pub(crate) fn measures_in(rows: &[Row], ty: ValType) -> Measures
-    requires { IsTrue (is_below (length rows.now) ty) }
-    ensures depth { result.depth ≡ (row_in rows.now ty).depth }
-    ensures size { result.size ≡ (row_in rows.now ty).size }
-    ensures align { result.align ≡ (row_in rows.now ty).align }
-{
-    let (depth, size, align) = match ty {
-        ValType::Primitive(primitive) => {
-            let bytes = primitive_bytes(primitive);
-            (1, bytes, bytes)
-        }
-        ValType::String => (1, 8, 4),
-        ValType::Id(id) => {
-            let row = &rows[id.0 as usize];
-            (row.depth, row.size, row.align)
-        }
-    };
-    Measures { depth, size, align }
-}
-
-/// Puts the kinds of a type behind these, without its row.
-#[inline(always)]
-pub(crate) fn append_type(kinds: &mut Kinds, rows: &[Row], ty: ValType)
-    requires { IsTrue (is_below (length rows.now) ty) }
-    ensures { kinds.new ≡ append_kinds kinds.old (row_in rows.now ty).kinds }
-{
-    match ty {
-        ValType::Primitive(primitive) => kinds.append(&primitive_row(primitive).kinds),
-        ValType::String => kinds.append(&block_row(1).kinds),
-        ValType::Id(id) => kinds.append(&rows[id.0 as usize].kinds),
-    }
-}
-
-/// Joins the kinds of a payload with those of a variant, without its row.
-#[inline(always)]
-fn join_type(kinds: &mut Kinds, rows: &[Row], payload: ValType)
-    requires below { IsTrue (is_below (length rows.now) payload) }
-    requires sound { All IsSound rows.now }
-    ensures { (ks : Kinds) → kinds.old ≡ append_kinds (kinds_of (I32 ∷ [])) ks
-        → kinds.new ≡ append_kinds (kinds_of (I32 ∷ [])) (join_kinds ks (row_in rows.now payload).kinds) }
-{
-    match payload {
-        ValType::Primitive(primitive) => kinds.join(&primitive_row(primitive).kinds),
-        ValType::String => kinds.join(&block_row(1).kinds),
-        ValType::Id(id) => kinds.join(&rows[id.0 as usize].kinds),
     }
 }
 
@@ -213,18 +158,16 @@ pub(crate) fn count_in(rows: &[Row], ty: ValType) -> Option<usize>
     }
 }
 
-/// The measures of a type that stands directly in a definition whose row is made, which is one step.
-pub(crate) fn look(rows: &[Row], ty: ValType, steps: &mut Steps) -> Measures
+/// The row of a type that stands directly in a definition whose row is made, which is one step.
+pub(crate) fn look(rows: &[Row], ty: ValType, steps: &mut Steps) -> Row
     requires below { IsTrue (is_below (length rows.now) ty) }
     requires sound { All IsSound rows.now }
-    ensures depth { result.depth ≡ (row_in rows.now ty).depth }
-    ensures size { result.size ≡ (row_in rows.now ty).size }
-    ensures align { result.align ≡ (row_in rows.now ty).align }
-    ensures sound { IsSound (row_in rows.now ty) }
+    ensures value { result ≡ row_in rows.now ty }
+    ensures sound { IsSound result }
     ensures steps { steps.new.count ≡ saturated (steps.old.count + 1) }
 {
     steps.take_one();
-    measures_in(rows, ty)
+    row_in(rows, ty)
 }
 
 /// Puts the row of a record, whose depth is at most `most`, and its fields behind those that are there.
@@ -252,7 +195,7 @@ pub(crate) fn record_row<M: Member>(
     let mut depth = 0;
     let mut end = 0;
     let mut align = 1;
-    let mut kinds = Kinds::none();
+    let mut kinds = PackedKinds::none();
     for member in members {
         let ty = member.ty();
         let row = look(before, ty, steps);
@@ -261,7 +204,7 @@ pub(crate) fn record_row<M: Member>(
         depth = depth.max(row.depth);
         end = (offset + row.size).min(MAX_SIZE + 1);
         align = align.max(row.align);
-        append_type(&mut kinds, before, ty);
+        kinds.append(&row.kinds);
     }
     let depth = deeper(depth);
     if depth > most {
@@ -323,7 +266,7 @@ pub(crate) fn variant_row<C: Choice>(
     let mut depth = 0;
     let mut size = 0;
     let mut align = 1;
-    let mut kinds = Kinds::one(CoreKind::I32);
+    let mut joined = PackedKinds::none();
     for case in cases {
         let payload = case.payload();
         all_payloads.push(payload)?;
@@ -332,11 +275,13 @@ pub(crate) fn variant_row<C: Choice>(
             depth = depth.max(row.depth);
             size = size.max(row.size);
             align = align.max(row.align);
-            join_type(&mut kinds, before, payload);
+            joined.join(&row.kinds);
         }
     }
     let payload = align_up(discriminant, align);
     let align = discriminant.max(align);
+    let mut kinds = PackedKinds::one(CoreKind::I32);
+    kinds.append(&joined);
     let row = Row {
         depth: deeper(depth),
         size: align_up(payload + size, align),

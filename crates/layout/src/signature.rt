@@ -5,8 +5,7 @@ ghost use Rattle.layout.specs.Kinds.{passed};
 ghost use Rattle.layout.specs.Layout.{results_of, core_signature_of};
 ghost use Rattle.layout.specs.Signature.{is_one, single_result, lifted_by, lowered_by};
 
-use crate::kind_list::KindList;
-use crate::kinds::Kinds;
+use crate::packed_kinds::{PackedKinds, SPILLED, lowest_kind};
 use arrayvec::ArrayVec;
 use canonical_abi::{CoreKind, Flat};
 
@@ -17,56 +16,43 @@ pub struct CoreSignature {
     pub result: Option<CoreKind>,
 }
 
-fn copied(kinds: &KindList) -> ArrayVec<CoreKind, 17>
-    ensures { result.items ≡ kinds.now.items }
-{
-    let mut copy = ArrayVec::new();
-    for kind in kinds.as_slice() {
-        copy.push(*kind);
-    }
-    copy
-}
-
 /// How parameters of these kinds are passed.
-fn params_of(kinds: &Kinds) -> ArrayVec<CoreKind, 17>
+fn params_of(kinds: &PackedKinds) -> ArrayVec<CoreKind, 17>
     ensures { result.items ≡ passed kinds.now }
 {
-    match kinds {
-        Kinds::Flat(kinds) => copied(kinds),
-        Kinds::Spilled => {
-            let mut address = ArrayVec::new();
-            address.push(CoreKind::I32);
-            address
-        }
+    let mut params = ArrayVec::new();
+    if kinds.count == SPILLED {
+        params.push(CoreKind::I32);
+        return params;
     }
+    let mut wide = kinds.wide;
+    for _ in 0..kinds.count {
+        params.push(lowest_kind(wide));
+        wide /= 2;
+    }
+    params
 }
 
 /// Whether a result of these kinds goes flat.
-fn is_one(kinds: &Kinds) -> bool
+fn is_one(kinds: &PackedKinds) -> bool
     ensures { result ≡ is_one kinds.now }
 {
-    match kinds {
-        Kinds::Flat(kinds) => kinds.len() <= 1,
-        Kinds::Spilled => false,
-    }
+    kinds.count <= 1
 }
 
 /// How a result of these kinds is passed: by one value, by none, or by an address.
-pub(crate) fn result_of(kinds: &Kinds) -> Option<CoreKind>
+pub(crate) fn result_of(kinds: &PackedKinds) -> Option<CoreKind>
     ensures { results_of result ≡ single_result kinds.now }
 {
-    match kinds {
-        Kinds::Flat(kinds) => match kinds.as_slice() {
-            [] => None,
-            [kind] => Some(*kind),
-            _ => Some(CoreKind::I32),
-        },
-        Kinds::Spilled => Some(CoreKind::I32),
+    match kinds.count {
+        0 => None,
+        1 => Some(lowest_kind(kinds.wide)),
+        _ => Some(CoreKind::I32),
     }
 }
 
 /// The signature of the callee's function.
-pub(crate) fn lifted_of(params: &Kinds, results: &Kinds) -> CoreSignature
+pub(crate) fn lifted_of(params: &PackedKinds, results: &PackedKinds) -> CoreSignature
     ensures { core_signature_of result ≡ lifted_by params.now results.now }
 {
     CoreSignature {
@@ -76,7 +62,7 @@ pub(crate) fn lifted_of(params: &Kinds, results: &Kinds) -> CoreSignature
 }
 
 /// The signature of the caller's import.
-pub(crate) fn lowered_of(params: &Kinds, results: &Kinds) -> CoreSignature
+pub(crate) fn lowered_of(params: &PackedKinds, results: &PackedKinds) -> CoreSignature
     requires { length (passed params.now) ≤ 16 }
     ensures { core_signature_of result ≡ lowered_by params.now results.now }
 {
@@ -104,18 +90,28 @@ pub fn are_kinds(kinds: &[CoreKind], flats: &[Flat]) -> bool
 }
 
 /// Whether the flat values are parameters of these kinds, as they are passed.
-fn are_passed(kinds: &Kinds, flats: &[Flat]) -> bool
+fn are_passed(kinds: &PackedKinds, flats: &[Flat]) -> bool
     ensures { IsTrue result ↔ (map kind_of flats.now ≡ passed kinds.now) }
 {
-    match kinds {
-        Kinds::Flat(kinds) => are_kinds(kinds.as_slice(), flats),
-        Kinds::Spilled => are_kinds(&[CoreKind::I32], flats),
+    if kinds.count == SPILLED {
+        return are_kinds(&[CoreKind::I32], flats);
     }
+    if flats.len() != usize::from(kinds.count) {
+        return false;
+    }
+    let mut wide = kinds.wide;
+    for flat in flats {
+        if flat.kind() != lowest_kind(wide) {
+            return false;
+        }
+        wide /= 2;
+    }
+    true
 }
 
 /// Whether the flat values are what the caller's import takes: the parameters, and behind them an address if the result
 /// doesn't go flat.
-pub(crate) fn are_lowered(params: &Kinds, results: &Kinds, flats: &[Flat]) -> bool
+pub(crate) fn are_lowered(params: &PackedKinds, results: &PackedKinds, flats: &[Flat]) -> bool
     ensures { IsTrue result ↔ (map kind_of flats.now ≡ (lowered_by params.now results.now).params) }
 {
     if is_one(results) {
@@ -128,11 +124,8 @@ pub(crate) fn are_lowered(params: &Kinds, results: &Kinds, flats: &[Flat]) -> bo
 }
 
 /// How many core values pass parameters of these kinds.
-pub(crate) fn passed_count(kinds: &Kinds) -> usize
+pub(crate) fn passed_count(kinds: &PackedKinds) -> usize
     ensures { result ≡ length (passed kinds.now) }
 {
-    match kinds {
-        Kinds::Flat(kinds) => kinds.len(),
-        Kinds::Spilled => 1,
-    }
+    kinds.count().unwrap_or(1)
 }

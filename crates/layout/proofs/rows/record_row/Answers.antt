@@ -17,17 +17,15 @@ loop-member-preserved g c =
     let more = rows_at-more rows ty members i c.member-item.result (omega arith) in
     let looked = c.look-row.ensures in
     let same = c.as_slice-before.ensures.value in
-    let depth = rw same at looked.depth in
-    let size = rw same at looked.size in
-    let align = rw same at looked.align in
+    let found : c.look-row.result ≡ row_in rows c.ty-ty.result = rw same at looked.value in
     let old = c.args.fields.now.items in
     let new = c.loop-member.fields.items in
     let field : FieldInfo = record { ty = c.ty-ty.result; offset = c.align_up-offset.result } in
     let behind = behind-more old new c.push.new.self.items field c.loop-member.invariant.kept c.in_ok-push.ensures.items in
     let here : c.ty-ty.result ≡ ty (get_or members i c.member-item.result) = c.ty-ty.ensures ∙ ap ty c.member-item.is in
     record {
-      so_far = record_more {rows = rows_at rows ty (take i members)} {rows' = rows_at rows ty (take (i + 1) members)} (row_in rows c.ty-ty.result) c.align_up-offset.result c.loop-member.invariant.so_far (rw same at looked.sound)
-          (grind arith) (rw (← align) c.align_up-offset.ensures.value) (rw (← depth) (search rules)) (rw (← size) (search rules)) (rw (← align) (search rules)) (rw same at c.append_type.ensures)
+      so_far = record_more {rows = rows_at rows ty (take i members)} {rows' = rows_at rows ty (take (i + 1) members)} (row_in rows c.ty-ty.result) c.align_up-offset.result c.loop-member.invariant.so_far (rw found at looked.sound)
+          (grind arith) (rw (← found) c.align_up-offset.ensures.value) (rw (← found) (search rules)) (rw (← found) (search rules)) (rw (← found) (search rules)) (rw (← found) c.append.ensures)
           (ap field_offsets behind.0 ∙ map-append (λ (f : FieldInfo). f.offset) (drop (length old) new) (field ∷ []));
       kept = behind.1;
       types_are = ap field_types behind.0

@@ -4,7 +4,7 @@ use Rattle.layout.specs.declared.rows.Row.{Row}
 use Rattle.layout.specs.Parts.{payloads}
 use Rattle.layout.specs.Rows.{choices_at, row_in}
 use Rattle.layout.proofs.ElementsPutBehind.{put-more}
-use Rattle.layout.proofs.VariantLoop.{joined, variant_more, choices_at-some, choices_at-none}
+use Rattle.layout.proofs.VariantLoop.{variant_more, choices_at-some, choices_at-none}
 use Rattle.layout.proofs.rows.variant_row.Goals as goal
 use Rattle.layout.proofs.rows.variant_row.Goals.{in-Some, in_default}
 
@@ -23,16 +23,13 @@ loop-case-preserved g c =
           let row = row_in rows w.in-Some.payload in
           let looked = w.look-row.ensures in
           let same = c.as_slice-before.ensures.value in
-          let depth = rw same at looked.depth in
-          let size = rw same at looked.size in
-          let align = rw same at looked.align in
+          let found : w.look-row.result ≡ row = rw same at looked.value in
           let is : payload (get_or cases i d) ≡ Some w.in-Some.payload = cc in
           let more : payloads (choices_at rows payload (take (i + 1) cases)) ≡ payloads (choices_at rows payload (take i cases)) ++ row ∷ [] =
           choices_at-some rows payload cases i d w.in-Some.payload (omega arith) is in
           record {
-            so_far = variant_more {rows = payloads (choices_at rows payload (take i cases))} {rows' = payloads (choices_at rows payload (take (i + 1) cases))} row so_far (rw same at looked.sound) more
-                (rw (w.depth-is, ← depth) (search rules)) (rw (w.size-is, ← size) (search rules)) (rw (w.align-is, ← align) (search rules))
-                (rw w.kinds-is ((rw same at w.join_type.ensures) (joined (payloads (choices_at rows payload (take i cases)))) so_far.kinds_is));
+            so_far = variant_more {rows = payloads (choices_at rows payload (take i cases))} {rows' = payloads (choices_at rows payload (take (i + 1) cases))} row so_far (rw found at looked.sound) more
+                (rw (w.depth-is, ← found) (search rules)) (rw (w.size-is, ← found) (search rules)) (rw (w.align-is, ← found) (search rules)) (rw (w.joined-is, ← found) w.join.ensures);
             payloads_are = put;
             steps_are = rw (w.steps-is, more) (omega (arith, length-append {A = Row}, looked.steps, c.loop-case.invariant.steps_are));
           }
@@ -40,7 +37,7 @@ loop-case-preserved g c =
           let is : payload (get_or cases i d) ≡ None = cc in
           let more = choices_at-none rows payload cases i d (omega arith) is in
           record {
-            so_far = rw (more, w.depth-is, w.size-is, w.align-is, w.kinds-is) so_far;
+            so_far = rw (more, w.depth-is, w.size-is, w.align-is, w.joined-is) so_far;
             payloads_are = put;
             steps_are = rw (more, w.steps-is) c.loop-case.invariant.steps_are;
           }

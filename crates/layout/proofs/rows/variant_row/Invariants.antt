@@ -7,7 +7,7 @@ use Rattle.layout.proofs.rows.variant_row.Given as goal
 
 abbrev pub invariant-loop-case : goal.invariant-loop-case
 invariant-loop-case g l = record {
-  so_far : VariantSoFar (payloads (choices_at l.fn.rows.items g.C.Choice.payload_of (take l.case-index l.cases))) l.depth l.size l.align l.kinds;
+  so_far : VariantSoFar (payloads (choices_at l.fn.rows.items g.C.Choice.payload_of (take l.case-index l.cases))) l.depth l.size l.align l.joined;
   payloads_are : l.all_payloads.items ≡ l.initial.all_payloads.items ++ map g.C.Choice.payload_of (take l.case-index l.cases);
   steps_are : l.steps.count ≡ saturated (l.initial.steps.count + length (payloads (choices_at l.fn.rows.items g.C.Choice.payload_of (take l.case-index l.cases))));
 }

@@ -1,0 +1,6 @@
+use Rattle.std.proofs.Common.{◌≡◌, ◌++◌, ◌-◌}
+use Rattle.layout.specs.Packed.{kinds_by_bits}
+use Rattle.layout.proofs.packed_kinds.PackedKinds.unpacked.Given as goal
+
+abbrev pub invariant-loop : goal.invariant-loop
+invariant-loop l = l.kinds.items ++ kinds_by_bits (l.end - l.counter) l.wide ≡ kinds_by_bits l.end l.initial.wide
