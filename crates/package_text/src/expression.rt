@@ -1,7 +1,7 @@
 //! Types as expressions.
 ghost use Rattle.std.specs.Prelude.{◌≡◌, List, map, IfOk, IsTrue, slice_get, slice_index_or};
 ghost use Rattle.std.specs.List.{list_all};
-ghost use Rattle.wit_tokens.specs.View.{ty_view, boxed_view};
+ghost use Rattle.wit_tokens.specs.View.{ty_view, maybe_view};
 ghost use Rattle.tables.specs.Tables.{option_all, kind_all, is_type_id, is_type_before};
 ghost use Rattle.tables.specs.Package.{TextTree, read_kind};
 ghost use Rattle.package_form.specs.Postfix.{is_inner};
@@ -12,7 +12,7 @@ ghost use Rattle.package_text.specs.Pieces.{type_by, maybe_by};
 
 use std::alloc::{AllocError, Global};
 use tables::{Definition, Primitive, Resolve, TypeDef, TypeDefKind, TypeId, ValType};
-use wit_tokens::wit_syntax::TypeExpression;
+use wit_tokens::wit_syntax::{InnerType, ResultType, TypeExpression};
 
 fn keyword(primitive: Primitive) -> wit_tokens::wit_syntax::Primitive
     ensures { result ≡ keyword_for primitive }
@@ -91,19 +91,19 @@ pub(crate) fn inner(
     match kind {
         TypeDefKind::List(element) => {
             let element = expression(alloc, resolve, place, *element)?;
-            Ok(TypeExpression::List(Box::new(alloc, element)?))
+            Ok(TypeExpression::List(InnerType::of(alloc, element)?))
         }
         TypeDefKind::Option(payload) => {
             let payload = expression(alloc, resolve, place, *payload)?;
-            Ok(TypeExpression::Option(Box::new(alloc, payload)?))
+            Ok(TypeExpression::Option(InnerType::of(alloc, payload)?))
         }
         TypeDefKind::Tuple(members) => {
             let members = expressions(alloc, resolve, place, members.as_slice())?;
             Ok(TypeExpression::Tuple(members))
         }
         TypeDefKind::Result(ok, error) => {
-            let ok = boxed(alloc, resolve, place, *ok)?;
-            let error = boxed(alloc, resolve, place, *error)?;
+            let ok = maybe_expression(alloc, resolve, place, *ok)?;
+            let error = maybe_expression(alloc, resolve, place, *error)?;
             Ok(TypeExpression::Result { ok, error })
         }
         _ => unreachable!(),
@@ -111,21 +111,21 @@ pub(crate) fn inner(
 }
 
 #[cycle(expression)]
-fn boxed(
+fn maybe_expression(
     alloc: Global,
     resolve: &Resolve,
     place: usize,
     ty: Option<ValType>,
-) -> Result<Option<Box<TypeExpression>>, AllocError>
+) -> Result<ResultType, AllocError>
     requires form { IsInPackageForm resolve.now }
     requires earlier { IsTrue (option_all (is_type_before resolve.now.definitions place) ty) }
-    ensures { IfOk result (λ t. boxed_view t ≡ maybe_by (own_trees resolve.now) ty) }
+    ensures { IfOk result (λ t. maybe_view t ≡ maybe_by (own_trees resolve.now) ty) }
 {
     match ty {
-        None => Ok(None),
+        None => Ok(ResultType::Absent),
         Some(ty) => {
             let ty = expression(alloc, resolve, place, ty)?;
-            Ok(Some(Box::new(alloc, ty)?))
+            ResultType::of(alloc, ty)
         }
     }
 }

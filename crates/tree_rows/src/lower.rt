@@ -1,7 +1,7 @@
 //! Types of the syntax as types of the table.
 ghost use Rattle.std.specs.Prelude.{◌≡◌, map, IfOk};
 ghost use Rattle.wit_tokens.specs.Syntax.{tys_of};
-ghost use Rattle.wit_tokens.specs.View.{ty_view, boxed_view, optional_view};
+ghost use Rattle.wit_tokens.specs.View.{ty_view, inner_view, maybe_view, optional_view};
 ghost use Rattle.tree_meaning.specs.Declarations.{named, named_all, named_maybe, named_if};
 ghost use Rattle.tree_meaning.specs.Resolved.{resolved, resolved_all, resolved_maybe, resolved_if, val_of_primitive};
 ghost use Rattle.tree_meaning.specs.Building.{LowersInner, LowersIf, LowersAll, LowersType};
@@ -11,7 +11,7 @@ use crate::builder::Builder;
 use std::alloc::{AllocError, Global};
 use tables::{Primitive, Sequence, TypeDefKind, ValType};
 use tree_scopes::KnownTypes;
-use wit_tokens::wit_syntax::TypeExpression;
+use wit_tokens::wit_syntax::{InnerType, ResultType, TypeExpression};
 
 fn lower_primitive(primitive: wit_tokens::wit_syntax::Primitive) -> ValType
     ensures { result ≡ val_of_primitive primitive }
@@ -49,11 +49,11 @@ pub fn lower_type(
         TypeExpression::Primitive(primitive) => Ok(lower_primitive(*primitive)),
         TypeExpression::Named(name) => Ok(ValType::Id(scope.entries.get(name))),
         TypeExpression::List(element) => {
-            let element = lower_type(alloc, builder, scope, element)?;
+            let element = lower_within(alloc, builder, scope, element)?;
             builder.inner(TypeDefKind::List(element))
         }
         TypeExpression::Option(payload) => {
-            let payload = lower_type(alloc, builder, scope, payload)?;
+            let payload = lower_within(alloc, builder, scope, payload)?;
             builder.inner(TypeDefKind::Option(payload))
         }
         TypeExpression::Tuple(members) => {
@@ -61,28 +61,49 @@ pub fn lower_type(
             builder.inner(TypeDefKind::Tuple(members))
         }
         TypeExpression::Result { ok, error } => {
-            let ok = lower_boxed(alloc, builder, scope, ok)?;
-            let error = lower_boxed(alloc, builder, scope, error)?;
+            let ok = lower_maybe(alloc, builder, scope, ok)?;
+            let error = lower_maybe(alloc, builder, scope, error)?;
             builder.inner(TypeDefKind::Result(ok, error))
         }
     }
 }
 
+/// The type that an expression within another one stands for.
 #[cycle(lower)]
-fn lower_boxed(
+#[tactic(auto, using(crate::proofs::LoweredTypesStay::lowering))]
+fn lower_within(
     alloc: Global,
     builder: &mut Builder,
     scope: &KnownTypes,
-    expression: &Option<Box<TypeExpression>>,
-) -> Result<Option<ValType>, AllocError>
-    requires known { KnowsNames scope.now (named_maybe (boxed_view expression.now)) }
+    expression: &InnerType,
+) -> Result<ValType, AllocError>
+    requires known { KnowsNames scope.now (named (inner_view expression.now)) }
     requires scoped { IsScope builder.old scope.now }
-    ensures { IfOk result (λ v. LowersIf builder.old builder.new v
-        (resolved_maybe (scope_name builder.old scope.now) (boxed_view expression.now))) }
+    ensures { IfOk result (λ v. LowersType builder.old builder.new v
+        (resolved (scope_name builder.old scope.now) (inner_view expression.now))) }
 {
     match expression {
-        None => Ok(None),
-        Some(expression) => {
+        InnerType::Plain(primitive) => Ok(lower_primitive(*primitive)),
+        InnerType::Boxed(expression) => lower_type(alloc, builder, scope, expression),
+    }
+}
+
+#[cycle(lower)]
+fn lower_maybe(
+    alloc: Global,
+    builder: &mut Builder,
+    scope: &KnownTypes,
+    expression: &ResultType,
+) -> Result<Option<ValType>, AllocError>
+    requires known { KnowsNames scope.now (named_maybe (maybe_view expression.now)) }
+    requires scoped { IsScope builder.old scope.now }
+    ensures { IfOk result (λ v. LowersIf builder.old builder.new v
+        (resolved_maybe (scope_name builder.old scope.now) (maybe_view expression.now))) }
+{
+    match expression {
+        ResultType::Absent => Ok(None),
+        ResultType::Simple(primitive) => Ok(Some(lower_primitive(*primitive))),
+        ResultType::Other(expression) => {
             let ty = lower_type(alloc, builder, scope, expression)?;
             Ok(Some(ty))
         }
@@ -126,11 +147,11 @@ pub fn lower_kind(
         TypeExpression::Primitive(primitive) => Ok(TypeDefKind::Alias(lower_primitive(*primitive))),
         TypeExpression::Named(name) => Ok(TypeDefKind::Alias(ValType::Id(scope.entries.get(name)))),
         TypeExpression::List(element) => {
-            let element = lower_type(alloc, builder, scope, element)?;
+            let element = lower_within(alloc, builder, scope, element)?;
             Ok(TypeDefKind::List(element))
         }
         TypeExpression::Option(payload) => {
-            let payload = lower_type(alloc, builder, scope, payload)?;
+            let payload = lower_within(alloc, builder, scope, payload)?;
             Ok(TypeDefKind::Option(payload))
         }
         TypeExpression::Tuple(members) => {
@@ -138,8 +159,8 @@ pub fn lower_kind(
             Ok(TypeDefKind::Tuple(members))
         }
         TypeExpression::Result { ok, error } => {
-            let ok = lower_boxed(alloc, builder, scope, ok)?;
-            let error = lower_boxed(alloc, builder, scope, error)?;
+            let ok = lower_maybe(alloc, builder, scope, ok)?;
+            let error = lower_maybe(alloc, builder, scope, error)?;
             Ok(TypeDefKind::Result(ok, error))
         }
     }

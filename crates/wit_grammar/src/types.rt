@@ -2,7 +2,7 @@
 ghost use Rattle.std.specs.Prelude.{◌≡◌, ◌<◌, ◌≤◌, map, IfOk};
 ghost use Rattle.wit_tokens.specs.Lexing.{limit};
 ghost use Rattle.wit_tokens.specs.Tokens.{IsNamed, lexeme};
-ghost use Rattle.wit_tokens.specs.View.{ty_view, boxed_view};
+ghost use Rattle.wit_tokens.specs.View.{ty_view, maybe_view};
 ghost use Rattle.wit_tokens.specs.Syntax.{ResultOf};
 ghost use Rattle.wit_grammar.specs.Faults.{AnswersRead};
 ghost use Rattle.wit_grammar.specs.Left.{tokens_from, count_from, text_end};
@@ -14,7 +14,7 @@ ghost use Rattle.wit_grammar.specs.Grammar.{result_parts, result_type, ty};
 use crate::parser::{is_name, label_of, met, punctuation, same, separator};
 use crate::tokens::Tokens;
 use std::alloc::Global;
-use wit_tokens::wit_syntax::{Primitive, TypeExpression};
+use wit_tokens::wit_syntax::{InnerType, Primitive, ResultType, TypeExpression};
 use wit_tokens::{Expected, Feature, Keyword, Punctuation, TextError, Token, TokenKind};
 
 /// What a keyword is at the place of a type.
@@ -102,8 +102,8 @@ pub fn type_fault(tokens: &Tokens<'_>, at: usize) -> TextError
     }
 }
 
-fn result_of(ok: Option<Box<TypeExpression>>, error: Option<Box<TypeExpression>>) -> TypeExpression
-    ensures { ty_view result ≡ ResultOf (boxed_view ok) (boxed_view error) }
+fn result_of(ok: ResultType, error: ResultType) -> TypeExpression
+    ensures { ty_view result ≡ ResultOf (maybe_view ok) (maybe_view error) }
 {
     TypeExpression::Result { ok, error }
 }
@@ -115,8 +115,8 @@ fn is_bare(ty: &TypeExpression) -> bool
     matches!(
         ty,
         TypeExpression::Result {
-            ok: None,
-            error: None
+            ok: ResultType::Absent,
+            error: ResultType::Absent
         }
     )
 }
@@ -276,7 +276,7 @@ fn list_type(
     let (_, at) = punctuation(tokens, at, Punctuation::Less)?;
     let (inner, at) = type_at(alloc, tokens, nesting, at)?;
     let (_, at) = close_list(tokens, &inner, at)?;
-    Ok((TypeExpression::List(Box::new(alloc, inner)?), at))
+    Ok((TypeExpression::List(InnerType::of(alloc, inner)?), at))
 }
 
 /// Behind `option`.
@@ -295,7 +295,7 @@ fn option_type(
     let (_, at) = punctuation(tokens, at, Punctuation::Less)?;
     let (inner, at) = type_at(alloc, tokens, nesting, at)?;
     let (_, at) = close_angle(tokens, &inner, at)?;
-    Ok((TypeExpression::Option(Box::new(alloc, inner)?), at))
+    Ok((TypeExpression::Option(InnerType::of(alloc, inner)?), at))
 }
 
 /// Behind `tuple`.
@@ -360,7 +360,7 @@ fn result_type(
         Some((first, rest)) if same(first.kind, less) => {
             result_parts(alloc, tokens, nesting, rest)
         }
-        _ => Ok((result_of(None, None), at)),
+        _ => Ok((result_of(ResultType::Absent, ResultType::Absent), at)),
     }
 }
 
@@ -401,8 +401,8 @@ fn result_error(
 {
     let (_, at) = punctuation(tokens, at, Punctuation::Comma)?;
     let (error, at) = error_type(alloc, tokens, nesting, at)?;
-    let error = Some(Box::new(alloc, error)?);
-    Ok((result_of(None, error), at))
+    let error = ResultType::of(alloc, error)?;
+    Ok((result_of(ResultType::Absent, error), at))
 }
 
 /// The last type of a result, and its `>`.
@@ -439,12 +439,15 @@ fn result_ok(
     let greater = TokenKind::Punctuation(Punctuation::Greater);
     let comma = TokenKind::Punctuation(Punctuation::Comma);
     let (ok, at) = type_at(alloc, tokens, nesting, at)?;
-    let ok = Some(Box::new(alloc, ok)?);
+    let ok = ResultType::of(alloc, ok)?;
     match tokens.next(at) {
-        Some((first, rest)) if same(first.kind, greater) => Ok((result_of(ok, None), rest)),
+        Some((first, rest)) if same(first.kind, greater) => Ok((
+            result_of(ok, ResultType::Absent),
+            rest,
+        )),
         Some((first, rest)) if same(first.kind, comma) => {
             let (error, at) = error_type(alloc, tokens, nesting, rest)?;
-            let error = Some(Box::new(alloc, error)?);
+            let error = ResultType::of(alloc, error)?;
             Ok((result_of(ok, error), at))
         }
         _ => {

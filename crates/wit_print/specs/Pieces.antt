@@ -20,7 +20,7 @@ abbrev pub ok_alone : MaybeTy → List Word
 ok_alone Absent = []
 ok_alone (Present t) = mark_word [] mark.Less ∷ (ty_words [] t ++ mark_word [] mark.Greater ∷ [])
 
--- what is written between `result` and the comma before its error type: `<_`, or `<` and its type
-abbrev pub ok_before : MaybeTy → List Word
-ok_before Absent = mark_word [] mark.Less ∷ mark_word [] mark.Underscore ∷ []
-ok_before (Present t) = mark_word [] mark.Less ∷ ty_words [] t
+-- a type of a result that another one comes with: `_` if it is absent
+abbrev pub part_words : List ℕ → MaybeTy → List Word
+part_words space Absent = mark_word [] mark.Underscore ∷ []
+part_words space (Present t) = ty_words space t

@@ -1,17 +1,17 @@
 //! Types.
 ghost use Rattle.std.specs.Prelude.{◌≡◌, ◌∷◌, [], ◌++◌, map, OnOk};
 ghost use Rattle.wit_tokens.specs.Syntax.{tys_of};
-ghost use Rattle.wit_tokens.specs.View.{ty_view, boxed_view};
+ghost use Rattle.wit_tokens.specs.View.{ty_view, inner_view, maybe_view};
 ghost use Rattle.wit_tokens.specs.declared.token.Punctuation.TheVariants as mark;
 ghost use Rattle.wit_print.specs.Words.{mark_word};
-ghost use Rattle.wit_print.specs.Canonical.{blank, primitive_keyword, ty_words, tys_words};
-ghost use Rattle.wit_print.specs.Pieces.{ok_alone, ok_before};
+ghost use Rattle.wit_print.specs.Canonical.{primitive_keyword, ty_words, tys_words};
+ghost use Rattle.wit_print.specs.Pieces.{ok_alone, part_words};
 ghost use Rattle.wit_print.specs.Adding.{AddsWords};
 
 use crate::list::write_comma;
 use crate::word::{write_keyword, write_mark, write_name};
 use std::alloc::AllocError;
-use wit_tokens::wit_syntax::{Primitive, TypeExpression};
+use wit_tokens::wit_syntax::{InnerType, Primitive, ResultType, TypeExpression};
 use wit_tokens::{Keyword, Punctuation};
 
 fn primitive_keyword(primitive: Primitive) -> Keyword
@@ -64,24 +64,36 @@ pub(crate) fn write_type(
         TypeExpression::Result { ok, error } => {
             write_keyword(out, space, Keyword::Result)?;
             match error {
-                Some(error) => {
-                    write_ok_before(out, ok)?;
-                    write_error(out, error)
+                ResultType::Absent => write_ok_alone(out, ok),
+                ResultType::Simple(_) | ResultType::Other(_) => {
+                    write_part(out, "", Punctuation::Less, ok)?;
+                    write_part(out, " ", Punctuation::Comma, error)?;
+                    write_mark(out, "", Punctuation::Greater)
                 }
-                None => write_ok_alone(out, ok),
             }
         }
     }
 }
 
+/// Puts a type within another one behind the text.
+#[cycle(ty)]
+fn write_within(out: &mut String, space: &str, ty: &InnerType) -> Result<(), AllocError>
+    ensures { OnOk result (AddsWords (ty_words space.now (inner_view ty.now)) out.old out.new) }
+{
+    match ty {
+        InnerType::Plain(primitive) => write_keyword(out, space, primitive_keyword(*primitive)),
+        InnerType::Boxed(ty) => write_type(out, space, ty),
+    }
+}
+
 /// Puts the type that a list or an option is made of behind the text, in `<` and `>`.
 #[cycle(ty)]
-fn write_inner(out: &mut String, ty: &TypeExpression) -> Result<(), AllocError>
+fn write_inner(out: &mut String, ty: &InnerType) -> Result<(), AllocError>
     ensures { OnOk result (AddsWords (mark_word [] mark.Less
-        ∷ (ty_words [] (ty_view ty.now) ++ mark_word [] mark.Greater ∷ [])) out.old out.new) }
+        ∷ (ty_words [] (inner_view ty.now) ++ mark_word [] mark.Greater ∷ [])) out.old out.new) }
 {
     write_mark(out, "", Punctuation::Less)?;
-    write_type(out, "", ty)?;
+    write_within(out, "", ty)?;
     write_mark(out, "", Punctuation::Greater)
 }
 
@@ -97,36 +109,34 @@ fn write_members(out: &mut String, members: &Vec<TypeExpression>) -> Result<(), 
     write_mark(out, "", Punctuation::Greater)
 }
 
+/// Puts a type of a result behind the text, behind this mark, and `_` where it is absent.
+#[cycle(ty)]
+fn write_part(
+    out: &mut String,
+    space: &str,
+    mark: Punctuation,
+    ty: &ResultType,
+) -> Result<(), AllocError>
+    ensures { OnOk result (AddsWords (mark_word [] mark ∷ part_words space.now (maybe_view ty.now)) out.old out.new) }
+{
+    write_mark(out, "", mark)?;
+    match ty {
+        ResultType::Absent => write_mark(out, "", Punctuation::Underscore),
+        ResultType::Simple(primitive) => write_keyword(out, space, primitive_keyword(*primitive)),
+        ResultType::Other(ty) => write_type(out, space, ty),
+    }
+}
+
 /// Puts what a result has in `<` and `>` behind the text, where it has no type of an error.
 #[cycle(ty)]
-fn write_ok_alone(out: &mut String, ok: &Option<Box<TypeExpression>>) -> Result<(), AllocError>
-    ensures { OnOk result (AddsWords (ok_alone (boxed_view ok.now)) out.old out.new) }
+fn write_ok_alone(out: &mut String, ok: &ResultType) -> Result<(), AllocError>
+    ensures { OnOk result (AddsWords (ok_alone (maybe_view ok.now)) out.old out.new) }
 {
     match ok {
-        Some(ok) => write_inner(out, ok),
-        None => Ok(()),
+        ResultType::Absent => Ok(()),
+        ResultType::Simple(_) | ResultType::Other(_) => {
+            write_part(out, "", Punctuation::Less, ok)?;
+            write_mark(out, "", Punctuation::Greater)
+        }
     }
-}
-
-/// Puts what a result has before the comma behind the text, with the `<`.
-#[cycle(ty)]
-fn write_ok_before(out: &mut String, ok: &Option<Box<TypeExpression>>) -> Result<(), AllocError>
-    ensures { OnOk result (AddsWords (ok_before (boxed_view ok.now)) out.old out.new) }
-{
-    write_mark(out, "", Punctuation::Less)?;
-    match ok {
-        Some(ok) => write_type(out, "", ok),
-        None => write_mark(out, "", Punctuation::Underscore),
-    }
-}
-
-/// Puts the error's type of a result behind the text, behind its comma, and the `>`.
-#[cycle(ty)]
-fn write_error(out: &mut String, ty: &TypeExpression) -> Result<(), AllocError>
-    ensures { OnOk result (AddsWords (mark_word [] mark.Comma
-        ∷ (ty_words blank (ty_view ty.now) ++ mark_word [] mark.Greater ∷ [])) out.old out.new) }
-{
-    write_mark(out, "", Punctuation::Comma)?;
-    write_type(out, " ", ty)?;
-    write_mark(out, "", Punctuation::Greater)
 }

@@ -84,7 +84,11 @@ fn parameters(
     let close = TokenKind::Punctuation(Punctuation::CloseParenthesis);
     match tokens.next(at) {
         Some((first, rest)) if same(first.kind, close) => Ok((Vec::new(alloc), rest)),
-        _ => param_list(alloc, tokens, at),
+        _ => {
+            let (mut list, after) = param_list(alloc, tokens, at)?;
+            list.shrink_to_fit();
+            Ok((list, after))
+        }
     }
 }
 

@@ -15,9 +15,9 @@ mod worlds;
 pub use file::parse;
 pub use laws::{files_are_read_exactly, texts_have_full_names};
 pub use wit_tokens::wit_syntax::{
-    Ast, Case, Direction, Field, Func, FuncType, Interface, InterfaceItem, Item, PackageId, Path,
-    Primitive, TypeDef, TypeDefKind, TypeExpression, Use, UsedName, World, WorldItem,
-    WorldItemKind,
+    Ast, Case, Direction, Field, Func, FuncType, InnerType, Interface, InterfaceItem, Item,
+    PackageId, Path, Primitive, TypeDef, TypeDefKind, TypeExpression, Use, UsedName, World,
+    WorldItem, WorldItemKind,
 };
 pub use wit_tokens::{
     Expected, Feature, Keyword, Punctuation, Span, TextError, Token, TokenKind, lex,

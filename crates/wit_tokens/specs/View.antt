@@ -1,6 +1,5 @@
 -- The syntax tree that a value of the crate's types stands for.
 use Rattle.std.specs.Prelude.{ℕ, List, map, Option, Some, None}
-use Rattle.std.specs.declared.boxed.Box.{Box}
 use Rattle.std.specs.declared.alloc.Global.{Global}
 use Rattle.std.specs.String.{string_bytes}
 use Rattle.std.specs.declared.string.String.{String}
@@ -24,31 +23,42 @@ use Rattle.wit_tokens.specs.declared.wit_syntax.ast.WorldItemKind.{WorldItemKind
 use Rattle.wit_tokens.specs.declared.wit_syntax.ast.WorldItemKind.TheVariants as world
 use Rattle.wit_tokens.specs.declared.wit_syntax.ast.Direction.{Direction}
 use Rattle.wit_tokens.specs.declared.wit_syntax.ast.TypeExpression.{TypeExpression}
-use Rattle.wit_tokens.specs.declared.wit_syntax.ast.TypeExpression.TheOpen as one
-use Rattle.wit_tokens.specs.declared.wit_syntax.ast.TypeExpression.TheFolds.{fold-TypeExpression}
+use Rattle.wit_tokens.specs.declared.wit_syntax.ast.InnerType.TheOpen.{TypeExpression-F, InnerType-F, ResultType-F}
+use Rattle.wit_tokens.specs.declared.wit_syntax.ast.InnerType.TheFolds.{fold-TypeExpression, fold-InnerType, fold-ResultType}
+use Rattle.wit_tokens.specs.declared.wit_syntax.ast.InnerType.{InnerType}
+use Rattle.wit_tokens.specs.declared.wit_syntax.ast.ResultType.{ResultType}
 
--- a type of a `result`, of which the trees of the types in it are known
-abbrev pub maybe_ty : Option (Box Ty Global) → MaybeTy
-maybe_ty None = Absent
-maybe_ty (Some b) = Present b.value
+-- a type within another one, with the tree of the type that its block holds in its place
+abbrev pub inner_layer : InnerType-F Ty MaybeTy Ty → Ty
+inner_layer (InnerType-F.Plain p) = Prim p
+inner_layer (InnerType-F.Boxed b) = b.value
+
+-- a type of a `result`, if there is one, with the tree of the type that its block holds in its place
+abbrev pub result_layer : ResultType-F Ty MaybeTy Ty → MaybeTy
+result_layer ResultType-F.Absent = Absent
+result_layer (ResultType-F.Simple p) = Present (Prim p)
+result_layer (ResultType-F.Other b) = Present b.value
 
 -- One type, with the trees of the types in it in their places.
-abbrev pub ty_layer : one.TypeExpression-F Ty → Ty
-ty_layer (one.Primitive p) = Prim p
-ty_layer (one.Named n) = Named n
-ty_layer (one.List t) = ListOf t.value
-ty_layer (one.Option t) = OptionOf t.value
-ty_layer (one.Tuple ts) = TupleOf (tys_of ts.items)
-ty_layer (one.Result ok error) = ResultOf (maybe_ty ok) (maybe_ty error)
+abbrev pub ty_layer : TypeExpression-F Ty MaybeTy Ty → Ty
+ty_layer (TypeExpression-F.Primitive p) = Prim p
+ty_layer (TypeExpression-F.Named n) = Named n
+ty_layer (TypeExpression-F.List t) = ListOf t
+ty_layer (TypeExpression-F.Option t) = OptionOf t
+ty_layer (TypeExpression-F.Tuple ts) = TupleOf (tys_of ts.items)
+ty_layer (TypeExpression-F.Result ok error) = ResultOf ok error
 
 -- the tree of a type expression
 abbrev pub ty_view : TypeExpression → Ty
-ty_view = fold-TypeExpression Ty ty_layer
+ty_view = fold-TypeExpression Ty MaybeTy Ty inner_layer result_layer ty_layer
+
+-- the tree of a type within another one
+abbrev pub inner_view : InnerType → Ty
+inner_view = fold-InnerType Ty MaybeTy Ty inner_layer result_layer ty_layer
 
 -- a type of a `result`, absent if there is none
-abbrev pub boxed_view : Option (Box TypeExpression Global) → MaybeTy
-boxed_view None = Absent
-boxed_view (Some b) = Present (ty_view b.value)
+abbrev pub maybe_view : ResultType → MaybeTy
+maybe_view = fold-ResultType Ty MaybeTy Ty inner_layer result_layer ty_layer
 
 -- the type of a payload or of a function's result, if there is one
 abbrev pub optional_view : Option TypeExpression → Option Ty

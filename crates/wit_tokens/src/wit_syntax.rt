@@ -2,9 +2,10 @@
 //! labels and on `wit_tokens` for spans.
 
 mod ast;
+mod inner;
 
 pub use ast::{
-    Ast, Case, Direction, Field, Func, FuncType, Interface, InterfaceItem, Item, PackageId, Path,
-    Primitive, TypeDef, TypeDefKind, TypeExpression, Use, UsedName, World, WorldItem,
-    WorldItemKind,
+    Ast, Case, Direction, Field, Func, FuncType, InnerType, Interface, InterfaceItem, Item,
+    PackageId, Path, Primitive, ResultType, TypeDef, TypeDefKind, TypeExpression, Use, UsedName,
+    World, WorldItem, WorldItemKind,
 };

@@ -194,14 +194,29 @@ pub enum Primitive {
 }
 
 #[derive(Debug, Drop)]
+#[cycle(type_expression)]
 pub enum TypeExpression {
     Primitive(Primitive),
     Named(Label),
-    List(Box<TypeExpression>),
-    Option(Box<TypeExpression>),
+    List(InnerType),
+    Option(InnerType),
     Tuple(Vec<TypeExpression>),
-    Result {
-        ok: Option<Box<TypeExpression>>,
-        error: Option<Box<TypeExpression>>,
-    },
+    Result { ok: ResultType, error: ResultType },
+}
+
+/// A type within another one. A primitive takes no memory of its own.
+#[derive(Debug, Drop)]
+#[cycle(type_expression)]
+pub enum InnerType {
+    Plain(Primitive),
+    Boxed(Box<TypeExpression>),
+}
+
+/// The type of ok or of error of a result, if it has one: two of them are as small as a list.
+#[derive(Debug, Drop)]
+#[cycle(type_expression)]
+pub enum ResultType {
+    Absent,
+    Simple(Primitive),
+    Other(Box<TypeExpression>),
 }

@@ -13,8 +13,8 @@ decreases-reference l = 4 * l.id.0 + 3
 abbrev pub decreases-inner : goal.decreases-inner
 decreases-inner l = 4 * l.place + 2
 
-abbrev pub decreases-boxed : goal.decreases-boxed
-decreases-boxed l = 4 * l.place + 1
+abbrev pub decreases-maybe_expression : goal.decreases-maybe_expression
+decreases-maybe_expression l = 4 * l.place + 1
 
 abbrev pub decreases-expressions : goal.decreases-expressions
 decreases-expressions l = 4 * l.place + 1

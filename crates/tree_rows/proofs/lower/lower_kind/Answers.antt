@@ -1,7 +1,6 @@
-use Rattle.wit_tokens.specs.declared.wit_syntax.ast.TypeExpression.{TypeExpression}
-use Rattle.std.proofs.Common.{List, ℕ, [], subst, ap, ◌∙◌, sym, Contains}
+use Rattle.std.proofs.Common.{List, ℕ, [], subst, ap, ◌∙◌, Contains}
 use Rattle.wit_tokens.specs.Syntax.{Named, ListOf, OptionOf, TupleOf, ResultOf}
-use Rattle.wit_tokens.specs.View.{ty_view, boxed_view}
+use Rattle.wit_tokens.specs.View.{ty_view, inner_view, maybe_view}
 use Rattle.tree_meaning.specs.Declarations.{named_maybe}
 use Rattle.tree_meaning.specs.Resolved.{resolved_maybe}
 use Rattle.tree_meaning.specs.Building.{LowersIf}
@@ -16,52 +15,52 @@ get-requires c =
     let e = ap ty_view c.in-Named.is ∙ view-Named c.in-Named.name in
     all-head (Contains (scope_names c.args.scope.now)) c.in-Named.name [] (known-by c.args.scope.now _ (Named c.in-Named.name) e c.requires.known)
 
-pub lower_type-requires-clause-known : goal.lower_type-requires-clause-known
-lower_type-requires-clause-known c =
-    let e = ap ty_view c.in-List.is ∙ view-List c.in-List.element ∙ ap (λ (x : TypeExpression). ListOf (ty_view x)) (sym c.deref.ensures) in
-    known-by c.args.scope.now _ (ListOf (ty_view c.deref.result.now)) e c.requires.known
+pub lower_within-requires-clause-known : goal.lower_within-requires-clause-known
+lower_within-requires-clause-known c =
+    let e = ap ty_view c.in-List.is ∙ view-List c.in-List.element in
+    known-by c.args.scope.now _ (ListOf (inner_view c.in-List.element)) e c.requires.known
 
-pub lower_type-requires-in-Option-clause-known : goal.lower_type-requires-in-Option-clause-known
-lower_type-requires-in-Option-clause-known c =
-    let e = ap ty_view c.in-Option.is ∙ view-Option c.in-Option.payload ∙ ap (λ (x : TypeExpression). OptionOf (ty_view x)) (sym c.deref-in-Option.ensures) in
-    known-by c.args.scope.now _ (OptionOf (ty_view c.deref-in-Option.result.now)) e c.requires.known
+pub lower_within-requires-in-Option-clause-known : goal.lower_within-requires-in-Option-clause-known
+lower_within-requires-in-Option-clause-known c =
+    let e = ap ty_view c.in-Option.is ∙ view-Option c.in-Option.payload in
+    known-by c.args.scope.now _ (OptionOf (inner_view c.in-Option.payload)) e c.requires.known
 
 pub lower_all-requires-clause-known : goal.lower_all-requires-clause-known
 lower_all-requires-clause-known c =
     let e = ap ty_view c.in-Tuple.is ∙ view-Tuple c.in-Tuple.members in
     known-by c.args.scope.now _ (TupleOf _) e c.requires.known
 
-pub lower_boxed-requires-clause-known : goal.lower_boxed-requires-clause-known
-lower_boxed-requires-clause-known c =
+pub lower_maybe-requires-clause-known : goal.lower_maybe-requires-clause-known
+lower_maybe-requires-clause-known c =
     let e = ap ty_view c.in-Result.is ∙ view-Result c.in-Result.ok c.in-Result.error in
-    let known = known-by c.args.scope.now _ (ResultOf (boxed_view c.in-Result.ok) (boxed_view c.in-Result.error)) e c.requires.known in
-    all-left (Contains (scope_names c.args.scope.now)) (named_maybe (boxed_view c.in-Result.ok)) (named_maybe (boxed_view c.in-Result.error)) known
+    let known = known-by c.args.scope.now _ (ResultOf (maybe_view c.in-Result.ok) (maybe_view c.in-Result.error)) e c.requires.known in
+    all-left (Contains (scope_names c.args.scope.now)) (named_maybe (maybe_view c.in-Result.ok)) (named_maybe (maybe_view c.in-Result.error)) known
 
-pub lower_boxed-requires-in-Result-clause-known : goal.lower_boxed-requires-in-Result-clause-known
-lower_boxed-requires-in-Result-clause-known c =
+pub lower_maybe-requires-in-Result-clause-known : goal.lower_maybe-requires-in-Result-clause-known
+lower_maybe-requires-in-Result-clause-known c =
     let e = ap ty_view c.in-Result.is ∙ view-Result c.in-Result.ok c.in-Result.error in
-    let known = known-by c.args.scope.now _ (ResultOf (boxed_view c.in-Result.ok) (boxed_view c.in-Result.error)) e c.requires.known in
-    all-right (Contains (scope_names c.args.scope.now)) (named_maybe (boxed_view c.in-Result.ok)) (named_maybe (boxed_view c.in-Result.error)) known
+    let known = known-by c.args.scope.now _ (ResultOf (maybe_view c.in-Result.ok) (maybe_view c.in-Result.error)) e c.requires.known in
+    all-right (Contains (scope_names c.args.scope.now)) (named_maybe (maybe_view c.in-Result.ok)) (named_maybe (maybe_view c.in-Result.error)) known
 
-pub lower_boxed-requires-in-Result-clause-scoped : goal.lower_boxed-requires-in-Result-clause-scoped
-lower_boxed-requires-in-Result-clause-scoped c =
-    scope-later c.args.builder.now c.lower_boxed.new.builder c.args.scope.now c.in_ok-ok-in-Result.ensures.extends.front c.requires.scoped
+pub lower_maybe-requires-in-Result-clause-scoped : goal.lower_maybe-requires-in-Result-clause-scoped
+lower_maybe-requires-in-Result-clause-scoped c =
+    scope-later c.args.builder.now c.lower_maybe.new.builder c.args.scope.now c.in_ok-ok-in-Result.ensures.extends.front c.requires.scoped
 
 pub returns-in_ok-element-in-List : goal.returns-in_ok-element-in-List
 returns-in_ok-element-in-List c =
     let old = c.args.builder.now in
-    let new = c.lower_type.new.builder in
+    let new = c.lower_within.new.builder in
     let here = scope_name old c.args.scope.now in
-    let e = ap ty_view c.in-List.is ∙ view-List c.in-List.element ∙ ap (λ (x : TypeExpression). ListOf (ty_view x)) (sym c.deref.ensures) in
-    inner-by old new _ here _ (ListOf (ty_view c.deref.result.now)) e (lowers-list old new c.in_ok-element-in-List.element _ c.in_ok-element-in-List.ensures)
+    let e = ap ty_view c.in-List.is ∙ view-List c.in-List.element in
+    inner-by old new _ here _ (ListOf (inner_view c.in-List.element)) e (lowers-list old new c.in_ok-element-in-List.element _ c.in_ok-element-in-List.ensures)
 
 pub returns-in_ok-payload-in-Option : goal.returns-in_ok-payload-in-Option
 returns-in_ok-payload-in-Option c =
     let old = c.args.builder.now in
-    let new = c.lower_type-in-Option.new.builder in
+    let new = c.lower_within-in-Option.new.builder in
     let here = scope_name old c.args.scope.now in
-    let e = ap ty_view c.in-Option.is ∙ view-Option c.in-Option.payload ∙ ap (λ (x : TypeExpression). OptionOf (ty_view x)) (sym c.deref-in-Option.ensures) in
-    inner-by old new _ here _ (OptionOf (ty_view c.deref-in-Option.result.now)) e (lowers-option old new c.in_ok-payload-in-Option.payload _ c.in_ok-payload-in-Option.ensures)
+    let e = ap ty_view c.in-Option.is ∙ view-Option c.in-Option.payload in
+    inner-by old new _ here _ (OptionOf (inner_view c.in-Option.payload)) e (lowers-option old new c.in_ok-payload-in-Option.payload _ c.in_ok-payload-in-Option.ensures)
 
 pub returns-in_ok-members-in-Tuple : goal.returns-in_ok-members-in-Tuple
 returns-in_ok-members-in-Tuple c =
@@ -73,11 +72,11 @@ returns-in_ok-members-in-Tuple c =
 pub returns-in_ok-error-in-Result : goal.returns-in_ok-error-in-Result
 returns-in_ok-error-in-Result c =
     let old = c.args.builder.now in
-    let mid = c.lower_boxed.new.builder in
-    let new = c.lower_boxed-in-Result.new.builder in
+    let mid = c.lower_maybe.new.builder in
+    let new = c.lower_maybe-in-Result.new.builder in
     let scope = c.args.scope.now in
     let here = scope_name old scope in
     let e = ap ty_view c.in-Result.is ∙ view-Result c.in-Result.ok c.in-Result.error in
     let first = c.in_ok-ok-in-Result.ensures in
-    let second = subst (λ (i : List ℕ). LowersIf mid new c.in_ok-error-in-Result.error (resolved_maybe i (boxed_view c.in-Result.error))) (same_name old mid scope first.extends.front) c.in_ok-error-in-Result.ensures in
-    inner-by old new _ here _ (ResultOf (boxed_view c.in-Result.ok) (boxed_view c.in-Result.error)) e (lowers-result old mid new _ _ _ _ first second)
+    let second = subst (λ (i : List ℕ). LowersIf mid new c.in_ok-error-in-Result.error (resolved_maybe i (maybe_view c.in-Result.error))) (same_name old mid scope first.extends.front) c.in_ok-error-in-Result.ensures in
+    inner-by old new _ here _ (ResultOf (maybe_view c.in-Result.ok) (maybe_view c.in-Result.error)) e (lowers-result old mid new _ _ _ _ first second)

@@ -7,16 +7,12 @@ use Rattle.wit_print.specs.Words.{mark_word}
 use Rattle.wit_print.specs.Canonical.{ty_words, listed_words}
 use Rattle.wit_print.proofs.TextsOfWords.{adds_then, adds_same, leaves_all, leaves_none}
 use Rattle.wit_print.proofs.ListsStillToWrite.{listed-next, listed-end, tys-listed}
-use Rattle.wit_print.proofs.WordsOfResults.{words-alone, words-with}
+use Rattle.wit_print.proofs.WordsOfResults.{words-with, words-of-ok, is-present}
 use Rattle.wit_print.proofs.ty.+ty.Goals as goal
-
-pub write_error-returns : goal.write_error-returns
-write_error-returns t c =
-    on_ok_weaker c.write_mark-2.result (λ h. adds_then c.in_ok-write_mark.ensures (adds_then c.in_ok-write_type.ensures h)) c.write_mark-2.ensures
 
 pub write_inner-returns : goal.write_inner-returns
 write_inner-returns t c =
-    on_ok_weaker c.write_mark-2.result (λ h. adds_then c.in_ok-write_mark.ensures (adds_then c.in_ok-write_type.ensures h)) c.write_mark-2.ensures
+    on_ok_weaker c.write_mark-2.result (λ h. adds_then c.in_ok-write_mark.ensures (adds_then c.in_ok-write_within.ensures h)) c.write_mark-2.ensures
 
 pub write_members-loop-index-init : goal.write_members-loop-index-init
 write_members-loop-index-init t c = leaves_all
@@ -32,13 +28,13 @@ write_members-returns t c =
     let words = ap (λ (xs : List TypeExpression). listed_words ty_words (mark_word [] mark.Greater) [] (map ty_view xs)) c.deref-member-items.ensures.value ∙ sym (tys-listed [] (map ty_view c.args.members.now.items)) in
     on_ok_weaker c.write_mark.result (λ h. adds_same (sym words) (leaves_none end h)) c.write_mark.ensures
 
-pub write_type-returns-in_ok-write_ok_before-in-Some :
-    goal.write_type-returns-in_ok-write_ok_before-in-Some
-write_type-returns-in_ok-write_ok_before-in-Some t c =
-    let words = words-with c.args.space.now c.args.ty.now c.in-Result.ok c.in-Result.error c.in-Some.error c.deref-in-Some.result.now c.in-Result.is c.in-Some.is c.deref-in-Some.ensures in
-    on_ok_weaker c.write_error.result (λ h. adds_same words (adds_then c.in_ok-write_keyword-in-Result.ensures (adds_then c.in_ok-write_ok_before-in-Some.ensures h))) c.write_error.ensures
+pub write_ok_alone-returns-in_ok-write_part-in-Simple : goal.write_ok_alone-returns-in_ok-write_part-in-Simple
+write_ok_alone-returns-in_ok-write_part-in-Simple t c =
+    let there = is-present c.args.ok.now c.in-Simple.is in
+    on_ok_weaker c.write_mark.result (λ h. adds_same (words-of-ok c.args.ok.now there.0 there.1) (adds_then c.in_ok-write_part-in-Simple.ensures h)) c.write_mark.ensures
 
-pub write_type-returns-in-None : goal.write_type-returns-in-None
-write_type-returns-in-None t c =
-    let words = words-alone c.args.space.now c.args.ty.now c.in-Result.ok c.in-Result.error c.in-Result.is c.in-None.is in
-    on_ok_weaker c.write_ok_alone.result (λ h. adds_same words (adds_then c.in_ok-write_keyword-in-Result.ensures h)) c.write_ok_alone.ensures
+pub write_type-returns-in_ok-write_part-in-Simple-2 : goal.write_type-returns-in_ok-write_part-in-Simple-2
+write_type-returns-in_ok-write_part-in-Simple-2 t c =
+    let there = is-present c.in-Result.error c.in-Simple.is in
+    let words = words-with c.args.space.now c.args.ty.now c.in-Result.ok c.in-Result.error there.0 c.in-Result.is there.1 in
+    on_ok_weaker c.write_mark-in-Simple.result (λ h. adds_same words (adds_then c.in_ok-write_keyword-in-Result.ensures (adds_then c.in_ok-write_part-in-Simple.ensures (adds_then c.in_ok-write_part-in-Simple-2.ensures h)))) c.write_mark-in-Simple.ensures
