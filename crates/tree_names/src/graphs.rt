@@ -1,7 +1,7 @@
 //! Which interfaces use each other, which types of an interface name each other, and their orders.
 ghost use Rattle.std.specs.Prelude.{◌≡◌, ◌++◌, ◌<◌, ◌⊎◌, ℕ, Bool, [], length, map, filter_map, All, Contains, IfOk};
 ghost use Rattle.std.specs.Prelude.{IfErr, OnOk, slice_index_or};
-ghost use Rattle.tree_meaning.specs.Declarations.{InterfaceTree, interface_at, own_use};
+ghost use Rattle.tree_meaning.specs.Declarations.{InterfaceTree, interface_at, own_use, own_types};
 ghost use Rattle.placement.specs.Order.{IsPlacement, IsCycle};
 ghost use Rattle.tree_meaning.specs.Resolves.{places, interface_uses, type_uses};
 ghost use Rattle.tree_scopes.specs.Lent.{lent_names, used_item_of};
@@ -19,9 +19,26 @@ use wit_tokens::wit_syntax::Path;
 fn places(alloc: Global, names: &Names, wanted: &[&Label]) -> Result<Sequence<usize>, AllocError>
     ensures { IfOk result (λ ps. ps ≡ places names.now (lent_names wanted.now)) }
 {
-    let mut found = Vec::new(alloc);
+    let mut found = Vec::with_capacity(alloc, wanted.len())?;
     for name in wanted {
         if let Some(place) = names.place_of(name) {
+            found.push(place)?;
+        }
+    }
+    Ok(Sequence::new(found))
+}
+
+/// The places of these names among an interface's own types, without those that don't stand there.
+fn type_places(
+    alloc: Global,
+    declared: &Declarations,
+    wanted: &[&Label],
+) -> Result<Sequence<usize>, AllocError>
+    ensures { IfOk result (λ ps. ps ≡ places (own_types (declared_tree declared.now)) (lent_names wanted.now)) }
+{
+    let mut found = Vec::with_capacity(alloc, wanted.len())?;
+    for name in wanted {
+        if let Some(place) = declared.type_place(name) {
             found.push(place)?;
         }
     }
@@ -68,7 +85,7 @@ fn type_graph(alloc: Global, declared: &Declarations) -> Result<Vec<Sequence<usi
     let mut named = Vec::new(alloc);
     for definition in &declared.types {
         list_definition(&mut named, &definition.kind)?;
-        graph.push(places(alloc, &declared.own, &named)?)?;
+        graph.push(type_places(alloc, declared, &named)?)?;
     }
     Ok(graph)
 }

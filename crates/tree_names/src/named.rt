@@ -1,7 +1,7 @@
 //! The names of types in a syntax tree.
 ghost use Rattle.std.specs.Prelude.{◌≡◌, ◌++◌, map, flat_map, OnOk};
 ghost use Rattle.wit_tokens.specs.Syntax.{tys_of};
-ghost use Rattle.wit_tokens.specs.View.{ty_view, boxed_view, optional_view, field_view, case_view, definition_view};
+ghost use Rattle.wit_tokens.specs.View.{ty_view, inner_view, maybe_view, optional_view, field_view, case_view, definition_view};
 ghost use Rattle.wit_tokens.specs.View.{function_view};
 ghost use Rattle.tree_meaning.specs.Declarations.{named, named_all, named_maybe, named_if, named_member, named_case};
 ghost use Rattle.tree_meaning.specs.Declarations.{named_definition, names_in_function};
@@ -9,7 +9,9 @@ ghost use Rattle.tree_scopes.specs.Lent.{lent_names};
 
 use atoms::Label;
 use std::alloc::AllocError;
-use wit_tokens::wit_syntax::{Case, Field, FuncType, TypeDefKind, TypeExpression};
+use wit_tokens::wit_syntax::{
+    Case, Field, FuncType, InnerType, ResultType, TypeDefKind, TypeExpression,
+};
 
 /// Appends the names that a type names, from the left.
 #[cycle(named)]
@@ -19,25 +21,32 @@ fn push_named<'a>(names: &mut Vec<&'a Label>, ty: &'a TypeExpression) -> Result<
     match ty {
         TypeExpression::Primitive(_) => Ok(()),
         TypeExpression::Named(name) => Ok(names.push(name)?),
-        TypeExpression::List(ty) | TypeExpression::Option(ty) => push_named(names, ty),
+        TypeExpression::List(ty) | TypeExpression::Option(ty) => push_named_inner(names, ty),
         TypeExpression::Tuple(types) => push_named_all(names, types),
         TypeExpression::Result { ok, error } => {
-            push_named_boxed(names, ok)?;
-            push_named_boxed(names, error)
+            push_named_maybe(names, ok)?;
+            push_named_maybe(names, error)
         }
     }
 }
 
 #[cycle(named)]
-fn push_named_boxed<'a>(
-    names: &mut Vec<&'a Label>,
-    ty: &'a Option<Box<TypeExpression>>,
-) -> Result<(), AllocError>
-    ensures { OnOk result (lent_names names.new.items ≡ lent_names names.old.items ++ named_maybe (boxed_view ty.now)) }
+fn push_named_inner<'a>(names: &mut Vec<&'a Label>, ty: &'a InnerType) -> Result<(), AllocError>
+    ensures { OnOk result (lent_names names.new.items ≡ lent_names names.old.items ++ named (inner_view ty.now)) }
 {
     match ty {
-        Some(ty) => push_named(names, ty),
-        None => Ok(()),
+        InnerType::Plain(_) => Ok(()),
+        InnerType::Boxed(ty) => push_named(names, ty),
+    }
+}
+
+#[cycle(named)]
+fn push_named_maybe<'a>(names: &mut Vec<&'a Label>, ty: &'a ResultType) -> Result<(), AllocError>
+    ensures { OnOk result (lent_names names.new.items ≡ lent_names names.old.items ++ named_maybe (maybe_view ty.now)) }
+{
+    match ty {
+        ResultType::Absent | ResultType::Simple(_) => Ok(()),
+        ResultType::Other(ty) => push_named(names, ty),
     }
 }
 

@@ -2,14 +2,14 @@
 ghost use Rattle.std.specs.Prelude.{◌≡◌, nat_le, map};
 ghost use Rattle.std.specs.List.{list_all};
 ghost use Rattle.wit_tokens.specs.Syntax.{depth_all, depth_maybe, tys_of, ty_depth};
-ghost use Rattle.wit_tokens.specs.View.{ty_view, boxed_view, optional_view, field_view, case_view, definition_view};
+ghost use Rattle.wit_tokens.specs.View.{ty_view, inner_view, maybe_view, optional_view, field_view, case_view, definition_view};
 ghost use Rattle.wit_tokens.specs.View.{function_view, entry_view, world_entry_view, item_view};
 ghost use Rattle.tree_meaning.specs.Resolves.{fits_if, member_fits, case_fits, body_fits, signature_fits, entry_fits};
 ghost use Rattle.tree_meaning.specs.Resolves.{world_entry_fits, interface_fits};
 
 use wit_tokens::wit_syntax::{
-    Case, Field, FuncType, InterfaceItem, Item, TypeDefKind, TypeExpression, WorldItem,
-    WorldItemKind,
+    Case, Field, FuncType, InnerType, InterfaceItem, Item, ResultType, TypeDefKind, TypeExpression,
+    WorldItem, WorldItemKind,
 };
 
 /// The deepest that a type is nested, a type by itself being 1.
@@ -25,21 +25,32 @@ fn is_within(limit: usize, ty: &TypeExpression) -> bool
     }
     match ty {
         TypeExpression::Primitive(_) | TypeExpression::Named(_) => true,
-        TypeExpression::List(ty) | TypeExpression::Option(ty) => is_within(limit - 1, ty),
+        TypeExpression::List(ty) | TypeExpression::Option(ty) => is_inner_within(limit - 1, ty),
         TypeExpression::Tuple(types) => are_within(limit - 1, types),
         TypeExpression::Result { ok, error } => {
-            is_boxed_within(limit - 1, ok) && is_boxed_within(limit - 1, error)
+            is_maybe_within(limit - 1, ok) && is_maybe_within(limit - 1, error)
         }
     }
 }
 
 #[cycle(nested)]
-fn is_boxed_within(limit: usize, ty: &Option<Box<TypeExpression>>) -> bool
-    ensures { result ≡ nat_le (depth_maybe (boxed_view ty.now)) limit }
+fn is_inner_within(limit: usize, ty: &InnerType) -> bool
+    ensures { result ≡ nat_le (ty_depth (inner_view ty.now)) limit }
 {
     match ty {
-        Some(ty) => is_within(limit, ty),
-        None => true,
+        InnerType::Plain(_) => limit != 0,
+        InnerType::Boxed(ty) => is_within(limit, ty),
+    }
+}
+
+#[cycle(nested)]
+fn is_maybe_within(limit: usize, ty: &ResultType) -> bool
+    ensures { result ≡ nat_le (depth_maybe (maybe_view ty.now)) limit }
+{
+    match ty {
+        ResultType::Absent => true,
+        ResultType::Simple(_) => limit != 0,
+        ResultType::Other(ty) => is_within(limit, ty),
     }
 }
 

@@ -17,6 +17,17 @@ use tables::ResolveError;
 use tree_scopes::{Declarations, Imports, package_name};
 use wit_tokens::wit_syntax::{Ast, Item};
 
+/// How many interfaces stand among these items.
+fn interface_count(items: &[Item]) -> usize {
+    let mut count: usize = 0;
+    for item in items {
+        if let Item::Interface(_) = item {
+            count = count.saturating_add(1);
+        }
+    }
+    count
+}
+
 fn all_declarations<'a>(
     alloc: Global,
     keyed: KeyedState,
@@ -24,7 +35,7 @@ fn all_declarations<'a>(
 ) -> Result<Vec<Declarations<'a>>, AllocError>
     ensures { IfOk result (λ ds. map declared_tree ds.items ≡ filter_map interface_of (map item_view items.now)) }
 {
-    let mut all = Vec::new(alloc);
+    let mut all = Vec::with_capacity(alloc, interface_count(items))?;
     for item in items {
         if let Item::Interface(interface) = item {
             all.push(Declarations::of(alloc, keyed, interface)?)?;

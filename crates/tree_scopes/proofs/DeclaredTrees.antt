@@ -34,22 +34,22 @@ interface-there all names n j d same e is =
 -- ---- the names of an interface's types
 
 module _ (d : Declarations) where
-  pub own-known : (n : List ℕ) (o : Option ℕ) → o ≡ place_of d.own n → is_some o ≡ true → Contains (type_names (declared_tree d)) n
+  pub own-known : (n : List ℕ) (o : Option ℕ) → o ≡ place_of (own_types (declared_tree d)) n → is_some o ≡ true → Contains (type_names (declared_tree d)) n
   own-known n None e h = absurd (cc)
-  own-known n (Some j) e h = contains-right (used_names (declared_tree d)) (own_types (declared_tree d)) n (subst (λ zs. Contains zs n) d.named (place-has d.own n j (sym e)))
+  own-known n (Some j) e h = contains-right (used_names (declared_tree d)) (own_types (declared_tree d)) n (place-has (own_types (declared_tree d)) n j (sym e))
 
-  pub has-local : (n : List ℕ) (o l : Option ℕ) (b : Bool) → o ≡ place_of d.own n → is_some o ≡ false → l ≡ place_of d.locals n → b ≡ is_some l
+  pub has-local : (n : List ℕ) (o l : Option ℕ) (b : Bool) → o ≡ place_of (own_types (declared_tree d)) n → is_some o ≡ false → l ≡ place_of (used_names (declared_tree d)) n → b ≡ is_some l
       → IsTrue b ↔ Contains (type_names (declared_tree d)) n
   has-local n (Some j) l b e none f same = absurd (cc)
   has-local n None (Some j) b e none f same = (
-    λ t. contains-left (used_names (declared_tree d)) (own_types (declared_tree d)) n (subst (λ zs. Contains zs n) d.used (place-has d.locals n j (sym f))),
+    λ t. contains-left (used_names (declared_tree d)) (own_types (declared_tree d)) n (place-has (used_names (declared_tree d)) n j (sym f)),
     λ h. same,
   )
   has-local n None None b e none f same = (
     λ t. absurd (true≢false (sym t ∙ same)),
     λ h. elim (contains-either (used_names (declared_tree d)) (own_types (declared_tree d)) n h) [
-      | inl c ↦ absurd (place-lacks d.locals n (sym f) (subst (λ zs. Contains zs n) (sym d.used) c))
-      | inr c ↦ absurd (place-lacks d.own n (sym e) (subst (λ zs. Contains zs n) (sym d.named) c))
+      | inl c ↦ absurd (place-lacks (used_names (declared_tree d)) n (sym f) c)
+      | inr c ↦ absurd (place-lacks (own_types (declared_tree d)) n (sym e) c)
     ],
   )
 

@@ -1,5 +1,5 @@
 -- The places of names, as a map tells them.
-use Rattle.std.proofs.Common.{◌≡◌, ℕ, zero, suc, ◌<◌, Bool, true, false, cond, if◌then◌else◌, List, [], ◌∷◌, ◌++◌, map, length, take, get_or, Contains, Bor, Option, Some, None, IfSome, IfNone, is_some, refl, ap, sym, subst, arith, ◌∙◌, true≢false, inl, inr}
+use Rattle.std.proofs.Common.{◌≡◌, ℕ, zero, suc, ◌<◌, ◌≤◌, All, Bool, true, false, cond, if◌then◌else◌, List, [], ◌∷◌, ◌++◌, map, length, take, get_or, Contains, Option, Some, None, IfSome, IfNone, is_some, refl, ap, sym, subst, arith, ◌∙◌, true≢false, inl, inr}
 use Rattle.std.specs.Map.{lookup}
 use Rattle.indexmap.specs.IndexMap.{insert_entry}
 use Rattle.std.proofs.lemmas.List.{map-append, length-map, length-take}
@@ -8,11 +8,10 @@ use Rattle.std.specs.Str.{bytes_eq}
 use Rattle.std.proofs.lemmas.Slice.Eq.{bytes_eq-Decides}
 use Rattle.tree_meaning.specs.Resolves.{place_of}
 use Rattle.tree_meaning.specs.Knowing.{TellsPlaces}
-use Rattle.tree_scopes.specs.Lent.{lent_names, lent_name}
 use Rattle.package_form.proofs.NamesMetOneByOne.{split-at}
 use Rattle.package_form.specs.Scoped.{NameEntry, mapped_entry}
 use Rattle.tables.specs.declared.tables.TypeId.{TypeId}
-use Rattle.package_form.proofs.AllAndContains.{contains-here, contains-later, contains-left, contains-right, contains-either}
+use Rattle.package_form.proofs.AllAndContains.{all-at, contains-here, contains-later, contains-left, contains-right, contains-either}
 use Rattle.tree_meaning.proofs.NamesFoundInLists.{same-bytes}
 
 abbrev first_of : {A : Type 0} → Option A → Option A → Option A
@@ -69,15 +68,15 @@ place-front (m ∷ ns) ms n j e = by (bytes_eq m n) e (λ i q. place-front ns ms
     by true r rest = r
     by false r rest = after (place_of ns n) refl r rest
 
-pub first-found : (xs : List (Bor (List ℕ))) (n : List ℕ) (k : ℕ) (x : Bor (List ℕ)) → k < length xs → x ≡ get_or xs k x → place_of (lent_names (take k xs)) n ≡ None → bytes_eq x.now n ≡ true
-    → place_of (lent_names xs) n ≡ Some k
-first-found xs n k x l is none same =
+pub first-found : {V : Type 0} (items : V → List ℕ) (xs : List V) (n : List ℕ) (k : ℕ) (x : V) → k < length xs → x ≡ get_or xs k x → place_of (map items (take k xs)) n ≡ None → bytes_eq (items x) n ≡ true
+    → place_of (map items xs) n ≡ Some k
+first-found items xs n k x l is none same =
     let r = split-at xs k x l is in
-    let whole : lent_names xs ≡ (lent_names (take k xs) ++ x.now ∷ []) ++ lent_names r.0 =
-    ap lent_names r.1 ∙ map-append lent_name (take k xs ++ x ∷ []) r.0 ∙ ap (λ (ns : List (List ℕ)). ns ++ lent_names r.0) (map-append lent_name (take k xs) (x ∷ [])) in
-    let at : length (lent_names (take k xs)) ≡ k = omega (arith, l, length-map (take k xs) lent_name, length-take k xs) in
+    let whole : map items xs ≡ (map items (take k xs) ++ items x ∷ []) ++ map items r.0 =
+    ap (map items) r.1 ∙ map-append items (take k xs ++ x ∷ []) r.0 ∙ ap (λ (ns : List (List ℕ)). ns ++ map items r.0) (map-append items (take k xs) (x ∷ [])) in
+    let at : length (map items (take k xs)) ≡ k = omega (arith, l, length-map (take k xs) items, length-take k xs) in
     ap (λ (ns : List (List ℕ)). place_of ns n) whole
-    ∙ place-front (lent_names (take k xs) ++ x.now ∷ []) (lent_names r.0) n k (first-here (lent_names (take k xs)) x.now n none same ∙ ap Some at)
+    ∙ place-front (map items (take k xs) ++ items x ∷ []) (map items r.0) n k (first-here (map items (take k xs)) (items x) n none same ∙ ap Some at)
 
 bytes-same : (x : List ℕ) → bytes_eq x x ≡ true
 bytes-same x = (bytes_eq-Decides x x).1 refl
@@ -129,6 +128,12 @@ restored eq (e ∷ es) k p first h = by (eq k e.0) refl h (restored eq es k p fi
         → insert_entry eq (if b then (e.0, p) ∷ es else e ∷ insert_entry eq es k p) k first ≡ e ∷ es
     by true q s rest = let same : e.1 ≡ first = cc in rw (q, sym same) refl
     by false q s rest = rw q (ap (λ zs. e ∷ zs) (rest s))
+
+-- ---- a table in front of a list
+
+pub front-tells : {T V : Type 0} (entries : T → List (V × ℕ)) (items : V → List ℕ) (ts : List T) (t : T) (ns : List (List ℕ)) (n : List ℕ) → All (λ p. TellsPlaces items (entries p) ns) ts → 1 ≤ length ts → t ≡ get_or ts 0 t
+    → lookup (λ v. bytes_eq n (items v)) (entries t) ≡ place_of ns n
+front-tells entries items ts t ns n h l is = all-at (λ p. TellsPlaces items (entries p) ns) ts 0 t h (omega (arith, l)) is n
 
 -- ---- types by their names
 

@@ -1,9 +1,10 @@
 //! What an interface of a syntax tree declares, by kind.
-ghost use Rattle.std.specs.Prelude.{◌≡◌, map};
+ghost use Rattle.std.specs.Prelude.{map, All};
 ghost use Rattle.tree_meaning.specs.Declarations.{use_local, type_name};
+ghost use Rattle.tree_meaning.specs.Knowing.{TellsPlaces};
 ghost use Rattle.tree_scopes.specs.Lent.{declared_type, used_item_of};
 
-use crate::names::Names;
+use crate::names::PlacesByName;
 use atoms::Label;
 use wit_tokens::wit_syntax::{Func, Path, TypeDef};
 
@@ -22,10 +23,12 @@ pub struct Declarations<'a> {
     pub uses: Vec<UsedType<'a>>,
     pub types: Vec<&'a TypeDef>,
     pub functions: Vec<&'a Func>,
-    /// The names that used names get.
-    pub locals: Names<'a>,
-    /// The names of the types.
-    pub own: Names<'a>,
-    ghost used: { locals ≡ map use_local (map used_item_of uses.items) },
-    ghost named: { own ≡ map type_name (map declared_type types.items) },
+    /// A table of the names that used names get, if they are more than a few.
+    pub(crate) locals: Vec<PlacesByName<'a>>,
+    /// A table of the names of the types, if they are more than a few.
+    pub(crate) own: Vec<PlacesByName<'a>>,
+    ghost used: { All (λ p. TellsPlaces (λ s. s.now) p.entries (map use_local (map used_item_of uses.items)))
+        locals.items },
+    ghost named: { All (λ p. TellsPlaces (λ s. s.now) p.entries (map type_name (map declared_type types.items)))
+        own.items },
 }

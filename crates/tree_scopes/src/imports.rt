@@ -154,7 +154,7 @@ pub fn import_scopes<'a>(
     ensures { IfOk result (λ ss. AreImportScopes imports.now ss.items) }
 {
     let rows = imports.definitions.as_slice();
-    let mut scopes = Vec::new(alloc);
+    let mut scopes = Vec::with_capacity(alloc, imports.interfaces.len())?;
     for (place, interface) in imports.interfaces.as_slice().iter().enumerate() {
         let id = interface_id(place)?;
         scopes.push(import_scope(alloc, keyed, rows, id, interface)?)?;

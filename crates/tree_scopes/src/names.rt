@@ -1,5 +1,7 @@
 //! Names that are found by their bytes.
 ghost use Rattle.std.specs.Prelude.{◌≡◌, ◌++◌, ◌∷◌, [], List, ℕ, length, All, IfOk, OnOk};
+ghost use Rattle.std.specs.Map.{lookup};
+ghost use Rattle.std.specs.Str.{bytes_eq};
 ghost use Rattle.atoms.specs.Label.{IsLabel};
 ghost use Rattle.tree_scopes.specs.Lent.{lent_names};
 ghost use Rattle.tree_meaning.specs.Resolves.{place_of};
@@ -11,15 +13,19 @@ use package_names::FEW;
 use std::alloc::{AllocError, Global};
 use std::marker::Model;
 
-/// Names in order, each with its first place. Few are compared one by one, more are found in a table.
+/// The first place of each name, in a table.
+pub(crate) type PlacesByName<'a> = IndexMap<&'a str, usize, KeyedState>;
+
+/// Names in order, each with its first place. More than a few are found in a table, few are compared one by one.
 #[derive(Drop)]
 pub struct Names<'a> {
     names: Vec<&'a Label>,
-    places: IndexMap<&'a str, usize, KeyedState>,
+    /// A table, if they are more than a few.
+    places: Vec<PlacesByName<'a>>,
 }
 
 impl<'a> Model for Names<'a> {
-    ghost use Rattle.std.specs.Prelude.{◌<◌, List, ℕ, length};
+    ghost use Rattle.std.specs.Prelude.{All, List, ℕ};
     ghost use Rattle.tree_scopes.specs.Lent.{lent_names};
     ghost use Rattle.tree_meaning.specs.Knowing.{TellsPlaces};
 
@@ -27,8 +33,7 @@ impl<'a> Model for Names<'a> {
 
     ghost view = { λ n. lent_names n.names.items };
 
-    ghost invariant = { λ n. 16 < length n.names.items
-        → TellsPlaces (λ s. s.now) n.places.entries (lent_names n.names.items) };
+    ghost invariant = { λ n. All (λ p. TellsPlaces (λ s. s.now) p.entries (lent_names n.names.items)) n.places.items };
 }
 
 /// The first place of a name among these.
@@ -45,7 +50,7 @@ fn first_place(names: &[&Label], name: &Label) -> Option<usize>
 
 /// Puts a name with its place into a table, where it isn't there.
 fn put_place<'a>(
-    places: &mut IndexMap<&'a str, usize, KeyedState>,
+    places: &mut PlacesByName<'a>,
     name: &'a Label,
     place: usize,
 ) -> Result<(), AllocError>
@@ -61,11 +66,11 @@ fn put_place<'a>(
 }
 
 /// The names as a table, with the first place of each.
-fn places_of<'a>(
+fn table_of<'a>(
     alloc: Global,
     keyed: KeyedState,
     names: &[&'a Label],
-) -> Result<IndexMap<&'a str, usize, KeyedState>, AllocError>
+) -> Result<PlacesByName<'a>, AllocError>
     ensures { IfOk result (λ m. TellsPlaces (λ s. s.now) m.entries (lent_names names.now)) }
 {
     let mut places = IndexMap::with_capacity_and_hasher(alloc, names.len(), keyed)?;
@@ -84,6 +89,28 @@ fn are_labels(names: &[&Label])
     }
 }
 
+/// The table of more than a few names, in a list, which is small without one. A box would fix the lifetime of the names.
+pub(crate) fn places_of<'a>(
+    alloc: Global,
+    keyed: KeyedState,
+    names: &[&'a Label],
+) -> Result<Vec<PlacesByName<'a>>, AllocError>
+    ensures { IfOk result (λ ps. All (λ p. TellsPlaces (λ s. s.now) p.entries (lent_names names.now)) ps.items) }
+{
+    let mut tables = Vec::new(alloc);
+    if names.len() > FEW {
+        tables.push(table_of(alloc, keyed, names)?)?;
+    }
+    Ok(tables)
+}
+
+/// The place of a name in a table.
+pub(crate) fn place_in(table: &PlacesByName<'_>, name: &Label) -> Option<usize>
+    ensures { result ≡ lookup (λ s. bytes_eq name.now s.now) table.now.entries }
+{
+    table.get(name.as_str()).copied()
+}
+
 impl<'a> Names<'a> {
     /// The places of these names, which are told apart by hashers with this key, where they are more than a few.
     pub fn of(
@@ -95,21 +122,24 @@ impl<'a> Names<'a> {
         ensures labels { IfOk result (λ n. All IsLabel n) }
     {
         are_labels(&names);
-        if names.len() <= FEW {
-            let places = IndexMap::with_hasher(alloc, keyed);
-            return Ok(Names { names, places });
-        }
         let places = places_of(alloc, keyed, &names)?;
         Ok(Names { names, places })
+    }
+
+    /// The names in order.
+    pub fn as_slice(&self) -> &[&'a Label]
+        ensures { lent_names result.now ≡ self.now }
+    {
+        &self.names
     }
 
     /// The first place of a name.
     pub fn place_of(&self, name: &Label) -> Option<usize>
         ensures { result ≡ place_of self.now name.now }
     {
-        if self.names.len() <= FEW {
-            return first_place(&self.names, name);
+        match self.places.as_slice() {
+            [places, ..] => place_in(places, name),
+            [] => first_place(&self.names, name),
         }
-        self.places.get(name.as_str()).copied()
     }
 }

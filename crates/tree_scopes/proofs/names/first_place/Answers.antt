@@ -22,7 +22,7 @@ returns-then-eq c =
     let x = c.index-names-place.result in
     let n = c.args.name.now in
     let same : bytes_eq x.now n ≡ true = (let e = rw (c.as_bytes.ensures.is, c.as_bytes-in-loop-place.ensures.is) at c.eq.ensures in sym e ∙ c.if-eq.true) in
-    sym (first-found c.args.names.now n c.loop-place.place x (omega arith) c.index-names-place.is c.loop-place.invariant same)
+    sym (first-found lent_name c.args.names.now n c.loop-place.place x (omega arith) c.index-names-place.is c.loop-place.invariant same)
 
 pub returns : goal.returns
 returns c =

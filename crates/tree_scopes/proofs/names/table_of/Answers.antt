@@ -5,7 +5,7 @@ use Rattle.tree_meaning.specs.Knowing.{TellsPlaces}
 use Rattle.package_form.proofs.AllAndContains.{map-more}
 use Rattle.package_form.proofs.NamesMetOneByOne.{all-taken}
 use Rattle.tree_scopes.proofs.PlacesOfNamesByMap.{tells-none}
-use Rattle.tree_scopes.proofs.names.places_of.Goals as goal
+use Rattle.tree_scopes.proofs.names.table_of.Goals as goal
 
 pub loop-place-init : goal.loop-place-init
 loop-place-init c = tells-none (λ s. s.now) c.in_ok-places.places.entries c.in_ok-places.ensures.empty
