@@ -2,10 +2,10 @@
 ghost use Rattle.std.specs.Prelude.{◌≡◌, ◌<◌, length, IfOk};
 
 use crate::graph::graph_of;
+use crate::package_order::{Arrangement, arranged};
 use component_decoding::DecodeError;
-use decoded_packages::PackageText;
-use package_order::{Arrangement, arranged};
 use std::alloc::{AllocError, Global};
+use wit_binaries::decoded_packages::PackageText;
 use wit_binaries::texts_in;
 use wit_faults::{Report, Style};
 use wit_files::{Source, members_of};

@@ -8,10 +8,10 @@ ghost use Rattle.package_text.specs.Writable.{IsWritable};
 
 use crate::graph::graph_of;
 use crate::names::NameFaults;
+use crate::package_order::{Arrangement, arranged};
 use layout::Layouts;
 use layout_limits::first_above_limits;
 use package_adding::PackageSet;
-use package_order::{Arrangement, arranged};
 use std::alloc::{AllocError, Global};
 use std::fmt::Write;
 use tables::{Resolve, Sequence};

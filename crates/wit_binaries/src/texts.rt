@@ -1,8 +1,8 @@
 //! Binaries as texts of packages.
 ghost use Rattle.std.specs.Prelude.{◌≡◌, ◌+◌, ◌<◌, ◌≤◌, length, IfOk, OnOk};
 
+use crate::decoded_packages::{PackageText, packages_of};
 use component_decoding::{DecodeError, Fault, decode};
-use decoded_packages::{PackageText, packages_of};
 use std::alloc::{AllocError, Global};
 use wit_faults::{Lexed, Report};
 use wit_files::{MAX_BINARY, Source, is_binary};

@@ -8,8 +8,8 @@ use mir.Raw.{raw}
 use Rattle.atoms.specs.contracts.label.Label as label
 use Rattle.ctype_format.specs.contracts.error.BinError as bin_error
 use Rattle.layout.specs.contracts.error.LayoutError as layout_error
-use Rattle.layout.specs.contracts.kinds.Kinds as kinds
 use Rattle.layout.specs.contracts.layouts.Layouts as layouts
+use Rattle.layout.specs.contracts.packed_kinds.PackedKinds as packed_kinds
 use Rattle.layout.specs.contracts.parts.Head as head
 use Rattle.layout.specs.contracts.parts.PartsTable as parts
 use Rattle.layout.specs.contracts.queries.FieldInfo as field_info
@@ -115,8 +115,8 @@ resolve-field =
 
 -- ---- layouts
 
-kinds-send : IsSend kinds.the_row
-kinds-send = search (sendable, crosses) depth 40
+packed_kinds-send : IsSend packed_kinds.the_row
+packed_kinds-send = search (sendable, crosses) depth 40
 
 row-send : IsSend row.the_row
 row-send = search (sendable, crosses) depth 60
@@ -131,7 +131,7 @@ parts-field : IsSend (parts.the_field).row
 parts-field = let a = Vec-send head.the_row head-send in let b = Vec-send field_info.the_row field_info-send in search (sendable, crosses, val-send) depth 60
 
 layouts-field : IsSend (layouts.the_field).row
-layouts-field = let a = Vec-send row.the_row row-send in let b = Vec-send kinds.the_row kinds-send in let c = parts-field in search sendable depth 60
+layouts-field = let a = Vec-send row.the_row row-send in let b = Vec-send packed_kinds.the_row packed_kinds-send in let c = parts-field in search sendable depth 60
 
 -- ---- a package, and why there is none
 
