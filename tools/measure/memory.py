@@ -20,7 +20,7 @@ ASKED = ["a:b/none", "none", "[]", "[]"]
 CALLED = ["a:b/c", "f", '[{"a":1,"b":["x"]},"none"]', '[{"ok":{"a":3,"b":["w"]}}]']
 WANTS = {f"error {number} no memory".encode() for number in (5, 21, 35, 46, 52, 54, 66)} | {b"trap K7 body in body"}
 # megabytes: the least with which commands are run, and with which each is done
-FEWEST, ENOUGH = 20, 200
+FEWEST, ENOUGH = 8, 200
 # how many bytes longer the line of a refusal may be
 SLACK = 4
 # the refusal of bytes that begin no item
