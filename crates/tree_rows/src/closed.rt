@@ -154,12 +154,25 @@ pub fn package_id(imports: &IndexedTable<'_>) -> Result<PackageId, AllocError>
     }
 }
 
+/// The interfaces of the imports and the own ones, which are not copied where there are no imports.
+fn joined(imported: Vec<Interface>, own: Vec<Interface>) -> Result<Vec<Interface>, AllocError>
+    ensures { IfOk result (λ is. is.items ≡ imported.items ++ own.items) }
+{
+    if imported.is_empty() {
+        return Ok(own);
+    }
+    let mut all = imported;
+    let mut behind = own;
+    all.append(&mut behind)?;
+    Ok(all)
+}
+
 /// The closed table of these definitions with these worlds behind the imports, whose packages and interfaces these are.
 pub fn finish(
     alloc: Global,
     plan: &Plan<'_>,
     mut packages: Vec<PackageName>,
-    mut interfaces: Vec<Interface>,
+    interfaces: Vec<Interface>,
     builder: Builder,
     worlds: Vec<World>,
 ) -> Result<Resolve, ResolveError>
@@ -181,8 +194,8 @@ pub fn finish(
         return Err(ResolveError::Limit);
     }
     let id = package_id(plan.imports)?;
-    let mut own = interfaces_in(alloc, plan, &rows, id, interfaces.len())?;
-    interfaces.append(&mut own)?;
+    let own = interfaces_in(alloc, plan, &rows, id, interfaces.len())?;
+    let interfaces = joined(interfaces, own)?;
     packages.push(package_name(alloc, &plan.ast.package)?)?;
     Ok(Resolve {
         packages: Sequence::new(packages),

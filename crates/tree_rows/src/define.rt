@@ -113,6 +113,7 @@ fn define_types<'a>(
 {
     for place in order {
         define_type(alloc, builder, scope, types[*place])?;
+        scope.entries.note_declared(*place);
     }
     Ok(())
 }
@@ -198,8 +199,7 @@ pub fn define_interface<'a>(
         (declared_tree own.now.declared.now) own.now.types.now) }
 {
     let declared = own.declared;
-    let room = declared.uses.len().saturating_add(declared.types.len());
-    let entries = TypeIds::with_room(alloc, plan.keyed, room)?;
+    let entries = TypeIds::of_declared(alloc, declared)?;
     let mut scope = KnownTypes {
         interface: own.id,
         entries,

@@ -16,7 +16,6 @@ use crate::builder::Builder;
 use crate::closed::package_id;
 use crate::lower::lower_optional;
 use crate::plan::Plan;
-use atoms::KeyedState;
 use std::alloc::{AllocError, Global};
 use tables::{
     Definition, Function, FunctionId, InterfaceId, Owner, Sequence, World, WorldId, WorldItem,
@@ -28,7 +27,6 @@ use wit_tokens::wit_syntax::{Func, Item};
 /// Defines a function of a world. It names no type, so no type is known to it.
 fn define_function(
     alloc: Global,
-    keyed: KeyedState,
     builder: &mut Builder,
     world: WorldId,
     function: &Func,
@@ -40,7 +38,7 @@ fn define_function(
 {
     let scope = KnownTypes {
         interface: InterfaceId(0),
-        entries: TypeIds::new(alloc, keyed),
+        entries: TypeIds::new(alloc),
     };
     let params = lower_parameters(alloc, builder, &scope, &function.ty.params)?;
     let result = lower_optional(alloc, builder, &scope, &function.ty.result)?;
@@ -78,7 +76,7 @@ fn define_item(
             }
         }
         wit_tokens::wit_syntax::WorldItemKind::Func(function) => {
-            let id = define_function(alloc, plan.keyed, builder, world, function)?;
+            let id = define_function(alloc, builder, world, function)?;
             let kind = WorldItemKind::Function(id);
             Ok(WorldItem { direction, kind })
         }
@@ -98,7 +96,7 @@ fn define_items(
     ensures { IfOk result (λ is. DefinesItems builder.old builder.new world.0 is.items
         (map tree_item_meaning (map declared_item items.now))) }
 {
-    let mut defined = Vec::new(alloc);
+    let mut defined = Vec::with_capacity(alloc, items.len())?;
     for item in items {
         let item = define_item(alloc, plan, builder, world, item)?;
         defined.push(item)?;

@@ -1,5 +1,5 @@
 -- The places of names, as a map tells them.
-use Rattle.std.proofs.Common.{◌≡◌, ℕ, zero, suc, ◌<◌, ◌≤◌, All, Bool, true, false, cond, if◌then◌else◌, List, [], ◌∷◌, ◌++◌, map, length, take, get_or, Contains, Option, Some, None, IfSome, IfNone, is_some, refl, ap, sym, subst, arith, ◌∙◌, true≢false, inl, inr}
+use Rattle.std.proofs.Common.{◌≡◌, ℕ, zero, suc, ◌<◌, ◌≤◌, All, Bool, true, false, cond, if◌then◌else◌, List, [], ◌∷◌, ◌++◌, map, length, take, get_or, Contains, Option, Some, None, IfSome, IfNone, is_some, refl, ap, sym, subst, arith, ◌∙◌, true≢false}
 use Rattle.std.specs.Map.{lookup}
 use Rattle.indexmap.specs.IndexMap.{insert_entry}
 use Rattle.std.proofs.lemmas.List.{map-append, length-map, length-take}
@@ -11,7 +11,7 @@ use Rattle.tree_meaning.specs.Knowing.{TellsPlaces}
 use Rattle.package_form.proofs.NamesMetOneByOne.{split-at}
 use Rattle.package_form.specs.Scoped.{NameEntry, mapped_entry}
 use Rattle.tables.specs.declared.tables.TypeId.{TypeId}
-use Rattle.package_form.proofs.AllAndContains.{all-at, contains-here, contains-later, contains-left, contains-right, contains-either}
+use Rattle.package_form.proofs.AllAndContains.{all-at, contains-here, contains-later, contains-map}
 use Rattle.tree_meaning.proofs.NamesFoundInLists.{same-bytes}
 
 abbrev first_of : {A : Type 0} → Option A → Option A → Option A
@@ -165,32 +165,19 @@ module _ {V : Type 0} (items : V → List ℕ) where
       by true s rest = cc
       by false s rest = rest s
 
-module _ {V : Type 0} (items : V → List ℕ) (few many : List (V × TypeId)) (names : List NameEntry) (view : map (mapped_entry items) (few ++ many) ≡ names) (n : List ℕ) where
-  both : map (mapped_entry items) few ++ map (mapped_entry items) many ≡ names
-  both = sym (map-append (mapped_entry items) few many) ∙ view
+  pub entry-at : (es : List (V × TypeId)) (n : List ℕ) (k : ℕ) (e : V × TypeId) → k < length es → e ≡ get_or es k e → bytes_eq n (items e.0) ≡ true
+      → Contains (map (mapped_entry items) es) (record { name = n; id = e.1 })
+  entry-at es n k e l is q =
+      let same : mapped_entry items e ≡ record { name = n; id = e.1 } = rw (sym (same-bytes n (items e.0) q)) refl in
+      subst (Contains (map (mapped_entry items) es)) same (contains-map (mapped_entry items) es e (k, l, sym is))
 
-  found-in-few : (id : TypeId) → lookup (λ v. bytes_eq n (items v)) few ≡ Some id → Contains names (record { name = n; id = id })
-  found-in-few id h = subst (λ (es : List NameEntry). Contains es (record { name = n; id = id })) both
-      (contains-left (map (mapped_entry items) few) (map (mapped_entry items) many) _ (entry-found items few n id h))
+module _ {V : Type 0} (items : V → List ℕ) (es : List (V × TypeId)) (names : List NameEntry) (view : map (mapped_entry items) es ≡ names) (n : List ℕ) where
+  pub found-among : (o : Option TypeId) → o ≡ lookup (λ v. bytes_eq n (items v)) es → IfSome o (λ id. Contains names (record { name = n; id = id }))
+  found-among None e = tt
+  found-among (Some id) e = subst (λ (xs : List NameEntry). Contains xs (record { name = n; id = id })) view (entry-found items es n id (sym e))
 
-  pub found-in-many : (id : TypeId) → lookup (λ v. bytes_eq n (items v)) many ≡ Some id → Contains names (record { name = n; id = id })
-  found-in-many id h = subst (λ (es : List NameEntry). Contains es (record { name = n; id = id })) both
-      (contains-right (map (mapped_entry items) few) (map (mapped_entry items) many) _ (entry-found items many n id h))
-
-  found-nowhere : lookup (λ v. bytes_eq n (items v)) few ≡ None → lookup (λ v. bytes_eq n (items v)) many ≡ None → ¬ Contains (map (λ (e : NameEntry). e.name) names) n
-  found-nowhere f m h =
-      let named : NameEntry → List ℕ = λ e. e.name in
-      let split : map named names ≡ map named (map (mapped_entry items) few) ++ map named (map (mapped_entry items) many) =
-      ap (map named) (sym both) ∙ map-append named (map (mapped_entry items) few) (map (mapped_entry items) many) in
-      elim (contains-either (map named (map (mapped_entry items) few)) (map named (map (mapped_entry items) many)) n (subst (λ (ns : List (List ℕ)). Contains ns n) split h)) [
-        | inl c ↦ absurd (entry-missed items few n c.0 c.1 c.2 f)
-        | inr c ↦ absurd (entry-missed items many n c.0 c.1 c.2 m)
-      ]
-
-  pub among-few : (o : Option TypeId) → o ≡ lookup (λ v. bytes_eq n (items v)) few → IfSome o (λ id. Contains names (record { name = n; id = id }))
-  among-few None e = tt
-  among-few (Some id) e = found-in-few id (sym e)
-
-  pub nowhere-else : (o : Option TypeId) → o ≡ lookup (λ v. bytes_eq n (items v)) few → lookup (λ v. bytes_eq n (items v)) many ≡ None → IfNone o (¬ Contains (map (λ (e : NameEntry). e.name) names) n)
-  nowhere-else None e m = found-nowhere (sym e) m
-  nowhere-else (Some id) e m = tt
+  pub found-nowhere : (o : Option TypeId) → o ≡ lookup (λ v. bytes_eq n (items v)) es → IfNone o (¬ Contains (map (λ (e : NameEntry). e.name) names) n)
+  found-nowhere None e = λ h.
+      let c = subst (λ (xs : List NameEntry). Contains (map (λ (e : NameEntry). e.name) xs) n) (sym view) h in
+      entry-missed items es n c.0 c.1 c.2 (sym e)
+  found-nowhere (Some id) e = tt

@@ -229,7 +229,7 @@ impl<'a> Declarations<'a> {
     }
 
     /// The place of the first used name that gets this name.
-    fn local_place(&self, name: &Label) -> Option<usize>
+    pub(crate) fn local_place(&self, name: &Label) -> Option<usize>
         ensures { result ≡ place_of (used_names (declared_tree self.now)) name.now }
     {
         match self.locals.as_slice() {

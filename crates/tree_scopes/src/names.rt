@@ -126,13 +126,6 @@ impl<'a> Names<'a> {
         Ok(Names { names, places })
     }
 
-    /// The names in order.
-    pub fn as_slice(&self) -> &[&'a Label]
-        ensures { lent_names result.now ≡ self.now }
-    {
-        &self.names
-    }
-
     /// The first place of a name.
     pub fn place_of(&self, name: &Label) -> Option<usize>
         ensures { result ≡ place_of self.now name.now }
