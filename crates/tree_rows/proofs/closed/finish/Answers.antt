@@ -39,7 +39,7 @@ invariant_of-result c =
     c.in_ok-own.ensures ∙ ap (λ (k : ℕ). interfaces_behind k c.len.result c.deref-3.result.now names) last
     ∙ ap (λ (k : ℕ). interfaces_behind n k c.deref-3.result.now names) behind ∙ ap (λ (ds : List Definition). interfaces_behind n first ds names) listed in
     let is : c.new-2.result ≡ imports.interfaces ++ interfaces_behind n first t.rows names =
-    c.new-2.ensures ∙ c.in_ok-joined.ensures ∙ ap (λ (xs : List Interface). xs ++ c.in_ok-own.own.items) c.requires.interfaces ∙ ap (λ (xs : List Interface). imports.interfaces ++ xs) own in
+    c.new-2.ensures ∙ c.in_ok-interfaces.ensures ∙ ap (λ (xs : List Interface). xs ++ c.in_ok-own.own.items) c.requires.interfaces ∙ ap (λ (xs : List Interface). imports.interfaces ++ xs) own in
     let counted : length c.new-2.result ≡ length t.interfaces =
     omega (
       arith,

@@ -8,7 +8,7 @@ use Rattle.tree_meaning.specs.Imports.{imports_of}
 use Rattle.tree_rows.proofs.worlds.define_items.Goals as goal
 
 pub loop-item-init : goal.loop-item-init
-loop-item-init c = rw c.new-defined.ensures.items (items-none c.args.builder.now c.args.world.0)
+loop-item-init c = rw c.in_ok-defined.ensures.items (items-none c.args.builder.now c.args.world.0)
 
 pub define_item-requires-clause-known : goal.define_item-requires-clause-known
 define_item-requires-clause-known c =
