@@ -7,7 +7,7 @@ use std::alloc::{AllocError, Global};
 use tables::{Primitive, TypeId, ValType};
 
 /// What a type is in C.
-#[derive(Clone, Copy, Debug, PartialEq, Eq)]
+#[derive(Clone, Copy, PartialEq, Eq)]
 pub enum Form {
     Number,
     /// An address and a length.
@@ -18,7 +18,7 @@ pub enum Form {
 }
 
 /// A field of a record, or a case.
-#[derive(Debug, Drop)]
+#[derive(Drop)]
 pub struct Part {
     /// The name of its field.
     pub label: String,
@@ -29,7 +29,7 @@ pub struct Part {
 }
 
 /// A type of a row of the table.
-#[derive(Debug, Drop)]
+#[derive(Drop)]
 pub struct Row {
     /// What it is in the end. If this is another type, what comes after `spelling` is not used.
     pub end: ValType,

@@ -2,9 +2,9 @@
 
 use crate::noted::Request;
 use crate::place::{Block, Content, Place};
-use crate::sketch::{Level, Start};
 use crate::viewer::Viewer;
 use std::alloc::AllocError;
+use svg_drawing::{Level, Start};
 
 /// Values that were put into a memory: the arguments, or the result.
 #[derive(Clone, Copy)]

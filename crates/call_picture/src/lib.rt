@@ -15,7 +15,6 @@ mod noted;
 mod page;
 mod picture;
 mod place;
-mod sketch;
 mod steps;
 mod viewer;
 mod words;

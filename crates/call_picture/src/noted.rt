@@ -11,7 +11,7 @@ const FIRST: u32 = 65_536;
 const MOST: u32 = 1_048_576;
 
 /// What an allocator was asked for, and what it granted.
-#[derive(Clone, Copy, Debug)]
+#[derive(Clone, Copy)]
 pub struct Request {
     /// In bytes.
     pub align: u32,

@@ -1,12 +1,11 @@
 //! The lines of a picture.
 
-use crate::core_values::push_flats;
-use crate::sketch::{Level, Sketch, Start};
+use crate::core_values::{flat_texts, push_list};
 use canonical_abi::Flat;
 use layout_picture::Form;
 use std::alloc::{AllocError, Global};
 use std::fmt::Write;
-use svg_drawing::Fill;
+use svg_drawing::{Fill, Level, Sketch, Start};
 
 /// The most lines that are shown. What comes after them is left out.
 const MAX_LINES: usize = 4_000;
@@ -87,14 +86,15 @@ impl Page {
 
     /// Adds core values after a word for them. Returns where each of them is drawn.
     pub fn push_values(&mut self, word: &str, flats: &[Flat]) -> Result<Vec<Start>, AllocError> {
+        let values = flat_texts(self.alloc, flats)?;
         if matches!(self.form, Form::Svg) && !flats.is_empty() {
-            return self.sketch.push_values(word, flats);
+            return self.sketch.push_values(word, values.as_slice());
         }
         let mut line = format!(in self.alloc; "{word}: ")?;
         if flats.is_empty() {
             line.push_str("nothing")?;
         }
-        push_flats(&mut line, flats)?;
+        push_list(&mut line, values.as_slice())?;
         self.push_line(Level::Inner, line.as_str())?;
         Ok(Vec::new(self.alloc))
     }
@@ -156,7 +156,7 @@ impl Page {
         let (text, sketch) = (self.text, self.sketch);
         match self.form {
             Form::Boxes => Ok(text),
-            Form::Svg => sketch.finish(),
+            Form::Svg => sketch.finish("A call, and what it did to both memories"),
         }
     }
 }

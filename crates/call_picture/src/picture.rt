@@ -11,7 +11,6 @@ use crate::course::Course;
 use crate::noted::Noted;
 use crate::page::Page;
 use crate::place::Content;
-use crate::sketch::{Level, Start};
 use crate::viewer::Viewer;
 use canonical_abi::{Fault, Flat, Guest};
 use layout::Kinds;
@@ -19,10 +18,11 @@ use layout_picture::{Form, Sheet, TypeLayout};
 use lift_lower::Val;
 use package_picture::draw_function;
 use std::alloc::AllocError;
+use svg_drawing::{Level, Start};
 use tables::{TypeId, ValType};
 
 /// What a call did.
-#[derive(Debug, Drop)]
+#[derive(Drop)]
 pub struct Picture {
     pub text: String,
     /// Whether there was no trap.

@@ -1,11 +1,11 @@
 //! Where a value is, and what is still to be shown of it.
 
-use crate::sketch::Start;
 use lift_lower::Val;
+use svg_drawing::Start;
 use tables::ValType;
 
 /// Where a value is.
-#[derive(Clone, Copy, Debug)]
+#[derive(Clone, Copy)]
 pub enum Place {
     /// In memory, from this address on.
     At(u32),

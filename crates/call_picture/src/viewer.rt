@@ -4,13 +4,12 @@ ghost use Rattle.layout.specs.Layout.{layouts_of};
 
 use crate::page::{LINE, Page};
 use crate::place::{Block, Content, Members, Part, Place, Spot};
-use crate::sketch::Start;
 use crate::words::{member_path, own_size, own_words};
 use layout::{Kinds, Layouts, Shape};
 use layout_picture::{TypeLayout, case_number_size, member_name};
 use lift_lower::Val;
 use std::alloc::AllocError;
-use svg_drawing::Fill;
+use svg_drawing::{Fill, Start};
 use tables::{Resolve, ValType};
 
 /// The most elements of a list that are shown.

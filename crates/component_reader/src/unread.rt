@@ -5,7 +5,7 @@ ghost use Rattle.component_reader.specs.declared.unread.Unread.TheVariants.{NoMe
 use std::alloc::{AllocError, AllocFailed};
 
 /// Why a component is not read as a package.
-#[derive(Debug, Drop)]
+#[derive(Drop)]
 pub enum Unread {
     /// It isn't of a package's shape.
     NotThisShape,

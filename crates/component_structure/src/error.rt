@@ -7,7 +7,7 @@ use std::fmt;
 use thiserror::Error;
 
 /// What the format has and packages here have not.
-#[derive(Clone, Copy, Debug)]
+#[derive(Clone, Copy)]
 pub enum Feature {
     Float,
     Resource,
@@ -59,8 +59,14 @@ impl fmt::Display for Feature {
     }
 }
 
+impl fmt::Debug for Feature {
+    fn fmt<W: fmt::Write>(&self, f: &mut fmt::Formatter<W>) -> fmt::Result {
+        fmt::Display::fmt(self, f)
+    }
+}
+
 /// What is wrong at a place.
-#[derive(Clone, Copy, Debug)]
+#[derive(Clone, Copy)]
 pub enum Fault {
     /// The bytes begin as no component and no core module does.
     NotComponent,
@@ -164,6 +170,12 @@ impl fmt::Display for Fault {
             Fault::NotExported => "an interface of the package is not exported",
         };
         f.write_str(words)
+    }
+}
+
+impl fmt::Debug for Fault {
+    fn fmt<W: fmt::Write>(&self, f: &mut fmt::Formatter<W>) -> fmt::Result {
+        fmt::Display::fmt(self, f)
     }
 }
 

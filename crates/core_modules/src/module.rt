@@ -9,7 +9,7 @@ use std::alloc::{AllocError, Global};
 use std::collections::BTreeMap;
 
 /// What is imported or exported. Of a function it is the place of its type in `CoreModule::types`.
-#[derive(Clone, Copy, Debug)]
+#[derive(Clone, Copy)]
 pub enum Item {
     Function(usize),
     Table,
@@ -19,7 +19,7 @@ pub enum Item {
 }
 
 /// An import.
-#[derive(Clone, Copy, Debug)]
+#[derive(Clone, Copy)]
 pub struct Import<'a> {
     /// The name of the module that it is imported from.
     pub from: &'a str,
@@ -28,7 +28,7 @@ pub struct Import<'a> {
 }
 
 /// A custom section.
-#[derive(Clone, Copy, Debug)]
+#[derive(Clone, Copy)]
 pub struct Custom<'a> {
     pub name: &'a str,
     pub content: &'a [u8],

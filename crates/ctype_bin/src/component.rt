@@ -16,7 +16,7 @@ use std::alloc::{AllocError, Global};
 
 /// A component type binary's type section and export section. Some bytes spell it: its indices are in range at their
 /// places, its names are well formed, and its counts and nesting keep the limits.
-#[derive(Debug, Drop)]
+#[derive(Drop)]
 pub struct RawComponent {
     types: Vec<RawType>,
     exports: Vec<RawExport>,

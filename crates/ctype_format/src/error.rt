@@ -85,7 +85,7 @@ pub enum BinError {
 }
 
 /// The first fault that reading meets, its place told from the end of the bytes at hand.
-#[derive(Clone, Copy, Debug, PartialEq, Eq)]
+#[derive(Clone, Copy, PartialEq, Eq)]
 pub enum Stuck {
     /// The bytes end.
     End,
@@ -96,7 +96,7 @@ pub enum Stuck {
 }
 
 /// Why an item was not read.
-#[derive(Clone, Copy, Debug, PartialEq, Eq)]
+#[derive(Clone, Copy, PartialEq, Eq)]
 pub enum ItemError {
     Memory,
     Stuck(Stuck),

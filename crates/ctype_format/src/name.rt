@@ -6,7 +6,7 @@ use atoms::{AtomError, FullName, Label, is_label};
 use std::alloc::{AllocError, Global};
 
 /// The name of an import or an export: a label, or the full name of an interface.
-#[derive(Debug, Drop)]
+#[derive(Drop)]
 pub enum ExternName {
     Label(Label),
     /// In a box, since it is four times as large as a label, and rarer.

@@ -6,7 +6,7 @@ ghost use Rattle.ctype_format.specs.Grammar.{is_nested};
 use crate::raw::Primitive;
 
 /// What a type is, as its first byte says.
-#[derive(Clone, Copy, Debug, PartialEq, Eq)]
+#[derive(Clone, Copy, PartialEq, Eq)]
 pub enum Opcode {
     Primitive(Primitive),
     Record,

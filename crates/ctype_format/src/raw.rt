@@ -3,7 +3,7 @@ use crate::name::ExternName;
 use atoms::Label;
 
 /// A type with no parts.
-#[derive(Clone, Copy, Debug, PartialEq, Eq)]
+#[derive(Clone, Copy, PartialEq, Eq)]
 pub enum Primitive {
     Bool,
     S8,
@@ -19,28 +19,28 @@ pub enum Primitive {
 }
 
 /// A type where a value's type stands: a primitive, or the index of a type entry.
-#[derive(Clone, Copy, Debug, PartialEq, Eq)]
+#[derive(Clone, Copy, PartialEq, Eq)]
 pub enum RawValType {
     Primitive(Primitive),
     Index(u32),
 }
 
 /// A field of a record, or a parameter.
-#[derive(Debug, Drop)]
+#[derive(Drop)]
 pub struct RawField {
     pub label: Label,
     pub ty: RawValType,
 }
 
 /// A case of a variant.
-#[derive(Debug, Drop)]
+#[derive(Drop)]
 pub struct RawCase {
     pub label: Label,
     pub payload: Option<RawValType>,
 }
 
 /// A type of values.
-#[derive(Debug, Drop)]
+#[derive(Drop)]
 pub enum RawDefinedType {
     Primitive(Primitive),
     Record(Vec<RawField>),
@@ -57,14 +57,14 @@ pub enum RawDefinedType {
 }
 
 /// A type of functions.
-#[derive(Debug, Drop)]
+#[derive(Drop)]
 pub struct RawFunction {
     pub params: Vec<RawField>,
     pub result: Option<RawValType>,
 }
 
 /// A type entry that is the same as another.
-#[derive(Debug, Drop)]
+#[derive(Drop)]
 pub enum RawAlias {
     /// The type that an instance exports under a name.
     InstanceExport { instance: u32, name: Label },
@@ -73,7 +73,7 @@ pub enum RawAlias {
 }
 
 /// What an import or an export is.
-#[derive(Clone, Copy, Debug, PartialEq, Eq)]
+#[derive(Clone, Copy, PartialEq, Eq)]
 pub enum RawDescription {
     /// A function of the function type at an index.
     Function(u32),
@@ -86,7 +86,7 @@ pub enum RawDescription {
 }
 
 /// A type entry's definition.
-#[derive(Debug, Drop)]
+#[derive(Drop)]
 #[cycle(raw)]
 pub enum RawType {
     Defined(RawDefinedType),
@@ -96,7 +96,7 @@ pub enum RawType {
 }
 
 /// A declaration of a component type or an instance type.
-#[derive(Debug, Drop)]
+#[derive(Drop)]
 #[cycle(raw)]
 pub enum RawDecl {
     Type(RawType),
@@ -107,7 +107,7 @@ pub enum RawDecl {
 }
 
 /// An export of the file: a name, and the index of its type.
-#[derive(Debug, Drop)]
+#[derive(Drop)]
 pub struct RawExport {
     pub name: ExternName,
     pub ty: u32,

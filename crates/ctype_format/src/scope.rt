@@ -6,7 +6,7 @@ ghost use Rattle.ctype_format.specs.Grammar.{new_scope, with_type, with_instance
 pub const MAX_ENTRIES: u32 = 65_535;
 
 /// How many type entries and instances a scope has, and how many type entries all scopes have.
-#[derive(Clone, Copy, Debug)]
+#[derive(Clone, Copy)]
 pub struct Scope {
     pub types: u32,
     pub instances: u32,

@@ -3,7 +3,7 @@
 use std::alloc::{AllocError, Global};
 
 /// When what is printed is colored.
-#[derive(Clone, Copy, Debug, PartialEq, Eq)]
+#[derive(Clone, Copy, PartialEq, Eq)]
 pub enum ColorChoice {
     Auto,
     Always,
@@ -11,7 +11,7 @@ pub enum ColorChoice {
 }
 
 /// An option whose word comes next.
-#[derive(Clone, Copy, Debug, PartialEq, Eq)]
+#[derive(Clone, Copy, PartialEq, Eq)]
 enum Pending {
     Color,
     Svg,
@@ -20,7 +20,7 @@ enum Pending {
 }
 
 /// What an option says.
-#[derive(Clone, Copy, Debug, PartialEq, Eq)]
+#[derive(Clone, Copy, PartialEq, Eq)]
 enum Kind {
     Help,
     Json,
@@ -39,7 +39,7 @@ static OPTIONS: [(&str, Kind); 6] = [
 ];
 
 /// What words are.
-#[derive(Debug, Drop)]
+#[derive(Drop)]
 pub enum Parsed<'a> {
     Options(Options<'a>),
     /// An option that there isn't.
@@ -49,7 +49,7 @@ pub enum Parsed<'a> {
 }
 
 /// What the words say.
-#[derive(Debug, Drop)]
+#[derive(Drop)]
 pub struct Options<'a> {
     /// The words that are no options.
     pub words: Vec<&'a str>,

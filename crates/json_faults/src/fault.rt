@@ -10,7 +10,7 @@ use tables::{Resolve, ValType};
 const MOST_DEPTH: usize = 128;
 
 /// A place in a JSON value, and what has to stand there.
-#[derive(Debug, Drop)]
+#[derive(Drop)]
 pub struct Fault {
     /// The place, as `[0].lines[2].count`.
     pub path: String,

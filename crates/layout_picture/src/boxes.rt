@@ -12,7 +12,7 @@ const ROW: u32 = 8;
 const BYTE: usize = 8;
 
 /// A line of characters, from the line before its first byte to that after its last.
-#[derive(Debug, Drop)]
+#[derive(Drop)]
 struct Line {
     /// What is before it: an offset, or nothing.
     margin: String,

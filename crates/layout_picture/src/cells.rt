@@ -7,7 +7,7 @@ use std::alloc::{AllocError, Global};
 use std::fmt::Write;
 
 /// Bytes that belong together.
-#[derive(Debug, Drop)]
+#[derive(Drop)]
 pub struct Cell {
     /// In bytes, from the first of the type.
     pub offset: u32,
@@ -22,7 +22,7 @@ pub struct Cell {
 }
 
 /// All bytes of a type, as the values of one case have them, or all values if there are no cases.
-#[derive(Debug, Drop)]
+#[derive(Drop)]
 pub struct Lane {
     pub cells: Vec<Cell>,
     /// The offset after the last cell.
@@ -30,7 +30,7 @@ pub struct Lane {
 }
 
 /// A line of the list below the boxes of a type.
-#[derive(Debug, Drop)]
+#[derive(Drop)]
 pub struct Note {
     /// The offset that it tells of. None if it goes on from the line above.
     pub offset: Option<u32>,
@@ -38,7 +38,7 @@ pub struct Note {
 }
 
 /// What is drawn of a type.
-#[derive(Debug, Drop)]
+#[derive(Drop)]
 pub struct Diagram {
     pub lanes: Vec<Lane>,
     pub notes: Vec<Note>,

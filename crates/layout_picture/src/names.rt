@@ -8,7 +8,7 @@ use tables::{Definition, Primitive, Resolve, TypeDef, TypeDefKind, TypeId, ValTy
 const MAX_PIECES: usize = 32;
 
 /// A piece of a type's text that is still to be written.
-#[derive(Clone, Copy, Debug)]
+#[derive(Clone, Copy)]
 enum Piece {
     Mark(&'static str),
     /// A type, or `_` in its place.

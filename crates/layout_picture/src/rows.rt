@@ -4,7 +4,7 @@ use crate::cells::{Cell, Lane};
 use std::alloc::{AllocError, Global};
 
 /// The bytes that a cell has in a row.
-#[derive(Clone, Copy, Debug)]
+#[derive(Clone, Copy)]
 pub struct Piece<'a> {
     pub cell: &'a Cell,
     /// How many bytes are before it in the row.
@@ -18,7 +18,7 @@ pub struct Piece<'a> {
 }
 
 /// Some bytes of a lane.
-#[derive(Debug, Drop)]
+#[derive(Drop)]
 pub struct Row<'a> {
     /// The offset of the first byte.
     pub offset: u32,

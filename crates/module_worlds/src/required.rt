@@ -10,7 +10,7 @@ use std::alloc::{AllocError, Global};
 use tables::{Direction, FunctionId, Interface, InterfaceId, Resolve, WorldItem, WorldItemKind};
 
 /// A function of the table that a module has to export under a name.
-#[derive(Debug, Drop)]
+#[derive(Drop)]
 pub struct Required {
     pub name: String,
     pub id: FunctionId,

@@ -10,7 +10,7 @@ use std::alloc::{AllocError, Global};
 use tables::Resolve;
 
 /// Marks of the packages and of the interfaces of a set.
-#[derive(Debug, Drop)]
+#[derive(Drop)]
 pub struct Named {
     pub packages: Vec<bool>,
     pub interfaces: Vec<bool>,

@@ -34,7 +34,7 @@ pub struct Versions<'a> {
 }
 
 /// The core signatures of a function: of the callee's function, and of the caller's import.
-#[derive(Debug, Drop)]
+#[derive(Drop)]
 pub struct Signatures {
     lifted: CoreSignature,
     lowered: CoreSignature,

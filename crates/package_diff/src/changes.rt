@@ -12,7 +12,7 @@ use std::fmt::Write;
 use tables::{FunctionId, Resolve};
 
 /// What changed.
-#[derive(Debug, Drop)]
+#[derive(Drop)]
 pub struct Changes {
     /// A line for each item that changed, with lines about it. No text if nothing changed.
     pub text: String,

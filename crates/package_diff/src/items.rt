@@ -10,7 +10,7 @@ use tables::{
 };
 
 /// What crosses of an item.
-#[derive(Clone, Copy, Debug, PartialEq, Eq)]
+#[derive(Clone, Copy, PartialEq, Eq)]
 pub enum Crossing {
     /// The number of a type's shape.
     Type(usize),
@@ -20,7 +20,7 @@ pub enum Crossing {
 }
 
 /// An item of an interface or a world.
-#[derive(Debug, Drop)]
+#[derive(Drop)]
 pub struct Item {
     /// Its interface or world without the version, and its label: `demo:shop/desk order`. Of a world also its
     /// direction.

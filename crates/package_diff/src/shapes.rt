@@ -13,7 +13,7 @@ use std::alloc::{AllocError, Global};
 use tables::{Case, Definition, Field, Parameter, Primitive, Resolve, TypeDefKind, ValType};
 
 /// What a closed type is made of. Types in it are numbers of shapes before it.
-#[derive(Debug, PartialEq, Eq, Drop)]
+#[derive(PartialEq, Eq, Drop)]
 #[derive_where(Hash)]
 enum Shape {
     /// One of ten, which all hash alike.
@@ -38,7 +38,7 @@ pub struct Shapes {
 }
 
 /// The shapes of a row: of a type its own, of a function those of its parameters, as a record, and of its result.
-#[derive(Clone, Copy, Debug, PartialEq, Eq)]
+#[derive(Clone, Copy, PartialEq, Eq)]
 pub struct RowShape {
     pub number: usize,
     pub result: Option<usize>,

@@ -9,7 +9,7 @@ use std::alloc::{AllocError, AllocFailed, Global};
 use tables::Sequence;
 
 /// Why things could not be placed.
-#[derive(Debug, Drop)]
+#[derive(Drop)]
 pub enum OrderError {
     /// A group of them use each other.
     Cycle,

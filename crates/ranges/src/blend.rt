@@ -11,7 +11,7 @@ use canonical_abi::Guest;
 const CHUNK: usize = 2048;
 
 /// How an element's bytes cross: the caps of its bytes, 0 for padding, 1 for a bool, 255 for all others, and its nodes.
-#[derive(Clone, Copy, Debug)]
+#[derive(Clone, Copy)]
 pub struct Caps {
     pub size: usize,
     pub nodes: u8,

@@ -15,7 +15,7 @@ use canonical_abi::Guest;
 const CHUNK: usize = 2048;
 
 /// Where a variant stands within an element, and how its bytes cross.
-#[derive(Clone, Copy, Debug)]
+#[derive(Clone, Copy)]
 pub struct Column {
     pub at: usize,
     pub rows: Rows,

@@ -15,7 +15,7 @@ use values::Types;
 const MOST: usize = 16;
 
 /// How the elements of a variant cross: by case, the caps of an element's bytes, sixteen for each case, and its nodes.
-#[derive(Clone, Copy, Debug)]
+#[derive(Clone, Copy)]
 pub struct Rows {
     pub size: usize,
     pub cases: usize,

@@ -12,14 +12,14 @@ pub const CHARACTER: u32 = 8;
 const MARGIN: u32 = 12;
 
 /// A place, in pixels from the left and from the top.
-#[derive(Clone, Copy, Debug, PartialEq, Eq)]
+#[derive(Clone, Copy, PartialEq, Eq)]
 pub struct Point {
     pub x: u32,
     pub y: u32,
 }
 
 /// A rectangle, in pixels.
-#[derive(Clone, Copy, Debug, PartialEq, Eq)]
+#[derive(Clone, Copy, PartialEq, Eq)]
 pub struct Area {
     pub left: u32,
     pub top: u32,
@@ -28,7 +28,7 @@ pub struct Area {
 }
 
 /// A picture: what is drawn so far.
-#[derive(Debug, Drop)]
+#[derive(Drop)]
 pub struct Drawing {
     alloc: Global,
     content: String,

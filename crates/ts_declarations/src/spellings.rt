@@ -6,7 +6,7 @@ use std::fmt::Write;
 use tables::{Definition, Primitive, Resolve, TypeDefKind, ValType};
 
 /// What matters of a type to those that are made of it. Other names of a type mean the same.
-#[derive(Clone, Copy, Debug)]
+#[derive(Clone, Copy)]
 pub enum Meaning {
     /// A number, which this typed array may have.
     Number(&'static str),
@@ -17,7 +17,7 @@ pub enum Meaning {
 }
 
 /// A type of a row of the table.
-#[derive(Debug, Drop)]
+#[derive(Drop)]
 pub struct Spelling {
     /// As TypeScript spells it.
     pub text: String,

@@ -3,7 +3,7 @@
 use std::alloc::AllocError;
 
 /// What a part of a shown fault is. Each has a color of its own.
-#[derive(Clone, Copy, Debug, PartialEq, Eq)]
+#[derive(Clone, Copy, PartialEq, Eq)]
 pub enum Part {
     Place,
     Words,
@@ -13,7 +13,7 @@ pub enum Part {
 }
 
 /// Whether parts are colored.
-#[derive(Clone, Copy, Debug, PartialEq, Eq)]
+#[derive(Clone, Copy, PartialEq, Eq)]
 pub enum Paint {
     Plain,
     Colored,

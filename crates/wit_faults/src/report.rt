@@ -12,7 +12,7 @@ use wit_places::{Lexed, PackageRef};
 use wit_text::Span;
 
 /// How faults are written.
-#[derive(Clone, Copy, Debug, PartialEq, Eq)]
+#[derive(Clone, Copy, PartialEq, Eq)]
 pub enum Style {
     /// As text.
     Text(Paint),
@@ -21,7 +21,7 @@ pub enum Style {
 }
 
 /// What is printed, and the exit status: 0, 1 for faults, 2 for words that are no command.
-#[derive(Debug, Drop)]
+#[derive(Drop)]
 pub struct Report {
     pub text: String,
     pub status: u8,

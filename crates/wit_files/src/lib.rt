@@ -2,10 +2,10 @@
 //!
 //! `sources_of` reads the files that paths are or have, binaries too, and `members_of` makes the packages of texts: a
 //! tree of each, of one file or of several. Faults go to a `Report`: behind one, a text is read on at its next item.
-//! `RemainingItems` is a package without the items whose names have faults. It stands on `wit_text` and `wit_faults`.
+//! `RemainingItems` is a package without the items whose names have faults. It stands on `wit_text`,
+//! `wit_comments` and `wit_faults`.
 #![tactic(auto)]
 
-mod items;
 mod members;
 mod remaining;
 mod sources;

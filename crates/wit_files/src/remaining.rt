@@ -1,9 +1,9 @@
 //! A package that is read again without items that have faults.
 
-use crate::items::without_item;
 use crate::members::{Member, append};
 use crate::texts::{tokens_of, tree_below};
 use std::alloc::{AllocError, Global};
+use wit_comments::without_item;
 use wit_faults::Lexed;
 use wit_places::names_of_types;
 use wit_text::{Ast, Span, TextError, parse};

@@ -19,7 +19,7 @@ const MAX_REST: usize = MAX_BINARY - MAX_TEXT - 1;
 static FRONT: [u8; 4] = [0x00, 0x61, 0x73, 0x6d];
 
 /// A file of a command.
-#[derive(Debug, Drop)]
+#[derive(Drop)]
 pub struct Source {
     pub path: String,
     /// The folder in which it was found. No text if the command names the file.
@@ -46,7 +46,7 @@ impl Source {
 }
 
 /// Where files are found: in a folder, or by the command, which is no text.
-#[derive(Clone, Copy, Debug)]
+#[derive(Clone, Copy)]
 struct Origin<'a> {
     folder: &'a str,
     is_dependency: bool,

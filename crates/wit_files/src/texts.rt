@@ -1,9 +1,9 @@
 //! The texts of files, and their trees.
 ghost use Rattle.std.specs.Prelude.{◌≡◌, length, IfOk, OnOk};
 
-use crate::items::without_item;
 use crate::sources::{MAX_TEXT, Source};
 use std::alloc::{AllocError, Global};
+use wit_comments::without_item;
 use wit_faults::{Cause, Lexed, PackageRef, Report};
 use wit_text::{Ast, Expected, Keyword, Span, TextError, Token, parse};
 
@@ -18,7 +18,7 @@ pub struct Text<'a> {
 }
 
 /// What the first line of a text names: its package, and how it is spelled.
-#[derive(Clone, Copy, Debug)]
+#[derive(Clone, Copy)]
 struct Header<'a> {
     folder: &'a str,
     package: PackageRef<'a>,

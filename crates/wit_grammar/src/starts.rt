@@ -5,7 +5,7 @@ ghost use Rattle.wit_grammar.specs.Grammar.{item_keyword, item_mark, item_kind, 
 use wit_tokens::{Feature, Keyword, Punctuation, TokenKind};
 
 /// What a keyword or a mark is where an item of an interface may stand.
-#[derive(Clone, Copy, Debug)]
+#[derive(Clone, Copy)]
 pub enum ItemStart {
     Use,
     Alias,

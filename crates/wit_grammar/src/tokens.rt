@@ -6,7 +6,7 @@ ghost use Rattle.wit_tokens.specs.Tokens.{IsNamed};
 use wit_tokens::Token;
 
 /// The tokens of a text. Each identifier among them is a label.
-#[derive(Clone, Copy, Debug)]
+#[derive(Clone, Copy)]
 pub struct Tokens<'a> {
     pub text: &'a [u8],
     pub list: &'a [Token],

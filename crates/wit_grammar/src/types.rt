@@ -18,7 +18,7 @@ use wit_tokens::wit_syntax::{InnerType, Primitive, ResultType, TypeExpression};
 use wit_tokens::{Expected, Feature, Keyword, Punctuation, TextError, Token, TokenKind};
 
 /// What a keyword is at the place of a type.
-#[derive(Clone, Copy, Debug)]
+#[derive(Clone, Copy)]
 pub enum Start {
     Plain(Primitive),
     List,

@@ -6,7 +6,7 @@ use wit_places::{Bracket, Lexed, bracket_of, keyword_at, mark_at, opener};
 use wit_text::{Keyword, Punctuation, Span};
 
 /// Two names of one scope that differ at most in the case of letters.
-#[derive(Clone, Copy, Debug)]
+#[derive(Clone, Copy)]
 pub struct Twins {
     pub first: Span,
     pub second: Span,

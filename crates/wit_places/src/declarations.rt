@@ -7,7 +7,7 @@ use tables::Sequence;
 use wit_text::{Keyword, Punctuation, Span, TokenKind};
 
 /// A declaration of a type, an interface or a world.
-#[derive(Clone, Copy, Debug, PartialEq, Eq)]
+#[derive(Clone, Copy, PartialEq, Eq)]
 pub struct Declaration<'a> {
     pub name: &'a str,
     /// The keyword that it begins with.
@@ -19,7 +19,7 @@ pub struct Declaration<'a> {
 }
 
 /// Flags that have more labels than flags may have.
-#[derive(Clone, Copy, Debug)]
+#[derive(Clone, Copy)]
 pub struct LongFlags {
     /// Their name.
     pub span: Span,
@@ -27,7 +27,7 @@ pub struct LongFlags {
 }
 
 /// The declarations of a text, in its order.
-#[derive(Debug, Drop)]
+#[derive(Drop)]
 pub struct Declarations<'a> {
     list: Vec<Declaration<'a>>,
 }

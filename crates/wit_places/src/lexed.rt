@@ -7,7 +7,7 @@ use tables::PackageName;
 use wit_text::{Keyword, PackageId, Punctuation, Span, TextError, Token, TokenKind, lex};
 
 /// The name of a package, as a text spells it.
-#[derive(Clone, Copy, Debug)]
+#[derive(Clone, Copy)]
 pub struct PackageRef<'a> {
     pub namespace: &'a str,
     pub name: &'a str,
@@ -15,7 +15,7 @@ pub struct PackageRef<'a> {
 }
 
 /// A package that a text names, and where: from its namespace to its name, or to its version in the text's first line.
-#[derive(Clone, Copy, Debug)]
+#[derive(Clone, Copy)]
 pub struct PackagePath<'a> {
     pub package: PackageRef<'a>,
     pub span: Span,

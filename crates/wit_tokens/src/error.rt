@@ -28,7 +28,7 @@ impl fmt::Display for Expected {
 }
 
 /// What WIT has and is not read here.
-#[derive(Clone, Copy, Debug, PartialEq, Eq)]
+#[derive(Clone, Copy, PartialEq, Eq)]
 pub enum Feature {
     Float,
     Resource,
@@ -68,6 +68,12 @@ impl fmt::Display for Feature {
             Feature::FixedLengthList => "fixed-length-list",
             Feature::NamedResults => "named-results",
         })
+    }
+}
+
+impl fmt::Debug for Feature {
+    fn fmt<W: fmt::Write>(&self, f: &mut fmt::Formatter<W>) -> fmt::Result {
+        fmt::Display::fmt(self, f)
     }
 }
 

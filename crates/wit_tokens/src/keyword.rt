@@ -66,6 +66,12 @@ impl fmt::Display for Keyword {
     }
 }
 
+impl fmt::Debug for Keyword {
+    fn fmt<W: fmt::Write>(&self, f: &mut fmt::Formatter<W>) -> fmt::Result {
+        fmt::Display::fmt(self, f)
+    }
+}
+
 /// The keyword with this place. Each keyword has a place of its own, from 0 to 127.
 #[tactic(auto, unfolding(crate::specs::Keywords::keywords))]
 #[inline(always)]

@@ -24,7 +24,7 @@ use std::alloc::Global;
 pub const LIMIT: usize = 1_048_576;
 
 /// What stands at the front of a text, and how many bytes it takes.
-#[derive(Clone, Copy, Debug)]
+#[derive(Clone, Copy)]
 pub enum Front {
     Blank(usize),
     Token(TokenKind, usize),
@@ -33,7 +33,7 @@ pub enum Front {
 }
 
 /// A token's kind, and how many bytes it takes.
-#[derive(Clone, Copy, Debug)]
+#[derive(Clone, Copy)]
 struct Piece {
     kind: TokenKind,
     len: usize,

@@ -33,3 +33,9 @@ impl fmt::Display for Punctuation {
         f.write_str(mark_text(*self))
     }
 }
+
+impl fmt::Debug for Punctuation {
+    fn fmt<W: fmt::Write>(&self, f: &mut fmt::Formatter<W>) -> fmt::Result {
+        fmt::Display::fmt(self, f)
+    }
+}

@@ -5,7 +5,7 @@ ghost use Rattle.wit_tokens.specs.Tokens.{span_of};
 use std::fmt;
 
 /// A word with a meaning of its own, in the order of the list of keywords.
-#[derive(Clone, Copy, Debug, PartialEq, Eq)]
+#[derive(Clone, Copy, PartialEq, Eq)]
 pub enum Keyword {
     As,
     Async,
@@ -53,7 +53,7 @@ pub enum Keyword {
 }
 
 /// A mark, in the order of the list of punctuation.
-#[derive(Clone, Copy, Debug, PartialEq, Eq)]
+#[derive(Clone, Copy, PartialEq, Eq)]
 pub enum Punctuation {
     Arrow,
     Colon,
@@ -72,7 +72,7 @@ pub enum Punctuation {
     Underscore,
 }
 
-#[derive(Clone, Copy, Debug, PartialEq, Eq)]
+#[derive(Clone, Copy, PartialEq, Eq)]
 pub enum TokenKind {
     /// A word that is no keyword, or any word behind `%`.
     Identifier,
@@ -100,7 +100,7 @@ impl fmt::Display for Span {
 }
 
 /// A token with its place, as a span has it. A text has at most 1,048,576 bytes, so a place needs four bytes.
-#[derive(Clone, Copy, Debug, PartialEq, Eq)]
+#[derive(Clone, Copy, PartialEq, Eq)]
 pub struct Token {
     pub kind: TokenKind,
     pub start: u32,

@@ -9,7 +9,7 @@ use std::alloc::{AllocError, Global};
 use tables::Sequence;
 
 /// Packages in order, or packages that depend on each other. A package goes by its place.
-#[derive(Debug, Drop)]
+#[derive(Drop)]
 pub enum Arrangement {
     /// All of them, each after those that it depends on.
     Order(Sequence<usize>),

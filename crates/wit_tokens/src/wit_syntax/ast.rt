@@ -9,7 +9,7 @@ use std::alloc::{AllocError, Global};
 
 /// A whole text. The names of its package make full names: the namespace and the name have lower-case words alone, and
 /// the version is one of SemVer.
-#[derive(Debug, Drop)]
+#[derive(Drop)]
 pub struct Ast {
     pub package: PackageId,
     pub items: Vec<Item>,
@@ -37,7 +37,7 @@ impl Ast {
 }
 
 /// The names of a package, as a text's own line or a path has them.
-#[derive(Debug, Drop)]
+#[derive(Drop)]
 pub struct PackageId {
     pub namespace: Label,
     pub name: Label,
@@ -62,19 +62,19 @@ impl PackageId {
     }
 }
 
-#[derive(Debug, Drop)]
+#[derive(Drop)]
 pub enum Item {
     Interface(Interface),
     World(World),
 }
 
-#[derive(Debug, Drop)]
+#[derive(Drop)]
 pub struct Interface {
     pub name: Label,
     pub items: Vec<InterfaceItem>,
 }
 
-#[derive(Debug, Drop)]
+#[derive(Drop)]
 pub enum InterfaceItem {
     /// In a box, since it is twice as large as the others, and rarer.
     Use(Box<Use>),
@@ -82,7 +82,7 @@ pub enum InterfaceItem {
     Func(Func),
 }
 
-#[derive(Debug, Drop)]
+#[derive(Drop)]
 pub struct Use {
     /// Where the first token stands.
     pub span: Span,
@@ -91,7 +91,7 @@ pub struct Use {
 }
 
 /// The interface that a use or an item of a world names.
-#[derive(Debug, Drop)]
+#[derive(Drop)]
 pub enum Path {
     /// One of the text's own package.
     Local(Label),
@@ -102,13 +102,13 @@ pub enum Path {
     },
 }
 
-#[derive(Debug, Drop)]
+#[derive(Drop)]
 pub struct UsedName {
     pub name: Label,
     pub local: Option<Label>,
 }
 
-#[derive(Debug, Drop)]
+#[derive(Drop)]
 pub struct TypeDef {
     /// Where the first token stands.
     pub span: Span,
@@ -116,7 +116,7 @@ pub struct TypeDef {
     pub kind: TypeDefKind,
 }
 
-#[derive(Debug, Drop)]
+#[derive(Drop)]
 pub enum TypeDefKind {
     Alias(TypeExpression),
     Record(Vec<Field>),
@@ -126,19 +126,19 @@ pub enum TypeDefKind {
 }
 
 /// A field of a record, or a parameter.
-#[derive(Debug, Drop)]
+#[derive(Drop)]
 pub struct Field {
     pub name: Label,
     pub ty: TypeExpression,
 }
 
-#[derive(Debug, Drop)]
+#[derive(Drop)]
 pub struct Case {
     pub name: Label,
     pub payload: Option<TypeExpression>,
 }
 
-#[derive(Debug, Drop)]
+#[derive(Drop)]
 pub struct Func {
     /// Where the first token stands.
     pub span: Span,
@@ -146,13 +146,13 @@ pub struct Func {
     pub ty: FuncType,
 }
 
-#[derive(Debug, Drop)]
+#[derive(Drop)]
 pub struct FuncType {
     pub params: Vec<Field>,
     pub result: Option<TypeExpression>,
 }
 
-#[derive(Debug, Drop)]
+#[derive(Drop)]
 pub struct World {
     /// Where the first token stands.
     pub span: Span,
@@ -160,25 +160,25 @@ pub struct World {
     pub items: Vec<WorldItem>,
 }
 
-#[derive(Debug, Drop)]
+#[derive(Drop)]
 pub struct WorldItem {
     pub direction: Direction,
     pub kind: WorldItemKind,
 }
 
-#[derive(Clone, Copy, Debug, PartialEq, Eq)]
+#[derive(Clone, Copy, PartialEq, Eq)]
 pub enum Direction {
     Import,
     Export,
 }
 
-#[derive(Debug, Drop)]
+#[derive(Drop)]
 pub enum WorldItemKind {
     Interface(Path),
     Func(Func),
 }
 
-#[derive(Clone, Copy, Debug, PartialEq, Eq)]
+#[derive(Clone, Copy, PartialEq, Eq)]
 pub enum Primitive {
     Bool,
     Char,
@@ -193,7 +193,7 @@ pub enum Primitive {
     U64,
 }
 
-#[derive(Debug, Drop)]
+#[derive(Drop)]
 #[cycle(type_expression)]
 pub enum TypeExpression {
     Primitive(Primitive),
@@ -205,7 +205,7 @@ pub enum TypeExpression {
 }
 
 /// A type within another one. A primitive takes no memory of its own.
-#[derive(Debug, Drop)]
+#[derive(Drop)]
 #[cycle(type_expression)]
 pub enum InnerType {
     Plain(Primitive),
@@ -213,7 +213,7 @@ pub enum InnerType {
 }
 
 /// The type of ok or of error of a result, if it has one: two of them are as small as a list.
-#[derive(Debug, Drop)]
+#[derive(Drop)]
 #[cycle(type_expression)]
 pub enum ResultType {
     Absent,

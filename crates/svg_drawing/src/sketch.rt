@@ -1,9 +1,8 @@
-//! A page as a drawing.
+//! A page of lines, of rows of bytes, and of arrows between them.
 
-use crate::core_values::push_flat;
-use canonical_abi::Flat;
+use crate::drawing::{Area, Drawing, Point, text_width};
+use crate::style::{Fill, Ink};
 use std::alloc::{AllocError, Global};
-use svg_drawing::{Area, Drawing, Fill, Ink, Point, text_width};
 
 /// The pixels of a byte.
 const BYTE: u32 = 24;
@@ -17,16 +16,16 @@ const LEFT: u32 = 128;
 /// Where the words of a block begin.
 const WORDS: u32 = 64;
 
-/// Where core values go on in a next line.
+/// Where values go on in a next line.
 const RIGHT: u32 = 700;
 
 /// How many arrows are beside each other.
 const ARROWS: u32 = 6;
 
 /// How far a line is from the left.
-#[derive(Clone, Copy, Debug, PartialEq, Eq)]
+#[derive(Clone, Copy)]
 pub enum Level {
-    /// About the call or a side.
+    /// About a whole or a side of it.
     Outer,
     /// About a part of a side.
     Inner,
@@ -35,22 +34,22 @@ pub enum Level {
 }
 
 /// Where an arrow begins.
-#[derive(Clone, Copy, Debug, PartialEq, Eq)]
+#[derive(Clone, Copy)]
 pub enum Start {
     /// At a line of bytes, in pixels from the top.
     Line(u32),
-    /// Below a core value.
+    /// Below a value.
     Value(Point),
 }
 
-/// A drawing from the top on.
+/// A page that is drawn from the top on.
 #[derive(Drop)]
 pub struct Sketch {
     alloc: Global,
     drawing: Drawing,
     /// Where it ends, in pixels.
     bottom: u32,
-    /// Where the next core value begins.
+    /// Where the next value begins.
     right: u32,
     /// How many arrows there are.
     arrows: u32,
@@ -92,22 +91,20 @@ impl Sketch {
         self.push_words(12, Ink::Heading, text)
     }
 
-    /// Adds core values after a word for them. Returns where each of them is.
-    pub fn push_values(&mut self, word: &str, flats: &[Flat]) -> Result<Vec<Start>, AllocError> {
+    /// Adds values after a word for them. Returns where each of them is.
+    pub fn push_values(&mut self, word: &str, values: &[String]) -> Result<Vec<Start>, AllocError> {
         let y = self.bottom.saturating_add(16);
         self.drawing.text(Point { x: 52, y }, Ink::Plain, word)?;
         self.right = LEFT;
         let mut starts = Vec::new(self.alloc);
-        for flat in flats {
-            let mut text = String::new(self.alloc);
-            push_flat(&mut text, *flat)?;
-            starts.push(self.push_value(text.as_str())?)?;
+        for value in values {
+            starts.push(self.push_value(value.as_str())?)?;
         }
         self.bottom = self.bottom.saturating_add(LINE).saturating_add(18);
         Ok(starts)
     }
 
-    /// Adds a core value. Returns where it is.
+    /// Adds a value. Returns where it is.
     fn push_value(&mut self, text: &str) -> Result<Start, AllocError> {
         let width = text_width(text).saturating_add(12);
         if self.right.saturating_add(width) > RIGHT {
@@ -217,9 +214,9 @@ impl Sketch {
         self.push_words(x, Ink::Plain, note)
     }
 
-    /// The drawing as a document.
-    pub fn finish(self) -> Result<String, AllocError> {
+    /// The page as a document with a title.
+    pub fn finish(self, title: &str) -> Result<String, AllocError> {
         let drawing = self.drawing;
-        drawing.finish("A call, and what it did to both memories")
+        drawing.finish(title)
     }
 }

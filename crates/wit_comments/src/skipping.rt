@@ -1,4 +1,4 @@
-//! The items of a text, and the text without one of them.
+//! The items of a text, and the text without one of them. Comments are no part of an item's code.
 
 use std::alloc::{AllocError, Global};
 use wit_text::Span;
