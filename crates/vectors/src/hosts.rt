@@ -9,7 +9,7 @@ use serde_json::Value;
 use std::alloc::Global;
 use vector_calls::function;
 use vector_calls::vector_sides::{guest, list, list_of, package_bytes, text};
-use vector_hosts::{Filling, Host, asks_told};
+use crate::{Filling, Host, asks_told};
 use witcall::laws::has_labels_apart;
 use witcall::open;
 

@@ -3,6 +3,9 @@
 //! implementers of other runtimes the answers of calls that carry the promise.
 #![tactic(auto)]
 
+mod host;
+mod filling;
+mod asking;
 mod alone;
 mod hosts;
 mod sessions;
@@ -72,3 +75,7 @@ fn main(rt: HostRuntime) -> anyhow::Result<()> {
     }
     Ok(())
 }
+
+pub use asking::asks_told;
+pub use filling::Filling;
+pub use host::Host;
