@@ -5,7 +5,10 @@
 //! `checked_packages`. What a command does with them is done by `package_commands` and `call_command`.
 #![tactic(auto)]
 
+mod calling;
 mod running;
 
 pub use running::run;
 pub use wit_faults::Report;
+
+pub use calling::{CallWords, report_call};

@@ -1,6 +1,6 @@
 //! The commands.
 
-use call_command::{CallWords, report_call};
+use crate::{CallWords, report_call};
 use checked_packages::{CheckedSet, check_sources, main_of};
 use explain_words::{
     ColorChoice, Options, Parsed, VERSION, help_of, options_of, refusal_of_option,
