@@ -5,6 +5,9 @@
 //! `checked_packages`. What a command does with them is done by `package_commands` and `call_command`.
 #![tactic(auto)]
 
+mod unknown;
+mod options;
+mod help;
 mod calling;
 mod running;
 
@@ -12,3 +15,7 @@ pub use running::run;
 pub use wit_faults::Report;
 
 pub use calling::{CallWords, report_call};
+
+pub use help::{VERSION, help_of, usage};
+pub use options::{ColorChoice, Options, Parsed, options_of};
+pub use unknown::{refusal_of_option, refusal_of_words};

@@ -2,7 +2,7 @@
 
 use crate::{CallWords, report_call};
 use checked_packages::{CheckedSet, check_sources, main_of};
-use explain_words::{
+use crate::{
     ColorChoice, Options, Parsed, VERSION, help_of, options_of, refusal_of_option,
     refusal_of_words, usage,
 };
