@@ -2,7 +2,7 @@
 
 use atoms::Watched;
 use row_inputs::Set;
-use row_sets::opened_behind;
+use crate::row_sets::opened_behind;
 use std::alloc::Global;
 use witcall::{Package, Refused, report};
 
