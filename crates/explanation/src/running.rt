@@ -1,11 +1,10 @@
 //! The commands.
 
-use crate::{CallWords, report_call};
+use crate::calling::{CallWords, report_call};
+use crate::help::{VERSION, help_of, usage};
+use crate::options::{ColorChoice, Options, Parsed, options_of};
+use crate::unknown::{refusal_of_option, refusal_of_words};
 use checked_packages::{CheckedSet, check_sources, main_of};
-use crate::{
-    ColorChoice, Options, Parsed, VERSION, help_of, options_of, refusal_of_option,
-    refusal_of_words, usage,
-};
 use layout_picture::Form;
 use module_worlds::EmbedError;
 use package_commands::{

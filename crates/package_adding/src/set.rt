@@ -35,7 +35,7 @@ use wit_tokens::wit_syntax::Ast;
 
 /// Packages that use each other, as one table: each behind those that it uses, at most 64. None is empty, and none has
 /// more than 65,535 type entries with what it reaches.
-#[derive(Drop)]
+#[derive(Debug, Drop)]
 pub struct PackageSet {
     resolve: Resolve,
     ghost tower: { ∥ IsInTower resolve ∥₁ },

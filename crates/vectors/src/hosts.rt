@@ -3,13 +3,13 @@
 ghost use Rattle.tables.specs.Closed.{IsFunction};
 ghost use Rattle.value_json.specs.Apart.{HasApartLabels};
 
+use crate::{Filling, Host, asks_told};
 use canonical_abi::Guest;
 use package_values::Called;
 use serde_json::Value;
 use std::alloc::Global;
 use vector_calls::function;
 use vector_calls::vector_sides::{guest, list, list_of, package_bytes, text};
-use crate::{Filling, Host, asks_told};
 use witcall::laws::has_labels_apart;
 use witcall::open;
 

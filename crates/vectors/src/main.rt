@@ -3,10 +3,10 @@
 //! implementers of other runtimes the answers of calls that carry the promise.
 #![tactic(auto)]
 
-mod host;
-mod filling;
-mod asking;
 mod alone;
+mod asking;
+mod filling;
+mod host;
 mod hosts;
 mod sessions;
 
