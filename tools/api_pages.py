@@ -22,7 +22,7 @@ from repository import NO_CODE, ROOT, keep_pages, place
 
 FOLDER = ROOT / "docs" / "api"
 CRATES = ("witcall", "package_values", "opening", "lift_lower", "layout", "memory", "adapter", "host_calls",
-          "host_values", "import_values")
+          "host_values")
 # what ends the first statement of docs
 END = re.compile(r"(?:[.?!](?= [A-Z`])|[:;](?= )|\.$)")
 # what a declaration may name, and the name of a variant

@@ -11,8 +11,8 @@ use Rattle.host_calls.specs.declared.error.CallError.{CallError}
 use Rattle.host_calls.specs.declared.error.CallError.TheVariants as error
 use Rattle.host_calls.specs.declared.value.Value.{Value}
 use Rattle.host_values.specs.Requests.{AreNotTold}
-use Rattle.import_values.specs.Arguments.{AreReadArguments, ArgumentsAreNotRead, AskWithin}
-use Rattle.import_values.specs.Results.{AnswerDone}
+use Rattle.host_values.specs.Arguments.{AreReadArguments, ArgumentsAreNotRead, AskWithin}
+use Rattle.host_values.specs.Results.{AnswerDone}
 use Rattle.memory.specs.declared.block.Block.{Block}
 use Rattle.opening.specs.declared.package.Package.{Package}
 use Rattle.package_values.specs.Calls.{of_json}

@@ -7,8 +7,7 @@
 //! arguments are read as a text, and its result is put into the guest's memory from one. A package is written as its
 //! binary, its text or its document, `explain` tells what is wrong with texts, and `open_module` opens the packages
 //! that a module carries. `witcall_c` exports all this. Stands on `package_values` (arguments as JSON), `host_values`
-//! (reading), `import_values` (calls of a guest), `json_faults` (what is wrong in JSON), `package_document` and
-//! `checked_packages`.
+//! (reading, and calls of a guest), `json_faults` (what is wrong in JSON), `package_document` and `checked_packages`.
 #![tactic(auto)]
 
 mod argument_texts;

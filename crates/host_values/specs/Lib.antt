@@ -1,3 +1,5 @@
 pub mod Filling
 pub mod Reading
 pub mod Requests
+pub mod Arguments
+pub mod Results

@@ -6,12 +6,12 @@ ghost use Rattle.core_modules.specs.Module.{Module, module_view};
 ghost use Rattle.core_modules.specs.Sections.{declared_by};
 ghost use Rattle.module_worlds.specs.Fits.{ExportsAll};
 
+use crate::encoded_packages::{EncodeError, world_bytes};
 use crate::fit::{Findings, Fit};
 use crate::misfit::Misfit;
 use component_encoding::{EncodeError as Unwritten, order_of, put_custom};
 use component_structure::DecodeError;
 use core_modules::{CoreModule, read_module};
-use encoded_packages::{EncodeError, world_bytes};
 use layout::Layouts;
 use std::alloc::{AllocError, AllocFailed, Global};
 use tables::{Resolve, World};

@@ -10,14 +10,14 @@ ghost use Rattle.tables.specs.Closed.{IsFunction};
 ghost use Rattle.tables.specs.declared.tables.FunctionId.{FunctionId};
 ghost use Rattle.tables.specs.declared.tables.Resolve.{Resolve};
 ghost use Rattle.wit_component.specs.ToComponent.{ComponentStands};
-ghost use Rattle.world_functions.specs.Named.{IsNamedOfWorld};
+ghost use Rattle.function_index.specs.Named.{IsNamedOfWorld};
 
 use crate::package::Package;
 use ctype_bin::RawComponent;
+use function_index::world_function;
 use package_adding::{print, table, to_raw};
 use std::alloc::{AllocError, Global};
 use tables::{Direction, FunctionId, PackageId, Resolve};
-use world_functions::world_function;
 
 impl Package {
     /// Whether one of the packages has this id, which counts them from 0 in the order in which they were opened.

@@ -2,7 +2,7 @@
 
 use checked_packages::Checked;
 use component_encoding::world_named;
-use encoded_packages::{EncodeError, package_bytes, world_bytes};
+use module_worlds::{EncodeError, package_bytes, world_bytes};
 use package_form::own_package;
 use std::alloc::{AllocError, Global};
 use tables::{PackageId, Resolve, World};

@@ -5,9 +5,9 @@
 //! `header_for_c` writes a header of all, `header_for_guest` one of a world, and `declarations_for_ts` declarations of
 //! one and of what it uses. `push_decoded` reads packages from a binary and writes their texts, and `embedded` writes a
 //! module with a world. Texts are those of `package_text`, binaries those of `wit_component` and of
-//! `encoded_packages`, lines those of `overview`, pictures those of `package_picture`, changes those of
-//! `package_diff`, headers those of `c_header`, declarations those of `ts_declarations`, and modules those of
-//! `module_worlds`. Binaries are read by `checked_packages`.
+//! `module_worlds`, as modules are, lines those of `overview`, pictures those of `package_picture`, changes those of
+//! `package_diff`, headers those of `c_header`, and declarations those of `ts_declarations`. Binaries are read by
+//! `checked_packages`.
 #![tactic(auto)]
 
 mod binary;

@@ -2,10 +2,11 @@
 //!
 //! `Resolve` is a set of packages as one table, which has `function`. `PackageSet` adds packages to one, `from_ast` and
 //! `from_raw` make the table of a package alone, `to_raw` and `print` write a package of a set, and `copy` makes the
-//! same table under the same ids. It stands on `tables`, `table_building`, `world_functions` and `package_adding`,
+//! same table under the same ids. It stands on `tables`, `table_building`, `function_index` and `package_adding`,
 //! which declare these.
 #![tactic(auto)]
 
+pub use function_index::world_function;
 pub use package_adding::{PackageSet, from_ast, from_raw, print, table, to_raw};
 pub use table_building::{copy_of, copy_of as copy, from_parts};
 pub use tables::{
@@ -13,4 +14,3 @@ pub use tables::{
     PackageId, PackageName, Parameter, Primitive, Resolve, ResolveError, Sequence, TypeDef,
     TypeDefKind, TypeId, TypeName, ValType, World, WorldId, WorldItem, WorldItemKind,
 };
-pub use world_functions::world_function;

@@ -28,7 +28,7 @@ use Rattle.witcall_c.specs.declared.calls.SignaturePart.{SignaturePart}
 use Rattle.witcall_c.specs.declared.calls.SignaturePart.TheVariants as part
 use Rattle.witcall_c.specs.declared.handle.Handle.{Handle}
 use Rattle.witcall_c.specs.declared.held.Held.{Held}
-use Rattle.world_functions.specs.Named.{IsNamedOfWorld}
+use Rattle.function_index.specs.Named.{IsNamedOfWorld}
 
 -- what opening inputs gives: a package with an index of its functions, or why they are refused
 abbrev pub Opening : Type 0

@@ -1,7 +1,7 @@
 -- The text of the arguments that were read stands in the array.
 use Rattle.std.proofs.Common.{◌≡◌, ◌∙◌, ℕ, List, map, inl, subst, sym}
 use Rattle.std.specs.Prelude.{string_bytes}
-use Rattle.import_values.specs.Arguments.{AreReadArguments, AskWithin}
+use Rattle.host_values.specs.Arguments.{AreReadArguments, AskWithin}
 use Rattle.tables.specs.Closed.{function_type}
 use Rattle.tables.specs.declared.tables.Resolve.{Resolve}
 use Rattle.values.specs.Val.{value_of}

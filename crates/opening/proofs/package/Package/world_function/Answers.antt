@@ -2,7 +2,7 @@
 use Rattle.std.proofs.Common.{IfNone, subst}
 use Rattle.tables.specs.declared.tables.FunctionId.{FunctionId}
 use Rattle.tables.specs.declared.tables.Resolve.{Resolve}
-use Rattle.world_functions.specs.Named.{IsNamedOfWorld}
+use Rattle.function_index.specs.Named.{IsNamedOfWorld}
 use Rattle.opening.proofs.package.Package.world_function.Goals as goal
 
 pub returns-clause-none : goal.returns-clause-none

@@ -1,5 +1,0 @@
-use Rattle.tables.proofs.TextsComparedByParts.{tells-behind}
-use Rattle.world_functions.proofs.name.is_in_package.Goals as goal
-
-pub returns-in-Some : goal.returns-in-Some
-returns-in-Some c = tells-behind c.in-Some.ensures c.as_bytes.ensures.is c.is_suffix.ensures
