@@ -67,19 +67,19 @@ pub fn has_held(parts: &[Part]) -> bool {
     false
 }
 
-/// The name of a primitive type in C, and in WIT.
-fn words_of(primitive: Primitive) -> (&'static str, &'static str) {
+/// The name of a primitive type in C.
+fn c_word(primitive: Primitive) -> &'static str {
     match primitive {
-        Primitive::Bool => ("wit_bool", "bool"),
-        Primitive::S8 => ("int8_t", "s8"),
-        Primitive::U8 => ("uint8_t", "u8"),
-        Primitive::S16 => ("int16_t", "s16"),
-        Primitive::U16 => ("uint16_t", "u16"),
-        Primitive::S32 => ("int32_t", "s32"),
-        Primitive::U32 => ("uint32_t", "u32"),
-        Primitive::S64 => ("int64_t", "s64"),
-        Primitive::U64 => ("uint64_t", "u64"),
-        Primitive::Char => ("wit_char", "char"),
+        Primitive::Bool => "wit_bool",
+        Primitive::S8 => "int8_t",
+        Primitive::U8 => "uint8_t",
+        Primitive::S16 => "int16_t",
+        Primitive::U16 => "uint16_t",
+        Primitive::S32 => "int32_t",
+        Primitive::U32 => "uint32_t",
+        Primitive::S64 => "int64_t",
+        Primitive::U64 => "uint64_t",
+        Primitive::Char => "wit_char",
     }
 }
 
@@ -133,7 +133,7 @@ impl<'a> Types<'a> {
     /// The name of a type in C.
     pub fn c(&self, ty: ValType) -> &str {
         match self.end(ty) {
-            ValType::Primitive(primitive) => words_of(primitive).0,
+            ValType::Primitive(primitive) => c_word(primitive),
             ValType::String => "wit_string",
             ValType::Id(id) => match self.row(id) {
                 Some(row) => row.c.as_str(),
@@ -147,7 +147,7 @@ impl<'a> Types<'a> {
         match ty {
             None => "void",
             Some(ty) => match self.end(ty) {
-                ValType::Primitive(primitive) => words_of(primitive).1,
+                ValType::Primitive(primitive) => primitive.keyword(),
                 ValType::String => "string",
                 ValType::Id(id) => match self.row(id) {
                     Some(row) => row.key.as_str(),
@@ -161,7 +161,7 @@ impl<'a> Types<'a> {
     pub fn spelling(&self, ty: Option<ValType>) -> &str {
         match ty {
             None => "_",
-            Some(ValType::Primitive(primitive)) => words_of(primitive).1,
+            Some(ValType::Primitive(primitive)) => primitive.keyword(),
             Some(ValType::String) => "string",
             Some(ValType::Id(id)) => match self.row(id) {
                 Some(row) => row.spelling.as_str(),

@@ -6,7 +6,7 @@ use thiserror::Error;
 use value_json::JsonError as ValueError;
 
 /// Why no values were made of a text. It is displayed as `witcall` displays it.
-#[derive(Clone, Copy, Debug, PartialEq, Eq, Error)]
+#[derive(Clone, Copy, Debug, Error)]
 pub enum JsonError {
     /// The text is no JSON, or nests deeper than 127.
     #[error("error 61 bad JSON")]

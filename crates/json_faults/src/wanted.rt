@@ -10,19 +10,19 @@ const MOST_LABELS: usize = 8;
 
 const MOST_SHOWN: usize = 60;
 
-/// The word of a primitive type, and what its values are.
-fn words_of(primitive: Primitive) -> (&'static str, &'static str) {
+/// What the values of a primitive type are.
+fn values_of(primitive: Primitive) -> &'static str {
     match primitive {
-        Primitive::Bool => ("bool", "`true` or `false`"),
-        Primitive::S8 => ("s8", "a whole number from -128 to 127"),
-        Primitive::U8 => ("u8", "a whole number from 0 to 255"),
-        Primitive::S16 => ("s16", "a whole number from -32768 to 32767"),
-        Primitive::U16 => ("u16", "a whole number from 0 to 65535"),
-        Primitive::S32 => ("s32", "a whole number from -2147483648 to 2147483647"),
-        Primitive::U32 => ("u32", "a whole number from 0 to 4294967295"),
-        Primitive::S64 => ("s64", "a whole number of 64 bits"),
-        Primitive::U64 => ("u64", "a whole number of 64 bits, from 0 on"),
-        Primitive::Char => ("char", "a text of one character"),
+        Primitive::Bool => "`true` or `false`",
+        Primitive::S8 => "a whole number from -128 to 127",
+        Primitive::U8 => "a whole number from 0 to 255",
+        Primitive::S16 => "a whole number from -32768 to 32767",
+        Primitive::U16 => "a whole number from 0 to 65535",
+        Primitive::S32 => "a whole number from -2147483648 to 2147483647",
+        Primitive::U32 => "a whole number from 0 to 4294967295",
+        Primitive::S64 => "a whole number of 64 bits",
+        Primitive::U64 => "a whole number of 64 bits, from 0 on",
+        Primitive::Char => "a text of one character",
     }
 }
 
@@ -88,7 +88,7 @@ pub fn not_scalar(alloc: Global, ty: ValType, value: &Json) -> Result<String, Al
     let mut words = String::new(alloc);
     match ty {
         ValType::Primitive(primitive) => {
-            let (name, what) = words_of(primitive);
+            let (name, what) = (primitive.keyword(), values_of(primitive));
             write!(words, "a `{name}` is {what}")?;
         }
         ValType::String | ValType::Id(_) => words.push_str("a `string` is a text")?,

@@ -2,7 +2,7 @@
 
 use crate::type_layout::TypeLayout;
 use std::alloc::{AllocError, Global};
-use tables::{Definition, Primitive, Resolve, TypeDef, TypeDefKind, TypeId, ValType};
+use tables::{Definition, Resolve, TypeDef, TypeDefKind, TypeId, ValType};
 
 /// The most pieces of which a type is spelled. After these it goes on with `..`.
 const MAX_PIECES: usize = 32;
@@ -13,22 +13,6 @@ enum Piece {
     Mark(&'static str),
     /// A type, or `_` in its place.
     Type(Option<ValType>),
-}
-
-/// The word of a primitive type.
-fn primitive_word(primitive: Primitive) -> &'static str {
-    match primitive {
-        Primitive::Bool => "bool",
-        Primitive::S8 => "s8",
-        Primitive::U8 => "u8",
-        Primitive::S16 => "s16",
-        Primitive::U16 => "u16",
-        Primitive::S32 => "s32",
-        Primitive::U32 => "u32",
-        Primitive::S64 => "s64",
-        Primitive::U64 => "u64",
-        Primitive::Char => "char",
-    }
 }
 
 fn definition(resolve: &Resolve, id: TypeId) -> Option<&TypeDef> {
@@ -142,7 +126,7 @@ fn next_word<'a>(
     match piece {
         Piece::Mark(mark) => Ok(mark),
         Piece::Type(None) => Ok("_"),
-        Piece::Type(Some(ValType::Primitive(primitive))) => Ok(primitive_word(primitive)),
+        Piece::Type(Some(ValType::Primitive(primitive))) => Ok(primitive.keyword()),
         Piece::Type(Some(ValType::String)) => Ok("string"),
         Piece::Type(Some(ValType::Id(id))) => match (
             label_of(resolve, id),

@@ -4,7 +4,7 @@ use canonical_abi::CoreKind;
 use layout::Kinds;
 use std::alloc::AllocError;
 use std::fmt::Write;
-use tables::{Primitive, ValType};
+use tables::ValType;
 
 /// Appends the comma before an item of a list, where it is not the first.
 pub fn push_comma(text: &mut String, place: usize) -> Result<(), AllocError> {
@@ -21,28 +21,11 @@ pub fn push_word(text: &mut String, word: &str) -> Result<(), AllocError> {
     text.push('"')
 }
 
-/// Appends the word of a type that has no row.
-fn push_primitive(text: &mut String, primitive: Primitive) -> Result<(), AllocError> {
-    let word = match primitive {
-        Primitive::Bool => "bool",
-        Primitive::S8 => "s8",
-        Primitive::U8 => "u8",
-        Primitive::S16 => "s16",
-        Primitive::U16 => "u16",
-        Primitive::S32 => "s32",
-        Primitive::U32 => "u32",
-        Primitive::S64 => "s64",
-        Primitive::U64 => "u64",
-        Primitive::Char => "char",
-    };
-    push_word(text, word)
-}
-
 /// Appends a type: its word, or the number of its row. `null` if there is none.
 pub fn push_type(text: &mut String, ty: Option<ValType>) -> Result<(), AllocError> {
     match ty {
         None => text.push_str("null"),
-        Some(ValType::Primitive(primitive)) => push_primitive(text, primitive),
+        Some(ValType::Primitive(primitive)) => push_word(text, primitive.keyword()),
         Some(ValType::String) => push_word(text, "string"),
         Some(ValType::Id(id)) => {
             write!(text, "{}", id.0)?;

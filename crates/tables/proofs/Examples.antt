@@ -24,6 +24,7 @@ use Rattle.tables.specs.declared.tables.WorldItem.{WorldItem}
 use Rattle.tables.specs.declared.tables.World.{World}
 use Rattle.tables.specs.declared.tables.Resolve.{Resolve}
 use Rattle.tables.specs.PackageNames.{PackageParts}
+use Rattle.tables.specs.Keywords.{primitive_keyword}
 use Rattle.tables.specs.Names.{full_name, world_name}
 use Rattle.tables.specs.Tables.{are_earlier, name_types, are_standard, is_standard_kind, is_within, is_type_id, is_function_id}
 use Rattle.tables.specs.Closed.{closed_kind, IsFunction as IsFunctionOf, prim_of, closed_types, function_type}
@@ -306,6 +307,11 @@ each-primitive : map prim_of
     (primitive.Bool ∷ primitive.S8 ∷ primitive.U8 ∷ primitive.S16 ∷ primitive.U16 ∷ primitive.S32 ∷ primitive.U32 ∷ primitive.S64 ∷ primitive.U64 ∷ primitive.Char ∷ [])
     ≡ boolean ∷ signed int8 ∷ unsigned int8 ∷ signed int16 ∷ unsigned int16 ∷ signed int32 ∷ unsigned int32 ∷ signed int64 ∷ unsigned int64 ∷ scalar_value ∷ []
 each-primitive = refl
+
+each-keyword : map primitive_keyword
+    (primitive.Bool ∷ primitive.S8 ∷ primitive.U8 ∷ primitive.S16 ∷ primitive.U16 ∷ primitive.S32 ∷ primitive.U32 ∷ primitive.S64 ∷ primitive.U64 ∷ primitive.Char ∷ [])
+    ≡ codes "bool" ∷ codes "s8" ∷ codes "u8" ∷ codes "s16" ∷ codes "u16" ∷ codes "s32" ∷ codes "u32" ∷ codes "s64" ∷ codes "u64" ∷ codes "char" ∷ []
+each-keyword = refl
 
 -- ---- two packages: the second uses a name of the first
 

@@ -7,3 +7,4 @@ pub mod Package
 pub mod Parts
 pub mod Standard
 pub mod Labelled
+pub mod Keywords

@@ -7,6 +7,7 @@
 #![tactic(auto)]
 
 mod error;
+mod keyword;
 pub mod laws;
 mod lookup;
 mod members;

@@ -35,19 +35,14 @@ pub struct Spellings {
     rows: Vec<Spelling>,
 }
 
-/// A primitive type as TypeScript spells it, and as WIT does.
-fn words_of(primitive: Primitive) -> (&'static str, &'static str) {
+/// A primitive type as TypeScript spells it.
+fn ts_word(primitive: Primitive) -> &'static str {
     match primitive {
-        Primitive::Bool => ("boolean", "bool"),
-        Primitive::S8 => ("number", "s8"),
-        Primitive::U8 => ("number", "u8"),
-        Primitive::S16 => ("number", "s16"),
-        Primitive::U16 => ("number", "u16"),
-        Primitive::S32 => ("number", "s32"),
-        Primitive::U32 => ("number", "u32"),
-        Primitive::S64 => ("bigint", "s64"),
-        Primitive::U64 => ("bigint", "u64"),
-        Primitive::Char => ("string", "char"),
+        Primitive::Bool => "boolean",
+        Primitive::Char => "string",
+        Primitive::S8 | Primitive::U8 | Primitive::S16 | Primitive::U16 => "number",
+        Primitive::S32 | Primitive::U32 => "number",
+        Primitive::S64 | Primitive::U64 => "bigint",
     }
 }
 
@@ -127,7 +122,7 @@ impl Spellings {
     /// A type as TypeScript spells it.
     pub fn text(&self, ty: ValType) -> &str {
         match ty {
-            ValType::Primitive(primitive) => words_of(primitive).0,
+            ValType::Primitive(primitive) => ts_word(primitive),
             ValType::String => "string",
             ValType::Id(_) => match self.row(ty) {
                 Some(row) => row.text.as_str(),
@@ -140,7 +135,7 @@ impl Spellings {
     pub fn wit(&self, ty: Option<ValType>) -> &str {
         match ty {
             None => "_",
-            Some(ValType::Primitive(primitive)) => words_of(primitive).1,
+            Some(ValType::Primitive(primitive)) => primitive.keyword(),
             Some(ValType::String) => "string",
             Some(ty) => match self.row(ty) {
                 Some(row) => row.wit.as_str(),

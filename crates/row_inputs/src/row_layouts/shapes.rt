@@ -6,22 +6,7 @@ ghost use Rattle.tables.specs.Tables.{is_below};
 use canonical_abi::CoreKind;
 use layout::{CoreSignature, Kinds, Layouts, Shape};
 use std::alloc::{AllocError, Global};
-use tables::{Primitive, ValType};
-
-fn word(primitive: Primitive) -> &'static str {
-    match primitive {
-        Primitive::Bool => "bool",
-        Primitive::S8 => "s8",
-        Primitive::U8 => "u8",
-        Primitive::S16 => "s16",
-        Primitive::U16 => "u16",
-        Primitive::S32 => "s32",
-        Primitive::U32 => "u32",
-        Primitive::S64 => "s64",
-        Primitive::U64 => "u64",
-        Primitive::Char => "char",
-    }
-}
+use tables::ValType;
 
 /// The places of so many fields.
 fn fields(alloc: Global, layouts: &Layouts, ty: ValType, count: usize) -> Result<String, AllocError>
@@ -57,7 +42,7 @@ fn shape(alloc: Global, layouts: &Layouts, ty: ValType) -> Result<String, AllocE
     requires { IsTrue (is_below (length layouts.now.rows) ty) }
 {
     match layouts.shape(ty) {
-        Shape::Primitive(primitive) => String::from_str(alloc, word(primitive)),
+        Shape::Primitive(primitive) => String::from_str(alloc, primitive.keyword()),
         Shape::String => String::from_str(alloc, "string"),
         Shape::List(_) => String::from_str(alloc, "list"),
         Shape::Record(count) => {
