@@ -1,13 +1,13 @@
 //! Words by way of `clap`.
 
-ghost use Rattle.std.specs.Prelude.{◌≡◌, IfOk, IfErr, [], drop, if◌then◌else◌, string_bytes};
+ghost use Rattle.std.specs.Prelude.{◌≡◌, IfOk, IfErr, [], drop, false, if◌then◌else◌, string_bytes};
 ghost use Rattle.clap.specs.Faults.{fault_of};
 ghost use Rattle.clap.specs.Simple.{app_of, subcommand_of, subcommand_rows_of, with_subcommand};
-ghost use Rattle.clap.specs.Walk.{rows_of};
+ghost use Rattle.clap.specs.Walk.{rows_of, rule_of};
 ghost use Rattle.clap.specs.Matches.{found_of};
 ghost use Rattle.words.specs.Asked.{IsAsked, IsAskedBy, IsWord, IsCommand, HasWord, NamesCommand, AreTaken, earlier_of};
 ghost use Rattle.words.specs.Earlier.{with_files, other_words, texts_of, lent_texts};
-ghost use Rattle.words.specs.Reader.{program_app, with_words};
+ghost use Rattle.words.specs.Reader.{program_app, required, with_words};
 
 use crate::asked::{Command, Job};
 use crate::earlier::parted;
@@ -83,6 +83,14 @@ fn parser<'a>(alloc: Global) -> Result<clap::Command<'a>, AllocError>
     adding(alloc, parser, "call", CALL.as_slice())
 }
 
+/// A word of a command, which is required.
+fn required_word<'a>(alloc: Global, word: &'a str) -> Arg<'a>
+    ensures rule { rule_of result ≡ required word.now }
+    ensures own { result.global ≡ false }
+{
+    Arg::new(alloc, word).required(true).action(ArgAction::Set)
+}
+
 /// The parser with one more command, whose words are all required.
 fn adding<'a>(
     alloc: Global,
@@ -95,7 +103,7 @@ fn adding<'a>(
 {
     let mut command = clap::Command::new(alloc, name).disable_help_flag(true);
     for word in words {
-        command = command.arg(Arg::new(alloc, *word).required(true).action(ArgAction::Set))?;
+        command = command.arg(required_word(alloc, *word))?;
     }
     parser.subcommand(command)
 }
