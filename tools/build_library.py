@@ -56,7 +56,8 @@ def build(options, folder):
     else:
         words += ["--toolchain", f"{rtlib.KIT}/toolchain"]
     with open(os.devnull, "w", encoding="utf-8") as crate.out:
-        return run(rtlib, crate, ["build", *crate.words(["--jobs", os.environ.get("RT_JOBS", "1")], keeps=False), *words])
+        words = ["build", *crate.words(["--jobs", os.environ.get("RT_JOBS", "1")], keeps=False), *words]
+        return run(rtlib, crate, words).returncode
 
 
 def main():
