@@ -8,7 +8,6 @@ pub mod calls;
 mod finding;
 pub mod json;
 pub mod opened;
-mod row_sets;
 mod rows;
 
 use rows::{Rows, read};

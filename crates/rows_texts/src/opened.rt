@@ -1,8 +1,8 @@
 //! Sets that are opened, and the lines of their refusals.
 
-use crate::row_sets::opened_behind;
 use atoms::Watched;
 use row_inputs::Set;
+use row_sets::opened_behind;
 use std::alloc::Global;
 use witcall::{Package, Refused, report};
 
