@@ -28,7 +28,7 @@ An edit is named for what it would let through. Examples are `spills_at_sixteen`
 `adapter` and `reply_always_stops` in `witcall`. `tools/try_edits.py` tries them all, or those of the crates named, and
 says of each which goal it leaves open.
 
-On 2026-11-23 to 29 the edits of this table were tried, some before the last change of their crate. Those of
+On 2026-11-23 to 30 the edits of this table were tried, some before the last change of their crate. Those of
 `set_rows`, `table_building`, `package_names` and `values` were tried when their code was in another crate, except
 `returned_value_is_lost` and `every_name_has_the_first_place`. So were `path_version_is_lost`, `version_is_not_judged`
 and `upper_case_package` of `wit_grammar`, those of `package_values`, except `bad_json_is_not_this_type` and
