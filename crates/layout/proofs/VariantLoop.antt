@@ -1,31 +1,17 @@
 -- What a loop over the cases of a variant keeps.
-use Rattle.std.proofs.Common.{◌≡◌, ℕ, ◌+◌, ◌<◌, ◌≤◌, max, List, [], ◌∷◌, ◌++◌, Option, None, Some, length, fold, take, get_or, refl, ap, ◌∙◌, arith}
+use Rattle.std.proofs.Common.{◌≡◌, ℕ, ◌+◌, ◌<◌, max, List, [], ◌∷◌, ◌++◌, Option, None, Some, length, take, get_or, refl, ap, ◌∙◌, arith}
 use Rattle.std.proofs.lemmas.List.{map-append, append-nil}
 use Rattle.std.proofs.lemmas.List.Sums.{fold-append}
 use Rattle.std.proofs.lemmas.Grind.{take_at_read}
 use Rattle.std.specs.Option.{option_map}
-use Rattle.canonical_abi.specs.Layout.{Extent, greatest_size, greatest_align}
+use Rattle.canonical_abi.specs.Layout.{Extent}
 use Rattle.tables.specs.declared.tables.ValType.{ValType}
 use Rattle.layout.specs.Kinds.{kinds_of, join_kinds}
 use Rattle.layout.specs.Layout.{IsSound}
 use Rattle.layout.specs.Parts.{payloads}
-use Rattle.layout.specs.Rows.{row_in, choices_at, deepest, extent_in, extents}
+use Rattle.layout.specs.Rows.{row_in, choices_at, extent_in, extents, joined_rows, AreJoined}
 use Rattle.layout.specs.declared.rows.Row.{Row}
 use Rattle.layout.specs.declared.kinds.Kinds.{Kinds}
-
--- the kinds of payloads with these rows
-abbrev pub joined : List Row → Kinds
-joined rows = fold (λ ks r. join_kinds ks r.kinds) (kinds_of []) rows
-
-pub record VariantSoFar (rows : List Row) (depth size align : ℕ) (kinds : Kinds) : Type 0 where
-  pub depth_is : depth ≡ deepest rows
-  pub depth_fits : depth ≤ 65
-  pub size_is : size ≡ greatest_size (extents rows)
-  pub size_fits : size ≤ 16777216
-  pub align_is : align ≡ greatest_align (extents rows)
-  pub least : 1 ≤ align
-  pub most : align ≤ 8
-  pub kinds_is : kinds ≡ joined rows
 
 payloads-push : {A : Type 0} (cs : List (Option A)) (c : Option A) → payloads (cs ++ c ∷ []) ≡ payloads cs ++ payloads (c ∷ [])
 payloads-push [] c = refl
@@ -39,21 +25,24 @@ choices_at-more rows payload xs i d h =
     rw ((take_at_read xs i d h).1, map-append (λ x. option_map (row_in rows) (payload x)) (take i xs) (get_or xs i d ∷ []))
     (payloads-push (choices_at rows payload (take i xs)) (option_map (row_in rows) (payload (get_or xs i d))))
 
-pub variant_more : {rows rows' : List Row} (r : Row) {depth depth' size size' align align' : ℕ} {kinds kinds' : Kinds}
-    → VariantSoFar rows depth size align kinds → IsSound r → rows' ≡ rows ++ r ∷ []
-    → depth' ≡ max depth r.depth → size' ≡ max size r.size → align' ≡ max align r.align → kinds' ≡ join_kinds kinds r.kinds
-    → VariantSoFar rows' depth' size' align' kinds'
-variant_more {rows} {rows'} r so_far sound rows_are depth_is size_is align_is kinds_are =
+pub variant_more : {rows rows' : List Row} (r : Row) {joined joined' : Row}
+    → AreJoined rows joined → IsSound r → rows' ≡ rows ++ r ∷ [] → joined' ≡ joined_rows joined r
+    → AreJoined rows' joined'
+variant_more {rows} {rows'} r {joined} {joined'} so_far sound rows_are joined_is =
     let split : extents rows' ≡ extents rows ++ extent_in r ∷ [] = rw rows_are (map-append extent_in rows (r ∷ [])) in
+    let depth' : joined'.depth ≡ max joined.depth r.depth = ap (λ (x : Row). x.depth) joined_is in
+    let size' : joined'.size ≡ max joined.size r.size = ap (λ (x : Row). x.size) joined_is in
+    let align' : joined'.align ≡ max joined.align r.align = ap (λ (x : Row). x.align) joined_is in
+    let kinds' : joined'.kinds ≡ join_kinds joined.kinds r.kinds = ap (λ (x : Row). x.kinds) joined_is in
     record {
-      depth_is = rw (rows_are, fold-append (λ (n : ℕ) (x : Row). max n x.depth) 0 rows (r ∷ []), ← so_far.depth_is) depth_is;
+      depth_is = rw (rows_are, fold-append (λ (n : ℕ) (x : Row). max n x.depth) 0 rows (r ∷ []), ← so_far.depth_is) depth';
       depth_fits = omega (arith, so_far.depth_fits, sound.depth);
-      size_is = rw (split, fold-append (λ (n : ℕ) (x : Extent). max n x.size) 0 (extents rows) (extent_in r ∷ []), ← so_far.size_is) size_is;
+      size_is = rw (split, fold-append (λ (n : ℕ) (x : Extent). max n x.size) 0 (extents rows) (extent_in r ∷ []), ← so_far.size_is) size';
       size_fits = omega (arith, so_far.size_fits, sound.size);
-      align_is = rw (split, fold-append (λ (n : ℕ) (x : Extent). max n x.align) 1 (extents rows) (extent_in r ∷ []), ← so_far.align_is) align_is;
+      align_is = rw (split, fold-append (λ (n : ℕ) (x : Extent). max n x.align) 1 (extents rows) (extent_in r ∷ []), ← so_far.align_is) align';
       least = omega (arith, so_far.least);
       most = omega (arith, so_far.most, sound.most_align);
-      kinds_is = rw (rows_are, fold-append (λ (ks : Kinds) (r : Row). join_kinds ks r.kinds) (kinds_of []) rows (r ∷ []), ← so_far.kinds_is) kinds_are;
+      kinds_is = rw (rows_are, fold-append (λ (ks : Kinds) (r : Row). join_kinds ks r.kinds) (kinds_of []) rows (r ∷ []), ← so_far.kinds_is) kinds';
     }
 
 pub choices_at-some : {A : Type 0} (rows : List Row) (payload : A → Option ValType) (xs : List A) (i : ℕ) (d : A) (v : ValType) → i < length xs

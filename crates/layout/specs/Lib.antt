@@ -1,3 +1,4 @@
+pub mod KindLists
 pub mod Kinds
 pub mod Packed
 pub mod Layout

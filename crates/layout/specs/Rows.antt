@@ -1,8 +1,10 @@
 -- What a definition's row is, by the rows before it.
-use Rattle.std.specs.Prelude.{ℕ, ◌+◌, ◌<◌, ◌≤◌, max, Bool, true, List, [], ◌∷◌, length, map, fold, slice_index_or, Option, None, Some}
+use Rattle.std.specs.Prelude.{◌≡◌, ℕ, ◌+◌, ◌<◌, ◌≤◌, max, min, Bool, true, List, [], ◌∷◌, length, map, fold, slice_index_or, Option, None, Some}
 use Rattle.std.specs.Option.{option_map}
 use Rattle.canonical_abi.specs.Types.{prim_type, string_type, flags_type}
-use Rattle.canonical_abi.specs.Layout.{Extent, record_extent, variant_extent}
+use Rattle.std.specs.Int.{next_multiple_of}
+use Rattle.canonical_abi.specs.Layout.{Extent, places_from, end_from, greatest_size, greatest_align}
+use Rattle.canonical_abi.specs.Layout.{record_extent, variant_extent}
 use Rattle.canonical_abi.specs.declared.flat.CoreKind.{CoreKind}
 use Rattle.canonical_abi.specs.declared.flat.CoreKind.TheVariants.{I32}
 use Rattle.tables.specs.Closed.{prim_of}
@@ -109,6 +111,62 @@ definition_result rows (row.Function f) = result_in rows f.result
 -- the row of a number of so many bytes, carried by one core value of this type
 abbrev pub number_row : ℕ → CoreKind → Row
 number_row bytes k = record { depth = 1; size = bytes; align = bytes; kinds = kinds_of (k ∷ []) }
+
+-- no bytes, aligned to one, and no kinds
+abbrev pub empty_row : Row
+empty_row = record { depth = 0; size = 0; align = 1; kinds = kinds_of [] }
+
+-- the row of a record's fields so far, with one more at this place; its size is where the last one ends, and one above
+-- the greatest size where that is more
+abbrev pub row_with : Row → ℕ → Row → Row
+row_with laid place r = record {
+  depth = max laid.depth r.depth;
+  size = min (place + r.size) (max_size + 1);
+  align = max laid.align r.align;
+  kinds = append_kinds laid.kinds r.kinds;
+}
+
+-- the row that has room for either of two payloads
+abbrev pub joined_rows : Row → Row → Row
+joined_rows a b = record {
+  depth = max a.depth b.depth;
+  size = max a.size b.size;
+  align = max a.align b.align;
+  kinds = join_kinds a.kinds b.kinds;
+}
+
+-- the row of a variant with a discriminant of so many bytes and a payload at this place, which the other row is of
+abbrev pub tagged_row : ℕ → ℕ → Row → Row
+tagged_row discriminant place r = record {
+  depth = capped (r.depth + 1);
+  size = next_multiple_of (place + r.size) (max discriminant r.align);
+  align = max discriminant r.align;
+  kinds = append_kinds (kinds_of (I32 ∷ [])) r.kinds;
+}
+
+-- fields of these rows lie one after the other at these offsets; where they are larger than the greatest size, the
+-- offsets are of no use
+pub record AreLaid (rows : List Row) (laid : Row) (offsets : List ℕ) : Type 0 where
+  pub depth_is : laid.depth ≡ deepest rows
+  pub depth_fits : laid.depth ≤ 65
+  pub size_is : laid.size ≡ min (end_from 0 (extents rows)) (max_size + 1)
+  pub align_is : laid.align ≡ greatest_align (extents rows)
+  pub least : 1 ≤ laid.align
+  pub most : laid.align ≤ 8
+  pub kinds_is : laid.kinds ≡ fold (λ ks r. append_kinds ks r.kinds) (kinds_of []) rows
+  pub fits : length (passed laid.kinds) ≤ 16
+  pub offsets_are : laid.size ≤ max_size → offsets ≡ places_from 0 (extents rows)
+
+-- the row has room for any payload of these rows, and is no larger
+pub record AreJoined (rows : List Row) (joined : Row) : Type 0 where
+  pub depth_is : joined.depth ≡ deepest rows
+  pub depth_fits : joined.depth ≤ 65
+  pub size_is : joined.size ≡ greatest_size (extents rows)
+  pub size_fits : joined.size ≤ max_size
+  pub align_is : joined.align ≡ greatest_align (extents rows)
+  pub least : 1 ≤ joined.align
+  pub most : joined.align ≤ 8
+  pub kinds_is : joined.kinds ≡ fold (λ ks r. join_kinds ks r.kinds) (kinds_of []) rows
 
 -- what is true of a row before its limits are tested
 pub record IsKeptRow (r : Row) : Type 0 where

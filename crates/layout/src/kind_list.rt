@@ -16,10 +16,9 @@ pub struct KindList {
 
 impl Model for KindList {
     ghost use Rattle.std.specs.Prelude.{◌≤◌, take};
-    ghost use Rattle.arrayvec.specs.ArrayVec.{ArrayVec};
-    ghost use Rattle.canonical_abi.specs.declared.flat.CoreKind.{CoreKind};
+    ghost use Rattle.layout.specs.KindLists.{ListOfKinds};
 
-    ghost Value = { ArrayVec CoreKind };
+    ghost Value = { ListOfKinds };
 
     ghost view = { λ k. record { items = take k.len k.kinds } };
 

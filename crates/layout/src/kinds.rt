@@ -1,9 +1,8 @@
 //! The flat kinds of types side by side.
-ghost use Rattle.std.specs.Prelude.{◌≡◌, ◌∷◌, []};
-ghost use Rattle.layout.specs.Kinds.{kinds_of, count_of};
+ghost use Rattle.std.specs.Prelude.{◌≡◌};
+ghost use Rattle.layout.specs.Kinds.{count_of};
 
 use crate::kind_list::KindList;
-use canonical_abi::CoreKind;
 
 /// How many flat kinds stand side by side at most; beyond it the values stand in memory.
 pub const MAX_FLAT: usize = 16;
@@ -16,14 +15,6 @@ pub enum Kinds {
 }
 
 impl Kinds {
-    pub(crate) fn one(kind: CoreKind) -> Kinds
-        ensures { result ≡ kinds_of (kind ∷ []) }
-    {
-        let mut kinds = KindList::new();
-        kinds.push(kind);
-        Kinds::Flat(kinds)
-    }
-
     pub fn copy(&self) -> Kinds
         ensures { result ≡ self.now }
     {

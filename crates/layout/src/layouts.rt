@@ -29,6 +29,7 @@ use crate::signature::{
 use crate::work::Steps;
 use canonical_abi::{CoreKind, Flat};
 use std::alloc::Global;
+use std::fmt;
 use std::marker::Model;
 use tables::{Definition, FunctionId, Resolve, ValType};
 
@@ -122,7 +123,7 @@ fn side_by_side(rows: &[Row], types: &[ValType]) -> PackedKinds
 }
 
 /// The layout table of a package.
-#[derive(Debug, Drop)]
+#[derive(Drop)]
 pub struct Layouts {
     rows: Vec<Row>,
     /// The flat kinds of each function's result; none at a type's place.
@@ -147,6 +148,12 @@ impl Model for Layouts {
 
     ghost invariant = { λ l. All IsSound l.rows.items × (length l.results.items ≡ length l.rows.items)
         × (length l.parts ≡ length l.rows.items) × AreEnded l.parts };
+}
+
+impl fmt::Debug for Layouts {
+    fn fmt<W: fmt::Write>(&self, f: &mut fmt::Formatter<W>) -> fmt::Result {
+        f.debug_struct("Layouts").finish_non_exhaustive()
+    }
 }
 
 impl Layouts {
@@ -208,7 +215,9 @@ impl Layouts {
             → result ≡ kinds_of (field_kinds (fields_of (map (closed_type r) types.now))) }
     {
         match types {
-            [ValType::Primitive(primitive)] => Kinds::one(primitive_kind(*primitive)),
+            [ValType::Primitive(primitive)] => PackedKinds::one(primitive_kind(
+                *primitive,
+            )).unpacked(),
             _ => side_by_side(self.rows.as_slice(), types).unpacked(),
         }
     }

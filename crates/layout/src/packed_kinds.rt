@@ -12,7 +12,7 @@ use std::marker::Model;
 pub(crate) const SPILLED: u8 = 17;
 
 /// The flat kinds of types side by side, where they are at most sixteen, in four bytes.
-#[derive(Debug, Drop)]
+#[derive(Drop)]
 pub struct PackedKinds {
     /// How many they are; 17 where they spill.
     pub(crate) count: u8,

@@ -24,7 +24,7 @@ use std::marker::Model;
 use tables::{Choice, Definition, Member, Resolve, TypeDefKind, ValType};
 
 /// What stands directly in a type, whose fields or payloads lie among those of all types.
-#[derive(Debug, Drop)]
+#[derive(Drop)]
 pub enum Head {
     /// The type is another one, which is no used name and no new name itself.
     Same(ValType),
@@ -39,7 +39,7 @@ pub enum Head {
 }
 
 /// What stands directly in each definition of a package, in table order.
-#[derive(Debug, Drop)]
+#[derive(Drop)]
 pub struct PartsTable {
     heads: Vec<Head>,
     /// The fields of all records.

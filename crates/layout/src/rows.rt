@@ -1,5 +1,6 @@
 //! The row of a definition, by the rows of the definitions before it.
-ghost use Rattle.std.specs.Prelude.{◌≡◌, ◌+◌, ◌≤◌, ◌++◌, ◌∷◌, [], map, length, All, IsTrue, IfOk, IfErr};
+ghost use Rattle.std.specs.Prelude.{◌≡◌, ◌+◌, ◌≤◌, ◌++◌, ◌∷◌, [], map, length, drop};
+ghost use Rattle.std.specs.Prelude.{All, IsTrue, IfOk, IfErr};
 ghost use Rattle.std.specs.Int.{next_multiple_of};
 ghost use Rattle.canonical_abi.specs.Types.{prim_type, string_type, flags_type};
 ghost use Rattle.canonical_abi.specs.Layout.{size, align, flat_kinds, discriminant_size, places_from, payload_at};
@@ -7,9 +8,10 @@ ghost use Rattle.tables.specs.Closed.{prim_of};
 ghost use Rattle.tables.specs.Tables.{is_below, option_below};
 ghost use Rattle.layout.specs.Kinds.{count_of};
 ghost use Rattle.layout.specs.Layout.{row_of, capped, IsSound, max_size};
-ghost use Rattle.layout.specs.Heads.{AreAdded};
+ghost use Rattle.layout.specs.Heads.{AreAdded, field_types, field_offsets};
 ghost use Rattle.layout.specs.Parts.{payloads};
 ghost use Rattle.layout.specs.Rows.{row_in, rows_at, extents, record_row, choices_at, variant_row, number_row};
+ghost use Rattle.layout.specs.Rows.{empty_row, row_with, joined_rows, tagged_row, AreLaid, AreJoined};
 ghost use Rattle.layout.specs.Rows.{IsKeptRow, IsLimitedRow, RefusesDeeper, RefusesRow};
 ghost use Rattle.layout.specs.Work.{saturated};
 
@@ -27,7 +29,7 @@ pub const MAX_DEPTH: u32 = 64;
 pub const MAX_SIZE: u32 = 16_777_216;
 
 /// What the layout table has for a definition.
-#[derive(Debug, Drop)]
+#[derive(Drop)]
 pub struct Row {
     /// How deep types stand in it, itself counted; 65 where it is deeper than 64.
     pub depth: u32,
@@ -37,6 +39,44 @@ pub struct Row {
     pub align: u32,
     /// The flat kinds that carry it.
     pub kinds: PackedKinds,
+}
+
+impl Row {
+    /// No bytes, aligned to one, and no kinds.
+    fn empty() -> Row
+        ensures { result ≡ empty_row }
+    {
+        Row {
+            depth: 0,
+            size: 0,
+            align: 1,
+            kinds: PackedKinds::none(),
+        }
+    }
+
+    /// Puts a field at that offset, where this row is that of the fields before it.
+    #[inline]
+    fn follow(&mut self, offset: u32, field: &Row)
+        requires place { offset ≤ 33554432 }
+        requires size { field.now.size ≤ max_size }
+        ensures { self.new ≡ row_with self.old offset field.now }
+    {
+        self.depth = self.depth.max(field.depth);
+        self.size = (offset + field.size).min(MAX_SIZE + 1);
+        self.align = self.align.max(field.align);
+        self.kinds.append(&field.kinds);
+    }
+
+    /// Makes room for that payload, where this row is that of the payloads so far.
+    #[inline]
+    fn join(&mut self, payload: &Row)
+        ensures { self.new ≡ joined_rows self.old payload.now }
+    {
+        self.depth = self.depth.max(payload.depth);
+        self.size = self.size.max(payload.size);
+        self.align = self.align.max(payload.align);
+        self.kinds.join(&payload.kinds);
+    }
 }
 
 /// The depth of what has something of this depth in it.
@@ -170,6 +210,36 @@ pub(crate) fn look(rows: &[Row], ty: ValType, steps: &mut Steps) -> Row
     row_in(rows, ty)
 }
 
+/// Puts the fields of a record behind those that are there. What it answers has their greatest depth and alignment, the
+/// bytes up to the end of the last one, and their kinds; one byte above the greatest size stands for more.
+#[inline]
+fn laid_fields<M: Member>(
+    fields: &mut Vec<FieldInfo>,
+    rows: &[Row],
+    members: &[M],
+    steps: &mut Steps,
+) -> Result<Row, LayoutError>
+    requires below { All (λ m. IsTrue (is_below (length rows.now) (M.type_of m))) members.now }
+    requires sound { All IsSound rows.now }
+    ensures laid { IfOk result (λ r. AreLaid (rows_at rows.now M.type_of members.now) r
+        (field_offsets (drop (length fields.old.items) fields.new.items))) }
+    ensures types { IfOk result (λ _. field_types (drop (length fields.old.items) fields.new.items)
+        ≡ map M.type_of members.now) }
+    ensures kept { fields.new.items ≡ fields.old.items ++ drop (length fields.old.items) fields.new.items }
+    ensures steps { IfOk result (λ _. steps.new.count ≡ saturated (steps.old.count + length members.now)) }
+    ensures err { IfErr result (λ e. e ≡ LayoutError.NoMemory) }
+{
+    let mut laid = Row::empty();
+    for member in members {
+        let ty = member.ty();
+        let row = look(rows, ty, steps);
+        let offset = align_up(laid.size, row.align);
+        fields.push(FieldInfo { ty, offset })?;
+        laid.follow(offset, &row);
+    }
+    Ok(laid)
+}
+
 /// Puts the row of a record, whose depth is at most `most`, and its fields behind those that are there.
 pub(crate) fn record_row<M: Member>(
     fields: &mut Vec<FieldInfo>,
@@ -191,34 +261,20 @@ pub(crate) fn record_row<M: Member>(
     ensures steps { IfOk result (λ _. steps.new.count ≡ saturated (steps.old.count + length members.now)) }
     ensures err { IfErr result (λ e. RefusesDeeper most e (record_row (rows_at rows.old.items M.type_of members.now))) }
 {
-    let before = rows.as_slice();
-    let mut depth = 0;
-    let mut end = 0;
-    let mut align = 1;
-    let mut kinds = PackedKinds::none();
-    for member in members {
-        let ty = member.ty();
-        let row = look(before, ty, steps);
-        let offset = align_up(end, row.align);
-        fields.push(FieldInfo { ty, offset })?;
-        depth = depth.max(row.depth);
-        end = (offset + row.size).min(MAX_SIZE + 1);
-        align = align.max(row.align);
-        kinds.append(&row.kinds);
-    }
-    let depth = deeper(depth);
+    let laid = laid_fields(fields, rows.as_slice(), members, steps)?;
+    let depth = deeper(laid.depth);
     if depth > most {
         return Err(LayoutError::TooDeep);
     }
-    let size = align_up(end, align);
+    let size = align_up(laid.size, laid.align);
     if size > MAX_SIZE {
         return Err(LayoutError::TooLarge);
     }
     rows.push(Row {
         depth,
         size,
-        align,
-        kinds,
+        align: laid.align,
+        kinds: laid.kinds,
     })?;
     Ok(())
 }
@@ -235,6 +291,58 @@ fn discriminant_size(cases: usize) -> u32
         2
     } else {
         4
+    }
+}
+
+/// Puts the payloads of these cases behind those that are there. What it answers has their greatest depth, size and
+/// alignment, and their kinds joined.
+#[inline(always)]
+fn joined_payloads<C: Choice>(
+    all_payloads: &mut Vec<Option<ValType>>,
+    rows: &[Row],
+    cases: &[C],
+    steps: &mut Steps,
+) -> Result<Row, LayoutError>
+    requires below { All (λ c. IsTrue (option_below (length rows.now) (C.payload_of c))) cases.now }
+    requires sound { All IsSound rows.now }
+    ensures joined { IfOk result (λ r. AreJoined (payloads (choices_at rows.now C.payload_of cases.now)) r) }
+    ensures payloads { IfOk result (λ _. all_payloads.new.items
+        ≡ all_payloads.old.items ++ map C.payload_of cases.now) }
+    ensures kept { length all_payloads.old.items ≤ length all_payloads.new.items }
+    ensures steps { IfOk result (λ _. steps.new.count ≡ saturated
+        (steps.old.count + length (payloads (choices_at rows.now C.payload_of cases.now)))) }
+    ensures err { IfErr result (λ e. e ≡ LayoutError.NoMemory) }
+{
+    let mut joined = Row::empty();
+    for case in cases {
+        let payload = case.payload();
+        all_payloads.push(payload)?;
+        if let Some(payload) = payload {
+            joined.join(&look(rows, payload, steps));
+        }
+    }
+    Ok(joined)
+}
+
+/// The row of a variant, by the bytes of its discriminant, the place of its payload, and what its payloads come to.
+fn tagged(discriminant: u32, place: u32, joined: &Row) -> Row
+    requires discriminant { discriminant ≤ 4 }
+    requires place { place ≤ 16 }
+    requires least { 1 ≤ joined.now.align }
+    requires most { joined.now.align ≤ 8 }
+    requires size { joined.now.size ≤ max_size }
+    requires depth { joined.now.depth ≤ 65 }
+    ensures value { result ≡ tagged_row discriminant place joined.now }
+    ensures kept { IsKeptRow result }
+{
+    let align = discriminant.max(joined.align);
+    let mut kinds = PackedKinds::one(CoreKind::I32);
+    kinds.append(&joined.kinds);
+    Row {
+        depth: deeper(joined.depth),
+        size: align_up(place + joined.size, align),
+        align,
+        kinds,
     }
 }
 
@@ -261,33 +369,10 @@ pub(crate) fn variant_row<C: Choice>(
         (steps.old.count + length (payloads (choices_at rows.old.items C.payload_of cases.now)))) }
     ensures err { IfErr result (λ e. RefusesRow e (variant_row (choices_at rows.old.items C.payload_of cases.now))) }
 {
+    let joined = joined_payloads(all_payloads, rows.as_slice(), cases, steps)?;
     let discriminant = discriminant_size(cases.len());
-    let before = rows.as_slice();
-    let mut depth = 0;
-    let mut size = 0;
-    let mut align = 1;
-    let mut joined = PackedKinds::none();
-    for case in cases {
-        let payload = case.payload();
-        all_payloads.push(payload)?;
-        if let Some(payload) = payload {
-            let row = look(before, payload, steps);
-            depth = depth.max(row.depth);
-            size = size.max(row.size);
-            align = align.max(row.align);
-            joined.join(&row.kinds);
-        }
-    }
-    let payload = align_up(discriminant, align);
-    let align = discriminant.max(align);
-    let mut kinds = PackedKinds::one(CoreKind::I32);
-    kinds.append(&joined);
-    let row = Row {
-        depth: deeper(depth),
-        size: align_up(payload + size, align),
-        align,
-        kinds,
-    };
+    let payload = align_up(discriminant, joined.align);
+    let row = tagged(discriminant, payload, &joined);
     limited(&row)?;
     rows.push(row)?;
     Ok(payload)

@@ -5,32 +5,30 @@ ghost use Rattle.layout.specs.Kinds.{passed};
 ghost use Rattle.layout.specs.Layout.{results_of, core_signature_of};
 ghost use Rattle.layout.specs.Signature.{is_one, single_result, lifted_by, lowered_by};
 
+use crate::kind_list::KindList;
+use crate::kinds::Kinds;
 use crate::packed_kinds::{PackedKinds, SPILLED, lowest_kind};
-use arrayvec::ArrayVec;
 use canonical_abi::{CoreKind, Flat};
 
 /// The types of the values that a core function takes and answers.
 #[derive(Debug, Drop)]
 pub struct CoreSignature {
-    pub params: ArrayVec<CoreKind, 17>,
+    pub params: KindList,
     pub result: Option<CoreKind>,
 }
 
 /// How parameters of these kinds are passed.
-fn params_of(kinds: &PackedKinds) -> ArrayVec<CoreKind, 17>
+fn params_of(kinds: &PackedKinds) -> KindList
     ensures { result.items ≡ passed kinds.now }
 {
-    let mut params = ArrayVec::new();
-    if kinds.count == SPILLED {
-        params.push(CoreKind::I32);
-        return params;
+    match kinds.unpacked() {
+        Kinds::Flat(params) => params,
+        Kinds::Spilled => {
+            let mut address = KindList::new();
+            address.push(CoreKind::I32);
+            address
+        }
     }
-    let mut wide = kinds.wide;
-    for _ in 0..kinds.count {
-        params.push(lowest_kind(wide));
-        wide /= 2;
-    }
-    params
 }
 
 /// Whether a result of these kinds goes flat.

@@ -1,16 +1,16 @@
-use Rattle.std.proofs.Common.{◌≡◌, ◌+◌, ◌∷◌, [], ◌++◌, None, Some, take, get_or, ap, ◌∙◌, arith, rules}
+use Rattle.std.proofs.Common.{◌≡◌, ◌+◌, ◌∷◌, [], ◌++◌, None, Some, take, get_or, ap, ◌∙◌, arith}
 use Rattle.std.proofs.lemmas.List.{length-append}
 use Rattle.layout.specs.declared.rows.Row.{Row}
 use Rattle.layout.specs.Parts.{payloads}
 use Rattle.layout.specs.Rows.{choices_at, row_in}
 use Rattle.layout.proofs.ElementsPutBehind.{put-more}
 use Rattle.layout.proofs.VariantLoop.{variant_more, choices_at-some, choices_at-none}
-use Rattle.layout.proofs.rows.variant_row.Goals as goal
-use Rattle.layout.proofs.rows.variant_row.Goals.{in-Some, in_default}
+use Rattle.layout.proofs.rows.joined_payloads.Goals as goal
+use Rattle.layout.proofs.rows.joined_payloads.Goals.{in-Some, in_default}
 
 pub loop-case-preserved : goal.loop-case-preserved
 loop-case-preserved g c =
-    let rows = c.args.rows.now.items in
+    let rows = c.args.rows.now in
     let payload = g.C.Choice.payload_of in
     let cases = c.args.cases.now in
     let i = c.loop-case.case-index in
@@ -21,15 +21,14 @@ loop-case-preserved g c =
     elim c.match-payload.branch [
       | in-Some w ↦
           let row = row_in rows w.in-Some.payload in
-          let looked = w.look-row.ensures in
-          let same = c.as_slice-before.ensures.value in
-          let found : w.look-row.result ≡ row = rw same at looked.value in
+          let looked = w.look.ensures in
+          let found : w.look.result ≡ row = looked.value in
           let is : payload (get_or cases i d) ≡ Some w.in-Some.payload = cc in
           let more : payloads (choices_at rows payload (take (i + 1) cases)) ≡ payloads (choices_at rows payload (take i cases)) ++ row ∷ [] =
           choices_at-some rows payload cases i d w.in-Some.payload (omega arith) is in
           record {
-            so_far = variant_more {rows = payloads (choices_at rows payload (take i cases))} {rows' = payloads (choices_at rows payload (take (i + 1) cases))} row so_far (rw found at looked.sound) more
-                (rw (w.depth-is, ← found) (search rules)) (rw (w.size-is, ← found) (search rules)) (rw (w.align-is, ← found) (search rules)) (rw (w.joined-is, ← found) w.join.ensures);
+            so_far = variant_more {rows = payloads (choices_at rows payload (take i cases))} {rows' = payloads (choices_at rows payload (take (i + 1) cases))} row so_far (rw (← found) looked.sound) more
+                (rw (w.joined-is, ← found) w.join.ensures);
             payloads_are = put;
             steps_are = rw (w.steps-is, more) (omega (arith, length-append {A = Row}, looked.steps, c.loop-case.invariant.steps_are));
           }
@@ -37,7 +36,7 @@ loop-case-preserved g c =
           let is : payload (get_or cases i d) ≡ None = cc in
           let more = choices_at-none rows payload cases i d (omega arith) is in
           record {
-            so_far = rw (more, w.depth-is, w.size-is, w.align-is, w.joined-is) so_far;
+            so_far = rw (more, w.joined-is) so_far;
             payloads_are = put;
             steps_are = rw (more, w.steps-is) c.loop-case.invariant.steps_are;
           }
