@@ -4,26 +4,41 @@
 usage: tools/check_crate.py NAME [FLAG..]        checks a crate, and keeps its work in crates/NAME/out/incremental
        tools/check_crate.py --build NAME..       proves libraries from nothing, as the gate does, for the crates above
        tools/check_crate.py --changed            does so with each crate that changed, and with those above it
+       tools/check_crate.py --slowest NAME       proves a crate from nothing, and tells which functions take longest
 
 A library is built as its statements, in crates/NAME/out/rlib. Those that a crate depends on have to be built; a check
 says which are not. It doesn't look whether they are of the sources that are there: build a library again after its
 contracts changed. FLAGs are those of the checker, as `--only PATH`, `--allow-holes`, `--test` or `--jobs 4`. The exit
 status is the checker's.
 
+--slowest tells the seconds of each function, by the times at which the checker keeps its modules, and of the part of it
+that takes longest: Lts and Tie are the borrow checker's, Proof and Answers the contract's. What --progress prints
+doesn't say this, since the checker takes some modules of a function long before the others.
+
 --changed proves what is not as it was when --build or --changed proved it here, as many crates side by side as
 tools/jobs.sh says. It goes on after one that isn't proved, without those above it. The exit status is 1 then.
 """
+import collections
 import concurrent.futures
 import hashlib
 import importlib.machinery
 import importlib.util
+import itertools
 import os
 import pathlib
+import re
 import subprocess
 import sys
+import tempfile
 
 sys.dont_write_bytecode = True
 ROOT = pathlib.Path(__file__).resolve().parent.parent
+# a module that the checker keeps: a file, or a part of what it makes of a function
+PARTS = ("Answers|Carried|Code|Given|Goals|Invariants|Key|Kinds|Layout|Lts|Met|Named|Paired|Proof|Reads|Statement|Symbol|"
+         "TheLink|Tie")
+MODULE = re.compile(rf"Rattle-\w+-(?:proofs|specs\.contracts|specs)\.(.+?)(?:\.({PARTS})\b.*)?\.oantt")
+# how many functions are told
+MOST = 30
 
 
 def toolchain():
@@ -62,6 +77,25 @@ def built(rtlib, crate, jobs, **how):
         return run(rtlib, crate, ["check", *words, "--empty-contracts"], **how)
     os.makedirs(os.path.dirname(crate.rlib), exist_ok=True)
     return run(rtlib, crate, ["build", *words, "--empty-contracts", "--statements", "-o", crate.rlib], **how)
+
+
+# ---- what is slow
+
+
+def slowest(rtlib, crate):
+    """Proves a crate from nothing, prints which functions took longest, and returns how the checker ended."""
+    with tempfile.TemporaryDirectory() as kept:
+        words = crate.words(["--jobs", "1"], keeps=False)
+        ended = run(rtlib, crate, ["check", *words, "--incremental", kept], stdout=subprocess.DEVNULL)
+        files = sorted((path.stat().st_mtime, path.name) for path in pathlib.Path(kept).glob("*/*.oantt"))
+    parts = collections.defaultdict(collections.Counter)
+    for (before, _), (at, name) in itertools.pairwise(files):
+        if found := MODULE.fullmatch(name.replace(".decls", "")):
+            parts[found[1]][found[2] or "its own"] += at - before
+    for name in sorted(parts, key=lambda it: -parts[it].total())[:MOST]:
+        part, seconds = parts[name].most_common(1)[0]
+        print(f"{parts[name].total():6.1f}  {name}: {part} {seconds:.1f}")
+    return ended
 
 
 # ---- what changed
@@ -136,7 +170,9 @@ def prove_changed(rtlib, crates):
 def main():
     """Checks a crate, proves libraries, or proves what changed."""
     words = sys.argv[1:]
-    if not words or words[0].startswith("--") and words[0] not in ("--build", "--changed") or words == ["--build"]:
+    if not words or words[0].startswith("--") and words[0] not in ("--build", "--changed", "--slowest"):
+        sys.exit(__doc__.split("\n\n")[1])
+    if len(words) == 1 and words[0] in ("--build", "--slowest"):
         sys.exit(__doc__.split("\n\n")[1])
     os.chdir(ROOT)
     rtlib = toolchain()
@@ -146,12 +182,16 @@ def main():
         if failed := prove_changed(rtlib, crates):
             sys.exit(f"not proved: {' '.join(failed)}")
         return
-    for name in words[1:] if words[0] == "--build" else words[:1]:
+    for name in words[1:] if words[0] in ("--build", "--slowest") else words[:1]:
         if name not in crates:
             sys.exit(f"tools/check_crate.py: crates.txt has no {name}")
         with open(os.devnull, "w", encoding="utf-8") as crates[name].out:
-            ended = (built(rtlib, crates[name], os.environ.get("RT_JOBS", "1")) if words[0] == "--build"
-                     else checked(rtlib, crates[name], words[1:]))
+            if words[0] == "--build":
+                ended = built(rtlib, crates[name], os.environ.get("RT_JOBS", "1"))
+            elif words[0] == "--slowest":
+                ended = slowest(rtlib, crates[name])
+            else:
+                ended = checked(rtlib, crates[name], words[1:])
         if ended.returncode:
             sys.exit(ended.returncode)
 
