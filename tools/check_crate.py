@@ -4,7 +4,7 @@
 usage: tools/check_crate.py NAME [FLAG..]        checks a crate, and keeps its work in crates/NAME/out/incremental
        tools/check_crate.py --build NAME..       proves libraries from nothing, as the gate does, for the crates above
        tools/check_crate.py --changed            does so with each crate that changed, and with those above it
-       tools/check_crate.py --slowest NAME       proves a crate from nothing, and tells which functions take longest
+       tools/check_crate.py --slowest NAME       checks a crate from nothing, and tells which functions take longest
 
 A library is built as its statements, in crates/NAME/out/rlib. Those that a crate depends on have to be built; a check
 says which are not. It doesn't look whether they are of the sources that are there: build a library again after its
@@ -13,7 +13,8 @@ status is the checker's.
 
 --slowest tells the seconds of each function, by the times at which the checker keeps its modules, and of the part of it
 that takes longest: Lts and Tie are the borrow checker's, Proof and Answers the contract's. What --progress prints
-doesn't say this, since the checker takes some modules of a function long before the others.
+doesn't say this, since the checker takes some modules of a function long before the others. The next check of the crate
+begins with what this one kept.
 
 --changed proves what is not as it was when --build or --changed proved it here, as many crates side by side as
 tools/jobs.sh says. It goes on after one that isn't proved, without those above it. The exit status is 1 then.
@@ -27,9 +28,9 @@ import itertools
 import os
 import pathlib
 import re
+import shutil
 import subprocess
 import sys
-import tempfile
 
 sys.dont_write_bytecode = True
 ROOT = pathlib.Path(__file__).resolve().parent.parent
@@ -39,6 +40,8 @@ PARTS = ("Answers|Carried|Code|Given|Goals|Invariants|Key|Kinds|Layout|Lts|Met|N
 MODULE = re.compile(rf"Rattle-\w+-(?:proofs|specs\.contracts|specs)\.(.+?)(?:\.({PARTS})\b.*)?\.oantt")
 # how many functions are told
 MOST = 30
+# what a check keeps of a crate, in its folder
+KEPT = "out/incremental"
 
 
 def toolchain():
@@ -61,13 +64,13 @@ def run(rtlib, crate, words, **how):
     return subprocess.run([*rtlib.guarded(), rtlib.RATTLE, *words], cwd=crate.folder, **how)
 
 
-def checked(rtlib, crate, flags):
+def checked(rtlib, crate, flags, **how):
     """Checks a crate over what was kept of it."""
     jobs = [] if "--jobs" in flags else ["--jobs", "1"]
     words = crate.words([*jobs, *flags], keeps=False)
     tests = ["--test"] if "--test" in flags and "--test" not in words else []
-    os.makedirs(f"{crate.folder}/out/incremental", exist_ok=True)
-    return run(rtlib, crate, ["check", *words, *tests, "--incremental", "out/incremental"])
+    os.makedirs(f"{crate.folder}/{KEPT}", exist_ok=True)
+    return run(rtlib, crate, ["check", *words, *tests, "--incremental", KEPT], **how)
 
 
 def built(rtlib, crate, jobs, **how):
@@ -83,11 +86,11 @@ def built(rtlib, crate, jobs, **how):
 
 
 def slowest(rtlib, crate):
-    """Proves a crate from nothing, prints which functions took longest, and returns how the checker ended."""
-    with tempfile.TemporaryDirectory() as kept:
-        words = crate.words(["--jobs", "1"], keeps=False)
-        ended = run(rtlib, crate, ["check", *words, "--incremental", kept], stdout=subprocess.DEVNULL)
-        files = sorted((path.stat().st_mtime, path.name) for path in pathlib.Path(kept).glob("*/*.oantt"))
+    """Checks a crate from nothing, prints which functions took longest, and returns how the checker ended."""
+    kept = pathlib.Path(crate.folder, KEPT)
+    shutil.rmtree(kept, ignore_errors=True)
+    ended = checked(rtlib, crate, [], stdout=subprocess.DEVNULL)
+    files = sorted((path.stat().st_mtime, path.name) for path in kept.glob("*/*.oantt"))
     parts = collections.defaultdict(collections.Counter)
     for (before, _), (at, name) in itertools.pairwise(files):
         if found := MODULE.fullmatch(name.replace(".decls", "")):
