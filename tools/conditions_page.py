@@ -33,7 +33,7 @@ each with the test that a running program can make. `tools/conditions_page.py` m
 - A call that is in no table has no condition, whichever crate exports it. A law has none either.
 - `witcall_c` exports functions of C alone, and they have no `requires`. [C.md](../C.md#what-a-host-owes) says what a
   host owes.
-- Programs, as `example_host` and `example_host_halves`, export nothing.
+- Programs, as `example_hosts`, export nothing.
 
 {} exported calls have {} conditions. `tools/check_conditions.py` counts them, and finds a call that is in no table.
 """

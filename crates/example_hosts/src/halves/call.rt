@@ -2,10 +2,10 @@
 ghost use Rattle.std.specs.Prelude.{◌≡◌, ◌<◌, length};
 ghost use Rattle.layout.specs.Layout.{AreWithin};
 ghost use Rattle.tables.specs.Closed.{IsFunction, function_type};
-ghost use Rattle.example_host_halves.specs.Promise.{MakesCall};
+ghost use Rattle.example_hosts.specs.Promise.{MakesCall};
 
-use crate::core_function::CoreFunction;
-use crate::halves::{enter, leave};
+use crate::halves::core_function::CoreFunction;
+use crate::halves::steps::{enter, leave};
 use adapter::Invocation;
 use canonical_abi::laws::halves_keep_promise;
 use canonical_abi::{Fault, Step, Trap, TrapKind};

@@ -6,8 +6,8 @@ use Rattle.host_calls.specs.Halves.{ReturnsLent, ReturnOfLentFails}
 use Rattle.memory.specs.Blocks.{is_apart}
 use Rattle.memory.specs.declared.block.Block.{Block}
 use Rattle.tables.specs.Closed.{function_type}
-use Rattle.example_host_halves.proofs.HostStepsKeepPromise.{beside}
-use Rattle.example_host_halves.proofs.halves.leave.Goals as goal
+use Rattle.example_hosts.proofs.HostStepsKeepPromise.{beside}
+use Rattle.example_hosts.proofs.halves.steps.leave.Goals as goal
 
 pub returns-in_err-leave_flats-clause-left : goal.returns-in_err-leave_flats-clause-left
 returns-in_err-leave_flats-clause-left c =

@@ -1,7 +1,7 @@
 //! Core functions, as the host runs them.
 ghost use Rattle.std.specs.Prelude.{option_map};
 ghost use Rattle.std.specs.Result.{result_ok};
-ghost use Rattle.example_host_halves.specs.Promise.{RunsOnBytes, PostsOnBytes};
+ghost use Rattle.example_hosts.specs.Promise.{RunsOnBytes, PostsOnBytes};
 
 use adapter::Stopped;
 use canonical_abi::{Callee, Flat};

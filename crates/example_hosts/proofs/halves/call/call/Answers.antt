@@ -4,9 +4,9 @@ use Rattle.std.proofs.lemmas.Result.{err_from_is_err_and}
 use Rattle.canonical_abi.specs.declared.flat.Flat.{Flat}
 use Rattle.tables.specs.Closed.{function_type}
 use Rattle.tables.specs.Standard.{HasStandardTypes}
-use Rattle.example_host_halves.specs.Promise.{LeavesCall, RunsOnBytes, PostsOnBytes}
-use Rattle.example_host_halves.proofs.HostStepsKeepPromise.{not-entered, not-run, not-returned, not-finished, finished}
-use Rattle.example_host_halves.proofs.call.call.Goals as goal
+use Rattle.example_hosts.specs.Promise.{LeavesCall, RunsOnBytes, PostsOnBytes}
+use Rattle.example_hosts.proofs.HostStepsKeepPromise.{not-entered, not-run, not-returned, not-finished, finished}
+use Rattle.example_hosts.proofs.halves.call.call.Goals as goal
 
 pub returns-in_err-handed : goal.returns-in_err-handed
 returns-in_err-handed g c =

@@ -3,7 +3,7 @@ use Rattle.std.proofs.Common.{ℕ, List, subst}
 use Rattle.std.proofs.lemmas.Result.{err_from_is_err_and}
 use Rattle.host_calls.specs.Halves.{EntersLent, EntryOfLentFails}
 use Rattle.tables.specs.Closed.{function_type}
-use Rattle.example_host_halves.proofs.halves.enter.Goals as goal
+use Rattle.example_hosts.proofs.halves.steps.enter.Goals as goal
 
 pub returns-in_err-enter_flats-clause-entered : goal.returns-in_err-enter_flats-clause-entered
 returns-in_err-enter_flats-clause-entered c =

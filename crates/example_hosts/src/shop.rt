@@ -1,8 +1,11 @@
 //! A host of a set of packages: it writes an earlier package, calls a function that a world exports, tells where its
 //! parameters stand in memory, and prints the numbers of errors.
 
-use crate::count::Count;
-use crate::told::{places, refusal};
+mod count;
+mod told;
+
+use crate::shop::count::Count;
+use crate::shop::told::{places, refusal};
 use crate::{memory, print};
 use std::alloc::Global;
 use witcall::{

@@ -1,26 +1,28 @@
-//! Two hosts that stand on `witcall` alone. `letters` opens a package and calls a function of it. `shop` opens a set of
-//! packages, writes an earlier one, calls a function that a world exports, tells where its parameters stand in memory,
-//! and prints the numbers of errors.
+//! Three hosts in Rattle.
+//!
+//! - `letters` opens a package and calls a function of it. It stands on `witcall` alone.
+//! - `shop` opens a set of packages, writes an earlier one, calls a function that a world exports, tells where its
+//!   parameters are in memory, and prints the numbers of errors. It stands on `witcall` alone.
+//! - `halves` runs core functions itself, and calls in the halves of `host_calls`.
 #![tactic(auto)]
 
-mod body;
-mod count;
+mod halves;
 mod letters;
 mod shop;
-mod told;
 
 use std::alloc::Global;
 use std::process::ExitCode;
 use witcall::{FirstFit, Refused};
 
 fn main(rt: HostRuntime) -> ExitCode {
-    match run(&rt) {
-        Ok(()) => ExitCode::SUCCESS,
+    match print_answers(&rt) {
+        Ok(()) => halves::print_answer(&rt),
         Err(refused) => ExitCode::from(refused.status()),
     }
 }
 
-fn run(rt: &HostRuntime) -> Result<(), Refused> {
+/// Prints what the hosts over `witcall` print.
+fn print_answers(rt: &HostRuntime) -> Result<(), Refused> {
     letters::print_answers(rt)?;
     shop::print_answers(rt)
 }

@@ -2,7 +2,7 @@
 ghost use Rattle.std.specs.Prelude.{◌≡◌, IsTrue, IfSome, length, map, take};
 ghost use Rattle.std.specs.List.{list_all};
 ghost use Rattle.memory.specs.Blocks.{is_apart, are_good, can_lend, rise};
-ghost use Rattle.example_host_halves.specs.Promise.{request_of, HasGranted};
+ghost use Rattle.example_hosts.specs.Promise.{request_of, HasGranted};
 
 use adapter::Request;
 use memory::{Block, can_lend};

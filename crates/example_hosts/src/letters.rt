@@ -1,7 +1,9 @@
 //! A host of one package: it calls `upper` over two memories, and prints what is answered. The function's code is a body
 //! of the host, `Upper`.
 
-use crate::body::Upper;
+mod upper;
+
+use crate::letters::upper::Upper;
 use crate::{memory, print};
 use std::alloc::Global;
 use witcall::{JsonError, Package, Refused, Session, Val, ValType, from_json, open};

@@ -19,7 +19,7 @@ use Rattle.memory.specs.Blocks.{is_apart, are_good}
 use Rattle.memory.specs.Lent.{lent, LentAllocates, LentReleases}
 use Rattle.memory.specs.LentLaws.{LentIsHonest}
 use Rattle.memory.specs.declared.block.Block.{Block}
-use Rattle.example_host_halves.specs.Promise.{hosting, HasGranted, LeavesCall, IsToldAs, MakesCall, RunsOnBytes, PostsOnBytes, EntersCall}
+use Rattle.example_hosts.specs.Promise.{hosting, HasGranted, LeavesCall, IsToldAs, MakesCall, RunsOnBytes, PostsOnBytes, EntersCall}
 
 -- blocks that can be handed out, and of which none meets the return area, keep it
 pub beside : (f : FunctionType) (flats : List Flat) (caller : List ℕ) (blocks : List Block) → length caller < 4294967296 → are_good (length caller) blocks ≡ true

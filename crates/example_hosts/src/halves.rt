@@ -5,16 +5,15 @@
 //! `call` has them in order, and its contract has the promise of the call, by the law `halves_keep_promise` of
 //! `canonical_abi`. The allocators run in the two memories, and what they grant is tested before it is handed out.
 //! Nothing is asked of the core function.
-#![tactic(auto)]
 
 mod call;
 mod core_function;
 mod grants;
-mod halves;
 mod requests;
+mod steps;
 
-use crate::call::call;
-use crate::core_function::Doubling;
+use crate::halves::call::call;
+use crate::halves::core_function::Doubling;
 use adapter::Invocation;
 use canonical_abi::Flat;
 use opening::{Package, open};
@@ -33,7 +32,8 @@ const CALLEE: [u8; 4] = [16, 0, 0, 0];
 /// The list's address and length, and the return area.
 const FLATS: [Flat; 3] = [Flat::I32(4), Flat::I32(4), Flat::I32(8)];
 
-fn main(rt: HostRuntime) -> ExitCode {
+/// Calls `double`, and prints the list that the caller is given.
+pub fn print_answer(rt: &HostRuntime) -> ExitCode {
     let Ok(package) = open(rt.alloc(), TEXT) else {
         return ExitCode::FAILURE;
     };

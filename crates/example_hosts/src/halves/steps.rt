@@ -2,10 +2,10 @@
 ghost use Rattle.std.specs.Prelude.{◌≡◌, ◌<◌, length};
 ghost use Rattle.layout.specs.Layout.{AreWithin};
 ghost use Rattle.tables.specs.Closed.{IsFunction, function_type};
-ghost use Rattle.example_host_halves.specs.Promise.{LeavesCall, EntersCall};
+ghost use Rattle.example_hosts.specs.Promise.{LeavesCall, EntersCall};
 
-use crate::grants::{grant, lendable};
-use crate::requests::{request_answer, request_arguments};
+use crate::halves::grants::{grant, lendable};
+use crate::halves::requests::{request_answer, request_arguments};
 use adapter::{Invocation, Request};
 use canonical_abi::Flat;
 use host_calls::{Half, HalfError, NOWHERE, return_area};
