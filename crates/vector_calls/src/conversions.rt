@@ -13,6 +13,7 @@ use canonical_abi::{Fault, Flat};
 use lift_lower::{Flats, Types, Val, has_type, lift, lower};
 use serde_json::Value;
 use std::alloc::Global;
+use std::slice;
 use tables::ValType;
 use value_json::{JsonError, json_of_value, value_of_json};
 
@@ -39,18 +40,6 @@ fn value_of(alloc: Global, types: &Types<'_>, ty: ValType, json: &Value) -> anyh
         Err(JsonError::NotThisType) => Err(anyhow::anyhow!("error 62 not this type")),
         Err(JsonError::NoMemory) => Err(anyhow::anyhow!("error 66 no memory")),
     }
-}
-
-/// The text of a value.
-fn value_told(alloc: Global, types: &Types<'_>, ty: ValType, value: &Val) -> anyhow::Result<String>
-    requires known { IsTypeOf «types».now ty }
-    requires labels { HasApartLabels «types».now }
-{
-    if !has_type(types.resolve(), types.layouts(), ty, value) {
-        return Err(anyhow::anyhow!("no value of its type"));
-    }
-    let json = json_of_value(alloc, types.resolve(), ty, value)?;
-    Ok(json.to_string(alloc)?)
 }
 
 /// The values that the core values of a row denote.
@@ -89,10 +78,10 @@ fn lowered(
     if !has_type(resolve, layouts, ty, &value) {
         return Err(anyhow::anyhow!("no value of its type"));
     }
-    Ok(lower(resolve, layouts, &[ty], &[value], guest))
+    Ok(lower(resolve, layouts, &[ty], slice::from_ref(&value), guest))
 }
 
-/// What is told of the values that core values denote.
+/// What is told of the values that core values denote, which have to be one of this type.
 fn values_told(
     alloc: Global,
     types: &Types<'_>,
@@ -105,7 +94,11 @@ fn values_told(
     let [value] = values else {
         return Err(anyhow::anyhow!("not one value"));
     };
-    let told = value_told(alloc, types, ty, value)?;
+    if !has_type(types.resolve(), types.layouts(), ty, value) {
+        return Err(anyhow::anyhow!("no value of its type"));
+    }
+    let json = json_of_value(alloc, types.resolve(), ty, value)?;
+    let told = json.to_string(alloc)?;
     Ok(format!(in alloc; "{{\"lifted\":{told}}}")?)
 }
 

@@ -110,16 +110,19 @@ fn space(
     }
 }
 
-/// The answers of a script, the last first.
-fn script(alloc: Global, answers: &[Value]) -> anyhow::Result<Vec<Option<u32>>> {
+/// What a side's allocator answers if that is told, the last answer first.
+fn script(alloc: Global, answers: Option<&Value>) -> anyhow::Result<Option<Vec<Option<u32>>>> {
+    if answers.is_none() {
+        return Ok(None);
+    }
     let mut script = Vec::new(alloc);
-    for answer in answers.iter().rev() {
+    for answer in list(answers).iter().rev() {
         script.push(match answer {
             Value::Null => None,
             _ => Some(number(Some(answer))?),
         })?;
     }
-    Ok(script)
+    Ok(Some(script))
 }
 
 /// Makes what is live before the call, and writes the bytes.
@@ -157,18 +160,11 @@ fn space_of(alloc: Global, row: &Value, side: usize) -> anyhow::Result<Space> {
     filled(alloc, row, side, bytes.as_slice())
 }
 
-/// What a side's allocator answers, if the row says it.
-fn script_of(alloc: Global, row: &Value, side: usize) -> anyhow::Result<Option<Vec<Option<u32>>>> {
-    match of_pair(row, "script", side) {
-        None => Ok(None),
-        answers => Ok(Some(script(alloc, list(answers))?)),
-    }
-}
-
 /// The memory of a side: its bytes and zeros up to its length, what is live of it, and what its allocator answers.
 pub fn guest(alloc: Global, row: &Value, side: usize) -> anyhow::Result<Logged> {
     let space = space_of(alloc, row, side)?;
-    Ok(Logged::new(space, script_of(alloc, row, side)?, Vec::new(alloc)))
+    let script = script(alloc, of_pair(row, "script", side))?;
+    Ok(Logged::new(space, script, Vec::new(alloc)))
 }
 
 /// Alignments and sizes of blocks.
