@@ -46,11 +46,15 @@ fn interface(alloc: Global, index: u32) -> Result<RawType, Fail> {
     Ok(RawType::Instance(declarations(alloc, function, name, index)?))
 }
 
+fn fully_named(alloc: Global, text: &str) -> Result<ExternName, Fail> {
+    let name = FullName::parse(alloc, text)?;
+    Ok(ExternName::FullName(Box::new(alloc, name)?))
+}
+
 /// The component type of the package.
 fn package(alloc: Global, index: u32) -> Result<RawType, Fail> {
     let interface = interface(alloc, index)?;
-    let name = FullName::parse(alloc, "a:b/c")?;
-    let name = ExternName::FullName(Box::new(alloc, name)?);
+    let name = fully_named(alloc, "a:b/c")?;
     let index = RawDescription::Instance(0);
     Ok(RawType::Component(declarations(alloc, interface, name, index)?))
 }
@@ -70,6 +74,15 @@ fn exported(alloc: Global, name: &str, ty: u32) -> Result<RawExport, Fail> {
     })
 }
 
+/// Exports of one type under these names.
+fn all_exported(alloc: Global, names: &[&str], ty: u32) -> Result<Vec<RawExport>, Fail> {
+    let mut exports = Vec::new(alloc);
+    for name in names {
+        exports.push(exported(alloc, name, ty)?)?;
+    }
+    Ok(exports)
+}
+
 /// The bytes of a component, or the line of why it is none, behind bytes that are there.
 fn written(alloc: Global, types: Vec<RawType>, exports: Vec<RawExport>) -> Result<Vec<u8>, Fail> {
     let mut out = Vec::from_slice(alloc, b"ab")?;
@@ -82,9 +95,8 @@ fn written(alloc: Global, types: Vec<RawType>, exports: Vec<RawExport>) -> Resul
 
 /// The same of one type, which is exported as `package` under this index.
 fn written_alone(alloc: Global, ty: RawType, index: u32) -> Result<Vec<u8>, Fail> {
-    let types = vec![in alloc; ty]?;
-    let exports = vec![in alloc; exported(alloc, "package", index)?]?;
-    written(alloc, types, exports)
+    let exports = all_exported(alloc, &["package"], index)?;
+    written(alloc, vec![in alloc; ty]?, exports)
 }
 
 fn assert_bytes(rt: &impl Abort, found: &[u8], wanted: &[u8]) {
@@ -158,12 +170,18 @@ fn numbered(alloc: Global, number: u32) -> Result<Label, Fail> {
 
 const LIMIT: &str = "error 17 limit at 0";
 
+/// So many labels, each another.
+fn labels(alloc: Global, count: u32) -> Result<Vec<Label>, Fail> {
+    let mut labels = Vec::new(alloc);
+    for number in 0..count {
+        labels.push(numbered(alloc, number)?)?;
+    }
+    Ok(labels)
+}
+
 #[test]
 fn flags_of_33(rt: HostRuntime) -> Result<(), Fail> {
-    let mut labels = Vec::new(rt.alloc());
-    for number in 0..33 {
-        labels.push(numbered(rt.alloc(), number)?)?;
-    }
+    let labels = labels(rt.alloc(), 33)?;
     let flags = RawType::Defined(RawDefinedType::Flags(labels));
     assert_line(&rt, rt.alloc(), flags, 0, LIMIT)
 }
@@ -197,20 +215,20 @@ fn imports_of_instances(rt: HostRuntime) -> Result<(), Fail> {
     )
 }
 
+/// The type of lists of u8.
+fn lists_of_u8(alloc: Global) -> Result<Vec<RawType>, Fail> {
+    let element = RawValType::Primitive(Primitive::U8);
+    Ok(vec![in alloc; RawType::Defined(RawDefinedType::List(element))]?)
+}
+
 /// A component that exports the type of lists of u8 as `a` and as `b`.
 const TWO_EXPORTS: &[u8; 28] =
     b"\0asm\x0d\0\x01\0\x07\x03\x01\x70\x7d\x0b\x0d\x02\0\x01a\x03\0\0\0\x01b\x03\0\0";
 
 #[test]
 fn two_exports(rt: HostRuntime) -> Result<(), Fail> {
-    let alloc = rt.alloc();
-    let element = RawValType::Primitive(Primitive::U8);
-    let types = vec![in alloc; RawType::Defined(RawDefinedType::List(element))]?;
-    let mut exports = Vec::new(alloc);
-    for name in ["a", "b"] {
-        exports.push(exported(alloc, name, 0)?)?;
-    }
-    let found = written(alloc, types, exports)?;
+    let exports = all_exported(rt.alloc(), &["a", "b"], 0)?;
+    let found = written(rt.alloc(), lists_of_u8(rt.alloc())?, exports)?;
     assert_bytes(&rt, found.as_slice(), TWO_EXPORTS);
     Ok(())
 }

@@ -32,6 +32,13 @@ struct Call<'a> {
     flats: Vec<Flat>,
 }
 
+/// The calls of a row: one, and another if the row says one.
+#[derive(Drop)]
+struct Asked<'a> {
+    first: Call<'a>,
+    other: Option<Call<'a>>,
+}
+
 /// How the calls ended, and the nodes of both ways of the first.
 #[derive(Drop)]
 struct Ended {
@@ -52,8 +59,7 @@ struct Told {
 #[derive(Drop)]
 pub struct Calls<'a> {
     sides: Sides,
-    first: Call<'a>,
-    other: Option<Call<'a>>,
+    asked: Asked<'a>,
     /// Whether zeros at the end of the memories are left out.
     are_cut: bool,
 }
@@ -83,6 +89,13 @@ fn other_of<'a>(alloc: Global, row: &'a Value) -> anyhow::Result<Option<Call<'a>
     }
 }
 
+fn asked_of<'a>(alloc: Global, row: &'a Value) -> anyhow::Result<Asked<'a>> {
+    Ok(Asked {
+        first: call_of(alloc, row, row)?,
+        other: other_of(alloc, row)?,
+    })
+}
+
 /// What a call of a function of the link's package answers.
 fn carried(
     link: &mut Link<'_>,
@@ -103,16 +116,12 @@ fn carried(
 }
 
 /// Makes the calls. None if the package lacks a function of theirs.
-fn called(
-    types: &Types<'_>,
-    first: &Call<'_>,
-    other: Option<&Call<'_>>,
-    sides: &mut Sides,
-) -> Option<Ended>
+fn called(types: &Types<'_>, asked: &Asked<'_>, sides: &mut Sides) -> Option<Ended>
     requires { ∥ AreWithin «types».now ∥₁ }
 {
+    let first = &asked.first;
     let f = types.resolve().function(first.interface, first.name)?;
-    let Some(other) = other else {
+    let Some(other) = &asked.other else {
         let mut link = Link::new(types.resolve(), types.layouts());
         let answer = carried(&mut link, f, first.flats.as_slice(), sides);
         return Some(Ended {
@@ -164,13 +173,26 @@ fn given_told(alloc: Global, told: &Told, body: &Acting) -> anyhow::Result<Strin
     }
 }
 
+/// Adds how the first call ended, what the bodies were given, and the nodes of both ways.
+fn push_told(
+    alloc: Global,
+    members: &mut Vec<String>,
+    told: &Told,
+    body: &Acting,
+) -> anyhow::Result<()> {
+    let (there, back) = told.nodes;
+    members.push(format!(in alloc; "\"outcome\":{}", told.outcome.as_str())?)?;
+    members.push(given_told(alloc, told, body)?)?;
+    members.push(format!(in alloc; "\"nodes\":[{there},{back}]")?)?;
+    Ok(())
+}
+
 impl<'a> Calls<'a> {
     /// The calls that a row says.
     pub fn of(alloc: Global, row: &'a Value) -> anyhow::Result<Calls<'a>> {
         Ok(Calls {
             sides: sides_of(alloc, row)?,
-            first: call_of(alloc, row, row)?,
-            other: other_of(alloc, row)?,
+            asked: asked_of(alloc, row)?,
             are_cut: field(row, "lens").is_some(),
         })
     }
@@ -179,7 +201,7 @@ impl<'a> Calls<'a> {
     pub fn told(&mut self, alloc: Global, types: &Types<'_>) -> anyhow::Result<String>
         requires { ∥ AreWithin «types».now ∥₁ }
     {
-        match called(types, &self.first, self.other.as_ref(), &mut self.sides) {
+        match called(types, &self.asked, &mut self.sides) {
             Some(ended) => self.done_told(alloc, &ended_told(alloc, &ended)?),
             None => self.refused(alloc, NO_FUNCTION),
         }
@@ -197,17 +219,16 @@ impl<'a> Calls<'a> {
 
     /// What the calls did.
     fn done_told(&self, alloc: Global, told: &Told) -> anyhow::Result<String> {
-        let Sides {
-            caller,
-            callee,
-            body,
-        } = &self.sides;
+        let sides = &self.sides;
         let mut members = Vec::new(alloc);
-        let (there, back) = told.nodes;
-        members.push(format!(in alloc; "\"outcome\":{}", told.outcome.as_str())?)?;
-        members.push(given_told(alloc, told, body)?)?;
-        members.push(format!(in alloc; "\"nodes\":[{there},{back}]")?)?;
-        push_memories(alloc, &mut members, caller, callee, self.are_cut)?;
+        push_told(alloc, &mut members, told, &sides.body)?;
+        push_memories(
+            alloc,
+            &mut members,
+            &sides.caller,
+            &sides.callee,
+            self.are_cut,
+        )?;
         if let Some(next) = &told.next {
             members.push(format!(in alloc; "\"next\":{}", next.as_str())?)?;
         }

@@ -7,14 +7,13 @@ ghost use Rattle.tables.specs.Standard.{IsTypeOf};
 ghost use Rattle.value_json.specs.Apart.{HasApartLabels};
 ghost use Rattle.values.specs.Members.{fields_of_types};
 
-use crate::functions::{fault_told, function, parameter};
-use crate::vector_sides::{
-    Logged, field, flats, flats_told, guest, list, object_of, push_memories, text,
-};
+use crate::functions::{fault_told, parameter_of_row};
+use crate::vector_sides::{Logged, answer_told, field, flats, flats_told, guest, list};
 use canonical_abi::{Fault, Flat};
 use lift_lower::{Flats, Types, Val, has_type, lift, lower};
 use serde_json::Value;
 use std::alloc::Global;
+use std::slice;
 use tables::ValType;
 use value_json::{JsonError, json_of_value, value_of_json};
 
@@ -24,8 +23,7 @@ fn type_of(types: &Types<'_>, row: &Value) -> anyhow::Result<ValType>
     ensures small { IfOk result (λ ty. size (record_type (fields_of_types «types».now (ty ∷ []))) ≤ 16777216) }
 {
     let resolve = types.resolve();
-    let f = function(resolve, "a:b/c", text(row.get("func"))?)?;
-    let ty = parameter(resolve, f)?;
+    let ty = parameter_of_row(resolve, row)?;
     if resolve.is_type(ty) && types.fits_record(&[ty]) {
         return Ok(ty);
     }
@@ -44,30 +42,26 @@ fn value_of(alloc: Global, types: &Types<'_>, ty: ValType, json: &Value) -> anyh
     }
 }
 
-/// The text of a value.
-fn value_told(alloc: Global, types: &Types<'_>, ty: ValType, value: &Val) -> anyhow::Result<String>
-    requires known { IsTypeOf «types».now ty }
-    requires labels { HasApartLabels «types».now }
-{
-    if !has_type(types.resolve(), types.layouts(), ty, value) {
-        return Err(anyhow::anyhow!("no value of its type"));
-    }
-    let json = json_of_value(alloc, types.resolve(), ty, value)?;
-    Ok(json.to_string(alloc)?)
-}
-
-/// The values that core values denote.
+/// The values that the core values of a row denote.
 fn lifted(
     alloc: Global,
+    row: &Value,
     types: &Types<'_>,
     ty: ValType,
-    flats: &[Flat],
     guest: &Logged,
-) -> Result<Vec<Val>, Fault>
+) -> anyhow::Result<Result<Vec<Val>, Fault>>
     requires known { IsTypeOf «types».now ty }
     requires small { size (record_type (fields_of_types «types».now (ty ∷ []))) ≤ 16777216 }
 {
-    lift(alloc, types.resolve(), types.layouts(), &[ty], flats, guest)
+    let flats = flats(alloc, list(row.get("lift")))?;
+    Ok(lift(
+        alloc,
+        types.resolve(),
+        types.layouts(),
+        &[ty],
+        flats.as_slice(),
+        guest,
+    ))
 }
 
 /// The core values of a value.
@@ -84,7 +78,28 @@ fn lowered(
     if !has_type(resolve, layouts, ty, &value) {
         return Err(anyhow::anyhow!("no value of its type"));
     }
-    Ok(lower(resolve, layouts, &[ty], &[value], guest))
+    Ok(lower(resolve, layouts, &[ty], slice::from_ref(&value), guest))
+}
+
+/// What is told of the values that core values denote, which have to be one of this type.
+fn values_told(
+    alloc: Global,
+    types: &Types<'_>,
+    ty: ValType,
+    values: &[Val],
+) -> anyhow::Result<String>
+    requires known { IsTypeOf «types».now ty }
+    requires labels { HasApartLabels «types».now }
+{
+    let [value] = values else {
+        return Err(anyhow::anyhow!("not one value"));
+    };
+    if !has_type(types.resolve(), types.layouts(), ty, value) {
+        return Err(anyhow::anyhow!("no value of its type"));
+    }
+    let json = json_of_value(alloc, types.resolve(), ty, value)?;
+    let told = json.to_string(alloc)?;
+    Ok(format!(in alloc; "{{\"lifted\":{told}}}")?)
 }
 
 /// What is told of core values that are lifted.
@@ -97,16 +112,9 @@ fn lifted_told(
     requires { HasApartLabels «types».now }
 {
     let ty = type_of(types, row)?;
-    let flats = flats(alloc, list(row.get("lift")))?;
-    match lifted(alloc, types, ty, flats.as_slice(), guest) {
+    match lifted(alloc, row, types, ty, guest)? {
         Err(fault) => fault_told(alloc, fault),
-        Ok(values) => match values.as_slice() {
-            [value] => Ok(format!(in alloc;
-                "{{\"lifted\":{}}}",
-                value_told(alloc, types, ty, value)?
-            )?),
-            _ => Err(anyhow::anyhow!("not one value")),
-        },
+        Ok(values) => values_told(alloc, types, ty, values.as_slice()),
     }
 }
 
@@ -150,10 +158,8 @@ fn converted(
 pub fn conversion_told(alloc: Global, row: &Value, types: &Types<'_>) -> anyhow::Result<String>
     requires { HasApartLabels «types».now }
 {
-    let (mut caller, callee) = (guest(alloc, row, 0)?, guest(alloc, row, 1)?);
+    let mut caller = guest(alloc, row, 0)?;
+    let callee = guest(alloc, row, 1)?;
     let told = converted(alloc, row, types, &mut caller)?;
-    let mut members = Vec::new(alloc);
-    members.push(format!(in alloc; "\"answers\":[{told}]")?)?;
-    push_memories(alloc, &mut members, &caller, &callee, true)?;
-    Ok(object_of(alloc, members.as_slice())?)
+    answer_told(alloc, told.as_str(), &caller, &callee)
 }

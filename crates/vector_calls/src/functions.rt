@@ -3,7 +3,9 @@
 ghost use Rattle.std.specs.Prelude.{◌≡◌, IfOk};
 ghost use Rattle.tables.specs.Closed.{IsFunction};
 
+use crate::vector_sides::text;
 use canonical_abi::Fault;
+use serde_json::Value;
 use std::alloc::Global;
 use tables::{FunctionId, Resolve, ValType};
 
@@ -28,6 +30,12 @@ pub fn parameter(resolve: &Resolve, f: FunctionId) -> anyhow::Result<ValType>
         Some(parameter) => Ok(parameter.ty),
         None => Err(anyhow::anyhow!("no parameter")),
     }
+}
+
+/// The type of the first parameter of the function that a row names.
+pub(crate) fn parameter_of_row(resolve: &Resolve, row: &Value) -> anyhow::Result<ValType> {
+    let f = function(resolve, "a:b/c", text(row.get("func"))?)?;
+    parameter(resolve, f)
 }
 
 /// Why something ended.

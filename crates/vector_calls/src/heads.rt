@@ -6,15 +6,13 @@ ghost use Rattle.lift_lower.specs.Heads.{IsHeadOf, head_flats};
 ghost use Rattle.tables.specs.Closed.{closed_type};
 ghost use Rattle.values.specs.Types.{IsInside};
 
-use crate::functions::{fault_told, function, parameter};
-use crate::vector_sides::{
-    Logged, field, flats, guest, list, number, object_of, push_memories, text,
-};
+use crate::functions::{fault_told, parameter_of_row};
+use crate::vector_sides::{Logged, answer_told, field, flats, guest, list, number};
 use canonical_abi::{Fault, Flat, Guest, Step, Trap, TrapKind};
 use layout::Shape;
 use lift_lower::{Head, Types, head_at, head_of, put_head};
 use serde_json::Value;
-use std::alloc::Global;
+use std::alloc::{AllocError, Global};
 use tables::ValType;
 use values::Scalar;
 use values::bytes::test_block;
@@ -25,8 +23,7 @@ fn type_of(types: &Types<'_>, row: &Value) -> anyhow::Result<ValType>
     ensures { IfOk result (IsInside «types».now) }
 {
     let resolve = types.resolve();
-    let f = function(resolve, "a:b/c", text(row.get("func"))?)?;
-    let ty = parameter(resolve, f)?;
+    let ty = parameter_of_row(resolve, row)?;
     if resolve.is_type(ty) {
         return Ok(ty);
     }
@@ -101,38 +98,34 @@ fn put(
     Ok(())
 }
 
-/// The trap of this kind, in this step.
-fn trap(kind: TrapKind, step: Step) -> Fault {
-    Fault::Trap(Trap { kind, step })
-}
-
 /// A scalar as JSON: a char is its number.
-fn scalar_told(alloc: Global, scalar: Scalar) -> anyhow::Result<String> {
-    Ok(match scalar {
-        Scalar::Bool(value) => format!(in alloc; "{value}")?,
-        Scalar::S8(number) => format!(in alloc; "{number}")?,
-        Scalar::U8(number) => format!(in alloc; "{number}")?,
-        Scalar::S16(number) => format!(in alloc; "{number}")?,
-        Scalar::U16(number) => format!(in alloc; "{number}")?,
-        Scalar::S32(number) => format!(in alloc; "{number}")?,
-        Scalar::U32(number) => format!(in alloc; "{number}")?,
-        Scalar::S64(number) => format!(in alloc; "{number}")?,
-        Scalar::U64(number) => format!(in alloc; "{number}")?,
-        Scalar::Char(c) => format!(in alloc; "{}", u32::from(c))?,
-    })
+fn scalar_told(alloc: Global, scalar: Scalar) -> Result<String, AllocError> {
+    match scalar {
+        Scalar::Bool(value) => value.to_string(alloc),
+        Scalar::S8(number) => number.to_string(alloc),
+        Scalar::U8(number) => number.to_string(alloc),
+        Scalar::S16(number) => number.to_string(alloc),
+        Scalar::U16(number) => number.to_string(alloc),
+        Scalar::S32(number) => number.to_string(alloc),
+        Scalar::U32(number) => number.to_string(alloc),
+        Scalar::S64(number) => number.to_string(alloc),
+        Scalar::U64(number) => number.to_string(alloc),
+        Scalar::Char(c) => u32::from(c).to_string(alloc),
+    }
 }
 
 /// A head as JSON.
-fn head_told(alloc: Global, head: Head) -> anyhow::Result<String> {
-    Ok(match head {
+fn head_told(alloc: Global, head: Head) -> Result<String, AllocError> {
+    match head {
         Head::Scalar(scalar) => {
-            format!(in alloc; "{{\"scalar\":{}}}", scalar_told(alloc, scalar)?)?
+            let told = scalar_told(alloc, scalar)?;
+            format!(in alloc; "{{\"scalar\":{told}}}")
         }
-        Head::Block(at, count) => format!(in alloc; "{{\"block\":[{at},{count}]}}")?,
-        Head::Case(number) => format!(in alloc; "{{\"case\":{number}}}")?,
-        Head::Flags(bits) => format!(in alloc; "{{\"flags\":{bits}}}")?,
-        Head::Nothing => String::from_str(alloc, "\"nothing\"")?,
-    })
+        Head::Block(at, count) => format!(in alloc; "{{\"block\":[{at},{count}]}}"),
+        Head::Case(number) => format!(in alloc; "{{\"case\":{number}}}"),
+        Head::Flags(bits) => format!(in alloc; "{{\"flags\":{bits}}}"),
+        Head::Nothing => String::from_str(alloc, "\"nothing\""),
+    }
 }
 
 /// The head that a row asks for: at an address, or of core values.
@@ -157,7 +150,7 @@ fn asked_head(
 }
 
 /// What is told of the head that a row asks for, which is written at an address of the other memory if the row has one.
-fn answer_told(
+fn head_asked(
     alloc: Global,
     row: &Value,
     types: &Types<'_>,
@@ -166,23 +159,34 @@ fn answer_told(
     let (ty, head) = asked_head(alloc, row, types, source)?;
     let head = match head {
         Ok(head) => head,
-        Err(kind) => return fault_told(alloc, trap(kind, Step::Take)),
+        Err(kind) => return fault_told(
+            alloc,
+            Fault::Trap(Trap {
+                kind,
+                step: Step::Take,
+            }),
+        ),
     };
     if let Some(at) = field(row, "put_at") {
         let at = number(Some(at))?;
         if let Err(kind) = put(types, ty, head, (target, at)) {
-            return fault_told(alloc, trap(kind, Step::Place));
+            return fault_told(
+                alloc,
+                Fault::Trap(Trap {
+                    kind,
+                    step: Step::Place,
+                }),
+            );
         }
     }
-    Ok(format!(in alloc; "{{\"head\":{}}}", head_told(alloc, head)?)?)
+    let told = head_told(alloc, head)?;
+    Ok(format!(in alloc; "{{\"head\":{told}}}")?)
 }
 
 /// What is told of a row that asks for a head, and of the memories.
 pub fn head_row_told(alloc: Global, row: &Value, types: &Types<'_>) -> anyhow::Result<String> {
-    let (caller, mut callee) = (guest(alloc, row, 0)?, guest(alloc, row, 1)?);
-    let told = answer_told(alloc, row, types, (&caller, &mut callee))?;
-    let mut members = Vec::new(alloc);
-    members.push(format!(in alloc; "\"answers\":[{told}]")?)?;
-    push_memories(alloc, &mut members, &caller, &callee, true)?;
-    Ok(object_of(alloc, members.as_slice())?)
+    let caller = guest(alloc, row, 0)?;
+    let mut callee = guest(alloc, row, 1)?;
+    let told = head_asked(alloc, row, types, (&caller, &mut callee))?;
+    answer_told(alloc, told.as_str(), &caller, &callee)
 }

@@ -9,4 +9,5 @@ mod telling;
 pub use acting::Acting;
 pub use logged::Logged;
 pub use row::{body, field, flats, guest, list, number, package_bytes, text};
+pub(crate) use telling::answer_told;
 pub use telling::{all_given, first_given, flats_told, list_of, object_of, push_memories};

@@ -5,7 +5,7 @@ use canonical_abi::{Flat, Guest};
 use lift_lower::{FlatResults, Flats};
 
 /// Which of the body's functions stops, if one does.
-#[derive(Clone, Copy, PartialEq, Eq)]
+#[derive(Clone, Copy)]
 pub enum Stop {
     No,
     Body,
@@ -114,7 +114,7 @@ fn write<G: Guest>(memory: &mut G, at: u32, bytes: &[u8]) -> Result<(), Stopped>
 fn acted<G: Guest>(memory: &mut G, act: &Act) -> Result<FlatResults, Stopped> {
     ask(memory, act.asks.as_slice())?;
     write(memory, act.at, act.writes.as_slice())?;
-    if act.stop == Stop::Body {
+    if matches!(act.stop, Stop::Body) {
         return Err(Stopped);
     }
     Ok(answered(act.answer.as_slice()))
@@ -174,7 +174,7 @@ impl<G: Guest> Body<G> for Acting {
                 memory.write(place, &[0xee]);
             }
         }
-        if act.stop == Stop::Post {
+        if matches!(act.stop, Stop::Post) {
             return Err(Stopped);
         }
         Ok(())

@@ -7,6 +7,7 @@ use lift_lower::FlatResults;
 use memory::{Bump, FirstFit, Space};
 use serde_json::Value;
 use std::alloc::Global;
+use std::slice;
 
 /// What a key has, unless that is null.
 pub fn field<'a>(row: &'a Value, key: &str) -> Option<&'a Value> {
@@ -31,8 +32,24 @@ pub fn text(value: Option<&Value>) -> anyhow::Result<&str> {
     }
 }
 
+/// The text of a value, if it is one.
+fn word(value: Option<&Value>) -> Option<&str> {
+    match value {
+        Some(value) => value.as_str(),
+        None => None,
+    }
+}
+
+/// The number of a value, if it is one.
+fn whole(value: Option<&Value>) -> Option<u64> {
+    match value {
+        Some(value) => value.as_u64(),
+        None => None,
+    }
+}
+
 pub fn number(value: Option<&Value>) -> anyhow::Result<u32> {
-    match value.and_then(Value::as_u64) {
+    match whole(value) {
         Some(number) => Ok(u32::try_from(number)?),
         None => Err(anyhow::anyhow!("no number")),
     }
@@ -48,16 +65,12 @@ fn of_pair<'a>(row: &'a Value, key: &str, side: usize) -> Option<&'a Value> {
 
 /// A core value, `["i32", n]` or `["i64", n]`.
 fn flat(value: &Value) -> anyhow::Result<Flat> {
-    match (
-        list(Some(value)).first(),
-        value.get(1usize).and_then(Value::as_u64),
-    ) {
-        (Some(Value::String(kind)), Some(number)) if kind.as_str() == "i64" => Ok(Flat::I64(
-            number,
-        )),
-        (Some(Value::String(kind)), Some(number)) if kind.as_str() == "i32" => {
-            Ok(Flat::I32(u32::try_from(number)?))
-        }
+    let Some(number) = whole(value.get(1usize)) else {
+        return Err(anyhow::anyhow!("no core value"));
+    };
+    match word(list(Some(value)).first()) {
+        Some("i64") => Ok(Flat::I64(number)),
+        Some("i32") => Ok(Flat::I32(u32::try_from(number)?)),
         _ => Err(anyhow::anyhow!("no core value")),
     }
 }
@@ -72,10 +85,10 @@ pub fn flats(alloc: Global, values: &[Value]) -> anyhow::Result<Vec<Flat>> {
 
 /// The bytes of the package, text or binary.
 pub fn package_bytes(alloc: Global, row: &Value) -> anyhow::Result<Vec<u8>> {
-    match row.get("text") {
-        Some(Value::String(text)) => Ok(text.as_bytes().to_vec(alloc)?),
-        _ => Ok(hex::decode(alloc, text(row.get("binary"))?)?),
+    if let Some(text) = word(row.get("text")) {
+        return Ok(text.as_bytes().to_vec(alloc)?);
     }
+    Ok(hex::decode(alloc, text(row.get("binary"))?)?)
 }
 
 /// A memory of zeros, which grows if it has a most length.
@@ -97,16 +110,19 @@ fn space(
     }
 }
 
-/// The answers of a script, the last first.
-fn script(alloc: Global, answers: &[Value]) -> anyhow::Result<Vec<Option<u32>>> {
+/// What a side's allocator answers if that is told, the last answer first.
+fn script(alloc: Global, answers: Option<&Value>) -> anyhow::Result<Option<Vec<Option<u32>>>> {
+    if answers.is_none() {
+        return Ok(None);
+    }
     let mut script = Vec::new(alloc);
-    for answer in answers.iter().rev() {
+    for answer in list(answers).iter().rev() {
         script.push(match answer {
             Value::Null => None,
             _ => Some(number(Some(answer))?),
         })?;
     }
-    Ok(script)
+    Ok(Some(script))
 }
 
 /// Makes what is live before the call, and writes the bytes.
@@ -120,25 +136,34 @@ fn fill(space: &mut Space, top: u32, bytes: &[u8]) -> anyhow::Result<()> {
     Ok(())
 }
 
-/// The memory of a side: its bytes and zeros up to its length, what is live of it, and what its allocator answers.
-pub fn guest(alloc: Global, row: &Value, side: usize) -> anyhow::Result<Logged> {
+/// A number, or what stands for it if there is none.
+fn number_or(value: Option<&Value>, otherwise: u32) -> anyhow::Result<u32> {
+    match value {
+        None => Ok(otherwise),
+        value => number(value),
+    }
+}
+
+/// The memory of a side, with these bytes and zeros up to its length.
+fn filled(alloc: Global, row: &Value, side: usize, bytes: &[u8]) -> anyhow::Result<Space> {
+    let length = number_or(of_pair(row, "lens", side), u32::try_from(bytes.len())?)?;
+    let is_first_fit = word(of_pair(row, "kinds", side)) == Some("first-fit");
+    let mut space = space(alloc, length, of_pair(row, "max", side), is_first_fit)?;
+    fill(&mut space, number_or(of_pair(row, "tops", side), 0)?, bytes)?;
+    Ok(space)
+}
+
+/// The memory that a row says for a side.
+fn space_of(alloc: Global, row: &Value, side: usize) -> anyhow::Result<Space> {
     let key = if side == 0 { "caller" } else { "callee" };
     let bytes = hex::decode(alloc, text(row.get(key))?)?;
-    let len = match of_pair(row, "lens", side) {
-        None => u32::try_from(bytes.len())?,
-        len => number(len)?,
-    };
-    let is_first_fit = of_pair(row, "kinds", side).and_then(Value::as_str) == Some("first-fit");
-    let mut space = space(alloc, len, of_pair(row, "max", side), is_first_fit)?;
-    let top = match of_pair(row, "tops", side) {
-        None => 0,
-        top => number(top)?,
-    };
-    fill(&mut space, top, bytes.as_slice())?;
-    let script = match of_pair(row, "script", side) {
-        None => None,
-        answers => Some(script(alloc, list(answers))?),
-    };
+    filled(alloc, row, side, bytes.as_slice())
+}
+
+/// The memory of a side: its bytes and zeros up to its length, what is live of it, and what its allocator answers.
+pub fn guest(alloc: Global, row: &Value, side: usize) -> anyhow::Result<Logged> {
+    let space = space_of(alloc, row, side)?;
+    let script = script(alloc, of_pair(row, "script", side))?;
     Ok(Logged::new(space, script, Vec::new(alloc)))
 }
 
@@ -151,24 +176,25 @@ fn asks(alloc: Global, values: &[Value]) -> anyhow::Result<Vec<(u32, u32)>> {
     Ok(asks)
 }
 
+/// The bytes that a run writes, behind their address.
+fn written(alloc: Global, writes: &[Value]) -> anyhow::Result<Vec<u8>> {
+    if writes.is_empty() {
+        return Ok(Vec::new(alloc));
+    }
+    Ok(hex::decode(alloc, text(writes.get(1))?)?)
+}
+
 /// What one run of the body does.
 fn act(alloc: Global, value: &Value) -> anyhow::Result<Act> {
     let writes = list(value.get("writes"));
-    let (at, written) = match writes.first() {
-        None => (0, Vec::new(alloc)),
-        at => (number(at)?, hex::decode(alloc, text(writes.get(1))?)?),
-    };
-    let fills = match field(value, "fills") {
-        None => 0,
-        fills => number(fills)?,
-    };
+    let at = number_or(writes.first(), 0)?;
     Ok(Act {
-        asks: asks(alloc, list(value.get("asks")))?,
         at,
-        writes: written,
+        writes: written(alloc, writes)?,
+        fills: number_or(field(value, "fills"), 0)?,
+        asks: asks(alloc, list(value.get("asks")))?,
         answer: answer(alloc, value)?,
         stop: stop(value),
-        fills,
     })
 }
 
@@ -182,24 +208,31 @@ fn answer(alloc: Global, value: &Value) -> anyhow::Result<FlatResults> {
 }
 
 fn stop(value: &Value) -> Stop {
-    match value.get("stop").and_then(Value::as_str) {
+    match word(value.get("stop")) {
         Some("body") => Stop::Body,
         Some("post") => Stop::Post,
         _ => Stop::No,
     }
 }
 
-/// The body: what its runs do in turn, or what the row itself says of the first.
-pub fn body(alloc: Global, row: &Value) -> anyhow::Result<Acting> {
-    if row.get("body").and_then(Value::as_str) == Some("echo") {
-        return Ok(Acting::new(None, Vec::new(alloc), Vec::new(alloc)));
-    }
+/// What the runs of the body do in turn, or what the row itself says of the first.
+fn acts_of(alloc: Global, row: &Value) -> anyhow::Result<Vec<Act>> {
+    let values = match list(row.get("body")) {
+        [] => slice::from_ref(row),
+        values => values,
+    };
     let mut acts = Vec::new(alloc);
-    for value in list(row.get("body")) {
+    for value in values {
         acts.push(act(alloc, value)?)?;
     }
-    if acts.is_empty() {
-        acts.push(act(alloc, row)?)?;
+    Ok(acts)
+}
+
+/// The body, which echoes or does what the row says.
+pub fn body(alloc: Global, row: &Value) -> anyhow::Result<Acting> {
+    if word(row.get("body")) == Some("echo") {
+        return Ok(Acting::new(None, Vec::new(alloc), Vec::new(alloc)));
     }
+    let acts = acts_of(alloc, row)?;
     Ok(Acting::new(Some(acts), Vec::new(alloc), Vec::new(alloc)))
 }

@@ -40,14 +40,20 @@ fn runs_told(alloc: Global, given: &[Flats]) -> Result<String, AllocError> {
     list_of(alloc, parts.as_slice())
 }
 
-/// Requests: alignment, size, and the address or null.
+/// A request: alignment, size, and the address or null.
+fn request_told(alloc: Global, request: &Request) -> Result<String, AllocError> {
+    let (align, size) = (request.align, request.size);
+    match request.at {
+        Some(at) => format!(in alloc; "[{align},{size},{at}]"),
+        None => format!(in alloc; "[{align},{size},null]"),
+    }
+}
+
+/// Requests in turn.
 fn requests_told(alloc: Global, requests: &[Request]) -> Result<String, AllocError> {
     let mut parts = Vec::new(alloc);
-    for Request { align, size, at } in requests {
-        parts.push(match at {
-            Some(at) => format!(in alloc; "[{align},{size},{at}]")?,
-            None => format!(in alloc; "[{align},{size},null]")?,
-        })?;
+    for request in requests {
+        parts.push(request_told(alloc, request)?)?;
     }
     list_of(alloc, parts.as_slice())
 }
@@ -57,10 +63,14 @@ pub fn object_of(alloc: Global, members: &[String]) -> Result<String, AllocError
     format!(in alloc; "{{{}}}", members.join(alloc, ",")?)
 }
 
-/// The bytes of a memory, as a member.
+/// The bytes of a memory in hexadecimal digits, as a member.
 fn after_told(alloc: Global, key: &str, guest: &Logged, is_cut: bool) -> anyhow::Result<String> {
-    let bytes = bytes_told(alloc, guest, is_cut)?;
-    Ok(format!(in alloc; "\"{key}\":\"{bytes}\"")?)
+    let mut bytes = guest.bytes();
+    if is_cut {
+        bytes = bytes.get(..front_length(bytes)).unwrap_or(&[]);
+    }
+    let digits = hex::encode(alloc, bytes)?;
+    Ok(format!(in alloc; "\"{key}\":\"{digits}\"")?)
 }
 
 /// The requests to a memory's allocator, as a member.
@@ -87,6 +97,19 @@ pub fn push_memories(
     Ok(())
 }
 
+/// What is told of a row with one answer, and of the memories.
+pub(crate) fn answer_told(
+    alloc: Global,
+    told: &str,
+    caller: &Logged,
+    callee: &Logged,
+) -> anyhow::Result<String> {
+    let mut members = Vec::new(alloc);
+    members.push(format!(in alloc; "\"answers\":[{told}]")?)?;
+    push_memories(alloc, &mut members, caller, callee, true)?;
+    Ok(object_of(alloc, members.as_slice())?)
+}
+
 /// How many bytes there are up to the last that is not 0.
 fn front_length(bytes: &[u8]) -> usize {
     let mut length = 0;
@@ -98,21 +121,13 @@ fn front_length(bytes: &[u8]) -> usize {
     length
 }
 
-/// The bytes of a memory in hexadecimal digits.
-fn bytes_told(alloc: Global, guest: &Logged, is_cut: bool) -> anyhow::Result<String> {
-    let mut bytes = guest.bytes();
-    if is_cut {
-        bytes = bytes.get(..front_length(bytes)).unwrap_or(&[]);
-    }
-    Ok(hex::encode(alloc, bytes)?)
-}
-
 /// What the first run and the first post-return were given.
 pub fn first_given(alloc: Global, body: &Acting) -> anyhow::Result<String> {
     let Some((runs, posts)) = body.given() else {
         return Err(anyhow::anyhow!("no memory"));
     };
-    let (run, post) = (first_told(alloc, runs)?, first_told(alloc, posts)?);
+    let run = first_told(alloc, runs)?;
+    let post = first_told(alloc, posts)?;
     Ok(format!(in alloc; "\"body_got\":{run},\"post_got\":{post}")?)
 }
 
@@ -121,6 +136,7 @@ pub fn all_given(alloc: Global, body: &Acting) -> anyhow::Result<String> {
     let Some((runs, posts)) = body.given() else {
         return Err(anyhow::anyhow!("no memory"));
     };
-    let (runs, posts) = (runs_told(alloc, runs)?, runs_told(alloc, posts)?);
+    let runs = runs_told(alloc, runs)?;
+    let posts = runs_told(alloc, posts)?;
     Ok(format!(in alloc; "\"bodies_got\":{runs},\"posts_got\":{posts}")?)
 }
