@@ -132,21 +132,34 @@ fn cuts(alloc: Global, bytes: &[u8]) -> anyhow::Result<String> {
     Ok(format!(in alloc; "{count} fronts, {cut} told as cut: {counts}")?)
 }
 
-/// The number that begins words, and the bytes of the digits behind it.
-fn numbered(alloc: Global, words: &str) -> anyhow::Result<(usize, Vec<u8>)> {
+/// The number that begins words, and the digits behind it.
+fn numbered(words: &str) -> anyhow::Result<(usize, &str)> {
     let (number, digits) = first_word(words)?;
-    Ok((number.parse::<usize>()?, hex::decode(alloc, digits)?))
+    Ok((number.parse::<usize>()?, digits))
 }
 
 /// What a reader that fails after so many bytes is told as.
 fn failing(alloc: Global, words: &str) -> anyhow::Result<String> {
-    let (place, bytes) = numbered(alloc, words)?;
+    let (place, digits) = numbered(words)?;
+    let bytes = hex::decode(alloc, digits)?;
     told(alloc, &dripped(alloc, bytes.as_slice(), place)?)
 }
 
 fn changes(alloc: Global, words: &str) -> anyhow::Result<String> {
-    let (count, bytes) = numbered(alloc, words)?;
+    let (count, digits) = numbered(words)?;
+    let bytes = hex::decode(alloc, digits)?;
     changed(alloc, bytes.as_slice(), count)
+}
+
+/// The bytes that a component is written as, behind two that are there.
+fn encoded_told(alloc: Global, bytes: &[u8]) -> anyhow::Result<String> {
+    let written = encoded(alloc, bytes, &[0xaa, 0xbb])?;
+    Ok(hex::encode(alloc, written.as_slice())?)
+}
+
+/// What zeros that never end are told as.
+fn endless(alloc: Global) -> anyhow::Result<String> {
+    told(alloc, &decode_from(alloc, &mut Zeros)?)
 }
 
 /// What a command about bytes is answered.
@@ -154,10 +167,16 @@ fn done_with(alloc: Global, word: &str, bytes: &[u8]) -> anyhow::Result<String> 
     match word {
         "decode" => decoded(alloc, bytes),
         "drip" => drip(alloc, bytes),
-        "encode" => Ok(hex::encode(alloc, encoded(alloc, bytes, &[0xaa, 0xbb])?.as_slice())?),
+        "encode" => encoded_told(alloc, bytes),
         "component-cuts" => cuts(alloc, bytes),
         _ => Err(anyhow::anyhow!("no such command: {word}")),
     }
+}
+
+/// What a command about the bytes of these digits is answered.
+fn done_of_digits(alloc: Global, word: &str, digits: &str) -> anyhow::Result<String> {
+    let bytes = hex::decode(alloc, digits)?;
+    done_with(alloc, word, bytes.as_slice())
 }
 
 /// What a command is answered.
@@ -165,7 +184,7 @@ pub fn done(alloc: Global, word: &str, rest: &str) -> anyhow::Result<String> {
     match word {
         "failing" => failing(alloc, rest),
         "component-changes" => changes(alloc, rest),
-        "endless" => told(alloc, &decode_from(alloc, &mut Zeros)?),
-        _ => done_with(alloc, word, hex::decode(alloc, rest)?.as_slice()),
+        "endless" => endless(alloc),
+        _ => done_of_digits(alloc, word, rest),
     }
 }

@@ -42,6 +42,17 @@ fn full_name(alloc: Global, text: &str) -> anyhow::Result<String> {
     Ok(FullName::parse(alloc, text)?.text(alloc)?)
 }
 
+/// Whether a text is a version.
+fn version(alloc: Global, text: &str) -> anyhow::Result<String> {
+    Ok(is_version(alloc, text)?.to_string(alloc)?)
+}
+
+/// How many tokens a text has.
+fn tokens(alloc: Global, text: &str) -> anyhow::Result<String> {
+    let tokens = lex(alloc, text)?;
+    Ok(tokens.len().to_string(alloc)?)
+}
+
 /// The name of a text's package, and how many items it has.
 fn tree(alloc: Global, text: &str) -> anyhow::Result<String> {
     let ast = parse(alloc, text)?;
@@ -84,8 +95,8 @@ pub fn done(alloc: Global, word: &str, rest: &str) -> anyhow::Result<String> {
         "write-s33" => written(alloc, rest, true),
         "label" => label(alloc, rest),
         "full-name" => full_name(alloc, rest),
-        "version" => Ok(format!(in alloc; "{}", is_version(alloc, rest)?)?),
-        "tokens" => Ok(format!(in alloc; "{}", lex(alloc, rest)?.len())?),
+        "version" => version(alloc, rest),
+        "tokens" => tokens(alloc, rest),
         "tree" => tree(alloc, rest),
         "print" => printed(alloc, rest),
         "words" => asked(alloc, rest),

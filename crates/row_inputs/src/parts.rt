@@ -31,17 +31,16 @@ fn push_plain<'a>(tokens: &mut Vec<Token<'a>>, piece: &'a str) -> Result<(), All
     Ok(())
 }
 
-/// The tokens of a line: what stands in quotation marks is one.
-fn tokens_of(alloc: Global, line: &str) -> Result<Vec<Token<'_>>, AllocError> {
-    let mut tokens = Vec::new(alloc);
+/// Adds the tokens of a line: what stands in quotation marks is one.
+fn push_tokens<'a>(tokens: &mut Vec<Token<'a>>, line: &'a str) -> Result<(), AllocError> {
     for (index, piece) in line.split('"').enumerate() {
         if index % 2 == 1 {
             tokens.push(Token::Text(piece))?;
         } else {
-            push_plain(&mut tokens, piece)?;
+            push_plain(tokens, piece)?;
         }
     }
-    Ok(tokens)
+    Ok(())
 }
 
 fn letter(digit: usize) -> char {
@@ -60,21 +59,38 @@ fn letters(alloc: Global, number: usize) -> Result<String, AllocError> {
     Ok(letters)
 }
 
-/// Adds what follows a brace of a text: `n}` stands for this number, `m}` for the next, and `a}` for its letters.
+/// Adds what a rule stands for at this number: `n` for it, `m` for the next, and `a` for its letters.
+fn push_number(
+    alloc: Global,
+    input: &mut Vec<u8>,
+    rule: &str,
+    number: usize,
+) -> Result<(), AllocError> {
+    let told = match rule {
+        "a" => letters(alloc, number)?,
+        "m" => number.saturating_add(1).to_string(alloc)?,
+        _ => number.to_string(alloc)?,
+    };
+    input.extend_from_slice(told.as_bytes())
+}
+
+/// Adds what follows a brace of a text, in which a rule that ends at the next brace stands for this number.
 fn push_rule(
     alloc: Global,
     input: &mut Vec<u8>,
     piece: &str,
     number: usize,
 ) -> Result<(), AllocError> {
-    let told = match piece.split_once('}') {
-        Some(("n", rest)) => format!(in alloc; "{number}{rest}")?,
-        Some(("a", rest)) => format!(in alloc; "{}{rest}", letters(alloc, number)?)?,
-        Some(("m", rest)) => format!(in alloc; "{}{rest}", number.saturating_add(1))?,
-        _ => format!(in alloc; "{{{piece}")?,
-    };
-    input.extend_from_slice(told.as_bytes())?;
-    Ok(())
+    match piece.split_once('}') {
+        Some((rule, rest)) if matches!(rule, "n" | "a" | "m") => {
+            push_number(alloc, input, rule, number)?;
+            input.extend_from_slice(rest.as_bytes())
+        }
+        _ => {
+            input.push(b'{')?;
+            input.extend_from_slice(piece.as_bytes())
+        }
+    }
 }
 
 /// Adds a text to an input, with this number at its rules.
@@ -201,12 +217,19 @@ impl<'a> Maker<'a> {
 
 /// The inputs that a line has, with commas between.
 pub fn inputs_in(alloc: Global, kept: &Inputs, line: &str) -> anyhow::Result<Set> {
+    let mut tokens = Vec::new(alloc);
+    push_tokens(&mut tokens, line)?;
+    made(alloc, kept, tokens.as_slice())
+}
+
+/// The inputs that tokens say.
+fn made(alloc: Global, kept: &Inputs, tokens: &[Token<'_>]) -> anyhow::Result<Set> {
     let mut maker = Maker {
         kept,
         set: Set::new(alloc),
         awaited: Awaited::Part,
     };
-    for token in &tokens_of(alloc, line)? {
+    for token in tokens {
         maker.take(alloc, *token)?;
     }
     Ok(maker.set)
@@ -242,15 +265,21 @@ fn push_repeated(alloc: Global, text: &mut Vec<u8>, rule: &str) -> anyhow::Resul
     Ok(())
 }
 
-/// A text with its repeated parts written out.
-pub fn expanded(alloc: Global, line: &str) -> anyhow::Result<String> {
-    let mut text = Vec::new(alloc);
+/// Adds a text with its repeated parts written out.
+fn push_expanded(alloc: Global, text: &mut Vec<u8>, line: &str) -> anyhow::Result<()> {
     for (index, piece) in line.split("repeat ").enumerate() {
         if index == 0 {
             text.extend_from_slice(piece.as_bytes())?;
         } else {
-            push_repeated(alloc, &mut text, piece)?;
+            push_repeated(alloc, text, piece)?;
         }
     }
+    Ok(())
+}
+
+/// A text with its repeated parts written out.
+pub fn expanded(alloc: Global, line: &str) -> anyhow::Result<String> {
+    let mut text = Vec::new(alloc);
+    push_expanded(alloc, &mut text, line)?;
     Ok(String::from_utf8(text)?)
 }

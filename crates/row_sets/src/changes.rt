@@ -132,14 +132,20 @@ fn take_values(
     Ok(())
 }
 
-/// What the fronts and the changes of a binary answer. The first four bytes stay, which tell a binary from a text.
-pub fn changes(alloc: Global, set: &mut Set) -> anyhow::Result<String> {
-    let fronts = binary_fronts(alloc, set)?;
+/// What the changes of a binary answer. The first four bytes stay, which tell a binary from a text.
+fn changed(alloc: Global, set: &mut Set) -> anyhow::Result<String> {
     let mut tally = Tally::new();
     for place in 4..set.last.len() {
         take_values(alloc, set, place, &mut tally)?;
     }
     let count = set.last.len().saturating_sub(4).saturating_mul(256);
     let counts = tally.told(alloc, "packages")?;
-    Ok(format!(in alloc; "{fronts}; {count} changed: {counts}")?)
+    Ok(format!(in alloc; "{count} changed: {counts}")?)
+}
+
+/// What the fronts and the changes of a binary answer.
+pub fn changes(alloc: Global, set: &mut Set) -> anyhow::Result<String> {
+    let fronts = binary_fronts(alloc, set)?;
+    let changed = changed(alloc, set)?;
+    Ok(format!(in alloc; "{fronts}; {changed}")?)
 }

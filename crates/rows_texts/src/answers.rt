@@ -83,6 +83,11 @@ fn repeated(alloc: Global, set: &mut Set) -> anyhow::Result<String> {
     }
 }
 
+/// What a job makes of a set, or the line of its refusal.
+fn job_told(alloc: Global, job: Job, set: &Set) -> anyhow::Result<String> {
+    told(alloc, made(alloc, job, set))
+}
+
 /// How a row is answered whose set was made.
 fn answer_to(alloc: Global, word: &str, set: &mut Set) -> anyhow::Result<String> {
     match word {
@@ -95,7 +100,7 @@ fn answer_to(alloc: Global, word: &str, set: &mut Set) -> anyhow::Result<String>
         "changes" => changes(alloc, set),
         "cuts" => cuts(alloc, set),
         "fronts" => fronts(alloc, set),
-        _ => told(alloc, made(alloc, job_of(word)?, set)),
+        _ => job_told(alloc, job_of(word)?, set),
     }
 }
 
@@ -107,9 +112,18 @@ fn is_of_set(word: &str) -> bool {
     ) || job_of(word).is_ok()
 }
 
+/// How a row about a set of inputs is answered.
+fn set_answer(alloc: Global, kept: &Inputs, word: &str, rest: &str) -> anyhow::Result<String> {
+    let mut set = inputs_in(alloc, kept, rest)?;
+    answer_to(alloc, word, &mut set)
+}
+
 /// How a row is answered.
 pub fn answer_of(alloc: Global, kept: &Inputs, asked: &str) -> anyhow::Result<String> {
     let (word, rest) = asked.split_once(' ').unwrap_or((asked, ""));
+    if is_of_set(word) {
+        return set_answer(alloc, kept, word, rest);
+    }
     match word {
         "call" => called(alloc, kept, rest),
         "find" => found(alloc, kept, rest),
@@ -119,7 +133,6 @@ pub fn answer_of(alloc: Global, kept: &Inputs, asked: &str) -> anyhow::Result<St
         "json-call" => json::answer_of(alloc, true, rest),
         "layouts" => laid_out(alloc, rest, false),
         "last" => laid_out(alloc, rest, true),
-        _ if is_of_set(word) => answer_to(alloc, word, &mut inputs_in(alloc, kept, rest)?),
         _ => done(alloc, word, rest),
     }
 }

@@ -80,11 +80,16 @@ fn call_of(words: &str) -> anyhow::Result<(Call<'_>, &str)> {
     Ok((call, inputs))
 }
 
-/// What a call prints, without the end of its line.
-pub fn called(alloc: Global, kept: &Inputs, words: &str) -> anyhow::Result<String> {
+/// What a call prints, or the line of its refusal.
+fn printed(alloc: Global, kept: &Inputs, words: &str) -> anyhow::Result<String> {
     let (call, inputs) = call_of(words)?;
     let set = inputs_in(alloc, kept, inputs)?;
-    let output = told(alloc, written(alloc, &call, &set))?;
+    told(alloc, written(alloc, &call, &set))
+}
+
+/// What a call prints, without the end of its line.
+pub fn called(alloc: Global, kept: &Inputs, words: &str) -> anyhow::Result<String> {
+    let output = printed(alloc, kept, words)?;
     Ok(String::from_str(alloc, output.as_str().trim_end())?)
 }
 

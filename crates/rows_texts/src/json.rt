@@ -30,11 +30,16 @@ fn rewritten(alloc: Global, package: &Package, text: &str) -> anyhow::Result<Str
     Ok(to_json(alloc, package, ty, &value)?)
 }
 
-fn value(alloc: Global, items: &str, text: &str) -> anyhow::Result<String> {
+/// The package of an interface with these items, of which `the-type-t` uses the type `t`.
+fn opened(alloc: Global, items: &str) -> anyhow::Result<Package> {
     let wit = format!(in alloc;
         "package a:b; interface c {{ {items} }} interface the-type-t {{ use c.{{t}}; f: func(x: t); }}"
     )?;
-    let package = open(alloc, wit.as_bytes())?;
+    Ok(open(alloc, wit.as_bytes())?)
+}
+
+fn value(alloc: Global, items: &str, text: &str) -> anyhow::Result<String> {
+    let package = opened(alloc, items)?;
     rewritten(alloc, &package, text)
 }
 
@@ -48,6 +53,13 @@ fn set_of(alloc: Global, items: &str) -> anyhow::Result<Set> {
     })
 }
 
+/// What a call prints of the package whose interface has these items.
+fn printed(alloc: Global, items: &str, call: &Call<'_>) -> anyhow::Result<String> {
+    let set = set_of(alloc, items)?;
+    let bytes = written(alloc, call, &set)?;
+    Ok(String::from_utf8(bytes)?)
+}
+
 /// What a call of `f` prints, without the end of its line.
 fn called(alloc: Global, items: &str, arguments: &str, reply: &str) -> anyhow::Result<String> {
     let call = Call {
@@ -56,8 +68,7 @@ fn called(alloc: Global, items: &str, arguments: &str, reply: &str) -> anyhow::R
         arguments,
         reply,
     };
-    let set = set_of(alloc, items)?;
-    let printed = String::from_utf8(written(alloc, &call, &set)?)?;
+    let printed = printed(alloc, items, &call)?;
     let result = printed.as_str().strip_suffix("\n").unwrap_or("nothing");
     Ok(String::from_str(alloc, result)?)
 }

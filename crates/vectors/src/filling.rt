@@ -6,7 +6,7 @@ use host_calls::{CallError, MAX_VALUES, Value};
 use memory::Block;
 use serde_json::Value as Json;
 use std::alloc::Global;
-use vector_calls::vector_sides::{flats_told, list, number, object_of};
+use vector_calls::vector_sides::{flats_told, list, number};
 
 /// What a place for a core value has before one is put there.
 const UNSET: Value = Value {
@@ -99,6 +99,14 @@ fn handed_told(alloc: Global, handed: &[Value]) -> anyhow::Result<String> {
     Ok(flats_told(alloc, front)?)
 }
 
+/// How many core values were put, or why none were, as a member.
+fn done_told(alloc: Global, done: &Result<usize, CallError>) -> anyhow::Result<String> {
+    match done {
+        Ok(count) => Ok(format!(in alloc; "\"filled\":{count}")?),
+        Err(error) => error_told(alloc, *error),
+    }
+}
+
 impl Filling {
     /// What a step says, `["fills", VALUES, BLOCKS, ROOM]`, over a copy of this memory.
     pub fn of(alloc: Global, words: &[Json], memory: &[u8]) -> anyhow::Result<Filling> {
@@ -111,15 +119,9 @@ impl Filling {
 
     /// What is told of a call that was given these.
     pub fn told(&self, alloc: Global, done: &Result<usize, CallError>) -> anyhow::Result<String> {
-        let mut members = Vec::new(alloc);
-        members.push(match done {
-            Ok(count) => format!(in alloc; "\"filled\":{count}")?,
-            Err(error) => error_told(alloc, *error)?,
-        })?;
+        let done = done_told(alloc, done)?;
         let handed = handed_told(alloc, self.handed.as_slice())?;
-        members.push(format!(in alloc; "\"handed\":{handed}")?)?;
         let memory = memory_told(alloc, self.memory.as_slice())?;
-        members.push(format!(in alloc; "\"memory\":\"{memory}\"")?)?;
-        Ok(object_of(alloc, members.as_slice())?)
+        Ok(format!(in alloc; "{{{done},\"handed\":{handed},\"memory\":\"{memory}\"}}")?)
     }
 }

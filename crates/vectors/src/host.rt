@@ -47,6 +47,14 @@ fn json_of(words: &[Json]) -> anyhow::Result<&Json> {
     }
 }
 
+/// The limit of a step, if it has one.
+fn limit_of(words: &[Json]) -> u64 {
+    match words.get(2) {
+        Some(limit) => limit.as_u64().unwrap_or(u64::MAX),
+        None => u64::MAX,
+    }
+}
+
 /// The core values of an answer.
 fn answer_of(alloc: Global, words: &[Json]) -> anyhow::Result<Vec<Value>> {
     let mut answer = Vec::new(alloc);
@@ -146,23 +154,6 @@ impl Host<'_> {
         filling.told(self.alloc, &done)
     }
 
-    /// What the core values of an answer say, up to the limit of a step.
-    fn read(&self, words: &[Json]) -> anyhow::Result<Result<Option<Val>, CallError>> {
-        let answer = answer_of(self.alloc, words)?;
-        let mut memory = self.memory.to_vec(self.alloc)?;
-        let reading = Reading {
-            alloc: self.alloc,
-            types: self.types,
-            func: self.func,
-            limit: words.get(2).and_then(Json::as_u64).unwrap_or(u64::MAX),
-        };
-        let read = reading.result(answer.as_slice(), memory.as_mut_slice());
-        if memory.as_slice() != self.memory {
-            return Err(anyhow::anyhow!("the memory was written to"));
-        }
-        Ok(read)
-    }
-
     /// The text of a value of the result.
     fn value_told(&self, value: &Val) -> anyhow::Result<String>
         requires { HasApartLabels self.now.types.now }
@@ -177,14 +168,41 @@ impl Host<'_> {
         }
     }
 
+    /// What is told of the values that an answer says.
+    fn result_told(&self, read: &Result<Option<Val>, CallError>) -> anyhow::Result<String>
+        requires { HasApartLabels self.now.types.now }
+    {
+        match read {
+            Ok(Some(value)) => self.value_told(value),
+            Ok(None) => Ok(String::from_str(self.alloc, "\"nothing\"")?),
+            Err(error) => Ok(format!(in self.alloc; "{{{}}}", error_told(self.alloc, *error)?)?),
+        }
+    }
+
+    /// What is told of the core values of an answer, which are read over this memory up to the limit of a step.
+    fn read_told(&self, words: &[Json], memory: &mut [u8]) -> anyhow::Result<String>
+        requires { HasApartLabels self.now.types.now }
+    {
+        let answer = answer_of(self.alloc, words)?;
+        let reading = Reading {
+            alloc: self.alloc,
+            types: self.types,
+            func: self.func,
+            limit: limit_of(words),
+        };
+        let read = reading.result(answer.as_slice(), memory);
+        self.result_told(&read)
+    }
+
     fn reads(&self, words: &[Json]) -> anyhow::Result<String>
         requires { HasApartLabels self.now.types.now }
     {
-        match self.read(words)? {
-            Ok(Some(value)) => self.value_told(&value),
-            Ok(None) => Ok(String::from_str(self.alloc, "\"nothing\"")?),
-            Err(error) => Ok(format!(in self.alloc; "{{{}}}", error_told(self.alloc, error)?)?),
+        let mut memory = self.memory.to_vec(self.alloc)?;
+        let told = self.read_told(words, memory.as_mut_slice())?;
+        if memory.as_slice() != self.memory {
+            return Err(anyhow::anyhow!("the memory was written to"));
         }
+        Ok(told)
     }
 
     /// What is told of a step.

@@ -1,20 +1,22 @@
 //! Steps of a session: typed calls, and values that are placed, read and released.
 
 ghost use Rattle.std.specs.Prelude.{◌≡◌, IfOk};
+ghost use Rattle.std.specs.List.{All};
 ghost use Rattle.tables.specs.Closed.{IsFunction};
+ghost use Rattle.witcall.specs.Steps.{IsStep};
 
-use crate::alone::taken_alone;
+use crate::alone::{Rows, taken_alone};
+use crate::opened;
 use canonical_abi::Fault;
 use lift_lower::Val;
 use serde_json::Value;
 use std::alloc::Global;
 use tables::{FunctionId, ValType};
 use vector_calls::vector_sides::{
-    Acting, Logged, body, field, guest, list, list_of, number, object_of, package_bytes,
-    push_memories, text,
+    Logged, body, field, guest, list, list_of, number, object_of, push_memories, text,
 };
 use vector_calls::{fault_told, function, parameter};
-use witcall::{Answer, Package, Session, Step, from_json, open, takes_steps, to_json};
+use witcall::{Answer, Package, Session, Step, from_json, takes_steps, to_json};
 
 /// The value of a type that a row says.
 fn value_of(alloc: Global, package: &Package, ty: ValType, json: &Value) -> anyhow::Result<Val> {
@@ -90,6 +92,20 @@ fn step_of(
     }
 }
 
+/// Adds the steps that values say, behind those that are there.
+fn push_steps(
+    alloc: Global,
+    steps: &mut Vec<Step>,
+    package: &Package,
+    values: &[Value],
+) -> anyhow::Result<()> {
+    let before = steps.len();
+    for value in values {
+        steps.push(step_of(alloc, package, list(Some(value)), before)?)?;
+    }
+    Ok(())
+}
+
 /// The steps of a row, so many times.
 fn steps_of(
     alloc: Global,
@@ -97,13 +113,9 @@ fn steps_of(
     package: &Package,
     times: u32,
 ) -> anyhow::Result<Vec<Step>> {
-    let values = list(row.get("steps"));
     let mut steps = Vec::new(alloc);
     for _time in 0..times {
-        let before = steps.len();
-        for value in values {
-            steps.push(step_of(alloc, package, list(Some(value)), before)?)?;
-        }
+        push_steps(alloc, &mut steps, package, list(row.get("steps")))?;
     }
     Ok(steps)
 }
@@ -180,6 +192,18 @@ fn answers_told(
     Ok(list_of(alloc, parts.as_slice())?)
 }
 
+/// What the steps of a list answered, as a member of this key.
+fn member_told(
+    alloc: Global,
+    key: &str,
+    package: &Package,
+    steps: &[Step],
+    answers: &[Answer],
+) -> anyhow::Result<String> {
+    let told = answers_told(alloc, package, steps, answers)?;
+    Ok(format!(in alloc; "\"{key}\":{told}")?)
+}
+
 /// What the steps answered, and again behind so many answers, and what both memories then hold.
 fn taken_told(
     alloc: Global,
@@ -190,42 +214,48 @@ fn taken_told(
 ) -> anyhow::Result<String> {
     let (front, behind) = answers.split_at(steps.len().min(answers.len()));
     let mut members = Vec::new(alloc);
-    let told = answers_told(alloc, package, steps, front)?;
-    members.push(format!(in alloc; "\"answers\":{told}")?)?;
-    let told = answers_told(alloc, package, steps, behind)?;
-    members.push(format!(in alloc; "\"then\":{told}")?)?;
+    members.push(member_told(alloc, "answers", package, steps, front)?)?;
+    members.push(member_told(alloc, "then", package, steps, behind)?)?;
     push_memories(alloc, &mut members, caller, callee, true)?;
     Ok(object_of(alloc, members.as_slice())?)
 }
 
 /// A session over the memories and the body of a row.
-fn session_of<'a>(
-    alloc: Global,
-    row: &Value,
-    package: &'a Package,
-) -> anyhow::Result<Session<'a, Logged, Logged, Acting>>
+fn session_of<'a>(alloc: Global, row: &Value, package: &'a Package) -> anyhow::Result<Rows<'a>>
     ensures { IfOk result (λ s. s.package.now ≡ «package».now) }
 {
     let (caller, callee) = (guest(alloc, row, 0)?, guest(alloc, row, 1)?);
     Ok(Session::new(package, caller, callee, body(alloc, row)?))
 }
 
-/// Takes the steps, one by one or as a list, and takes them once more behind these answers if the row says so.
+/// Takes the steps as a list, and once more behind these answers if that is wanted.
+fn run(
+    alloc: Global,
+    session: &mut Rows<'_>,
+    steps: &[Step],
+    is_twice: bool,
+) -> anyhow::Result<Vec<Answer>>
+    requires { All (IsStep session.old.package.now.resolve) steps.now }
+{
+    let mut answers = Vec::new(alloc);
+    session.run(alloc, steps, &mut answers)?;
+    if is_twice {
+        session.run(alloc, steps, &mut answers)?;
+    }
+    Ok(answers)
+}
+
+/// What is told of steps that are taken, and of the memories.
 fn taken(alloc: Global, row: &Value, package: &Package, steps: &[Step]) -> anyhow::Result<String> {
     if !takes_steps(package, steps) {
         return Err(anyhow::anyhow!("no steps of the package"));
     }
     let mut session = session_of(alloc, row, package)?;
-    if row.get("alone").is_some() {
-        let answers = taken_alone(alloc, package, &mut session, steps)?;
-        let memories = (session.caller(), session.callee());
-        return taken_told(alloc, package, steps, answers.as_slice(), memories);
-    }
-    let mut answers = Vec::new(alloc);
-    session.run(alloc, steps, &mut answers)?;
-    if row.get("twice").is_some() {
-        session.run(alloc, steps, &mut answers)?;
-    }
+    let answers = if row.get("alone").is_some() {
+        taken_alone(alloc, package, &mut session, steps)?
+    } else {
+        run(alloc, &mut session, steps, row.get("twice").is_some())?
+    };
     let memories = (session.caller(), session.callee());
     taken_told(alloc, package, steps, answers.as_slice(), memories)
 }
@@ -240,8 +270,7 @@ fn times_of(row: &Value) -> anyhow::Result<u32> {
 
 /// What is told of the steps of a row.
 pub fn told_of(alloc: Global, row: &Value) -> anyhow::Result<String> {
-    let bytes = package_bytes(alloc, row)?;
-    let package = open(alloc, bytes.as_slice())?;
+    let package = opened(alloc, row)?;
     let steps = steps_of(alloc, row, &package, times_of(row)?)?;
     taken(alloc, row, &package, steps.as_slice())
 }

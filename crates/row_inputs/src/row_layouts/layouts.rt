@@ -1,10 +1,11 @@
 //! What the definitions of a package take.
 
 use crate::expanded;
-use crate::row_layouts::shapes::{flat, shape_and_size, signature};
+use crate::row_layouts::shapes::{shape_and_flat, shape_and_size, signatures};
 use layout::Layouts;
 use opening::{Package, open};
-use std::alloc::Global;
+use std::alloc::{AllocError, Global};
+use std::slice;
 use tables::{
     Definition, Function, FunctionId, InterfaceId, Owner, Resolve, TypeDef, TypeId, ValType,
 };
@@ -26,6 +27,15 @@ fn owner_name(resolve: &Resolve, owner: Owner) -> &str {
     }
 }
 
+/// The name of a type, behind that of its interface.
+fn type_name(alloc: Global, resolve: &Resolve, definition: &TypeDef) -> Result<String, AllocError> {
+    let Some(name) = &definition.name else {
+        return String::from_str(alloc, "_");
+    };
+    let interface = interface_name(resolve, name.interface);
+    format!(in alloc; "{interface}.{}", name.name.as_str())
+}
+
 /// The line of the type at this place.
 fn type_line(
     alloc: Global,
@@ -38,16 +48,9 @@ fn type_line(
     if !layouts.has(ty) {
         return Err(anyhow::anyhow!("no row of {place}"));
     }
-    let name = match &definition.name {
-        Some(name) => {
-            let interface = interface_name(resolve, name.interface);
-            format!(in alloc; "{interface}.{}", name.name.as_str())?
-        }
-        None => String::from_str(alloc, "_")?,
-    };
-    let shape = shape_and_size(alloc, layouts, ty)?;
-    let flat = flat(alloc, layouts, ty)?;
-    Ok(format!(in alloc; "type {name} {shape} flat {flat}; ")?)
+    let name = type_name(alloc, resolve, definition)?;
+    let shape = shape_and_flat(alloc, layouts, ty)?;
+    Ok(format!(in alloc; "type {name} {shape}; ")?)
 }
 
 /// The line of the function at this place.
@@ -64,9 +67,8 @@ fn function_line(
     }
     let (owner, name) = (owner_name(resolve, function.owner), function.name.as_str());
     let shape = shape_and_size(alloc, layouts, ty)?;
-    let lifted = signature(alloc, &layouts.lifted(id))?;
-    let lowered = signature(alloc, &layouts.lowered(id))?;
-    Ok(format!(in alloc; "func {owner}.{name} {shape} lift {lifted} lower {lowered}; ")?)
+    let kinds = signatures(alloc, &layouts.lifted(id), &layouts.lowered(id))?;
+    Ok(format!(in alloc; "func {owner}.{name} {shape} {kinds}; ")?)
 }
 
 /// The line of the definition at this place.
@@ -93,19 +95,19 @@ fn lines(alloc: Global, package: &Package) -> anyhow::Result<Vec<String>> {
     Ok(lines)
 }
 
+/// The lines of a package's definitions, or of its last one alone.
+fn text_of(alloc: Global, package: &Package, is_last: bool) -> anyhow::Result<String> {
+    let lines = lines(alloc, package)?;
+    let lines = match lines.as_slice() {
+        [.., last] if is_last => slice::from_ref(last),
+        lines => lines,
+    };
+    Ok(lines.join(alloc, "")?)
+}
+
 /// What a package's definitions take, or its last one alone, and the work of its layouts.
 fn told(alloc: Global, package: &Package, is_last: bool) -> anyhow::Result<String> {
-    let lines = lines(alloc, package)?;
-    let first = if is_last {
-        lines.len().saturating_sub(1)
-    } else {
-        0
-    };
-    let text = lines
-        .as_slice()
-        .get(first..)
-        .unwrap_or(&[])
-        .join(alloc, "")?;
+    let text = text_of(alloc, package, is_last)?;
     Ok(format!(in alloc; "{text}work {}", package.layouts().work())?)
 }
 

@@ -76,7 +76,7 @@ fn listed(alloc: Global, kinds: &[CoreKind]) -> Result<String, AllocError> {
 }
 
 /// The flat kinds of a type.
-pub fn flat(alloc: Global, layouts: &Layouts, ty: ValType) -> Result<String, AllocError>
+fn flat(alloc: Global, layouts: &Layouts, ty: ValType) -> Result<String, AllocError>
     requires { IsTrue (is_below (length layouts.now.rows) ty) }
 {
     match layouts.flat(&[ty]) {
@@ -85,11 +85,28 @@ pub fn flat(alloc: Global, layouts: &Layouts, ty: ValType) -> Result<String, All
     }
 }
 
-pub fn signature(alloc: Global, signature: &CoreSignature) -> Result<String, AllocError> {
+/// The shape of a type, its size and alignment, and its flat kinds.
+pub fn shape_and_flat(alloc: Global, layouts: &Layouts, ty: ValType) -> Result<String, AllocError>
+    requires { IsTrue (is_below (length layouts.now.rows) ty) }
+{
+    let shape = shape_and_size(alloc, layouts, ty)?;
+    let flat = flat(alloc, layouts, ty)?;
+    format!(in alloc; "{shape} flat {flat}")
+}
+
+fn signature(alloc: Global, signature: &CoreSignature) -> Result<String, AllocError> {
     let params = listed(alloc, signature.params.as_slice())?;
-    let result = match signature.result {
-        Some(kind) => listed(alloc, &[kind])?,
-        None => listed(alloc, &[])?,
-    };
+    let result = listed(alloc, signature.result.as_slice())?;
     format!(in alloc; "{params} -> {result}")
+}
+
+/// The signatures of a function's core function as it is lifted and as it is lowered.
+pub fn signatures(
+    alloc: Global,
+    lifted: &CoreSignature,
+    lowered: &CoreSignature,
+) -> Result<String, AllocError> {
+    let lift = signature(alloc, lifted)?;
+    let lower = signature(alloc, lowered)?;
+    format!(in alloc; "lift {lift} lower {lower}")
 }
