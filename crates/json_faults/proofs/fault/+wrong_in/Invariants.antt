@@ -1,8 +1,8 @@
 use Rattle.std.proofs.Common.{◌<◌}
-use Rattle.json_faults.proofs.fault.+fault_in.Given as goal
+use Rattle.json_faults.proofs.fault.+wrong_in.Given as goal
 
-abbrev pub decreases-fault_in : goal.decreases-fault_in
-decreases-fault_in l = l.levels
+abbrev pub decreases-wrong_in : goal.decreases-wrong_in
+decreases-wrong_in l = l.levels
 
-abbrev pub invariant-loop-inner : goal.invariant-loop-inner
-invariant-loop-inner l = l.rest < l.levels
+abbrev pub invariant-loop-part : goal.invariant-loop-part
+invariant-loop-part l = l.rest < l.levels
