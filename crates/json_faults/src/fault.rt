@@ -1,6 +1,7 @@
 //! The first place that is wrong.
 
-use crate::parts::{Looked, Part, Step, look_at};
+use crate::parts::{Part, Step, push_members, push_parts};
+use crate::wanted::push_wanted;
 use serde_json::Value as Json;
 use std::alloc::{AllocError, Global};
 use std::fmt::Write;
@@ -27,30 +28,72 @@ fn push_step(path: &mut String, step: Step<'_>) -> Result<(), AllocError> {
     Ok(())
 }
 
-/// The fault in a part, whose path this is. None if there is none within so many levels.
-fn fault_in(
+/// The path of these steps, of which the last one comes first.
+fn path_of(alloc: Global, steps: &[Step<'_>]) -> Result<String, AllocError> {
+    let mut path = String::new(alloc);
+    for step in steps.iter().rev() {
+        push_step(&mut path, *step)?;
+    }
+    Ok(path)
+}
+
+/// What has to be in place of a part, in words.
+fn words_of(alloc: Global, resolve: &Resolve, part: Part<'_>) -> Result<String, AllocError> {
+    let mut words = String::new(alloc);
+    push_wanted(alloc, &mut words, resolve, part)?;
+    Ok(words)
+}
+
+/// The fault that a part is, to which these steps lead.
+fn fault_at(
     alloc: Global,
     resolve: &Resolve,
     part: Part<'_>,
-    path: &str,
+    steps: &[Step<'_>],
+) -> Result<Fault, AllocError> {
+    let path = path_of(alloc, steps)?;
+    let words = words_of(alloc, resolve, part)?;
+    Ok(Fault { path, words })
+}
+
+/// The first part that is wrong of these and of theirs, and the steps to it, of which the last one comes first. None if
+/// there is none within so many levels.
+fn wrong_in<'a>(
+    alloc: Global,
+    resolve: &'a Resolve,
+    parts: &[Part<'a>],
+    steps: &mut Vec<Step<'a>>,
     levels: usize,
-) -> Result<Option<Fault>, AllocError> {
+) -> Result<Option<Part<'a>>, AllocError> {
     let Some(rest) = levels.checked_sub(1) else {
         return Ok(None);
     };
-    let mut here = String::from_str(alloc, path)?;
-    push_step(&mut here, part.step)?;
-    let parts = match look_at(alloc, resolve, part)? {
-        Looked::Wrong(words) => return Ok(Some(Fault { path: here, words })),
-        Looked::Parts(parts) => parts,
-    };
-    for inner in parts.as_slice() {
-        let found = fault_in(alloc, resolve, *inner, here.as_str(), rest)?;
+    for part in parts {
+        let mut inner = Vec::new(alloc);
+        let found = if push_parts(&mut inner, resolve, *part)? {
+            wrong_in(alloc, resolve, inner.as_slice(), steps, rest)?
+        } else {
+            Some(*part)
+        };
         if found.is_some() {
+            steps.push(part.step)?;
             return Ok(found);
         }
     }
     Ok(None)
+}
+
+/// The fault in the first of these parts that has one.
+fn fault_in(
+    alloc: Global,
+    resolve: &Resolve,
+    parts: &[Part<'_>],
+) -> Result<Option<Fault>, AllocError> {
+    let mut steps = Vec::new(alloc);
+    match wrong_in(alloc, resolve, parts, &mut steps, MOST_DEPTH)? {
+        Some(part) => Ok(Some(fault_at(alloc, resolve, part, steps.as_slice())?)),
+        None => Ok(None),
+    }
 }
 
 /// The first of an array's values that is none of its type, and what is wrong in it: none if all are. Nothing either if
@@ -61,22 +104,9 @@ pub fn first_fault(
     types: &[ValType],
     json: &Json,
 ) -> Result<Option<Fault>, AllocError> {
-    let Some(items) = json.as_array() else {
-        return Ok(None);
-    };
-    if items.len() != types.len() {
-        return Ok(None);
-    }
-    for (place, (ty, value)) in types.iter().zip(items.as_slice()).enumerate() {
-        let part = Part {
-            step: Step::Item(place),
-            ty: *ty,
-            value,
-        };
-        let found = fault_in(alloc, resolve, part, "", MOST_DEPTH)?;
-        if found.is_some() {
-            return Ok(found);
-        }
+    let mut parts = Vec::new(alloc);
+    if push_members(&mut parts, types, json)? {
+        return fault_in(alloc, resolve, parts.as_slice());
     }
     Ok(None)
 }

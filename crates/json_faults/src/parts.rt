@@ -1,9 +1,9 @@
 //! One level of a value: whether it is of its type's form, and its parts.
 
-use crate::wanted::{is_scalar, not_kind, not_scalar};
+use crate::wanted::is_scalar;
 use atoms::Label;
 use serde_json::Value as Json;
-use std::alloc::{AllocError, Global};
+use std::alloc::AllocError;
 use tables::{Case, Definition, Field, Resolve, TypeDefKind, ValType};
 
 /// A step from a value to a part of it.
@@ -21,167 +21,149 @@ pub struct Part<'a> {
     pub value: &'a Json,
 }
 
-/// What a value is on its own level.
-#[derive(Drop)]
-pub enum Looked<'a> {
-    /// It is not of its type's form: what it has to be.
-    Wrong(String),
-    /// It is, and these are its parts.
-    Parts(Vec<Part<'a>>),
-}
-
-/// What a type is, without the names that stand for it.
-fn kind_of(resolve: &Resolve, ty: ValType) -> Option<&TypeDefKind> {
-    let mut named = ty;
-    for _ in 0..resolve.definitions.len() {
-        let ValType::Id(id) = named else {
-            return None;
-        };
-        let Some(Definition::Type(definition)) = resolve.definitions.as_slice().get(id.0 as usize)
-        else {
-            return None;
-        };
-        match &definition.kind {
-            TypeDefKind::Use(target) => named = ValType::Id(*target),
-            TypeDefKind::Alias(target) => named = *target,
-            kind => return Some(kind),
-        }
+/// What the definition of a type is. None if the type has none.
+pub fn defined(resolve: &Resolve, ty: ValType) -> Option<&TypeDefKind> {
+    let ValType::Id(id) = ty else {
+        return None;
+    };
+    match resolve.definitions.as_slice().get(id.0 as usize) {
+        Some(Definition::Type(definition)) => Some(&definition.kind),
+        _ => None,
     }
-    None
 }
 
-/// The primitive type or `string` that a type stands for.
-fn scalar_of(resolve: &Resolve, ty: ValType) -> ValType {
+/// The type that a name stands for. None if the type is no such name.
+fn target_of(resolve: &Resolve, ty: ValType) -> Option<ValType> {
+    match defined(resolve, ty)? {
+        TypeDefKind::Use(target) => Some(ValType::Id(*target)),
+        TypeDefKind::Alias(target) => Some(*target),
+        _ => None,
+    }
+}
+
+/// The type that a type stands for, by as many names as there can be.
+pub fn unnamed(resolve: &Resolve, ty: ValType) -> ValType {
     let mut named = ty;
     for _ in 0..resolve.definitions.len() {
-        let ValType::Id(id) = named else {
+        let Some(target) = target_of(resolve, named) else {
             return named;
         };
-        match resolve.definitions.as_slice().get(id.0 as usize) {
-            Some(Definition::Type(definition)) => match &definition.kind {
-                TypeDefKind::Use(target) => named = ValType::Id(*target),
-                TypeDefKind::Alias(target) => named = *target,
-                _ => return named,
-            },
-            _ => return named,
-        }
+        named = target;
     }
     named
 }
 
-/// The items of an array, all of one type.
-fn items_of<'a>(
-    alloc: Global,
+/// Adds the items of an array, all of one type. False if the value is no array.
+fn push_items<'a>(
+    parts: &mut Vec<Part<'a>>,
     ty: ValType,
     value: &'a Json,
-) -> Result<Option<Vec<Part<'a>>>, AllocError> {
+) -> Result<bool, AllocError> {
     let Some(items) = value.as_array() else {
-        return Ok(None);
+        return Ok(false);
     };
-    let mut parts = Vec::new(alloc);
     for (place, value) in items.iter().enumerate() {
         let step = Step::Item(place);
         parts.push(Part { step, ty, value })?;
     }
-    Ok(Some(parts))
+    Ok(true)
 }
 
-/// The items of an array of as many as these types.
-fn members_of<'a>(
-    alloc: Global,
+/// Adds the items of an array of as many as these types. False if the value is none.
+pub fn push_members<'a>(
+    parts: &mut Vec<Part<'a>>,
     types: &[ValType],
     value: &'a Json,
-) -> Result<Option<Vec<Part<'a>>>, AllocError> {
-    let mut parts = Vec::new(alloc);
-    match value.as_array() {
-        Some(items) if items.len() == types.len() => {
-            for (place, (ty, value)) in types.iter().zip(items.as_slice()).enumerate() {
-                let step = Step::Item(place);
-                parts.push(Part {
-                    step,
-                    ty: *ty,
-                    value,
-                })?;
-            }
-            Ok(Some(parts))
+) -> Result<bool, AllocError> {
+    let Some(items) = value.as_array() else {
+        return Ok(false);
+    };
+    if items.len() != types.len() {
+        return Ok(false);
+    }
+    for (place, ty) in types.iter().enumerate() {
+        if let Some(value) = items.get(place) {
+            let (step, ty) = (Step::Item(place), *ty);
+            parts.push(Part { step, ty, value })?;
         }
-        _ => Ok(None),
+    }
+    Ok(true)
+}
+
+/// Whether a value is an object of so many members.
+fn has_members(value: &Json, count: usize) -> bool {
+    match value.as_object() {
+        Some(object) => object.len() == count,
+        None => false,
     }
 }
 
-/// The members of an object with just the keys of these fields.
-fn fields_of<'a>(
-    alloc: Global,
+/// Adds the members of an object with just the keys of these fields. False if the value is none.
+fn push_fields<'a>(
+    parts: &mut Vec<Part<'a>>,
     fields: &'a [Field],
     value: &'a Json,
-) -> Result<Option<Vec<Part<'a>>>, AllocError> {
-    let mut parts = Vec::new(alloc);
-    match value.as_object() {
-        Some(object) if object.len() == fields.len() => {}
-        _ => return Ok(None),
+) -> Result<bool, AllocError> {
+    if !has_members(value, fields.len()) {
+        return Ok(false);
     }
     for field in fields {
         let key = field.name.as_str();
         let Some(value) = value.get(key) else {
-            return Ok(None);
+            return Ok(false);
         };
-        let step = Step::Key(key);
-        parts.push(Part {
-            step,
-            ty: field.ty,
-            value,
-        })?;
+        let (step, ty) = (Step::Key(key), field.ty);
+        parts.push(Part { step, ty, value })?;
     }
-    Ok(Some(parts))
+    Ok(true)
 }
 
-/// The payload of a case of this label. None if the value is another case.
-fn payload_of<'a>(
+/// Adds the payload of a case of this label. False if the value is another case.
+fn push_payload<'a>(
+    parts: &mut Vec<Part<'a>>,
     label: &'a str,
     payload: Option<ValType>,
     value: &'a Json,
-) -> Option<Option<Part<'a>>> {
-    match payload {
-        None => (value.as_str() == Some(label)).then_some(None),
-        Some(ty) => match value.as_object() {
-            Some(object) if object.len() == 1 => {
-                let value = value.get(label)?;
-                let step = Step::Key(label);
-                Some(Some(Part { step, ty, value }))
-            }
-            _ => None,
-        },
+) -> Result<bool, AllocError> {
+    let Some(ty) = payload else {
+        return Ok(value.as_str() == Some(label));
+    };
+    if !has_members(value, 1) {
+        return Ok(false);
     }
+    let Some(value) = value.get(label) else {
+        return Ok(false);
+    };
+    let step = Step::Key(label);
+    parts.push(Part { step, ty, value })?;
+    Ok(true)
 }
 
-/// The payload of the one of these cases that a value is.
-fn case_of<'a>(
-    alloc: Global,
-    cases: &[(&'a str, Option<ValType>)],
-    value: &'a Json,
-) -> Result<Option<Vec<Part<'a>>>, AllocError> {
-    let mut parts = Vec::new(alloc);
-    for (label, payload) in cases {
-        if let Some(found) = payload_of(label, *payload, value) {
-            if let Some(part) = found {
-                parts.push(part)?;
-            }
-            return Ok(Some(parts));
-        }
-    }
-    Ok(None)
-}
-
-fn cases_of<'a>(
-    alloc: Global,
+/// Adds the payload of the one of these cases that a value is. False if it is none of them.
+fn push_cases<'a>(
+    parts: &mut Vec<Part<'a>>,
     cases: &'a [Case],
     value: &'a Json,
-) -> Result<Option<Vec<Part<'a>>>, AllocError> {
-    let mut all = Vec::new(alloc);
+) -> Result<bool, AllocError> {
     for case in cases {
-        all.push((case.name.as_str(), case.ty))?;
+        if push_payload(parts, case.name.as_str(), case.ty, value)? {
+            return Ok(true);
+        }
     }
-    case_of(alloc, all.as_slice(), value)
+    Ok(false)
+}
+
+/// Adds the payload of the one of two cases that a value is. False if it is neither.
+fn push_either<'a>(
+    parts: &mut Vec<Part<'a>>,
+    first: (&'a str, Option<ValType>),
+    second: (&'a str, Option<ValType>),
+    value: &'a Json,
+) -> Result<bool, AllocError> {
+    if push_payload(parts, first.0, first.1, value)? {
+        return Ok(true);
+    }
+    push_payload(parts, second.0, second.1, value)
 }
 
 /// The first of these labels from a place on that a value is.
@@ -209,48 +191,34 @@ fn are_flags(labels: &[Label], value: &Json) -> bool {
     true
 }
 
-/// The parts of a value of a type that is no scalar; none if it is not of the type's form.
-fn parts_of<'a>(
-    alloc: Global,
+/// Adds the parts of a value of a type that is no scalar. False if it is not of the type's form.
+fn push_parts_of<'a>(
+    parts: &mut Vec<Part<'a>>,
     kind: &'a TypeDefKind,
     value: &'a Json,
-) -> Result<Option<Vec<Part<'a>>>, AllocError> {
+) -> Result<bool, AllocError> {
     match kind {
-        TypeDefKind::List(ty) => items_of(alloc, *ty, value),
-        TypeDefKind::Tuple(types) => members_of(alloc, types.as_slice(), value),
-        TypeDefKind::Record(fields) => fields_of(alloc, fields.as_slice(), value),
-        TypeDefKind::Variant(cases) => cases_of(alloc, cases.as_slice(), value),
-        TypeDefKind::Option(ty) => { case_of(alloc, &[("none", None), ("some", Some(*ty))], value) }
-        TypeDefKind::Result(ok, error) => case_of(alloc, &[("ok", *ok), ("error", *error)], value),
-        TypeDefKind::Enum(labels) => {
-            let is_label = labels
-                .as_slice()
-                .iter()
-                .any(|label| value.as_str() == Some(label.as_str()));
-            Ok(is_label.then(|| Vec::new(alloc)))
-        }
-        TypeDefKind::Flags(labels) => {
-            Ok(are_flags(labels.as_slice(), value).then(|| Vec::new(alloc)))
-        }
-        TypeDefKind::Use(_) | TypeDefKind::Alias(_) => Ok(Some(Vec::new(alloc))),
+        TypeDefKind::List(ty) => push_items(parts, *ty, value),
+        TypeDefKind::Tuple(types) => push_members(parts, types.as_slice(), value),
+        TypeDefKind::Record(fields) => push_fields(parts, fields.as_slice(), value),
+        TypeDefKind::Variant(cases) => push_cases(parts, cases.as_slice(), value),
+        TypeDefKind::Option(ty) => push_either(parts, ("none", None), ("some", Some(*ty)), value),
+        TypeDefKind::Result(ok, error) => push_either(parts, ("ok", *ok), ("error", *error), value),
+        TypeDefKind::Enum(labels) => Ok(label_from(labels.as_slice(), 0, value).is_some()),
+        TypeDefKind::Flags(labels) => Ok(are_flags(labels.as_slice(), value)),
+        TypeDefKind::Use(_) | TypeDefKind::Alias(_) => Ok(true),
     }
 }
 
-/// Looks at a value on its own level.
-pub fn look_at<'a>(
-    alloc: Global,
+/// Looks at a value on its own level, and adds its parts. False if it is not of its type's form.
+pub fn push_parts<'a>(
+    parts: &mut Vec<Part<'a>>,
     resolve: &'a Resolve,
     part: Part<'a>,
-) -> Result<Looked<'a>, AllocError> {
-    let Some(kind) = kind_of(resolve, part.ty) else {
-        let ty = scalar_of(resolve, part.ty);
-        if is_scalar(ty, part.value) {
-            return Ok(Looked::Parts(Vec::new(alloc)));
-        }
-        return Ok(Looked::Wrong(not_scalar(alloc, ty, part.value)?));
-    };
-    match parts_of(alloc, kind, part.value)? {
-        Some(parts) => Ok(Looked::Parts(parts)),
-        None => Ok(Looked::Wrong(not_kind(alloc, kind, part.value)?)),
+) -> Result<bool, AllocError> {
+    let ty = unnamed(resolve, part.ty);
+    match defined(resolve, ty) {
+        Some(kind) => push_parts_of(parts, kind, part.value),
+        None => Ok(is_scalar(ty, part.value)),
     }
 }

@@ -1,9 +1,9 @@
 //! What a value of a type is, in words.
 
+use crate::parts::{Part, defined, unnamed};
 use serde_json::Value as Json;
 use std::alloc::{AllocError, Global};
-use std::fmt::Write;
-use tables::{Primitive, TypeDefKind, ValType};
+use tables::{Primitive, Resolve, TypeDefKind, ValType};
 
 /// The most labels that are named, and the most bytes of a value that are shown.
 const MOST_LABELS: usize = 8;
@@ -68,83 +68,96 @@ pub fn is_scalar(ty: ValType, value: &Json) -> bool {
     }
 }
 
-/// Appends what stands there in place of a value, cut short.
-fn push_found(alloc: Global, words: &mut String, value: &Json) -> Result<(), AllocError> {
-    let text = value.to_string(alloc)?;
-    words.push_str(", and not `")?;
-    for (place, character) in text.as_str().chars().enumerate() {
-        if place == MOST_SHOWN {
-            words.push_str("..")?;
-            break;
-        }
-        words.push(character)?;
+/// Appends texts one after another.
+fn push_all(words: &mut String, texts: &[&str]) -> Result<(), AllocError> {
+    for text in texts {
+        words.push_str(text)?;
     }
-    words.push('`')?;
     Ok(())
 }
 
-/// Says what a primitive value or a text is.
-pub fn not_scalar(alloc: Global, ty: ValType, value: &Json) -> Result<String, AllocError> {
-    let mut words = String::new(alloc);
+/// Appends a text, cut short.
+fn push_shown(words: &mut String, text: &str) -> Result<(), AllocError> {
+    for (place, character) in text.chars().enumerate() {
+        if place == MOST_SHOWN {
+            return words.push_str("..");
+        }
+        words.push(character)?;
+    }
+    Ok(())
+}
+
+/// Appends what stands there in place of a value, cut short.
+fn push_found(alloc: Global, words: &mut String, value: &Json) -> Result<(), AllocError> {
+    let text = value.to_string(alloc)?;
+    push_shown(words, text.as_str())
+}
+
+/// Appends what a primitive value or a text is.
+fn push_scalar(words: &mut String, ty: ValType) -> Result<(), AllocError> {
     match ty {
         ValType::Primitive(primitive) => {
-            let (name, what) = (primitive.keyword(), values_of(primitive));
-            write!(words, "a `{name}` is {what}")?;
+            push_all(
+                words,
+                &["a `", primitive.keyword(), "` is ", values_of(primitive)],
+            )
         }
-        ValType::String | ValType::Id(_) => words.push_str("a `string` is a text")?,
+        ValType::String | ValType::Id(_) => words.push_str("a `string` is a text"),
     }
-    push_found(alloc, &mut words, value)?;
-    Ok(words)
 }
 
 /// A label, with whether a payload goes with it.
 type Label<'a> = (&'a str, bool);
 
-/// The labels of a kind: keys, cases or flags.
-fn labels_of<'a>(alloc: Global, kind: &'a TypeDefKind) -> Result<Vec<Label<'a>>, AllocError> {
-    match kind {
-        TypeDefKind::Record(fields) => {
-            let labels = fields
-                .as_slice()
-                .iter()
-                .map(|field| (field.name.as_str(), false));
-            labels.collect(alloc)
-        }
-        TypeDefKind::Variant(cases) => {
-            let labels = cases
-                .as_slice()
-                .iter()
-                .map(|case| (case.name.as_str(), case.ty.is_some()));
-            labels.collect(alloc)
-        }
-        TypeDefKind::Enum(labels) | TypeDefKind::Flags(labels) => {
-            let labels = labels
-                .as_slice()
-                .iter()
-                .map(|label| (label.as_str(), false));
-            labels.collect(alloc)
-        }
-        TypeDefKind::Option(_) => Ok(vec![in alloc; ("none", false), ("some", true)]?),
-        TypeDefKind::Result(ok, error) => {
-            Ok(vec![in alloc; ("ok", ok.is_some()), ("error", error.is_some())]?)
-        }
-        _ => Ok(Vec::new(alloc)),
+/// The one of two labels at a place.
+fn one_of<'a>(place: usize, first: Label<'a>, second: Label<'a>) -> Option<Label<'a>> {
+    match place {
+        0 => Some(first),
+        1 => Some(second),
+        _ => None,
     }
 }
 
-/// Appends labels as JSON, the first of them.
-fn push_labels(words: &mut String, labels: &[Label<'_>]) -> Result<(), AllocError> {
-    for (place, (label, has_payload)) in labels.iter().enumerate() {
-        let mark = if place == 0 { "" } else { ", " };
-        if place == MOST_LABELS {
-            words.push_str(", ..")?;
-            break;
+/// A label of a kind: a key, a case or a flag.
+fn label_at(kind: &TypeDefKind, place: usize) -> Option<Label<'_>> {
+    match kind {
+        TypeDefKind::Record(fields) => Some((fields.as_slice().get(place)?.name.as_str(), false)),
+        TypeDefKind::Variant(cases) => {
+            let case = cases.as_slice().get(place)?;
+            Some((case.name.as_str(), case.ty.is_some()))
         }
-        if *has_payload {
-            write!(words, "{mark}`{{\"{label}\":..}}`")?;
-        } else {
-            write!(words, "{mark}`\"{label}\"`")?;
+        TypeDefKind::Enum(labels) | TypeDefKind::Flags(labels) => {
+            Some((labels.as_slice().get(place)?.as_str(), false))
         }
+        TypeDefKind::Option(_) => one_of(place, ("none", false), ("some", true)),
+        TypeDefKind::Result(ok, error) => {
+            one_of(place, ("ok", ok.is_some()), ("error", error.is_some()))
+        }
+        _ => None,
+    }
+}
+
+/// Appends a label as JSON.
+fn push_label(words: &mut String, place: usize, label: Label<'_>) -> Result<(), AllocError> {
+    let mark = if place == 0 { "" } else { ", " };
+    let (before, after) = if label.1 {
+        ("`{\"", "\":..}`")
+    } else {
+        ("`\"", "\"`")
+    };
+    push_all(words, &[mark, before, label.0, after])
+}
+
+/// Appends the labels of a kind as JSON, the first of them.
+fn push_labels(words: &mut String, kind: &TypeDefKind) -> Result<(), AllocError> {
+    for place in 0..MOST_LABELS {
+        let Some(label) = label_at(kind, place) else {
+            return Ok(());
+        };
+        push_label(words, place, label)?;
+    }
+    if label_at(kind, MOST_LABELS).is_some() {
+        words.push_str(", ..")?;
     }
     Ok(())
 }
@@ -163,10 +176,27 @@ fn beginning(kind: &TypeDefKind) -> &'static str {
     }
 }
 
-/// Says what a value of a kind is.
-pub fn not_kind(alloc: Global, kind: &TypeDefKind, value: &Json) -> Result<String, AllocError> {
-    let mut words = String::from_str(alloc, beginning(kind))?;
-    push_labels(&mut words, labels_of(alloc, kind)?.as_slice())?;
-    push_found(alloc, &mut words, value)?;
-    Ok(words)
+/// Appends what a value of a type is.
+fn push_type(words: &mut String, resolve: &Resolve, ty: ValType) -> Result<(), AllocError> {
+    let ty = unnamed(resolve, ty);
+    match defined(resolve, ty) {
+        Some(kind) => {
+            words.push_str(beginning(kind))?;
+            push_labels(words, kind)
+        }
+        None => push_scalar(words, ty),
+    }
+}
+
+/// Says what has to be in place of a part, and what is there.
+pub fn push_wanted(
+    alloc: Global,
+    words: &mut String,
+    resolve: &Resolve,
+    part: Part<'_>,
+) -> Result<(), AllocError> {
+    push_type(words, resolve, part.ty)?;
+    words.push_str(", and not `")?;
+    push_found(alloc, words, part.value)?;
+    words.push('`')
 }

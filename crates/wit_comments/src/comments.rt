@@ -25,26 +25,36 @@ fn side_word(side: Option<Keyword>) -> &'static str {
     }
 }
 
-/// The words that name an item of a package.
-fn key_of(alloc: Global, package: PackageRef<'_>, item: &Item<'_>) -> Result<String, AllocError> {
-    let PackageRef {
-        namespace,
-        name,
-        version,
-    } = package;
-    let mut key = format!(in alloc; "{namespace}:{name}")?;
-    if !item.scope.is_empty() {
-        write!(key, "/{}", item.scope)?;
+/// Appends the words that name an interface or a world of a package, or the package.
+fn push_scope(key: &mut String, package: PackageRef<'_>, scope: &str) -> Result<(), AllocError> {
+    let (namespace, name) = (package.namespace, package.name);
+    write!(key, "{namespace}:{name}")?;
+    if !scope.is_empty() {
+        write!(key, "/{scope}")?;
     }
-    if let Some(version) = version {
+    if let Some(version) = package.version {
         write!(key, "@{version}")?;
     }
-    if !item.name.is_empty() {
-        write!(key, " {}{}", side_word(item.side), item.name)?;
+    Ok(())
+}
+
+/// Appends the words that name what an interface or a world has.
+fn push_item(key: &mut String, item: &Item<'_>) -> Result<(), AllocError> {
+    let (name, member) = (item.name, item.member);
+    if !name.is_empty() {
+        write!(key, " {}{name}", side_word(item.side))?;
     }
-    if !item.member.is_empty() {
-        write!(key, " {}", item.member)?;
+    if !member.is_empty() {
+        write!(key, " {member}")?;
     }
+    Ok(())
+}
+
+/// The words that name an item of a package.
+fn key_of(alloc: Global, package: PackageRef<'_>, item: &Item<'_>) -> Result<String, AllocError> {
+    let mut key = String::new(alloc);
+    push_scope(&mut key, package, item.scope)?;
+    push_item(&mut key, item)?;
     Ok(key)
 }
 
@@ -67,16 +77,45 @@ impl Comments {
         }
     }
 
+    /// Adds the lines of the comment of an item of a package.
+    fn insert(
+        &mut self,
+        package: PackageRef<'_>,
+        item: &Item<'_>,
+        lines: Vec<String>,
+    ) -> Result<(), AllocError> {
+        let key = key_of(self.alloc, package, item)?;
+        self.lines.insert(key, lines)?;
+        Ok(())
+    }
+
+    /// Adds the comment of an item of a file of a package, if it has one.
+    fn add_item(
+        &mut self,
+        package: PackageRef<'_>,
+        lexed: &Lexed<'_>,
+        item: &Item<'_>,
+    ) -> Result<(), AllocError> {
+        let lines = lines_of(self.alloc, between(lexed, item.first))?;
+        if lines.is_empty() {
+            return Ok(());
+        }
+        self.insert(package, item, lines)
+    }
+
     /// Adds those of a file of a package.
     pub fn add(&mut self, package: PackageRef<'_>, lexed: &Lexed<'_>) -> Result<(), AllocError> {
-        for item in items_of(self.alloc, lexed)? {
-            let lines = lines_of(self.alloc, between(lexed, item.first))?;
-            if !lines.is_empty() {
-                let key = key_of(self.alloc, package, &item)?;
-                self.lines.insert(key, lines)?;
-            }
+        let items = items_of(self.alloc, lexed)?;
+        for item in items.as_slice() {
+            self.add_item(package, lexed, item)?;
         }
         Ok(())
+    }
+
+    /// The lines of the comment of an item of a package.
+    fn of_item(&self, package: PackageRef<'_>, item: &Item<'_>) -> Result<&[String], AllocError> {
+        let key = key_of(self.alloc, package, item)?;
+        Ok(self.of(key.as_str()))
     }
 
     /// The lines of the comment of an item, without the marks of comments. It is named as `namespace:name` or
@@ -108,6 +147,41 @@ fn push_lines(out: &mut String, indent: &str, lines: &[String]) -> Result<(), Al
     Ok(())
 }
 
+/// Writes a text with comments, each in lines before its item.
+fn push_commented(
+    out: &mut String,
+    lexed: &Lexed<'_>,
+    package: PackageRef<'_>,
+    comments: &Comments,
+    items: &[Item<'_>],
+) -> Result<(), AllocError> {
+    let text = lexed.text;
+    let mut done = 0;
+    for item in items {
+        let lines = comments.of_item(package, item)?;
+        let first = lexed.span_at(item.first).map_or(0, |span| span.start);
+        let indent = indent_at(text, first);
+        let line = first.saturating_sub(indent.len());
+        if !lines.is_empty() {
+            out.push_str(text.get(done..line).unwrap_or(""))?;
+            push_lines(out, indent, lines)?;
+            done = line;
+        }
+    }
+    out.push_str(text.get(done..).unwrap_or(""))
+}
+
+/// Writes a text with comments.
+fn push_with_comments(
+    out: &mut String,
+    lexed: &Lexed<'_>,
+    package: PackageRef<'_>,
+    comments: &Comments,
+) -> Result<(), AllocError> {
+    let items = items_of(comments.alloc, lexed)?;
+    push_commented(out, lexed, package, comments, items.as_slice())
+}
+
 /// A canonical text of a package with its comments, each in lines before its item.
 pub fn with_comments(
     alloc: Global,
@@ -117,20 +191,7 @@ pub fn with_comments(
 ) -> Result<String, AllocError> {
     let lexed = Lexed::new(alloc, "", text);
     let mut out = String::new(alloc);
-    let mut done = 0;
-    for item in items_of(alloc, &lexed)? {
-        let key = key_of(alloc, package, &item)?;
-        let lines = comments.of(key.as_str());
-        let first = lexed.span_at(item.first).map_or(0, |span| span.start);
-        let indent = indent_at(text, first);
-        let line = first.saturating_sub(indent.len());
-        if !lines.is_empty() {
-            out.push_str(text.get(done..line).unwrap_or(""))?;
-            push_lines(&mut out, indent, lines)?;
-            done = line;
-        }
-    }
-    out.push_str(text.get(done..).unwrap_or(""))?;
+    push_with_comments(&mut out, &lexed, package, comments)?;
     Ok(out)
 }
 
@@ -157,18 +218,23 @@ pub struct Block<'a> {
 }
 
 impl Block<'_> {
+    /// Writes a line of the package's text.
+    fn push_line(&self, out: &mut String, line: &str) -> Result<(), AllocError> {
+        let blank = if line.is_empty() { "" } else { " " };
+        write!(out, "\n{} *{blank}", self.indent)?;
+        push_inside(out, line)
+    }
+
     /// Writes the lines, then what the item is. It ends with the comment's last mark.
     pub fn push(&self, out: &mut String) -> Result<(), AllocError> {
         let (open, indent, last) = (self.open, self.indent, self.last);
+        write!(out, "{indent}{open}")?;
         if self.lines.is_empty() {
-            write!(out, "{indent}{open} {last} */")?;
+            write!(out, " {last} */")?;
             return Ok(());
         }
-        write!(out, "{indent}{open}")?;
         for line in self.lines {
-            let blank = if line.is_empty() { "" } else { " " };
-            write!(out, "\n{indent} *{blank}")?;
-            push_inside(out, line.as_str())?;
+            self.push_line(out, line.as_str())?;
         }
         write!(out, "\n{indent} *\n{indent} * {last}\n{indent} */")?;
         Ok(())

@@ -175,15 +175,24 @@ impl Items {
         }
     }
 
-    /// The item around a place, or before it if it stands between two: a member, or what has none.
-    fn around(&self, place: usize) -> Option<Span> {
+    /// The last item that has no item around it and begins before a place, or there.
+    fn outer_before(&self, place: usize) -> Option<Outer> {
         let mut found: Option<Outer> = None;
         for outer in self.outers.as_slice() {
             if outer.span.start <= place {
                 found = Some(*outer);
             }
         }
-        let outer = found?;
+        found
+    }
+
+    /// The item around a place, or before it if it stands between two: a member, or what has none. None either if the
+    /// braces are no pairs.
+    fn around(&self, place: usize) -> Option<Span> {
+        if !self.are_paired || self.depth != 0 {
+            return None;
+        }
+        let outer = self.outer_before(place)?;
         if place <= outer.members {
             return Some(outer.span);
         }
@@ -224,21 +233,32 @@ impl Items {
     }
 }
 
-/// The items of this code. None if its braces are no pairs.
-fn items_of(alloc: Global, code: &[u8]) -> Result<Option<Items>, AllocError> {
-    let mut items = Items::new(alloc);
-    for (place, byte) in code.iter().enumerate() {
-        if !matches!(*byte, b' ' | b'\t' | b'\r' | b'\n') {
-            items.take(code, place, *byte)?;
+impl Items {
+    /// Takes code up to its end.
+    fn take_all(&mut self, code: &[u8]) -> Result<(), AllocError> {
+        for (place, byte) in code.iter().enumerate() {
+            if !matches!(*byte, b' ' | b'\t' | b'\r' | b'\n') {
+                self.take(code, place, *byte)?;
+            }
         }
+        if self.outer.is_some() {
+            self.end_outer(code.len(), code.len())?;
+        }
+        Ok(())
     }
-    if !items.are_paired || items.depth != 0 {
-        return Ok(None);
-    }
-    if items.outer.is_some() {
-        items.end_outer(code.len(), code.len())?;
-    }
-    Ok(Some(items))
+}
+
+/// The item of this code around a place.
+fn item_of(alloc: Global, code: &[u8], place: usize) -> Result<Option<Span>, AllocError> {
+    let mut items = Items::new(alloc);
+    items.take_all(code)?;
+    Ok(items.around(place))
+}
+
+/// The item of a text around a place.
+fn item_around(alloc: Global, text: &str, place: usize) -> Result<Option<Span>, AllocError> {
+    let code = code_of(alloc, text)?;
+    item_of(alloc, code.as_slice(), place)
 }
 
 /// A text without one of its items, in whose place there are as many blanks.
@@ -267,11 +287,7 @@ pub fn without_item(
     text: &str,
     place: usize,
 ) -> Result<Option<Skipped>, AllocError> {
-    let code = code_of(alloc, text)?;
-    let Some(items) = items_of(alloc, code.as_slice())? else {
-        return Ok(None);
-    };
-    let Some(span) = items.around(place) else {
+    let Some(span) = item_around(alloc, text, place)? else {
         return Ok(None);
     };
     let item = text.get(span.start..span.end).unwrap_or("");

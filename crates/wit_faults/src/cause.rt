@@ -8,7 +8,7 @@ use thiserror::Error;
 use wit_text::TextError;
 
 /// Why a file can't be read.
-#[derive(Clone, Copy, Debug, PartialEq, Eq, Error)]
+#[derive(Clone, Copy, Debug, Error)]
 pub enum ReadError {
     /// It can be opened, and reading it failed after so many bytes.
     #[error("error 20 read at {0}")]

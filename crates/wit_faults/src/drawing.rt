@@ -57,16 +57,18 @@ fn covered(behind: &str, span: Span) -> &str {
     behind.get(..length).unwrap_or(behind)
 }
 
-/// Appends what stands before a line or its carets: a number or as many blanks, and a bar.
-fn push_gutter(out: &mut String, paint: Paint, number: &str) -> Result<(), AllocError> {
+/// Appends what stands before a line or its carets: a text, and a bar.
+fn push_gutter(out: &mut String, paint: Paint, text: &str) -> Result<(), AllocError> {
     paint.begin(out, Part::Gutter)?;
-    write!(out, " {number} |")?;
+    out.push(' ')?;
+    out.push_str(text)?;
+    out.push_str(" |")?;
     paint.end(out)?;
     out.push(' ')
 }
 
 /// A fault as it is shown: of which file, where, what it is, and what to do about it.
-#[derive(Drop)]
+#[derive(Clone, Copy)]
 pub struct Fault<'a> {
     pub lexed: &'a Lexed<'a>,
     pub span: Option<Span>,
@@ -74,6 +76,43 @@ pub struct Fault<'a> {
     /// No text if there is nothing to say.
     pub hint: &'a str,
 }
+
+/// Appends the line of a place, which has this number.
+fn push_source(
+    out: &mut String,
+    paint: Paint,
+    place: &Place<'_>,
+    number: &str,
+) -> Result<(), AllocError> {
+    push_gutter(out, paint, number)?;
+    push_shown(out, place.before)?;
+    push_shown(out, behind(place))?;
+    out.push('\n')
+}
+
+/// Appends carets under what the span covers, with blanks in place of the number of the line.
+fn push_carets(
+    out: &mut String,
+    paint: Paint,
+    place: &Place<'_>,
+    span: Span,
+    blanks: &str,
+) -> Result<(), AllocError> {
+    push_gutter(out, paint, blanks)?;
+    push_blanks(out, place.before)?;
+    paint.begin(out, Part::Carets)?;
+    push_times(out, '^', carets(covered(behind(place), span)))?;
+    paint.end(out)?;
+    out.push('\n')
+}
+
+/// What a line has from a place on.
+fn behind<'a>(place: &Place<'a>) -> &'a str {
+    place.behind.strip_suffix("\r").unwrap_or(place.behind)
+}
+
+/// As many blanks as the number of a line has digits at most.
+static BLANKS: &str = "                    ";
 
 /// Appends the line of a place, and carets under what the span covers.
 fn push_line(
@@ -84,25 +123,24 @@ fn push_line(
     span: Span,
 ) -> Result<(), AllocError> {
     let number = place.line.to_string(alloc)?;
-    let behind = place.behind.strip_suffix("\r").unwrap_or(place.behind);
-    push_gutter(out, paint, number.as_str())?;
-    push_shown(out, place.before)?;
-    push_shown(out, behind)?;
-    out.push('\n')?;
-    let mut blanks = String::new(alloc);
-    push_times(&mut blanks, ' ', number.len())?;
-    push_gutter(out, paint, blanks.as_str())?;
-    push_blanks(out, place.before)?;
-    paint.begin(out, Part::Carets)?;
-    push_times(out, '^', carets(covered(behind, span)))?;
-    paint.end(out)?;
-    out.push('\n')
+    push_source(out, paint, place, number.as_str())?;
+    let blanks = BLANKS.get(..number.len()).unwrap_or(BLANKS);
+    push_carets(out, paint, place, span, blanks)
 }
 
 /// Where a span begins in a text.
 fn found(text: &str, span: Option<Span>) -> Option<(Span, Place<'_>)> {
     let span = span?;
     Some((span, place_at(text, span.start)?))
+}
+
+/// Appends the path of a file, and the place if there is one.
+fn push_place(out: &mut String, path: &str, place: Option<&Place<'_>>) -> Result<(), AllocError> {
+    match place {
+        Some(place) => write!(out, "{path}:{}:{}:", place.line, place.column)?,
+        None => write!(out, "{path}:")?,
+    }
+    Ok(())
 }
 
 /// Appends the line that says what a fault is.
@@ -112,12 +150,8 @@ fn push_head(
     fault: &Fault<'_>,
     place: Option<&Place<'_>>,
 ) -> Result<(), AllocError> {
-    let path = fault.lexed.path;
     paint.begin(out, Part::Place)?;
-    match place {
-        Some(place) => write!(out, "{path}:{}:{}:", place.line, place.column)?,
-        None => write!(out, "{path}:")?,
-    }
+    push_place(out, fault.lexed.path, place)?;
     paint.end(out)?;
     out.push(' ')?;
     paint.push(out, Part::Words, fault.words)?;

@@ -1,13 +1,14 @@
 //! What to do about a fault, as docs/ERRORS.md has it.
 
 use crate::cause::Cause;
-use crate::places::{Found, declared_twice, place_of};
+use crate::places::{Found, declared_twice, long_flags, place_of};
 use crate::unknown::of_unknown;
 use layout::LayoutError;
 use std::alloc::{AllocError, Global};
 use tables::{PackageName, ResolveError};
 use wit_hints::{MORE_MEMORY, hint_of_duplicate, hint_of_text};
 use wit_places::{Declarations, Lexed, PackageRef, chain_of, ring_of_interfaces};
+use wit_text::Span;
 
 /// A package of a set, with its files.
 #[derive(Clone, Copy)]
@@ -36,33 +37,57 @@ fn of_duplicate<'a>(
     }
 }
 
+/// The first of these packages with this namespace and name.
+fn like<'a>(known: &[Known<'a>], name: PackageRef<'_>) -> Option<PackageRef<'a>> {
+    for other in known {
+        if other.package.has_name_of(name) {
+            return Some(other.package);
+        }
+    }
+    None
+}
+
 /// What to do about a package that is not there: which one of the same name is.
 fn of_package(
     alloc: Global,
     known: &[Known<'_>],
     name: &PackageName,
 ) -> Result<String, AllocError> {
-    for other in known {
-        let package = other.package;
-        if package.is(PackageRef::of_tables(name)) {
-            return format!(in alloc; "this is the package of the file: leave out `{name}/`");
+    let wanted = PackageRef::of_tables(name);
+    match like(known, wanted) {
+        Some(package) if package.is(wanted) => {
+            format!(in alloc; "this is the package of the file: leave out `{name}/`")
         }
-        if package.has_name_of(PackageRef::of_tables(name)) {
-            return format!(in alloc; "package `{name}` is not here; there is `{package}`");
+        Some(package) => { format!(in alloc; "package `{name}` is not here; there is `{package}`") }
+        None => {
+            format!(in alloc;
+                "give the file of package `{name}` too, or put it into the folder `deps`"
+            )
         }
     }
-    format!(in alloc; "give the file of package `{name}` too, or put it into the folder `deps`")
+}
+
+/// What to do about these interfaces, each of which uses the next one.
+fn of_users(alloc: Global, ring: &[&str]) -> Result<String, AllocError> {
+    if ring.is_empty() {
+        return String::from_str(alloc, "interfaces or types name each other in a ring");
+    }
+    let chain = chain_of(alloc, ring)?;
+    let chain = chain.as_str();
+    format!(in alloc; "interfaces use each other, {chain}: move what both use into one of its own")
 }
 
 /// What to do about interfaces that use each other.
 fn of_interfaces(alloc: Global, files: &[Lexed<'_>]) -> Result<String, AllocError> {
     let ring = ring_of_interfaces(alloc, files)?;
-    if ring.is_empty() {
-        return String::from_str(alloc, "interfaces or types name each other in a ring");
-    }
-    let chain = chain_of(alloc, ring.as_slice())?;
+    of_users(alloc, ring.as_slice())
+}
+
+/// What to do about several types that are each declared as the next one.
+fn of_chain(alloc: Global, ring: &[&str]) -> Result<String, AllocError> {
+    let chain = chain_of(alloc, ring)?;
     let chain = chain.as_str();
-    format!(in alloc; "interfaces use each other, {chain}: move what both use into one of its own")
+    format!(in alloc; "types name each other, {chain}: give one of them a type")
 }
 
 /// What to do about types that are each declared as the next one.
@@ -72,20 +97,17 @@ fn of_aliases(alloc: Global, ring: &[&str]) -> Result<String, AllocError> {
         [first, second] => {
             format!(in alloc; "`{first}` and `{second}` name each other: give one of them a type")
         }
-        _ => {
-            let chain = chain_of(alloc, ring)?;
-            let chain = chain.as_str();
-            format!(in alloc; "types name each other, {chain}: give one of them a type")
-        }
+        _ => of_chain(alloc, ring),
     }
 }
 
-/// What to do about types that contain themselves, or interfaces that use each other.
-fn of_cycle(alloc: Global, lexed: &Lexed<'_>, files: &[Lexed<'_>]) -> Result<String, AllocError> {
-    let declarations = Declarations::of(alloc, lexed)?;
-    let Some(span) = declarations.ring(alloc, lexed)? else {
-        return of_interfaces(alloc, files);
-    };
+/// What to do about a type that contains itself, at the place of its name.
+fn of_type(
+    alloc: Global,
+    lexed: &Lexed<'_>,
+    declarations: &Declarations<'_>,
+    span: Span,
+) -> Result<String, AllocError> {
     let aliases = declarations.ring_of_aliases(alloc, lexed, span)?;
     if !aliases.is_empty() {
         return of_aliases(alloc, aliases.as_slice());
@@ -96,10 +118,18 @@ fn of_cycle(alloc: Global, lexed: &Lexed<'_>, files: &[Lexed<'_>]) -> Result<Str
     )
 }
 
+/// What to do about types that contain themselves, or interfaces that use each other.
+fn of_cycle(alloc: Global, lexed: &Lexed<'_>, files: &[Lexed<'_>]) -> Result<String, AllocError> {
+    let declarations = Declarations::of(alloc, lexed)?;
+    match declarations.ring(alloc, lexed)? {
+        Some(span) => of_type(alloc, lexed, &declarations, span),
+        None => of_interfaces(alloc, files),
+    }
+}
+
 /// What to do about a package that has too much: of flags, too many labels.
 fn of_limit(alloc: Global, lexed: &Lexed<'_>) -> Result<String, AllocError> {
-    let declarations = Declarations::of(alloc, lexed)?;
-    let Some(flags) = declarations.long_flags(lexed) else {
+    let Some(flags) = long_flags(alloc, lexed)? else {
         return String::from_str(alloc, "split the package");
     };
     let (name, labels) = (lexed.at(flags.span), flags.labels);
@@ -173,9 +203,6 @@ pub fn package_fault<'a>(
         Some(found) => hint_of(alloc, found, around, cause)?,
         None => String::new(alloc),
     };
-    Ok(PackageFault {
-        found,
-        words: format!(in alloc; "{cause}")?,
-        hint,
-    })
+    let words = format!(in alloc; "{cause}")?;
+    Ok(PackageFault { found, words, hint })
 }

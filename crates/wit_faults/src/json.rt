@@ -6,19 +6,28 @@ use std::fmt::Write;
 use wit_hints::source_lines::place_at;
 use wit_text::Span;
 
+/// Appends a character of a JSON string.
+fn push_character(out: &mut String, character: char) -> Result<(), AllocError> {
+    let escape = match character {
+        '"' => "\\\"",
+        '\\' => "\\\\",
+        '\n' => "\\n",
+        '\r' => "\\r",
+        '\t' => "\\t",
+        control if control < ' ' => {
+            write!(out, "\\u{:04x}", control as u32)?;
+            return Ok(());
+        }
+        _ => return out.push(character),
+    };
+    out.push_str(escape)
+}
+
 /// Appends a text as a JSON string.
 fn push_string(out: &mut String, text: &str) -> Result<(), AllocError> {
     out.push('"')?;
     for character in text.chars() {
-        match character {
-            '"' => out.push_str("\\\"")?,
-            '\\' => out.push_str("\\\\")?,
-            '\n' => out.push_str("\\n")?,
-            '\r' => out.push_str("\\r")?,
-            '\t' => out.push_str("\\t")?,
-            control if control < ' ' => write!(out, "\\u{:04x}", control as u32)?,
-            _ => out.push(character)?,
-        }
+        push_character(out, character)?;
     }
     out.push('"')
 }

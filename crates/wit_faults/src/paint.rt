@@ -3,7 +3,7 @@
 use std::alloc::AllocError;
 
 /// What a part of a shown fault is. Each has a color of its own.
-#[derive(Clone, Copy, PartialEq, Eq)]
+#[derive(Clone, Copy)]
 pub enum Part {
     Place,
     Words,
@@ -13,7 +13,7 @@ pub enum Part {
 }
 
 /// Whether parts are colored.
-#[derive(Clone, Copy, PartialEq, Eq)]
+#[derive(Clone, Copy)]
 pub enum Paint {
     Plain,
     Colored,
@@ -22,7 +22,7 @@ pub enum Paint {
 impl Paint {
     /// Appends what begins a part.
     pub fn begin(self, out: &mut String, part: Part) -> Result<(), AllocError> {
-        if self == Paint::Plain {
+        if matches!(self, Paint::Plain) {
             return Ok(());
         }
         out.push_str(match part {

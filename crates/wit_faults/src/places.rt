@@ -6,7 +6,7 @@ use layout_limits::Refused;
 use std::alloc::{AllocError, Global};
 use tables::ResolveError;
 use wit_hints::find_twins;
-use wit_places::{Declarations, Lexed, PackageRef, importers, ring_of_interfaces};
+use wit_places::{Declarations, Lexed, LongFlags, PackageRef, importers, ring_of_interfaces};
 use wit_text::{Span, TextError, TokenKind};
 
 /// The first place where a name is used.
@@ -120,6 +120,27 @@ fn of_text(error: &TextError) -> Option<Span> {
     }
 }
 
+/// The first flags of a text that have too many labels.
+pub fn long_flags(alloc: Global, lexed: &Lexed<'_>) -> Result<Option<LongFlags>, AllocError> {
+    Ok(Declarations::of(alloc, lexed)?.long_flags(lexed))
+}
+
+/// The first place of a name in an interface of a text that declares no type of this name, and is none of these.
+fn undeclared(
+    alloc: Global,
+    lexed: &Lexed<'_>,
+    name: &str,
+    others: &[usize],
+) -> Result<Option<Span>, AllocError> {
+    Ok(Declarations::of(alloc, lexed)?.undeclared(lexed, name, others))
+}
+
+/// The first place of a name in an interface of a text that neither declares nor uses a type of this name.
+fn missing(alloc: Global, lexed: &Lexed<'_>, name: &str) -> Result<Option<Span>, AllocError> {
+    let others = importers(alloc, lexed, name)?;
+    undeclared(alloc, lexed, name, others.as_slice())
+}
+
 /// The first place of a name in an interface that neither declares nor uses a type of this name.
 fn first_missing<'a>(
     alloc: Global,
@@ -127,8 +148,7 @@ fn first_missing<'a>(
     name: &str,
 ) -> Result<Option<Found<'a>>, AllocError> {
     for lexed in files {
-        let others = importers(alloc, lexed, name)?;
-        let span = Declarations::of(alloc, lexed)?.undeclared(lexed, name, others.as_slice());
+        let span = missing(alloc, lexed, name)?;
         if span.is_some() {
             return Ok(Some(Found { lexed, span }));
         }
@@ -143,7 +163,7 @@ fn first_undeclared<'a>(
     name: &str,
 ) -> Result<Option<Found<'a>>, AllocError> {
     for lexed in files {
-        let span = Declarations::of(alloc, lexed)?.undeclared(lexed, name, &[]);
+        let span = undeclared(alloc, lexed, name, &[])?;
         if span.is_some() {
             return Ok(Some(Found { lexed, span }));
         }
@@ -184,10 +204,10 @@ fn of_names(
             Ok(of_package(lexed, known, PackageRef::of_tables(name)))
         }
         ResolveError::Cycle => Declarations::of(alloc, lexed)?.ring(alloc, lexed),
-        ResolveError::Limit => {
-            let flags = Declarations::of(alloc, lexed)?.long_flags(lexed);
-            Ok(flags.map(|flags| flags.span))
-        }
+        ResolveError::Limit => match long_flags(alloc, lexed)? {
+            Some(flags) => Ok(Some(flags.span)),
+            None => Ok(None),
+        },
         _ => Ok(None),
     }
 }
@@ -226,18 +246,38 @@ pub fn place_in(
     }
 }
 
+/// An interface that uses itself by others, and the first that it uses of these.
+fn first_users<'a>(
+    alloc: Global,
+    files: &[Lexed<'a>],
+) -> Result<Option<(&'a str, &'a str)>, AllocError> {
+    let ring = ring_of_interfaces(alloc, files)?;
+    let Some(first) = ring.first() else {
+        return Ok(None);
+    };
+    Ok(Some((*first, *ring.get(1).unwrap_or(first))))
+}
+
+/// Where a text has the `use` of an interface in another one.
+fn use_in(
+    alloc: Global,
+    lexed: &Lexed<'_>,
+    interface: &str,
+    used: &str,
+) -> Result<Option<Span>, AllocError> {
+    Ok(Declarations::of(alloc, lexed)?.use_in(lexed, interface, used))
+}
+
 /// Where the first of interfaces that use each other uses the second.
 fn place_of_ring<'a>(
     alloc: Global,
     files: &'a [Lexed<'a>],
 ) -> Result<Option<Found<'a>>, AllocError> {
-    let ring = ring_of_interfaces(alloc, files)?;
-    let Some(first) = ring.first() else {
+    let Some((first, second)) = first_users(alloc, files)? else {
         return Ok(None);
     };
-    let second = ring.get(1).unwrap_or(first);
     for lexed in files {
-        let span = Declarations::of(alloc, lexed)?.use_in(lexed, first, second);
+        let span = use_in(alloc, lexed, first, second)?;
         if span.is_some() {
             return Ok(Some(Found { lexed, span }));
         }

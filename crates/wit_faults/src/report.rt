@@ -12,7 +12,7 @@ use wit_places::{Lexed, PackageRef};
 use wit_text::Span;
 
 /// How faults are written.
-#[derive(Clone, Copy, PartialEq, Eq)]
+#[derive(Clone, Copy)]
 pub enum Style {
     /// As text.
     Text(Paint),
@@ -75,7 +75,7 @@ impl Report {
     pub fn finish(&mut self) -> Result<(), AllocError>
         ensures { self.new.status ≡ self.old.status }
     {
-        if self.style == Style::Json {
+        if matches!(self.style, Style::Json) {
             let end = if self.text.is_empty() {
                 "[]\n"
             } else {
@@ -118,11 +118,25 @@ impl Report {
     ) -> Result<(), AllocError>
         ensures { OnOk result (self.new.status ≡ 1) }
     {
-        let words = format!(in alloc; "{cause}")?;
         let around = Around { files: &[], known };
         let span = place_in(alloc, lexed, known, cause)?;
-        let hint = hint_of(alloc, Found { lexed, span }, around, cause)?;
-        self.add_at(alloc, lexed, span, words.as_str(), hint.as_str())
+        let found = Found { lexed, span };
+        let hint = hint_of(alloc, found, around, cause)?;
+        self.add_cause(alloc, found, cause, hint.as_str())
+    }
+
+    /// Adds a fault at a place, with a hint.
+    fn add_cause(
+        &mut self,
+        alloc: Global,
+        found: Found<'_>,
+        cause: &Cause,
+        hint: &str,
+    ) -> Result<(), AllocError>
+        ensures { OnOk result (self.new.status ≡ 1) }
+    {
+        let words = format!(in alloc; "{cause}")?;
+        self.add_at(alloc, found.lexed, found.span, words.as_str(), hint)
     }
 
     /// Adds a fault at a place of a package. Without any file of it nothing is shown.
@@ -151,7 +165,6 @@ impl Report {
     ) -> Result<(), AllocError>
         ensures { OnOk result (self.new.status ≡ 1) }
     {
-        let words = format!(in alloc; "not checked: it depends on {package}, which has a fault")?;
         let found = match first_path(files, package) {
             Some(found) => Some(Found {
                 lexed: found.lexed,
@@ -159,6 +172,7 @@ impl Report {
             }),
             None => None,
         };
+        let words = format!(in alloc; "not checked: it depends on {package}, which has a fault")?;
         self.add_found(alloc, found, words.as_str(), "")
     }
 }

@@ -137,10 +137,19 @@ fn other_version<'a>(around: Around<'a>, own: PackageRef<'_>) -> Option<PackageR
     None
 }
 
+/// The nearest to a word among the interfaces of files, or the first that begins as the word does.
+fn nearest_of<'a>(
+    alloc: Global,
+    files: &[Lexed<'a>],
+    word: &str,
+) -> Result<Option<&'a str>, AllocError> {
+    let names = interfaces_of(alloc, files)?;
+    nearest_interface(alloc, names.as_slice(), word)
+}
+
 /// What to do about a name that is no interface of its own package.
 fn of_interface(alloc: Global, around: Around<'_>, word: &str) -> Result<String, AllocError> {
-    let names = interfaces_of(alloc, around.files)?;
-    if let Some(name) = nearest_interface(alloc, names.as_slice(), word)? {
+    if let Some(name) = nearest_of(alloc, around.files, word)? {
         return format!(in alloc; "no interface `{word}` in this package; did you mean `{name}`?");
     }
     if let Some(own) = package_of(around.files)
@@ -165,6 +174,18 @@ fn files_of<'a>(known: &[Known<'a>], package: PackageRef<'_>) -> &'a [Lexed<'a>]
     &[]
 }
 
+/// Adds the types that an interface of a file declares.
+fn push_types<'a>(
+    alloc: Global,
+    names: &mut Vec<&'a str>,
+    lexed: &Lexed<'a>,
+    interface: &str,
+) -> Result<(), AllocError> {
+    let mut types = Declarations::of(alloc, lexed)?.types_of(alloc, interface)?;
+    names.append(&mut types)?;
+    Ok(())
+}
+
 /// The types that an interface of these files declares.
 fn types_of<'a>(
     alloc: Global,
@@ -173,9 +194,29 @@ fn types_of<'a>(
 ) -> Result<Vec<&'a str>, AllocError> {
     let mut names = Vec::new(alloc);
     for lexed in files {
-        names.append(&mut Declarations::of(alloc, lexed)?.types_of(alloc, interface)?)?;
+        push_types(alloc, &mut names, lexed, interface)?;
     }
     Ok(names)
+}
+
+/// What to do about a name that is none of these types of an interface of another package.
+fn of_types(
+    alloc: Global,
+    types: &[&str],
+    interface: &str,
+    word: &str,
+) -> Result<String, AllocError> {
+    if types.is_empty() {
+        return format!(in alloc; "interface `{interface}` declares no type");
+    }
+    if let Some(name) = nearest(alloc, word, types)? {
+        return format!(in alloc;
+            "interface `{interface}` has no type `{word}`; did you mean `{name}`?"
+        );
+    }
+    let listed = listed(alloc, types)?;
+    let listed = listed.as_str();
+    format!(in alloc; "interface `{interface}` has no type `{word}`; it has {listed}")
 }
 
 /// What to do about a name that is no type of an interface of another package.
@@ -185,19 +226,8 @@ fn of_used_type(
     interface: &str,
     word: &str,
 ) -> Result<String, AllocError> {
-    let names = types_of(alloc, files, interface)?;
-    let names = names.as_slice();
-    if names.is_empty() {
-        return format!(in alloc; "interface `{interface}` declares no type");
-    }
-    if let Some(name) = nearest(alloc, word, names)? {
-        return format!(in alloc;
-            "interface `{interface}` has no type `{word}`; did you mean `{name}`?"
-        );
-    }
-    let listed = listed(alloc, names)?;
-    let listed = listed.as_str();
-    format!(in alloc; "interface `{interface}` has no type `{word}`; it has {listed}")
+    let types = types_of(alloc, files, interface)?;
+    of_types(alloc, types.as_slice(), interface, word)
 }
 
 /// Names with commas between them: the first ones, if they are many.
@@ -213,6 +243,26 @@ fn listed(alloc: Global, names: &[&str]) -> Result<String, AllocError> {
     Ok(text)
 }
 
+/// What to do about a name that is none of these interfaces of another package.
+fn of_interfaces(
+    alloc: Global,
+    interfaces: &[&str],
+    package: PackageRef<'_>,
+    word: &str,
+) -> Result<String, AllocError> {
+    if interfaces.is_empty() {
+        return format!(in alloc; "package `{package}` has no interface");
+    }
+    if let Some(name) = nearest_interface(alloc, interfaces, word)? {
+        return format!(in alloc;
+            "package `{package}` has no interface `{word}`; did you mean `{name}`?"
+        );
+    }
+    let listed = listed(alloc, interfaces)?;
+    let listed = listed.as_str();
+    format!(in alloc; "package `{package}` has no interface `{word}`; it has {listed}")
+}
+
 /// What to do about a name that is no interface of another package.
 fn of_other_interface(
     alloc: Global,
@@ -220,19 +270,8 @@ fn of_other_interface(
     package: PackageRef<'_>,
     word: &str,
 ) -> Result<String, AllocError> {
-    let names = interfaces_of(alloc, files_of(known, package))?;
-    let names = names.as_slice();
-    if names.is_empty() {
-        return format!(in alloc; "package `{package}` has no interface");
-    }
-    if let Some(name) = nearest_interface(alloc, names, word)? {
-        return format!(in alloc;
-            "package `{package}` has no interface `{word}`; did you mean `{name}`?"
-        );
-    }
-    let listed = listed(alloc, names)?;
-    let listed = listed.as_str();
-    format!(in alloc; "package `{package}` has no interface `{word}`; it has {listed}")
+    let interfaces = interfaces_of(alloc, files_of(known, package))?;
+    of_interfaces(alloc, interfaces.as_slice(), package, word)
 }
 
 /// The first interface of a package that declares a type of this name.

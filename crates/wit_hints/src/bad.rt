@@ -3,61 +3,51 @@
 use crate::features::NO_FLOATS;
 use crate::scopes::line_of_taken;
 use crate::types::may_have_next;
+use crate::words::{with_name, with_two};
 use near_names::{hint_of_character, holder_for, is_float, kebab, rule_of_names, type_for};
 use std::alloc::{AllocError, Global};
 use wit_places::{Lexed, Spot, Within, keyword_at, mark_at, word_at};
 use wit_text::{Keyword, Punctuation, Span};
 
 /// The word that a text begins with, after blanks and colons.
-fn first_word(alloc: Global, text: &str) -> Result<String, AllocError> {
-    let mut word = String::new(alloc);
-    for character in text.chars() {
-        if character.is_ascii_alphanumeric() || character == '-' {
-            word.push(character)?;
-        } else if !word.is_empty() || (character != ' ' && character != ':') {
-            break;
+fn first_word(text: &str) -> &str {
+    let mut start: usize = 0;
+    for (place, character) in text.char_indices() {
+        let is_of_word = character.is_ascii_alphanumeric() || character == '-';
+        if !is_of_word && (place > start || !matches!(character, ' ' | ':')) {
+            return text.get(start..place).unwrap_or("");
+        }
+        if !is_of_word {
+            start = place.saturating_add(1);
         }
     }
-    Ok(word)
+    text.get(start..).unwrap_or("")
 }
 
 /// The type that a character belongs to: the word before it, or the one after it. It may be none.
-fn type_beside(
-    alloc: Global,
-    lexed: &Lexed<'_>,
-    span: Span,
-    is_after: bool,
-) -> Result<String, AllocError> {
+fn type_beside<'a>(lexed: &Lexed<'a>, span: Span, is_after: bool) -> &'a str {
     let last = lexed.tokens.len().saturating_sub(1);
     if !is_after && mark_at(lexed, last).is_none() {
-        return String::from_str(alloc, word_at(lexed, last));
+        return word_at(lexed, last);
     }
-    let behind = lexed.text.get(span.end..).unwrap_or("");
-    let word = first_word(alloc, behind)?;
-    if word.is_empty() {
-        return String::from_str(alloc, "..");
-    }
-    Ok(word)
+    let word = first_word(lexed.text.get(span.end..).unwrap_or(""));
+    if word.is_empty() { ".." } else { word }
 }
 
 /// What to do about a `[`.
 fn of_bracket(alloc: Global, lexed: &Lexed<'_>, span: Span) -> Result<String, AllocError> {
-    let name = type_beside(alloc, lexed, span, false)?;
-    let name = name.as_str();
+    let name = type_beside(lexed, span, false);
     if matches!(name, "list" | "option" | "result" | "tuple") {
-        return format!(in alloc; "write `{name}<..>` instead of `{name}[..]`");
+        return with_two(alloc, "write `#<..>` instead of `#[..]`", name, name);
     }
-    format!(in alloc; "a list is written `list<{name}>`")
+    with_name(alloc, "a list is written `list<#>`", name)
 }
 
 /// What to do about a `?`.
 fn of_question(alloc: Global, lexed: &Lexed<'_>, span: Span) -> Result<String, AllocError> {
     let behind = lexed.text.get(span.end..).unwrap_or("");
-    let name = type_beside(alloc, lexed, span, behind.starts_with(":"))?;
-    format!(in alloc;
-        "what may be missing is written `option<{}>`",
-        name.as_str()
-    )
+    let name = type_beside(lexed, span, behind.starts_with(":"));
+    with_name(alloc, "what may be missing is written `option<#>`", name)
 }
 
 /// What to do about a `*`: of a `use`, or of a pointer.
@@ -130,16 +120,16 @@ fn of_type(alloc: Global, lexed: &Lexed<'_>, span: Span, name: &str) -> Result<S
     if behind.starts_with("<")
         && let Some(holder) = holder_for(name)
     {
-        return format!(in alloc; "write `{holder}` instead of `{word}<..>`");
+        return with_two(alloc, "write `#` instead of `#<..>`", holder, word);
     }
     if is_float(name) {
         return String::from_str(alloc, NO_FLOATS);
     }
     if let Some(other) = type_for(name) {
-        return format!(in alloc; "no `{word}` here; WIT has `{other}`");
+        return with_two(alloc, "no `#` here; WIT has `#`", word, other);
     }
     let rule = rule_of_names(word);
-    format!(in alloc; "{rule}: write `{name}`")
+    with_two(alloc, "#: write `#`", rule, name)
 }
 
 /// What to do about a word that is no name, where a name has to come.
@@ -155,8 +145,8 @@ pub fn of_name(
     }
     let alone = Lexed::new(alloc, "", name);
     match keyword_at(&alone, 0) {
-        Some(_) => format!(in alloc; "{rule}: write `%{name}`"),
-        None => format!(in alloc; "{rule}: write `{name}`"),
+        Some(_) => with_two(alloc, "#: write `%#`", rule, name),
+        None => with_two(alloc, "#: write `#`", rule, name),
     }
 }
 

@@ -1,6 +1,7 @@
 //! What to write in place of what is valid and not read.
 
 use crate::types::of_too_many;
+use crate::words::{with_name, with_two};
 use std::alloc::{AllocError, Global};
 use wit_places::{Spot, word_at};
 use wit_text::{Feature, TokenKind};
@@ -12,8 +13,11 @@ pub static NO_FLOATS: &str = "give another type: floats are not read here";
 fn of_float(alloc: Global, spot: &Spot<'_>) -> Result<String, AllocError> {
     let word = spot.word();
     let number = if word == "f32" { "u32" } else { "u64" };
-    format!(in alloc;
-        "valid WIT, but not read here: for a check, write `{number}` instead of `{word}`"
+    with_two(
+        alloc,
+        "valid WIT, but not read here: for a check, write `#` instead of `#`",
+        number,
+        word,
     )
 }
 
@@ -23,13 +27,18 @@ fn of_resource(alloc: Global, spot: &Spot<'_>) -> Result<String, AllocError> {
     let next = spot.index.saturating_add(1);
     if word == "resource" {
         let name = word_at(spot.lexed, next);
-        return format!(in alloc;
-            "valid WIT, but not read here: for a check, write `type {name} = u32;` in its place"
+        return with_name(
+            alloc,
+            "valid WIT, but not read here: for a check, write `type # = u32;` in its place",
+            name,
         );
     }
     let name = word_at(spot.lexed, next.saturating_add(1));
-    format!(in alloc;
-        "valid WIT, but not read here: for a check, write `u32` instead of `{word}<{name}>`"
+    with_two(
+        alloc,
+        "valid WIT, but not read here: for a check, write `u32` instead of `#<#>`",
+        word,
+        name,
     )
 }
 
@@ -80,7 +89,7 @@ pub fn of_feature(alloc: Global, spot: &Spot<'_>, feature: Feature) -> Result<St
         Feature::NamedResults => String::from_str(alloc, of_results(spot)),
         _ => {
             let words = in_place(feature);
-            format!(in alloc; "valid WIT, but not read here: for a check, {words}")
+            with_name(alloc, "valid WIT, but not read here: for a check, #", words)
         }
     }
 }

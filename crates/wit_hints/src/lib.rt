@@ -17,6 +17,7 @@ pub mod source_lines;
 mod texts;
 mod types;
 mod versions;
+mod words;
 
 pub use names::{hint_of_duplicate, hint_of_unknown};
 pub use scopes::{Twins, find_twins};

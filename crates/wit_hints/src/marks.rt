@@ -3,6 +3,7 @@
 use crate::earlier::earlier_line;
 use crate::types::{begins_type, of_bare, of_error_type, of_too_many, precedes_type};
 use crate::versions::{of_at, of_version};
+use crate::words::{with_name, with_two};
 use near_names::{begins_function, declaration, did_you_mean, holder_for, is_constant};
 use std::alloc::{AllocError, Global};
 use wit_places::{Spot, Within, keyword_at, mark_at, word_at};
@@ -102,9 +103,13 @@ fn of_less(alloc: Global, spot: &Spot<'_>, mark: Punctuation) -> Result<String, 
     }
     let word = spot.word_before();
     match holder_for(word) {
-        Some(holder) => format!(in alloc; "write `{holder}` instead of `{word}<..>`"),
+        Some(holder) => with_two(alloc, "write `#` instead of `#<..>`", holder, word),
         None => {
-            format!(in alloc; "`{word}` holds no types: `list`, `option`, `result`, `tuple` do")
+            with_name(
+                alloc,
+                "`#` holds no types: `list`, `option`, `result`, `tuple` do",
+                word,
+            )
         }
     }
 }
@@ -120,7 +125,12 @@ fn of_constant(alloc: Global, spot: &Spot<'_>) -> Result<String, AllocError> {
     } else {
         ".."
     };
-    format!(in alloc; "WIT has no constants: return it from a function, `{name}: func() -> {ty}`")
+    with_two(
+        alloc,
+        "WIT has no constants: return it from a function, `#: func() -> #`",
+        name,
+        ty,
+    )
 }
 
 /// What to do about two words that begin an item of an interface.
@@ -128,10 +138,10 @@ fn of_two_words(alloc: Global, spot: &Spot<'_>) -> Result<String, AllocError> {
     let (name, word) = (spot.word_before(), spot.word());
     let next = spot.index.saturating_add(1);
     if begins_function(name) {
-        return format!(in alloc; "a function is written `{word}: func(..)`");
+        return with_name(alloc, "a function is written `#: func(..)`", word);
     }
     if let Some(keyword) = declaration(name) {
-        return format!(in alloc; "write `{keyword}` instead of `{name}`");
+        return with_two(alloc, "write `#` instead of `#`", keyword, name);
     }
     if is_constant(name) {
         return of_constant(alloc, spot);
@@ -146,9 +156,9 @@ fn of_two_words(alloc: Global, spot: &Spot<'_>) -> Result<String, AllocError> {
         }
         (Some(Punctuation::Equals), _) => did_you_mean(alloc, name, &["type"]),
         (Some(Punctuation::Dot), _) => did_you_mean(alloc, name, &["use"]),
-        (Some(Punctuation::Colon), _) => format!(in alloc; "leave out `{name}`"),
+        (Some(Punctuation::Colon), _) => with_name(alloc, "leave out `#`", name),
         (None, Some(function)) if begins_function(word) => {
-            format!(in alloc; "a function is written `{function}: func(..)`")
+            with_name(alloc, "a function is written `#: func(..)`", function)
         }
         _ => Ok(String::new(alloc)),
     }
@@ -163,11 +173,15 @@ fn of_item(alloc: Global, spot: &Spot<'_>) -> Result<String, AllocError> {
         Some(Punctuation::Equals) if next == Some(Keyword::Func) => {
             String::from_str(alloc, "write `:` instead of `=`")
         }
-        Some(Punctuation::Equals) => format!(in alloc; "write `type` before `{name}`"),
+        Some(Punctuation::Equals) => with_name(alloc, "write `type` before `#`", name),
         Some(Punctuation::OpenBrace) => {
-            format!(in alloc; "write `record`, `variant`, `enum` or `flags` before `{name}`")
+            with_name(
+                alloc,
+                "write `record`, `variant`, `enum` or `flags` before `#`",
+                name,
+            )
         }
-        Some(_) => format!(in alloc; "a function is written `{name}: func(..)`"),
+        Some(_) => with_name(alloc, "a function is written `#: func(..)`", name),
     }
 }
 
@@ -176,10 +190,10 @@ fn of_member(alloc: Global, spot: &Spot<'_>, member: &str) -> Result<String, All
     let name = spot.word_before();
     match spot.mark() {
         Some(Punctuation::Equals) => String::from_str(alloc, "write `:` instead of `=`"),
-        Some(_) => { format!(in alloc; "a {member} is `name: type`: only `{name}` is here") }
-        None if spot.lexed.is_named(spot.index) => format!(in alloc; "leave out `{name}`"),
+        Some(_) => { with_two(alloc, "a # is `name: type`: only `#` is here", member, name) }
+        None if spot.lexed.is_named(spot.index) => with_name(alloc, "leave out `#`", name),
         None if spot.lexed.name_at(spot.index).is_some() => {
-            format!(in alloc; "a {member} is `name: type`")
+            with_name(alloc, "a # is `name: type`", member)
         }
         None => Ok(String::new(alloc)),
     }
@@ -195,7 +209,12 @@ fn of_package(alloc: Global, spot: &Spot<'_>) -> Result<String, AllocError> {
         _ => spot.lexed.name_at(spot.index),
     };
     let name = name.unwrap_or("NAME");
-    format!(in alloc; "a package is `namespace:name`: write `{namespace}:{name}`")
+    with_two(
+        alloc,
+        "a package is `namespace:name`: write `#:#`",
+        namespace,
+        name,
+    )
 }
 
 /// What to do after a name that no `:` comes after. No text if this alone is missing.
@@ -217,7 +236,7 @@ fn of_colon(alloc: Global, spot: &Spot<'_>) -> Result<String, AllocError> {
             String::from_str(alloc, "write `.` before it")
         }
         (_, Some(Keyword::Use)) => {
-            format!(in alloc; "say which types are used: `use {name}.{{name}};`")
+            with_name(alloc, "say which types are used: `use #.{name};`", name)
         }
         (Within::Record, _) => of_member(alloc, spot, "field"),
         (Within::Parameters, _) => of_member(alloc, spot, "parameter"),
@@ -260,7 +279,7 @@ fn of_end(alloc: Global, spot: &Spot<'_>, mark: Punctuation) -> Result<String, A
     match (mark, spot.within, spot.mark()) {
         (Punctuation::Comma, Within::Use, _) => of_renamed(alloc, spot),
         (Punctuation::Comma, _, _) if is_function(spot) => {
-            format!(in alloc; "is a `}}` missing before `{}`?", spot.word_before())
+            with_name(alloc, "is a `}` missing before `#`?", spot.word_before())
         }
         (Punctuation::Comma, Within::Angles, Some(Punctuation::Semicolon)) if precedes_type(spot) =>
             { String::from_str(alloc, "write `,` instead of `;`") }
@@ -292,10 +311,10 @@ fn of_found(alloc: Global, spot: &Spot<'_>, mark: Punctuation) -> Result<String,
             alloc, spot,
         ),
         (Punctuation::Slash, Some(Punctuation::OpenParenthesis)) => {
-            format!(in alloc; "write `func` instead of `{before}`")
+            with_name(alloc, "write `func` instead of `#`", before)
         }
         (Punctuation::OpenBrace, None) if before == "." => {
-            format!(in alloc; "used names are in braces: write `{{{word}}}`")
+            with_name(alloc, "used names are in braces: write `{#}`", word)
         }
         (_, Some(found)) => String::from_str(alloc, for_other(spot.within, mark, found)),
         _ => Ok(String::new(alloc)),

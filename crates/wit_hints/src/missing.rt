@@ -1,7 +1,8 @@
 //! What to do if a type, a name or a keyword has to come.
 
 use crate::types::{begins_type, is_type};
-use near_names::{begins_function, declaration, did_you_mean, nearest};
+use crate::words::{with_name, with_two};
+use near_names::{begins_function, declaration, nearest};
 use std::alloc::{AllocError, Global};
 use wit_places::{Spot, Within, keyword_at, mark_at, opener, word_at};
 use wit_text::{Keyword, Punctuation, TokenKind};
@@ -26,9 +27,13 @@ fn of_no_type(alloc: Global, spot: &Spot<'_>, keyword: Keyword) -> Result<String
             "a type has to come here; is a `}` missing before the function?",
         ),
         (Keyword::Record | Keyword::Variant | Keyword::Enum | Keyword::Flags, _) => {
-            format!(in alloc; "a type has to come here: declare the {word}, and write its name")
+            with_name(
+                alloc,
+                "a type has to come here: declare the #, and write its name",
+                word,
+            )
         }
-        _ => format!(in alloc; "a type has to come here, and `{word}` begins none"),
+        _ => with_name(alloc, "a type has to come here, and `#` begins none", word),
     }
 }
 
@@ -52,8 +57,12 @@ fn of_type(alloc: Global, spot: &Spot<'_>) -> Result<String, AllocError> {
             if word_at(spot.lexed, spot.before.saturating_sub(1)) == "result" => {
             String::from_str(alloc, "write `_` for no value: `result<_, ..>`")
         }
-        (Some(_), _) => format!(in alloc; "a type is missing after `{}`", spot.word_before()),
-        (None, _) => format!(in alloc; "a type has to come here, and `{}` is none", spot.word()),
+        (Some(_), _) => with_name(alloc, "a type is missing after `#`", spot.word_before()),
+        (None, _) => with_name(
+            alloc,
+            "a type has to come here, and `#` is none",
+            spot.word(),
+        ),
     }
 }
 
@@ -90,29 +99,43 @@ fn of_keyword(alloc: Global, spot: &Spot<'_>, keyword: Keyword) -> Result<String
     let word = spot.word();
     match (keyword, spot.within) {
         (Keyword::Static | Keyword::Async | Keyword::Import | Keyword::Export, Within::Interface)
-            if is_item_at(spot, next) => { format!(in alloc; "leave out `{word}`") }
+            if is_item_at(spot, next) => { with_name(alloc, "leave out `#`", word) }
         (Keyword::Func, Within::Interface | Within::World) if !is_named => {
             String::from_str(alloc, "a function is written `name: func(..)`")
         }
         (Keyword::Import | Keyword::Export, Within::Interface) if !is_named => {
-            format!(in alloc; "`{word}` is for worlds: in an interface, write `use`")
+            with_name(
+                alloc,
+                "`#` is for worlds: in an interface, write `use`",
+                word,
+            )
         }
         (Keyword::Interface | Keyword::World, Within::Interface) if !is_named => {
             let open = opener(spot.lexed, spot.index).unwrap_or(0);
             let name = word_at(spot.lexed, open.saturating_sub(1));
-            format!(in alloc; "close `{name}` with `}}` before it: no {word} is in an interface")
+            with_two(
+                alloc,
+                "close `#` with `}` before it: no # is in an interface",
+                name,
+                word,
+            )
         }
         (Keyword::Interface, Within::World) => {
             String::from_str(alloc, "leave it out: write the name of the interface alone")
         }
         (_, Within::Parameters | Within::Record) if is_type(keyword) && !is_named => {
             let thing = thing(spot.within);
-            format!(in alloc; "{thing} is `name: type`: write a name and `:` before `{word}`")
+            with_two(
+                alloc,
+                "# is `name: type`: write a name and `:` before `#`",
+                thing,
+                word,
+            )
         }
         (_, Within::Interface) if is_type(keyword) && !is_named => {
-            format!(in alloc; "a function is written `name: func(..) -> {word}`")
+            with_name(alloc, "a function is written `name: func(..) -> #`", word)
         }
-        _ => format!(in alloc; "`{word}` is a keyword: write `%{word}`"),
+        _ => with_two(alloc, "`#` is a keyword: write `%#`", word, word),
     }
 }
 
@@ -124,12 +147,12 @@ fn of_colons(alloc: Global, spot: &Spot<'_>) -> Result<String, AllocError> {
     let interface = word_at(spot.lexed, first);
     match (mark_at(spot.lexed, next), spot.lexed.name_at(next)) {
         (Some(Punctuation::OpenBrace), _) if is_use => {
-            format!(in alloc; "write `.` instead of `::`: `use {interface}.{{..}};`")
+            with_name(alloc, "write `.` instead of `::`: `use #.{..};`", interface)
         }
         (None, Some(name))
             if is_use
                 && mark_at(spot.lexed, next.saturating_add(1)) == Some(Punctuation::Semicolon) => {
-            format!(in alloc; "a use is written `use {interface}.{{{name}}};`")
+            with_two(alloc, "a use is written `use #.{#};`", interface, name)
         }
         _ => String::from_str(alloc, "a path is written `namespace:name/interface`"),
     }
@@ -141,7 +164,12 @@ fn of_number(alloc: Global, spot: &Spot<'_>) -> Result<String, AllocError> {
     let next = spot.index.saturating_add(1);
     match (spot.lexed.span_at(next), spot.lexed.name_at(next)) {
         (Some(span), Some(name)) if span.start == spot.span.end => {
-            format!(in alloc; "a name begins with a letter: write `{name}{number}`")
+            with_two(
+                alloc,
+                "a name begins with a letter: write `##`",
+                name,
+                number,
+            )
         }
         _ => String::from_str(alloc, "a name begins with a letter"),
     }
@@ -157,18 +185,18 @@ fn of_no_name(alloc: Global, spot: &Spot<'_>) -> Result<String, AllocError> {
             String::from_str(alloc, "a use is written `use interface.{name};`")
         }
         (None | Some(Punctuation::Colon | Punctuation::Slash), _) => {
-            format!(in alloc; "a name is missing after `{before}`")
+            with_name(alloc, "a name is missing after `#`", before)
         }
         (Some(Punctuation::Comma), Some(Punctuation::CloseParenthesis)) => {
             String::from_str(alloc, "leave out the `,` before it")
         }
         (_, Some(Punctuation::CloseBrace)) => {
-            format!(in alloc; "{thing} has to come here: there is at least one")
+            with_name(alloc, "# has to come here: there is at least one", thing)
         }
         (_, Some(Punctuation::Semicolon | Punctuation::Comma)) => {
-            format!(in alloc; "{thing} has to come here: leave out the `{word}`")
+            with_two(alloc, "# has to come here: leave out the `#`", thing, word)
         }
-        _ => format!(in alloc; "{thing} has to come here"),
+        _ => with_name(alloc, "# has to come here", thing),
     }
 }
 
@@ -195,7 +223,7 @@ pub fn of_identifier(alloc: Global, spot: &Spot<'_>) -> Result<String, AllocErro
 fn of_func(alloc: Global, spot: &Spot<'_>) -> Result<String, AllocError> {
     let word = spot.word();
     if begins_function(word) {
-        return format!(in alloc; "write `func` instead of `{word}`");
+        return with_name(alloc, "write `func` instead of `#`", word);
     }
     let next = spot.index.saturating_add(1);
     match (spot.mark(), mark_at(spot.lexed, next)) {
@@ -204,14 +232,17 @@ fn of_func(alloc: Global, spot: &Spot<'_>) -> Result<String, AllocError> {
             "write `func` before it",
         ),
         (None, Some(Punctuation::OpenParenthesis)) => {
-            let near = did_you_mean(alloc, word, &["func"])?;
-            if !near.is_empty() {
-                return Ok(near);
+            match nearest(alloc, word, &["func"])? {
+                Some(name) => with_name(alloc, "did you mean `#`?", name),
+                None => with_name(alloc, "write `func` instead of `#`", word),
             }
-            format!(in alloc; "write `func` instead of `{word}`")
         }
         (None, Some(Punctuation::Semicolon)) if begins_type(spot) => {
-            format!(in alloc; "an interface has no fields: write `func() -> {word}`, or a record")
+            with_name(
+                alloc,
+                "an interface has no fields: write `func() -> #`, or a record",
+                word,
+            )
         }
         (None, Some(Punctuation::Less)) if begins_type(spot) => {
             String::from_str(
@@ -220,7 +251,7 @@ fn of_func(alloc: Global, spot: &Spot<'_>) -> Result<String, AllocError> {
             )
         }
         (None, _) if keyword_at(spot.lexed, next) == Some(Keyword::Func) => {
-            format!(in alloc; "leave out `{word}`")
+            with_name(alloc, "leave out `#`", word)
         }
         _ => String::from_str(alloc, "a function is written `name: func(..)`"),
     }
@@ -245,12 +276,11 @@ fn is_of_interface(alloc: Global, spot: &Spot<'_>) -> Result<bool, AllocError> {
 /// What to do about a word where an interface or a world has to come.
 fn of_file_word(alloc: Global, spot: &Spot<'_>) -> Result<String, AllocError> {
     let word = spot.word();
-    let near = did_you_mean(alloc, word, &["interface", "world"])?;
-    if !near.is_empty() {
-        return Ok(near);
+    if let Some(name) = nearest(alloc, word, &["interface", "world"])? {
+        return with_name(alloc, "did you mean `#`?", name);
     }
     if declaration(word) == Some("interface") {
-        return format!(in alloc; "write `interface` instead of `{word}`");
+        return with_name(alloc, "write `interface` instead of `#`", word);
     }
     if is_of_interface(alloc, spot)? {
         return String::from_str(alloc, "put it into an interface: `interface NAME { .. }`");
@@ -267,7 +297,7 @@ fn of_file(alloc: Global, spot: &Spot<'_>) -> Result<String, AllocError> {
         (Some(Punctuation::Semicolon), _) => "leave it out: no `;` comes here",
         (Some(_), _) => "an interface or a world has to come here",
         (None, _) if matches!(next, Some(Keyword::Interface | Keyword::World)) => {
-            return format!(in alloc; "leave out `{word}`");
+            return with_name(alloc, "leave out `#`", word);
         }
         (None, Some(Keyword::Import | Keyword::Export | Keyword::Include)) => {
             "put it into a world: `world NAME { .. }`"
@@ -290,9 +320,8 @@ pub fn of_missing_keyword(
         Keyword::Package => &["package"],
         _ => &["import", "export", "include", "use", "type"],
     };
-    let near = did_you_mean(alloc, spot.word(), near)?;
-    if !near.is_empty() {
-        return Ok(near);
+    if let Some(name) = nearest(alloc, spot.word(), near)? {
+        return with_name(alloc, "did you mean `#`?", name);
     }
     let hint = match keyword {
         Keyword::Package =>

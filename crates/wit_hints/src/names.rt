@@ -3,6 +3,7 @@
 use crate::features::NO_FLOATS;
 use crate::scopes::{Twins, find_twins};
 use crate::source_lines::place_at;
+use crate::words::{with_name, with_two};
 use near_names::{is_float, is_nothing, nearest, type_for};
 use std::alloc::{AllocError, Global};
 use wit_places::{Declarations, Lexed, names_of_types};
@@ -32,12 +33,15 @@ fn of_other_type(alloc: Global, word: &str) -> Result<String, AllocError> {
         return String::from_str(alloc, NO_FLOATS);
     }
     if is_nothing(word) {
-        return format!(in alloc;
-            "no `{word}` here: leave out `-> {word}`, or write `_` in a result"
+        return with_two(
+            alloc,
+            "no `#` here: leave out `-> #`, or write `_` in a result",
+            word,
+            word,
         );
     }
     match type_for(word) {
-        Some(name) => format!(in alloc; "no `{word}` here; WIT has `{name}`"),
+        Some(name) => with_two(alloc, "no `#` here; WIT has `#`", word, name),
         None => Ok(String::new(alloc)),
     }
 }
@@ -45,17 +49,24 @@ fn of_other_type(alloc: Global, word: &str) -> Result<String, AllocError> {
 /// What to do about a name that stands for nothing.
 pub fn hint_of_unknown(alloc: Global, lexed: &Lexed<'_>, word: &str) -> Result<String, AllocError> {
     if let Some(interface) = Declarations::of(alloc, lexed)?.interface_with(word) {
-        return format!(in alloc; "write `use {interface}.{{{word}}};` in this interface");
+        return with_two(
+            alloc,
+            "write `use #.{#};` in this interface",
+            interface,
+            word,
+        );
     }
     let other = of_other_type(alloc, word)?;
     if !other.is_empty() {
         return Ok(other);
     }
     match nearest_type(alloc, lexed, word)? {
-        Some(name) => format!(in alloc; "no `{word}` here; did you mean `{name}`?"),
-        None => {
-            format!(in alloc; "declare `{word}`, or `use` it from the interface that has it")
-        }
+        Some(name) => with_two(alloc, "no `#` here; did you mean `#`?", word, name),
+        None => with_name(
+            alloc,
+            "declare `#`, or `use` it from the interface that has it",
+            word,
+        ),
     }
 }
 
@@ -84,10 +95,15 @@ pub fn hint_of_duplicate(
     let place = place.as_str();
     let (first, second) = (lexed.at(twins.first), lexed.at(twins.second));
     if name.rsplit_once('/').is_some() {
-        return format!(in alloc; "leave out one: the first is in {place}");
+        return with_name(alloc, "leave out one: the first is in #", place);
     }
     if first.strip_prefix("%").unwrap_or(first) == second.strip_prefix("%").unwrap_or(second) {
-        return format!(in alloc; "rename one: the first is in {place}");
+        return with_name(alloc, "rename one: the first is in #", place);
     }
-    format!(in alloc; "rename one: `{first}` in {place} differs in the case of letters alone")
+    with_two(
+        alloc,
+        "rename one: `#` in # differs in the case of letters alone",
+        first,
+        place,
+    )
 }

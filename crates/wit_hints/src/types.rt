@@ -1,5 +1,6 @@
 //! What to do about types in `<` and `>`: too many of them, or none.
 
+use crate::words::{with_name, with_two};
 use std::alloc::{AllocError, Global};
 use wit_places::{Lexed, Spot, commas_between, keyword_at, mark_at, opener, word_at};
 use wit_text::{Keyword, Punctuation};
@@ -68,12 +69,12 @@ pub fn of_too_many(alloc: Global, spot: &Spot<'_>) -> Result<String, AllocError>
     let next = spot.index.saturating_add(1);
     if may_have_next(spot.lexed, open) || spot.lexed.is_named(next) {
         let before = spot.word_before();
-        return format!(in alloc; "{rule}; is a `>` missing after `{before}`?");
+        return with_two(alloc, "#; is a `>` missing after `#`?", rule, before);
     }
     if word == "result" {
-        return format!(in alloc; "{rule}: put more into a `tuple`");
+        return with_name(alloc, "#: put more into a `tuple`", rule);
     }
-    format!(in alloc; "{rule}: for two write `{word}<tuple<..>>`")
+    with_two(alloc, "#: for two write `#<tuple<..>>`", rule, word)
 }
 
 /// What to do about a type after a result that has none for its error. No text if it is something else.
@@ -94,7 +95,7 @@ pub fn of_error_type(alloc: Global, spot: &Spot<'_>) -> Result<String, AllocErro
         return Ok(String::new(alloc));
     }
     let word = spot.word();
-    format!(in alloc; "a result with an error is `{front}, {word}>`")
+    with_two(alloc, "a result with an error is `#, #>`", front, word)
 }
 
 /// What to do about a word that holds types, without them. No text if it is no such word.

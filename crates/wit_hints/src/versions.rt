@@ -1,5 +1,6 @@
 //! What to do about a version that is not where it may be, or is none.
 
+use crate::words::{with_name, with_two};
 use near_names::{has_three_numbers, version_front};
 use std::alloc::{AllocError, Global};
 use wit_places::{Spot, mark_at, word_at};
@@ -11,7 +12,7 @@ pub fn of_at(alloc: Global, spot: &Spot<'_>) -> Result<String, AllocError> {
     let number = version_front(alloc, behind)?;
     match number.as_str().strip_prefix("v") {
         Some(number) if has_three_numbers(number) => {
-            format!(in alloc; "a version has no `v`: write `@{number}`")
+            with_name(alloc, "a version has no `v`: write `@#`", number)
         }
         _ => String::from_str(alloc, "a version is three numbers, as `@1.0.0`"),
     }
@@ -28,7 +29,11 @@ fn of_declared(alloc: Global, spot: &Spot<'_>) -> Result<String, AllocError> {
                 "versions are of packages: leave it out, and write `package {package}{version};`"
             )
         }
-        _ => format!(in alloc; "versions are of packages: leave it out of the {keyword}"),
+        _ => with_name(
+            alloc,
+            "versions are of packages: leave it out of the #",
+            keyword,
+        ),
     }
 }
 
@@ -48,7 +53,12 @@ pub fn of_version(alloc: Global, spot: &Spot<'_>, mark: Punctuation) -> Result<S
             format!(in alloc; "the version comes last: `{package}/{name}{version}`")
         }
         (Punctuation::Slash, _) => {
-            format!(in alloc; "name an interface of it: `{package}/NAME{version}`")
+            with_two(
+                alloc,
+                "name an interface of it: `#/NAME#`",
+                package,
+                version,
+            )
         }
         (Punctuation::OpenBrace, _) => of_declared(alloc, spot),
         (Punctuation::Colon, _) => String::from_str(

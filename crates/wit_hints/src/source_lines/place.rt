@@ -6,7 +6,7 @@ ghost use Rattle.std.specs.Str.{IsCharBoundary, chars};
 ghost use Rattle.wit_hints.specs.Lines.{EndsInLine, BeginsInLine};
 
 /// Where a byte offset stands.
-#[derive(Clone, Copy, PartialEq, Eq)]
+#[derive(Clone, Copy)]
 pub struct Place<'a> {
     /// The number of its line, from 1 on.
     pub line: usize,
