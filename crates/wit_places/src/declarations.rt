@@ -1,13 +1,13 @@
 //! What a text declares, and where.
 
 use crate::lexed::Lexed;
-use crate::rings::first_in_ring;
+use crate::rings::ring_in;
 use std::alloc::{AllocError, Global};
 use tables::Sequence;
 use wit_text::{Keyword, Punctuation, Span, TokenKind};
 
 /// A declaration of a type, an interface or a world.
-#[derive(Clone, Copy)]
+#[derive(Clone, Copy, PartialEq, Eq)]
 pub struct Declaration<'a> {
     pub name: &'a str,
     /// The keyword that it begins with.
@@ -96,10 +96,25 @@ fn precedes_type(kind: TokenKind, open: usize) -> bool {
     }
 }
 
-/// What a token of the declaration of a type is. None if it ends the declaration.
-fn kind_within(lexed: &Lexed<'_>, index: usize) -> Option<TokenKind> {
-    let kind = lexed.tokens.get(index)?.kind;
-    (!ends_type(kind)).then_some(kind)
+/// The names of types in the declaration whose name is at a token.
+fn types_in<'a>(alloc: Global, lexed: &Lexed<'a>, at: usize) -> Result<Vec<&'a str>, AllocError> {
+    let mut names = Vec::new(alloc);
+    let mut open: usize = 0;
+    for index in at..lexed.tokens.len() {
+        let Some(token) = lexed.tokens.get(index) else {
+            break;
+        };
+        if ends_type(token.kind) {
+            break;
+        }
+        open = open_after(token.kind, open);
+        if precedes_type(token.kind, open)
+            && let Some(name) = lexed.name_at(index.saturating_add(1))
+        {
+            names.push(name)?;
+        }
+    }
+    Ok(names)
 }
 
 /// How many labels the enum or the flags have whose name is at a token.
@@ -212,34 +227,6 @@ impl<'a> Declarations<'a> {
         None
     }
 
-    /// The place of the declaration in a scope that a token names.
-    fn place_named(&self, lexed: &Lexed<'_>, scope: usize, index: usize) -> Option<usize> {
-        self.place_of(scope, lexed.name_at(index)?)
-    }
-
-    /// Adds the places of the declarations in the same scope that a type names.
-    fn push_uses(
-        &self,
-        used: &mut Vec<usize>,
-        lexed: &Lexed<'_>,
-        declaration: &Declaration<'_>,
-    ) -> Result<(), AllocError> {
-        let mut open: usize = 0;
-        for index in declaration.at..lexed.tokens.len() {
-            let Some(kind) = kind_within(lexed, index) else {
-                return Ok(());
-            };
-            open = open_after(kind, open);
-            let next = index.saturating_add(1);
-            if precedes_type(kind, open)
-                && let Some(place) = self.place_named(lexed, declaration.scope, next)
-            {
-                used.push(place)?;
-            }
-        }
-        Ok(())
-    }
-
     /// The places of the declarations in the same scope that a type names.
     fn uses_of(
         &self,
@@ -249,23 +236,14 @@ impl<'a> Declarations<'a> {
     ) -> Result<Sequence<usize>, AllocError> {
         let mut used = Vec::new(alloc);
         if declares_type(declaration.keyword) {
-            self.push_uses(&mut used, lexed, declaration)?;
+            let names = types_in(alloc, lexed, declaration.at)?;
+            for name in names.as_slice() {
+                if let Some(place) = self.place_of(declaration.scope, name) {
+                    used.push(place)?;
+                }
+            }
         }
         Ok(Sequence::new(used))
-    }
-
-    /// Which declarations each of these uses.
-    fn graph(&self, alloc: Global, lexed: &Lexed<'_>) -> Result<Vec<Sequence<usize>>, AllocError> {
-        let mut graph = Vec::new(alloc);
-        for declaration in &self.list {
-            graph.push(self.uses_of(alloc, lexed, declaration)?)?;
-        }
-        Ok(graph)
-    }
-
-    /// Where the name is that a declaration of the list has.
-    fn span_of(&self, lexed: &Lexed<'_>, place: Option<usize>) -> Option<Span> {
-        lexed.span_at(self.list.get(place?)?.at)
     }
 
     /// The name of a type that contains itself, directly or by others of its interface.
@@ -273,9 +251,18 @@ impl<'a> Declarations<'a> {
         if self.list.len() > MAX_LOOKED_AT {
             return Ok(None);
         }
-        let graph = self.graph(alloc, lexed)?;
-        let place = first_in_ring(alloc, graph.as_slice())?;
-        Ok(self.span_of(lexed, place))
+        let mut graph = Vec::new(alloc);
+        for declaration in &self.list {
+            graph.push(self.uses_of(alloc, lexed, declaration)?)?;
+        }
+        let ring = ring_in(alloc, graph.as_slice())?;
+        let Some(place) = ring.first() else {
+            return Ok(None);
+        };
+        match self.list.get(*place) {
+            Some(declaration) => Ok(lexed.span_at(declaration.at)),
+            None => Ok(None),
+        }
     }
 
     /// The type that another one is, which is declared as `type NAME = OTHER;`, by its place in the list.
@@ -291,38 +278,6 @@ impl<'a> Declarations<'a> {
         self.place_of(declaration.scope, lexed.name_at(name)?)
     }
 
-    /// Adds the names of types from one on, each of them declared as the next one. False if the first does not come
-    /// again.
-    fn push_aliases(
-        &self,
-        names: &mut Vec<&'a str>,
-        lexed: &Lexed<'_>,
-        first: usize,
-    ) -> Result<bool, AllocError> {
-        let mut place = first;
-        for _ in 0..self.list.len() {
-            if let Some(declaration) = self.list.get(place) {
-                names.push(declaration.name)?;
-            }
-            let Some(next) = self.aliased(lexed, place) else {
-                return Ok(false);
-            };
-            if next == first {
-                return Ok(true);
-            }
-            place = next;
-        }
-        Ok(false)
-    }
-
-    /// The place in the list of the declaration of the name at a span.
-    fn place_at(&self, lexed: &Lexed<'_>, span: Span) -> Option<usize> {
-        let at = lexed.index_of(span)?;
-        self.list
-            .iter()
-            .position(|declaration| declaration.at == at)
-    }
-
     /// The names of a ring of types from the one at a span on, if each of them is declared as the next one.
     pub fn ring_of_aliases(
         &self,
@@ -331,10 +286,25 @@ impl<'a> Declarations<'a> {
         span: Span,
     ) -> Result<Vec<&'a str>, AllocError> {
         let mut names = Vec::new(alloc);
-        match self.place_at(lexed, span) {
-            Some(first) if self.push_aliases(&mut names, lexed, first)? => Ok(names),
-            _ => Ok(Vec::new(alloc)),
+        let at = lexed.index_of(span);
+        let first = self
+            .list
+            .iter()
+            .position(|declaration| Some(declaration.at) == at);
+        let mut next = first;
+        for _ in 0..self.list.len() {
+            let Some(place) = next else {
+                return Ok(Vec::new(alloc));
+            };
+            if let Some(declaration) = self.list.get(place) {
+                names.push(declaration.name)?;
+            }
+            next = self.aliased(lexed, place);
+            if next == first {
+                return Ok(names);
+            }
         }
+        Ok(Vec::new(alloc))
     }
 
     /// The interface that a `use` of another interface names first, by its name.

@@ -1,6 +1,6 @@
 //! Interfaces that use each other.
 
-use crate::declarations::{Declaration, Declarations, MAX_LOOKED_AT, end_of_scope};
+use crate::declarations::{Declarations, MAX_LOOKED_AT, end_of_scope};
 use crate::lexed::Lexed;
 use crate::rings::ring_in;
 use std::alloc::{AllocError, Global};
@@ -25,22 +25,6 @@ fn used_by<'a>(alloc: Global, lexed: &Lexed<'a>, at: usize) -> Result<Vec<&'a st
     Ok(used)
 }
 
-/// Adds the interfaces of these declarations of a text.
-fn push_interfaces<'a>(
-    alloc: Global,
-    users: &mut Vec<User<'a>>,
-    lexed: &Lexed<'a>,
-    declarations: &[Declaration<'a>],
-) -> Result<(), AllocError> {
-    for declaration in declarations {
-        if declaration.keyword == Keyword::Interface {
-            let (name, used) = (declaration.name, used_by(alloc, lexed, declaration.at)?);
-            users.push(User { name, used })?;
-        }
-    }
-    Ok(())
-}
-
 /// Adds the interfaces of a text.
 fn push_users<'a>(
     alloc: Global,
@@ -48,7 +32,15 @@ fn push_users<'a>(
     lexed: &Lexed<'a>,
 ) -> Result<(), AllocError> {
     let declarations = Declarations::of(alloc, lexed)?;
-    push_interfaces(alloc, users, lexed, declarations.as_slice())
+    for declaration in declarations.as_slice() {
+        if declaration.keyword == Keyword::Interface {
+            users.push(User {
+                name: declaration.name,
+                used: used_by(alloc, lexed, declaration.at)?,
+            })?;
+        }
+    }
+    Ok(())
 }
 
 /// The places of the interfaces of these names.
@@ -75,46 +67,25 @@ fn graph_of(alloc: Global, users: &[User<'_>]) -> Result<Vec<Sequence<usize>>, A
     Ok(graph)
 }
 
-/// The interfaces of texts.
-fn users_of<'a>(alloc: Global, files: &[Lexed<'a>]) -> Result<Vec<User<'a>>, AllocError> {
-    let mut users = Vec::new(alloc);
-    for lexed in files {
-        push_users(alloc, &mut users, lexed)?;
-    }
-    Ok(users)
-}
-
-/// The names of the interfaces at these places.
-fn names_of<'a>(
-    alloc: Global,
-    users: &[User<'a>],
-    places: &[usize],
-) -> Result<Vec<&'a str>, AllocError> {
-    let mut names = Vec::new(alloc);
-    for place in places {
-        if let Some(user) = users.get(*place) {
-            names.push(user.name)?;
-        }
-    }
-    Ok(names)
-}
-
-/// The names of those of these interfaces that use each other.
-fn ring_of_users<'a>(alloc: Global, users: &[User<'a>]) -> Result<Vec<&'a str>, AllocError> {
-    let graph = graph_of(alloc, users)?;
-    let ring = ring_in(alloc, graph.as_slice())?;
-    names_of(alloc, users, ring.as_slice())
-}
-
 /// The names of interfaces of a package's files that use each other: each uses the next, and the last uses the first.
 /// No name if there are none.
 pub fn ring_of_interfaces<'a>(
     alloc: Global,
     files: &[Lexed<'a>],
 ) -> Result<Vec<&'a str>, AllocError> {
-    let users = users_of(alloc, files)?;
-    if users.len() > MAX_LOOKED_AT {
-        return Ok(Vec::new(alloc));
+    let mut users = Vec::new(alloc);
+    let mut names = Vec::new(alloc);
+    for lexed in files {
+        push_users(alloc, &mut users, lexed)?;
     }
-    ring_of_users(alloc, users.as_slice())
+    if users.len() > MAX_LOOKED_AT {
+        return Ok(names);
+    }
+    let graph = graph_of(alloc, users.as_slice())?;
+    for place in ring_in(alloc, graph.as_slice())?.as_slice() {
+        if let Some(user) = users.get(*place) {
+            names.push(user.name)?;
+        }
+    }
+    Ok(names)
 }

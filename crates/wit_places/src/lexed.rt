@@ -85,24 +85,19 @@ fn tokens_of(alloc: Global, text: &str) -> Vec<Token> {
     }
 }
 
-/// The tokens of a text. If it has a fault in them, those before it.
-fn tokens_before_fault(alloc: Global, text: &str) -> Vec<Token> {
-    match lex(alloc, text) {
-        Ok(tokens) => tokens,
-        Err(TextError::BadChar(span) | TextError::OpenComment(span)) => {
-            tokens_of(alloc, text.get(..span.start).unwrap_or(""))
-        }
-        Err(_) => Vec::new(alloc),
-    }
-}
-
 impl<'a> Lexed<'a> {
     /// A text with its tokens.
     pub fn new(alloc: Global, path: &'a str, text: &'a str) -> Lexed<'a>
         ensures path { result.path.now ≡ path.now }
         ensures text { result.text.now ≡ text.now }
     {
-        let tokens = tokens_before_fault(alloc, text);
+        let tokens = match lex(alloc, text) {
+            Ok(tokens) => tokens,
+            Err(TextError::BadChar(span) | TextError::OpenComment(span)) => {
+                tokens_of(alloc, text.get(..span.start).unwrap_or(""))
+            }
+            Err(_) => Vec::new(alloc),
+        };
         Lexed { path, text, tokens }
     }
 

@@ -56,41 +56,21 @@ fn place_on_ring(graph: &[Sequence<usize>], marks: &[bool]) -> Option<usize> {
     place
 }
 
-/// A place that uses itself, directly or by others, if there is one.
-pub fn first_in_ring(
-    alloc: Global,
-    graph: &[Sequence<usize>],
-) -> Result<Option<usize>, AllocError> {
-    let marks = marks_of(alloc, graph)?;
-    Ok(place_on_ring(graph, marks.as_slice()))
-}
-
-/// Adds the places of a ring from one of them on.
-fn push_ring(
-    ring: &mut Vec<usize>,
-    graph: &[Sequence<usize>],
-    marks: &[bool],
-) -> Result<(), AllocError> {
-    let first = place_on_ring(graph, marks);
-    let mut next = first;
-    for _ in 0..graph.len() {
-        let Some(place) = next else {
-            return Ok(());
-        };
-        ring.push(place)?;
-        next = next_unmarked(graph, marks, place);
-        if next == first {
-            return Ok(());
-        }
-    }
-    Ok(())
-}
-
 /// The places of a ring: each uses the next, and the last uses the first. No place if there is no ring.
 pub fn ring_in(alloc: Global, graph: &[Sequence<usize>]) -> Result<Vec<usize>, AllocError> {
     let marks = marks_of(alloc, graph)?;
+    let marks = marks.as_slice();
     let mut ring = Vec::new(alloc);
-    push_ring(&mut ring, graph, marks.as_slice())?;
+    let mut next = place_on_ring(graph, marks);
+    for _ in 0..graph.len() {
+        match next {
+            Some(place) if ring.first() != Some(&place) => {
+                ring.push(place)?;
+                next = next_unmarked(graph, marks, place);
+            }
+            _ => break,
+        }
+    }
     Ok(ring)
 }
 
