@@ -3,7 +3,7 @@
 use crate::members::{Member, append};
 use crate::texts::{tokens_of, tree_below};
 use std::alloc::{AllocError, Global};
-use wit_comments::without_item;
+use wit_comments::{Skipped, without_item};
 use wit_faults::Lexed;
 use wit_places::names_of_types;
 use wit_text::{Ast, Span, TextError, parse};
@@ -25,32 +25,59 @@ pub struct RemainingItems<'a> {
 impl<'a> RemainingItems<'a> {
     /// The whole of a package.
     pub fn of(alloc: Global, member: &Member<'a>) -> Result<RemainingItems<'a>, AllocError> {
-        let mut files = Vec::new(alloc);
-        let mut texts = Vec::new(alloc);
-        for lexed in member.files.as_slice() {
-            files.push(Lexed::new(alloc, lexed.path, lexed.text))?;
-            texts.push(String::from_str(alloc, lexed.text)?)?;
-        }
-        Ok(RemainingItems {
+        let mut rest = RemainingItems {
             alloc,
             package: member.package().to_string(alloc)?,
-            files,
-            texts,
+            files: Vec::new(alloc),
+            texts: Vec::new(alloc),
             names: Vec::new(alloc),
-        })
+        };
+        rest.add_files(member.files.as_slice())?;
+        Ok(rest)
     }
 
-    /// Notes the types that an item of a file at a span declares or uses.
-    fn note_names(&mut self, file: usize, span: Span) -> Result<(), AllocError> {
-        let Some(lexed) = self.files.get(file) else {
-            return Ok(());
-        };
-        let item = lexed.text.get(span.start..span.end).unwrap_or("");
-        let item = Lexed::new(self.alloc, "", item);
-        for name in names_of_types(self.alloc, &item)? {
-            self.names.push(name)?;
+    /// Adds files.
+    fn add_files(&mut self, files: &[Lexed<'a>]) -> Result<(), AllocError> {
+        for lexed in files {
+            self.files
+                .push(Lexed::new(self.alloc, lexed.path, lexed.text))?;
+            self.texts.push(String::from_str(self.alloc, lexed.text)?)?;
         }
         Ok(())
+    }
+
+    /// The text of a file at a span.
+    fn item_at(&self, file: usize, span: Span) -> &'a str {
+        match self.files.get(file) {
+            Some(lexed) => lexed.at(span),
+            None => "",
+        }
+    }
+
+    /// Notes the types that an item declares or uses.
+    fn note_names(&mut self, item: &'a str) -> Result<(), AllocError> {
+        let lexed = Lexed::new(self.alloc, "", item);
+        let mut names = names_of_types(self.alloc, &lexed)?;
+        self.names.append(&mut names)?;
+        Ok(())
+    }
+
+    /// Gives a file another text.
+    fn replace(&mut self, file: usize, left: String) {
+        if let Some(lexed) = self.files.get_mut(file) {
+            lexed.tokens = tokens_of(self.alloc, left.as_str());
+        }
+        if let Some(text) = self.texts.get_mut(file) {
+            *text = left;
+        }
+    }
+
+    /// The text of a file without the item at a place.
+    fn without(&self, file: usize, place: usize) -> Result<Option<Skipped>, AllocError> {
+        match self.texts.get(file) {
+            Some(text) => without_item(self.alloc, text.as_str(), place),
+            None => Ok(None),
+        }
     }
 
     /// The number of the file that has this path.
@@ -60,19 +87,11 @@ impl<'a> RemainingItems<'a> {
 
     /// Skips the item at a place of a file. False if there is none.
     pub fn skip(&mut self, file: usize, place: usize) -> Result<bool, AllocError> {
-        let Some(text) = self.texts.get(file) else {
+        let Some(skipped) = self.without(file, place)? else {
             return Ok(false);
         };
-        let Some(skipped) = without_item(self.alloc, text.as_str(), place)? else {
-            return Ok(false);
-        };
-        self.note_names(file, skipped.span)?;
-        if let Some(lexed) = self.files.get_mut(file) {
-            lexed.tokens = tokens_of(self.alloc, skipped.text.as_str());
-        }
-        if let Some(text) = self.texts.get_mut(file) {
-            *text = skipped.text;
-        }
+        self.note_names(self.item_at(file, skipped.span))?;
+        self.replace(file, skipped.text);
         Ok(true)
     }
 

@@ -134,50 +134,76 @@ fn paths_in(rt: &HostRuntime, folder: &str) -> Result<Vec<String>, AllocError> {
     Ok(paths)
 }
 
+impl Entries {
+    /// Adds a path. A file is added if its name ends so.
+    fn add(&mut self, rt: &HostRuntime, path: String, endings: &[&str]) -> Result<(), AllocError> {
+        if is_folder(rt, path.as_str()) {
+            self.folders.push(path)?;
+        } else if endings.iter().any(|ending| path.as_str().ends_with(ending)) {
+            self.files.push(path)?;
+        }
+        Ok(())
+    }
+}
+
 /// What a folder has. Of its files those are read whose names end so.
 fn entries_of(rt: &HostRuntime, folder: &str, endings: &[&str]) -> Result<Entries, AllocError> {
-    let mut files = Vec::new(rt.alloc());
-    let mut folders = Vec::new(rt.alloc());
+    let mut entries = Entries {
+        files: Vec::new(rt.alloc()),
+        folders: Vec::new(rt.alloc()),
+    };
     for path in paths_in(rt, folder)? {
-        if is_folder(rt, path.as_str()) {
-            folders.push(path)?;
-        } else if endings.iter().any(|ending| path.as_str().ends_with(ending)) {
-            files.push(path)?;
-        }
+        entries.add(rt, path, endings)?;
     }
-    Ok(Entries { files, folders })
+    Ok(entries)
 }
 
 /// A file of this path, or standard input if the path is `-`.
-fn source_at(rt: &HostRuntime, path: String, origin: Origin<'_>) -> Result<Source, AllocError> {
-    let bytes = bytes_of(rt, path.as_str());
+fn source_at(rt: &HostRuntime, path: &str, origin: Origin<'_>) -> Result<Source, AllocError> {
     Ok(Source {
-        path,
+        path: String::from_str(rt.alloc(), path)?,
         folder: String::from_str(rt.alloc(), origin.folder)?,
         is_dependency: origin.is_dependency,
-        bytes,
+        bytes: bytes_of(rt, path),
     })
 }
 
-/// Reads a file.
-fn push_file(
-    rt: &HostRuntime,
-    sources: &mut Vec<Source>,
-    path: String,
-    origin: Origin<'_>,
-) -> Result<(), AllocError> {
-    sources.push(source_at(rt, path, origin)?)?;
-    Ok(())
-}
-
+/// Reads files.
 fn push_files(
     rt: &HostRuntime,
     sources: &mut Vec<Source>,
-    paths: Vec<String>,
+    paths: &[String],
     origin: Origin<'_>,
 ) -> Result<(), AllocError> {
     for path in paths {
-        push_file(rt, sources, path, origin)?;
+        sources.push(source_at(rt, path.as_str(), origin)?)?;
+    }
+    Ok(())
+}
+
+/// Reads the texts of a folder of a dependency.
+fn push_dependency(
+    rt: &HostRuntime,
+    sources: &mut Vec<Source>,
+    folder: &str,
+) -> Result<(), AllocError> {
+    let is_dependency = true;
+    let entries = entries_of(rt, folder, &[".wit"])?;
+    let origin = Origin {
+        folder,
+        is_dependency,
+    };
+    push_files(rt, sources, entries.files.as_slice(), origin)
+}
+
+/// Reads the texts of folders of dependencies.
+fn push_each_dependency(
+    rt: &HostRuntime,
+    sources: &mut Vec<Source>,
+    folders: &[String],
+) -> Result<(), AllocError> {
+    for folder in folders {
+        push_dependency(rt, sources, folder.as_str())?;
     }
     Ok(())
 }
@@ -189,30 +215,37 @@ fn push_dependencies(
     folder: &str,
 ) -> Result<(), AllocError> {
     let is_dependency = true;
-    let Entries { files, folders } = entries_of(rt, folder, &[".wit", ".wasm"])?;
-    push_files(
-        rt,
-        sources,
-        files,
-        Origin {
-            folder,
-            is_dependency,
-        },
-    )?;
-    for path in folders {
-        let folder = path.as_str();
-        let Entries { files, folders: _ } = entries_of(rt, folder, &[".wit"])?;
-        push_files(
-            rt,
-            sources,
-            files,
-            Origin {
-                folder,
-                is_dependency,
-            },
-        )?;
+    let entries = entries_of(rt, folder, &[".wit", ".wasm"])?;
+    let origin = Origin {
+        folder,
+        is_dependency,
+    };
+    push_files(rt, sources, entries.files.as_slice(), origin)?;
+    push_each_dependency(rt, sources, entries.folders.as_slice())
+}
+
+/// A folder that has no file to be read.
+fn no_file(alloc: Global, folder: &str) -> Result<Source, AllocError> {
+    Ok(Source {
+        path: String::from_str(alloc, folder)?,
+        folder: String::from_str(alloc, folder)?,
+        is_dependency: false,
+        bytes: Err(ReadError::Folder),
+    })
+}
+
+/// Reads the files of a folder.
+fn push_own(rt: &HostRuntime, sources: &mut Vec<Source>, folder: &str) -> Result<(), AllocError> {
+    let is_dependency = false;
+    let entries = entries_of(rt, folder, &[".wit"])?;
+    if entries.files.is_empty() {
+        sources.push(no_file(rt.alloc(), folder)?)?;
     }
-    Ok(())
+    let origin = Origin {
+        folder,
+        is_dependency,
+    };
+    push_files(rt, sources, entries.files.as_slice(), origin)
 }
 
 /// Reads the files of a folder, and those of its folder `deps`.
@@ -221,28 +254,9 @@ fn push_folder(
     sources: &mut Vec<Source>,
     folder: &str,
 ) -> Result<(), AllocError> {
-    let alloc = rt.alloc();
-    let is_dependency = false;
-    let Entries { files, folders: _ } = entries_of(rt, folder, &[".wit"])?;
-    if files.is_empty() {
-        sources.push(Source {
-            path: String::from_str(alloc, folder)?,
-            folder: String::from_str(alloc, folder)?,
-            is_dependency,
-            bytes: Err(ReadError::Folder),
-        })?;
-    }
-    push_files(
-        rt,
-        sources,
-        files,
-        Origin {
-            folder,
-            is_dependency,
-        },
-    )?;
+    push_own(rt, sources, folder)?;
     let folder = folder.strip_suffix("/").unwrap_or(folder);
-    let dependencies = format!(in alloc; "{folder}/deps")?;
+    let dependencies = format!(in rt.alloc(); "{folder}/deps")?;
     push_dependencies(rt, sources, dependencies.as_str())
 }
 
@@ -254,7 +268,7 @@ static NAMED: Origin<'static> = Origin {
 
 /// Reads the file of this path, or standard input if the path is `-`.
 pub fn source_of(rt: &HostRuntime, path: &str) -> Result<Source, AllocError> {
-    source_at(rt, String::from_str(rt.alloc(), path)?, NAMED)
+    source_at(rt, path, NAMED)
 }
 
 /// Reads the files that these paths are or have.

@@ -96,24 +96,31 @@ fn without_front(error: TextError, front: usize) -> TextError {
     }
 }
 
-/// The tree of a text without a `package` line, read below one that names this package.
-pub fn tree_below(alloc: Global, package: &str, text: &str) -> Result<Ast, TextError> {
-    let mut whole = format!(in alloc; "package {package};\n")?;
-    let front = whole.len();
-    whole.push_str(text)?;
-    match parse(alloc, whole.as_str()) {
+/// The tree of a text that has so many bytes in front.
+fn tree_behind(alloc: Global, whole: &str, front: usize) -> Result<Ast, TextError> {
+    match parse(alloc, whole) {
         Ok(tree) => Ok(tree),
         Err(error) => Err(without_front(error, front)),
     }
 }
 
+/// The tree of a text without a `package` line, read below one that names this package.
+pub fn tree_below(alloc: Global, package: &str, text: &str) -> Result<Ast, TextError> {
+    let whole = format!(in alloc; "package {package};\n{text}")?;
+    tree_behind(
+        alloc,
+        whole.as_str(),
+        whole.len().saturating_sub(text.len()),
+    )
+}
+
 /// A fault of a text, with the tokens that the text had when it was found.
 #[derive(Drop)]
-struct TextFault {
-    /// Its offset. The greatest number if the text can't be read on behind it.
-    offset: usize,
+struct TextFault<'a> {
+    /// Its offset. None if the text can't be read on behind it.
+    place: Option<usize>,
     cause: Cause,
-    tokens: Vec<Token>,
+    lexed: Lexed<'a>,
 }
 
 /// Whether the line of the package has to come.
@@ -142,6 +149,54 @@ fn place_of(cause: &Cause) -> Option<usize> {
 pub fn tokens_of(alloc: Global, text: &str) -> Vec<Token> {
     let Lexed { tokens, .. } = Lexed::new(alloc, "", text);
     tokens
+}
+
+/// A fault of a text that is left of a file.
+fn text_fault<'a>(alloc: Global, file: &Text<'a>, left: &str, cause: Cause) -> TextFault<'a> {
+    let (path, text) = (file.lexed.path, file.lexed.text);
+    TextFault {
+        place: place_of(&cause),
+        cause,
+        lexed: Lexed {
+            path,
+            text,
+            tokens: tokens_of(alloc, left),
+        },
+    }
+}
+
+/// Skips the item of a text that has the last of these faults. False if the text can't be read on behind it.
+fn skip_last(
+    alloc: Global,
+    left: &mut String,
+    faults: &[TextFault<'_>],
+) -> Result<bool, AllocError> {
+    let Some(
+        TextFault {
+            place: Some(place),
+            ..
+        },
+    ) = faults.last()
+    else {
+        return Ok(false);
+    };
+    let Some(skipped) = without_item(alloc, left.as_str(), *place)? else {
+        return Ok(false);
+    };
+    *left = skipped.text;
+    Ok(true)
+}
+
+/// Reports faults of a file.
+fn report_each(
+    alloc: Global,
+    report: &mut Report,
+    faults: &[TextFault<'_>],
+) -> Result<(), AllocError> {
+    for fault in faults {
+        report.add(alloc, &fault.lexed, &[], &fault.cause)?;
+    }
+    Ok(())
 }
 
 /// The first lines that name packages. A text without one is read below that of its folder.
@@ -201,38 +256,38 @@ impl<'a> Headers<'a> {
         self.tree_with(file, text_of(bytes)?)
     }
 
-    /// The tree of a file without the items that have faults, of which the first is known. All are added to these.
-    /// None if it can't be read on, or has too many.
-    fn tree_of_rest(
+    /// Reads a file on behind the last of these faults, with blanks in place of the items that have them. It adds those
+    /// that are found. None if it can't be read on, or has too many.
+    fn read_on<'b>(
         &self,
-        file: &Text<'_>,
-        first: Cause,
-        faults: &mut Vec<TextFault>,
+        file: &Text<'b>,
+        left: &mut String,
+        faults: &mut Vec<TextFault<'b>>,
     ) -> Result<Option<Ast>, AllocError> {
-        let mut left = String::from_str(self.alloc, file.lexed.text)?;
-        let mut cause = first;
         for _ in 0..MAX_FAULTS {
-            let place = place_of(&cause);
-            let tokens = tokens_of(self.alloc, left.as_str());
-            faults.push(TextFault {
-                offset: place.unwrap_or(usize::MAX),
-                cause,
-                tokens,
-            })?;
-            let Some(place) = place else {
+            if !skip_last(self.alloc, left, faults.as_slice())? {
                 return Ok(None);
-            };
-            let Some(skipped) = without_item(self.alloc, left.as_str(), place)? else {
-                return Ok(None);
-            };
-            left = skipped.text;
+            }
             match self.tree_with(file, left.as_str()) {
                 Ok(tree) => return Ok(Some(tree)),
-                Err(next) if wants_package(&next) => return Ok(None),
-                Err(next) => cause = next,
+                Err(next) if wants_package(&next) || faults.len() >= MAX_FAULTS => return Ok(None),
+                Err(next) => faults.push(text_fault(self.alloc, file, left.as_str(), next))?,
             }
         }
         Ok(None)
+    }
+
+    /// The tree of a file without the items that have faults, of which the first is known. All are added to these.
+    /// None if it can't be read on, or has too many.
+    fn tree_of_rest<'b>(
+        &self,
+        file: &Text<'b>,
+        first: Cause,
+        faults: &mut Vec<TextFault<'b>>,
+    ) -> Result<Option<Ast>, AllocError> {
+        faults.push(text_fault(self.alloc, file, file.lexed.text, first))?;
+        let mut left = String::from_str(self.alloc, file.lexed.text)?;
+        self.read_on(file, &mut left, faults)
     }
 
     /// The tree of a file's package without any item, if the file names it.
@@ -253,13 +308,12 @@ impl<'a> Headers<'a> {
     {
         let mut faults = Vec::new(self.alloc);
         let tree = self.tree_of_rest(file, first, &mut faults)?;
-        faults.sort_by_key(|fault| fault.offset)?;
-        let (path, text) = (file.lexed.path, file.lexed.text);
-        for fault in faults {
-            let TextFault { cause, tokens, .. } = fault;
-            report.add(self.alloc, &Lexed { path, text, tokens }, &[], &cause)?;
-        }
+        faults.sort_by_key(|fault| fault.place.unwrap_or(usize::MAX))?;
+        report_each(self.alloc, report, faults.as_slice())?;
         report.status = 1;
-        Ok(tree.or(self.empty_tree(file)))
+        match tree {
+            Some(tree) => Ok(Some(tree)),
+            None => Ok(self.empty_tree(file)),
+        }
     }
 }
