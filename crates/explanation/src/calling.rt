@@ -82,6 +82,29 @@ fn types_of(
     }
 }
 
+/// The function of a table.
+fn function_of(tables: &Resolve, func: FunctionId) -> Option<&Function> {
+    match tables.definitions.as_slice().get(func.0 as usize) {
+        Some(Definition::Function(function)) => Some(function),
+        _ => None,
+    }
+}
+
+/// The first place in JSON that is of another type than a function has.
+fn fault_in(
+    alloc: Global,
+    function: (&Resolve, FunctionId),
+    refused: Refused,
+    json: &Json,
+) -> Result<Option<Fault>, AllocError> {
+    let (tables, func) = function;
+    let Some(function) = function_of(tables, func) else {
+        return Ok(None);
+    };
+    let types = types_of(alloc, function, refused)?;
+    first_fault(alloc, tables, types.as_slice(), json)
+}
+
 /// The first place in a text of JSON that is of another type, if it is in one of its values.
 fn fault_of(
     alloc: Global,
@@ -93,39 +116,41 @@ fn fault_of(
         Refused::Answer(_) => words.answer,
         Refused::Arguments(_) => words.arguments,
     };
-    let (tables, func) = function;
-    let found = tables.definitions.as_slice().get(func.0 as usize);
-    match (found, Json::from_str(alloc, text)) {
-        (Some(Definition::Function(function)), Ok(json)) => {
-            let types = types_of(alloc, function, refused)?;
-            first_fault(alloc, tables, types.as_slice(), &json)
-        }
-        _ => Ok(None),
+    match &Json::from_str(alloc, text) {
+        Ok(json) => fault_in(alloc, function, refused, json),
+        Err(_) => Ok(None),
     }
 }
 
-/// Reports why a call was not made.
-fn report_refused(
-    report: &mut Report,
+/// Appends why a call was not made: the place that is wrong, if there is one.
+fn push_refused(
+    text: &mut String,
     refused: Refused,
-    fault: Option<Fault>,
+    fault: Option<&Fault>,
 ) -> Result<(), AllocError> {
     let (Refused::Answer(error) | Refused::Arguments(error)) = refused;
-    report.status = 1;
+    write!(text, "wit-explain: {error}\n   = ")?;
     match fault {
-        Some(fault) => writeln!(
-            report.text,
-            "wit-explain: {error}\n   = at `{}`: {}",
-            fault.path.as_str(),
-            fault.words.as_str()
-        )?,
-        None => writeln!(
-            report.text,
-            "wit-explain: {error}\n   = {}",
-            hint_of(refused)
-        )?,
+        Some(fault) => {
+            let (path, words) = (fault.path.as_str(), fault.words.as_str());
+            writeln!(text, "at `{path}`: {words}")?;
+        }
+        None => writeln!(text, "{}", hint_of(refused))?,
     }
     Ok(())
+}
+
+/// Reports why a call of a function was not made.
+fn report_refused(
+    alloc: Global,
+    report: &mut Report,
+    function: (&Resolve, FunctionId),
+    refused: Refused,
+    words: &CallWords<'_>,
+) -> Result<(), AllocError> {
+    report.status = 1;
+    let fault = fault_of(alloc, function, refused, words)?;
+    push_refused(&mut report.text, refused, fault.as_ref())
 }
 
 /// Makes a call of a function of a package, and returns what it did. Reports why it was not made.
@@ -148,8 +173,7 @@ fn report_picture(
             Ok(Some(picture.text))
         }
         Err(refused) => {
-            let fault = fault_of(alloc, (&package.tables, func), refused, words)?;
-            report_refused(report, refused, fault)?;
+            report_refused(alloc, report, (&package.tables, func), refused, words)?;
             Ok(None)
         }
     }
@@ -158,6 +182,19 @@ fn report_picture(
 /// The most functions that a hint names.
 const MOST_NAMED: usize = 8;
 
+/// Whether an interface of a table has this full name.
+fn has_full_name(
+    alloc: Global,
+    tables: &Resolve,
+    interface: &Interface,
+    name: &str,
+) -> Result<bool, AllocError> {
+    let Some(package) = tables.packages.as_slice().get(interface.package.0 as usize) else {
+        return Ok(false);
+    };
+    Ok(package.full_name(alloc, &interface.name)?.as_str() == name)
+}
+
 /// The interface of this full name in a table.
 fn interface_in<'a>(
     alloc: Global,
@@ -165,13 +202,18 @@ fn interface_in<'a>(
     name: &str,
 ) -> Result<Option<&'a Interface>, AllocError> {
     for interface in tables.interfaces.as_slice() {
-        if let Some(package) = tables.packages.as_slice().get(interface.package.0 as usize)
-            && package.full_name(alloc, &interface.name)?.as_str() == name
-        {
+        if has_full_name(alloc, tables, interface, name)? {
             return Ok(Some(interface));
         }
     }
     Ok(None)
+}
+
+/// Appends the name of a function at a place of a list.
+fn push_function(text: &mut String, place: usize, function: &Function) -> Result<(), AllocError> {
+    text.push_str(if place == 0 { "`" } else { ", `" })?;
+    text.push_str(function.name.as_str())?;
+    text.push_str("`")
 }
 
 /// Appends the names of an interface's functions, the first of them.
@@ -180,24 +222,39 @@ fn push_functions(
     tables: &Resolve,
     interface: &Interface,
 ) -> Result<(), AllocError> {
-    if interface.functions.as_slice().is_empty() {
-        text.push_str("none")?;
+    let functions = interface.functions.as_slice();
+    if functions.is_empty() {
+        return text.push_str("none\n");
     }
-    for (place, func) in interface.functions.as_slice().iter().enumerate() {
-        let mark = if place == 0 { "" } else { ", " };
+    for (place, func) in functions.iter().enumerate() {
         if place == MOST_NAMED {
-            writeln!(text, "{mark}..")?;
-            return Ok(());
+            return text.push_str(", ..\n");
         }
-        if let Some(Definition::Function(function)) = tables
-            .definitions
-            .as_slice()
-            .get(func.0 as usize)
-        {
-            write!(text, "{mark}`{}`", function.name.as_str())?;
+        if let Some(function) = function_of(tables, *func) {
+            push_function(text, place, function)?;
         }
     }
-    text.push('\n')?;
+    text.push_str("\n")
+}
+
+/// Appends that no package has an interface of this name with the function.
+fn push_no_interface(text: &mut String, words: &CallWords<'_>) -> Result<(), AllocError> {
+    let (interface, function) = (words.interface, words.function);
+    writeln!(
+        text,
+        "wit-explain: error 63 no function\n   = no package has a function `{function}` in an interface `{interface}`; \
+         its full name is `NAMESPACE:PACKAGE/NAME`, with `@VERSION` if there is one"
+    )?;
+    Ok(())
+}
+
+/// Appends that an interface does not have the function.
+fn push_no_function(text: &mut String, words: &CallWords<'_>) -> Result<(), AllocError> {
+    let (interface, function) = (words.interface, words.function);
+    write!(
+        text,
+        "wit-explain: error 63 no function\n   = `{interface}` has no function `{function}`; it has "
+    )?;
     Ok(())
 }
 
@@ -209,22 +266,13 @@ fn report_missing(
     words: &CallWords<'_>,
 ) -> Result<(), AllocError> {
     report.status = 1;
-    let (interface, function) = (words.interface, words.function);
     for package in packages {
-        if let Some(found) = interface_in(alloc, &package.tables, interface)? {
-            write!(
-                report.text,
-                "wit-explain: error 63 no function\n   = `{interface}` has no function `{function}`; it has "
-            )?;
+        if let Some(found) = interface_in(alloc, &package.tables, words.interface)? {
+            push_no_function(&mut report.text, words)?;
             return push_functions(&mut report.text, &package.tables, found);
         }
     }
-    writeln!(
-        report.text,
-        "wit-explain: error 63 no function\n   = no package has a function `{function}` in an interface `{interface}`; \
-         its full name is `NAMESPACE:PACKAGE/NAME`, with `@VERSION` if there is one"
-    )?;
-    Ok(())
+    push_no_interface(&mut report.text, words)
 }
 
 /// Calls the function of the first package that has it, and returns what the call did. If there is none, or if a text

@@ -39,9 +39,9 @@ static OPTIONS: [(&str, Kind); 6] = [
 ];
 
 /// What words are.
-#[derive(Drop)]
+#[derive(Clone, Copy)]
 pub enum Parsed<'a> {
-    Options(Options<'a>),
+    Options,
     /// An option that there isn't.
     Unknown(&'a str),
     /// An option lacks its word, or has another one than those that it takes.
@@ -103,7 +103,7 @@ pub fn names_of_options(alloc: Global) -> Result<Vec<&'static str>, AllocError> 
 
 impl<'a> Options<'a> {
     /// Nothing yet.
-    fn new(alloc: Global) -> Options<'a> {
+    pub fn new(alloc: Global) -> Options<'a> {
         Options {
             words: Vec::new(alloc),
             color: ColorChoice::Auto,
@@ -160,23 +160,22 @@ impl<'a> Options<'a> {
         self.words.push(word)?;
         Ok(true)
     }
-}
 
-/// What these words say.
-pub fn options_of<'a>(alloc: Global, words: &[&'a str]) -> Result<Parsed<'a>, AllocError> {
-    let mut options = Options::new(alloc);
-    for word in words {
-        let is_value = options.pending.is_some();
-        if !options.take(word)? {
-            return Ok(if is_value || kind_of(name_of(word)).is_some() {
-                Parsed::Incomplete
-            } else {
-                Parsed::Unknown(word)
-            });
+    /// Takes words.
+    pub fn take_all(&mut self, words: &[&'a str]) -> Result<Parsed<'a>, AllocError> {
+        for word in words {
+            let is_value = self.pending.is_some();
+            if !self.take(word)? {
+                return Ok(if is_value || kind_of(name_of(word)).is_some() {
+                    Parsed::Incomplete
+                } else {
+                    Parsed::Unknown(word)
+                });
+            }
         }
+        if self.pending.is_some() {
+            return Ok(Parsed::Incomplete);
+        }
+        Ok(Parsed::Options)
     }
-    if options.pending.is_some() {
-        return Ok(Parsed::Incomplete);
-    }
-    Ok(Parsed::Options(options))
 }
