@@ -1,9 +1,8 @@
 //! How values are loaded and stored.
 
-use crate::header::{Header, Includer};
+use crate::header::{Header, Includer, push_words};
 use c_types::c_names::NameKind;
 use std::alloc::AllocError;
-use std::fmt::Write;
 
 impl<'a> Header<'a> {
     /// Writes how a type of this name is loaded and stored by a host.
@@ -11,19 +10,17 @@ impl<'a> Header<'a> {
         if self.purpose.includer == Includer::Guest {
             return Ok(());
         }
-        let alloc = self.alloc;
-        let load = self.take_own(NameKind::Function, format!(in alloc; "{c}_load")?)?;
-        let store = self.take_own(NameKind::Function, format!(in alloc; "{c}_store")?)?;
+        let load = self.take_function(&[c, "_load"])?;
         push_load(&mut self.text, c, load.as_str())?;
+        let store = self.take_function(&[c, "_store"])?;
         push_store(&mut self.text, c, store.as_str())
     }
 
     /// Writes how an element of a list is loaded and stored by a host.
     fn put_places(&mut self, c: &str, element: &str) -> Result<(), AllocError> {
-        let alloc = self.alloc;
-        let get = self.take_own(NameKind::Function, format!(in alloc; "{c}_get")?)?;
-        let set = self.take_own(NameKind::Function, format!(in alloc; "{c}_set")?)?;
+        let get = self.take_function(&[c, "_get"])?;
         push_get(&mut self.text, c, element, get.as_str())?;
+        let set = self.take_function(&[c, "_set"])?;
         push_set(&mut self.text, c, element, set.as_str())
     }
 
@@ -37,36 +34,65 @@ impl<'a> Header<'a> {
 }
 
 fn push_load(text: &mut String, c: &str, load: &str) -> Result<(), AllocError> {
-    write!(
+    push_words(
         text,
-        "\nstatic inline {c} {load}(const uint8_t *memory, uint32_t at) {{\n    {c} value;\n"
-    )?;
-    text.push_str("    memcpy(&value, memory + at, sizeof value);\n    return value;\n}\n")
+        &[
+            "\nstatic inline ",
+            c,
+            " ",
+            load,
+            "(const uint8_t *memory, uint32_t at) {\n    ",
+            c,
+            " value;\n    memcpy(&value, memory + at, sizeof value);\n    return value;\n}\n",
+        ],
+    )
 }
 
 fn push_store(text: &mut String, c: &str, store: &str) -> Result<(), AllocError> {
-    writeln!(
+    push_words(
         text,
-        "\nstatic inline void {store}(uint8_t *memory, uint32_t at, {c} value) {{"
-    )?;
-    text.push_str("    memcpy(memory + at, &value, sizeof value);\n}\n")
+        &[
+            "\nstatic inline void ",
+            store,
+            "(uint8_t *memory, uint32_t at, ",
+            c,
+            " value) {\n    memcpy(memory + at, &value, sizeof value);\n}\n",
+        ],
+    )
 }
 
 fn push_get(text: &mut String, c: &str, element: &str, get: &str) -> Result<(), AllocError> {
-    writeln!(
+    push_words(
         text,
-        "\nstatic inline {element} {get}(const uint8_t *memory, {c} list, uint32_t place) {{"
-    )?;
-    writeln!(text, "    {element} value;")?;
-    text.push_str(GET)
+        &[
+            "\nstatic inline ",
+            element,
+            " ",
+            get,
+            "(const uint8_t *memory, ",
+            c,
+            " list, uint32_t place) {\n    ",
+            element,
+            " value;\n",
+            GET,
+        ],
+    )
 }
 
 fn push_set(text: &mut String, c: &str, element: &str, set: &str) -> Result<(), AllocError> {
-    writeln!(
+    push_words(
         text,
-        "\nstatic inline void {set}(uint8_t *memory, {c} list, uint32_t place, {element} value) {{"
-    )?;
-    text.push_str(SET)
+        &[
+            "\nstatic inline void ",
+            set,
+            "(uint8_t *memory, ",
+            c,
+            " list, uint32_t place, ",
+            element,
+            " value) {\n",
+            SET,
+        ],
+    )
 }
 
 static GET: &str =

@@ -1,6 +1,6 @@
 //! The types of an interface.
 
-use crate::header::Header;
+use crate::header::{Header, push_declaration, push_words};
 use atoms::Label;
 use c_types::c_names::{NameKind, c_label, c_word};
 use c_types::{Form, Part, Row, tag_bits};
@@ -60,6 +60,19 @@ fn flag_bits(labels: usize) -> u32 {
 }
 
 impl<'a> Header<'a> {
+    /// Takes the name of a type.
+    fn take_type(&mut self, entry: &Entry<'_>) -> Result<String, AllocError> {
+        let name = entry.scope.name(self.alloc, entry.label)?;
+        self.take_own(NameKind::Type, name)
+    }
+
+    /// Writes the comment of a type, and what it is.
+    fn put_keyed(&mut self, entry: &Entry<'_>, last: &str) -> Result<(), AllocError> {
+        let full_name = entry.scope.full_name.as_str();
+        let key = [full_name, " ", entry.label].concat(self.alloc)?;
+        self.put_comment(key.as_str(), last)
+    }
+
     /// Writes another name of a type.
     fn put_alias(
         &mut self,
@@ -67,14 +80,12 @@ impl<'a> Header<'a> {
         target: ValType,
         comment: &str,
     ) -> Result<(), AllocError> {
-        let alloc = self.alloc;
-        let name = self.take_own(NameKind::Type, entry.scope.name(alloc, entry.label)?)?;
-        let key = format!(in alloc; "{} {}", entry.scope.full_name.as_str(), entry.label)?;
-        self.put_comment(key.as_str(), comment)?;
+        let name = self.take_type(entry)?;
+        self.put_keyed(entry, comment)?;
         let (name, c) = (name.as_str(), self.types.c(target));
-        write!(self.text, "typedef {c} {name};\n")?;
+        push_declaration(&mut self.text, "typedef ", c, name)?;
         self.put_extent(name, target)?;
-        let spelling = String::from_str(alloc, entry.label)?;
+        let spelling = String::from_str(self.alloc, entry.label)?;
         self.types.set_end(entry.id, target, spelling);
         Ok(())
     }
@@ -110,7 +121,7 @@ impl<'a> Header<'a> {
             .get(interface.package.0 as usize)
         {
             let full_name = package.full_name(self.alloc, &interface.name)?;
-            write!(text, "{} {}", full_name.as_str(), name.name.as_str())?;
+            return push_words(text, &[full_name.as_str(), " ", name.name.as_str()]);
         }
         Ok(())
     }
@@ -126,12 +137,10 @@ impl<'a> Header<'a> {
 
     /// Takes the name of a type, and writes its comment. The name.
     fn put_heading(&mut self, word: &str, entry: &Entry<'_>) -> Result<String, AllocError> {
-        let alloc = self.alloc;
-        let (full_name, label) = (entry.scope.full_name.as_str(), entry.label);
-        let c = self.take_own(NameKind::Type, entry.scope.name(alloc, label)?)?;
-        let key = format!(in alloc; "{full_name} {label}")?;
-        let last = format!(in alloc; "{word} {}", key.as_str())?;
-        self.put_comment(key.as_str(), last.as_str())?;
+        let c = self.take_type(entry)?;
+        let full_name = entry.scope.full_name.as_str();
+        let last = [word, " ", full_name, " ", entry.label].concat(self.alloc)?;
+        self.put_keyed(entry, last.as_str())?;
         Ok(c)
     }
 
@@ -161,11 +170,22 @@ impl<'a> Header<'a> {
         Ok(())
     }
 
+    /// Writes a record or a variant of this name in C and of these parts.
+    fn put_parts(
+        &mut self,
+        entry: &Entry<'_>,
+        c: String,
+        form: Form,
+        parts: Vec<Part>,
+    ) -> Result<(), AllocError> {
+        let row = self.named_row(entry, c, form, parts)?;
+        self.put_named_struct(entry.id, row)
+    }
+
     fn put_record(&mut self, entry: &Entry<'_>, fields: &[Field]) -> Result<(), AllocError> {
         let c = self.put_heading("record", entry)?;
         let parts = field_parts(self.alloc, fields)?;
-        let row = self.named_row(entry, c, Form::Record, parts)?;
-        self.put_named_struct(entry.id, row)
+        self.put_parts(entry, c, Form::Record, parts)
     }
 
     /// A case or a flag of a type of this name.
@@ -210,8 +230,7 @@ impl<'a> Header<'a> {
         let c = self.put_heading("variant", entry)?;
         let parts = self.case_parts(c.as_str(), cases)?;
         self.put_constants(parts.as_slice())?;
-        let row = self.named_row(entry, c, Form::Variant, parts)?;
-        self.put_named_struct(entry.id, row)
+        self.put_parts(entry, c, Form::Variant, parts)
     }
 
     /// Writes a type that is a number of so many bits.
@@ -230,10 +249,8 @@ impl<'a> Header<'a> {
         self.put_number(entry, c, tag_bits(labels.len()))
     }
 
-    fn put_flags(&mut self, entry: &Entry<'_>, labels: &[Label]) -> Result<(), AllocError> {
-        let c = self.put_heading("flags", entry)?;
-        let bits = flag_bits(labels.len());
-        let parts = self.label_parts(c.as_str(), labels)?;
+    /// Writes the bits of flags of so many bits.
+    fn put_bits(&mut self, parts: &[Part], bits: u32) -> Result<(), AllocError> {
         for (index, part) in parts.iter().enumerate() {
             let constant = part.constant.as_str();
             writeln!(
@@ -241,17 +258,28 @@ impl<'a> Header<'a> {
                 "#define {constant} ((uint{bits}_t)(UINT32_C(1) << {index}))"
             )?;
         }
+        Ok(())
+    }
+
+    fn put_flags(&mut self, entry: &Entry<'_>, labels: &[Label]) -> Result<(), AllocError> {
+        let c = self.put_heading("flags", entry)?;
+        let bits = flag_bits(labels.len());
+        let parts = self.label_parts(c.as_str(), labels)?;
+        self.put_bits(parts.as_slice(), bits)?;
         self.put_number(entry, c, bits)
+    }
+
+    /// Writes another name of a type with a name, or of a primitive one.
+    fn put_plain_alias(&mut self, entry: &Entry<'_>, target: ValType) -> Result<(), AllocError> {
+        let spelling = String::from_str(self.alloc, self.types.spelling(Some(target)))?;
+        self.put_type_alias(entry, target, spelling.as_str())
     }
 
     /// Writes a type with a name.
     fn put_named(&mut self, entry: &Entry<'_>, kind: &TypeDefKind) -> Result<(), AllocError> {
         match kind {
             TypeDefKind::Use(target) => self.put_use(entry, *target),
-            TypeDefKind::Alias(target) => {
-                let spelling = String::from_str(self.alloc, self.types.spelling(Some(*target)))?;
-                self.put_type_alias(entry, *target, spelling.as_str())
-            }
+            TypeDefKind::Alias(target) => self.put_plain_alias(entry, *target),
             TypeDefKind::Record(fields) => self.put_record(entry, fields.as_slice()),
             TypeDefKind::Variant(cases) => self.put_variant(entry, cases.as_slice()),
             TypeDefKind::Enum(labels) => self.put_enum(entry, labels.as_slice()),

@@ -4,7 +4,6 @@ use atoms::KeyedState;
 use c_types::c_names::{NameKind, Names, ShortNames};
 use c_types::{Laid, Types};
 use std::alloc::{AllocError, Global};
-use std::fmt::Write;
 use std::mem::replace;
 use wit_comments::{Block, Comments};
 
@@ -22,6 +21,24 @@ pub enum Includer {
 pub struct Purpose<'a> {
     pub includer: Includer,
     pub comments: &'a Comments,
+}
+
+/// Appends words.
+pub(crate) fn push_words(text: &mut String, words: &[&str]) -> Result<(), AllocError> {
+    for word in words {
+        text.push_str(word)?;
+    }
+    Ok(())
+}
+
+/// Appends what declares a name as one of a type, after a front.
+pub(crate) fn push_declaration(
+    text: &mut String,
+    front: &str,
+    c: &str,
+    name: &str,
+) -> Result<(), AllocError> {
+    push_words(text, &[front, c, " ", name, ";\n"])
 }
 
 /// The header so far.
@@ -99,6 +116,12 @@ impl<'a> Header<'a> {
         Ok(full)
     }
 
+    /// Takes a name of a function of the package, which consists of these words.
+    pub(crate) fn take_function(&mut self, words: &[&str]) -> Result<String, AllocError> {
+        let name = words.concat(self.alloc)?;
+        self.take_own(NameKind::Function, name)
+    }
+
     /// Takes a name of a constant of the package, in upper case.
     pub fn take_constant(&mut self, name: &str) -> Result<String, AllocError> {
         let upper = name.to_ascii_uppercase(self.alloc)?;
@@ -114,8 +137,19 @@ impl<'a> Header<'a> {
     pub fn put_guarded(&mut self, name: &str, text: &str) -> Result<(), AllocError> {
         let guard = self.take_upper(name)?;
         let guard = guard.as_str();
-        write!(self.text, "#ifndef {guard}\n#define {guard}\n{text}")?;
-        writeln!(self.text, "#endif /* {guard} */")?;
-        Ok(())
+        push_words(
+            &mut self.text,
+            &[
+                "#ifndef ",
+                guard,
+                "\n#define ",
+                guard,
+                "\n",
+                text,
+                "#endif /* ",
+                guard,
+                " */\n",
+            ],
+        )
     }
 }

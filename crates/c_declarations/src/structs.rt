@@ -1,6 +1,6 @@
 //! Records and variants as structs, with assertions of their sizes, alignments and offsets.
 
-use crate::header::Header;
+use crate::header::{Header, push_declaration, push_words};
 use c_types::{Form, Part, Row, has_held, tag_bits};
 use std::alloc::AllocError;
 use std::fmt::Write;
@@ -13,8 +13,7 @@ impl<'a> Header<'a> {
         writeln!(
             self.text,
             "static_assert(sizeof({c}) == {size} && alignof({c}) == {align}, \"layout\");"
-        )?;
-        Ok(())
+        )
     }
 
     fn put_offset(&mut self, c: &str, label: &str, offset: Option<u32>) -> Result<(), AllocError> {
@@ -49,7 +48,7 @@ impl<'a> Header<'a> {
         for part in parts {
             if let Some(ty) = part.ty {
                 let (c, label) = (self.types.c(ty), part.label.as_str());
-                writeln!(self.text, "{indent}{c} {label};")?;
+                push_declaration(&mut self.text, indent, c, label)?;
             }
         }
         Ok(())
@@ -76,7 +75,7 @@ impl<'a> Header<'a> {
         } else {
             self.put_fields("    ", row.parts.as_slice())?;
         }
-        writeln!(self.text, "}} {c};")?;
+        push_words(&mut self.text, &["} ", c, ";\n"])?;
         self.put_extent(c, ty)?;
         self.put_offsets(ty, row)
     }

@@ -1,27 +1,35 @@
 //! Types without a name, which are written where they are met first.
 
 use crate::declarations::Entry;
-use crate::header::Header;
+use crate::header::{Header, push_words};
 use c_types::c_names::NameKind;
 use c_types::{Form, Inner, Row, first_inner, inner_of, made_of};
 use std::alloc::AllocError;
-use std::fmt::Write;
 use tables::{TypeDefKind, TypeId, ValType};
 
 impl<'a> Header<'a> {
     /// Writes a list.
     fn put_list(&mut self, ty: ValType, c: &str, inner: &Inner) -> Result<(), AllocError> {
-        write!(
-            self.text,
-            "typedef struct {{\n    uint32_t address;\n    uint32_t length;\n}} {c};\n"
+        push_words(
+            &mut self.text,
+            &[
+                "typedef struct {\n    uint32_t address;\n    uint32_t length;\n} ",
+                c,
+                ";\n",
+            ],
         )?;
         self.put_extent(c, ty)?;
         self.put_access(c)?;
-        if let [Some(element)] = inner.parts.as_slice() {
-            let element = String::from_str(self.alloc, self.types.c(*element))?;
-            self.put_elements(c, element.as_str())?;
+        match inner.parts.as_slice() {
+            [Some(element)] => self.put_elements_of(c, *element),
+            _ => Ok(()),
         }
-        Ok(())
+    }
+
+    /// Writes how the elements of a list are reached that have this type.
+    fn put_elements_of(&mut self, c: &str, ty: ValType) -> Result<(), AllocError> {
+        let element = String::from_str(self.alloc, self.types.c(ty))?;
+        self.put_elements(c, element.as_str())
     }
 
     /// Writes a type without a name.
@@ -52,9 +60,14 @@ impl<'a> Header<'a> {
         let before = self.begin();
         self.put_made(ty, row, inner)?;
         let own = self.end(before);
+        self.put_defined(row.c.as_str(), own.as_str())
+    }
+
+    /// Writes what defines a type of this name, so that it takes effect once.
+    fn put_defined(&mut self, c: &str, own: &str) -> Result<(), AllocError> {
         self.text.push('\n')?;
-        let guard = format!(in self.alloc; "{}_defined", row.c.as_str())?;
-        self.put_guarded(guard.as_str(), own.as_str())
+        let guard = format!(in self.alloc; "{c}_defined")?;
+        self.put_guarded(guard.as_str(), own)
     }
 
     /// Writes the first type without a name that has this key.
@@ -77,14 +90,20 @@ impl<'a> Header<'a> {
         Ok(ValType::Id(id))
     }
 
+    /// Writes a type without a name, which is that of a row.
+    fn put_spelled(&mut self, id: TypeId, inner: &Inner) -> Result<(), AllocError> {
+        let end = self.put_unnamed(id, inner)?;
+        let spelling = self.types.spelled(inner)?;
+        self.types.set_end(id, end, spelling);
+        Ok(())
+    }
+
     /// Writes the type without a name of a row.
     fn put_inner(&mut self, id: TypeId, kind: &TypeDefKind) -> Result<(), AllocError> {
-        if let Some(inner) = inner_of(self.alloc, kind)? {
-            let end = self.put_unnamed(id, &inner)?;
-            let spelling = self.types.spelled(&inner)?;
-            self.types.set_end(id, end, spelling);
+        match inner_of(self.alloc, kind)? {
+            Some(inner) => self.put_spelled(id, &inner),
+            None => Ok(()),
         }
-        Ok(())
     }
 
     /// Writes the types without a name right before a row, of which its definition is made.
@@ -97,17 +116,22 @@ impl<'a> Header<'a> {
         Ok(())
     }
 
+    /// Writes another name of a type without a name, which is this one.
+    fn put_inner_alias(&mut self, entry: &Entry<'_>, inner: &Inner) -> Result<(), AllocError> {
+        let end = self.put_unnamed(entry.id, inner)?;
+        let spelling = self.types.spelled(inner)?;
+        self.put_type_alias(entry, end, spelling.as_str())
+    }
+
     /// Writes another name of a type without a name.
     pub(crate) fn put_named_inner(
         &mut self,
         entry: &Entry<'_>,
         kind: &TypeDefKind,
     ) -> Result<(), AllocError> {
-        if let Some(inner) = inner_of(self.alloc, kind)? {
-            let end = self.put_unnamed(entry.id, &inner)?;
-            let spelling = self.types.spelled(&inner)?;
-            self.put_type_alias(entry, end, spelling.as_str())?;
+        match inner_of(self.alloc, kind)? {
+            Some(inner) => self.put_inner_alias(entry, &inner),
+            None => Ok(()),
         }
-        Ok(())
     }
 }

@@ -1,5 +1,6 @@
 //! How the core values of values are made, and how values are read out of them.
 
+use crate::c_names::push_words;
 use crate::laid::tag_bits;
 use crate::types::{Form, Part, Types, has_held};
 use std::alloc::{AllocError, Global};
@@ -68,142 +69,170 @@ enum Step {
     Value(Value),
 }
 
-/// Leaves these steps to be written, the first of them first.
-fn push_steps(stack: &mut Vec<Step>, steps: Vec<Step>) -> Result<(), AllocError> {
-    for step in steps.into_iter().rev() {
-        stack.push(step)?;
-    }
+/// Leaves a step to be written.
+fn leave(steps: &mut Vec<Step>, step: Step) -> Result<(), AllocError> {
+    steps.push(step)?;
     Ok(())
 }
 
-impl Value {
-    /// A line at the indent of the value.
-    fn line(&self, alloc: Global, text: &str) -> Result<Step, AllocError> {
-        let line = format!(in alloc; "{}{text}\n", self.indent.as_str())?;
-        Ok(Step::Line(line))
+/// Leaves lines to be written, which consist of these words.
+fn leave_line(alloc: Global, steps: &mut Vec<Step>, words: &[&str]) -> Result<(), AllocError> {
+    let line = words.concat(alloc)?;
+    leave(steps, Step::Line(line))
+}
+
+/// A value of a type, by the number of its first core value, the words that it is in C, and those of its indent.
+fn value_of(
+    alloc: Global,
+    held: (ValType, usize),
+    path: &[&str],
+    indent: &[&str],
+) -> Result<Value, AllocError> {
+    let (ty, place) = held;
+    Ok(Value {
+        ty,
+        path: path.concat(alloc)?,
+        place,
+        indent: indent.concat(alloc)?,
+    })
+}
+
+/// Turns the steps after so many around.
+fn turn(steps: &mut Vec<Step>, count: usize) {
+    if let Some(last) = steps.as_mut_slice().get_mut(count..) {
+        last.reverse();
     }
 }
 
+/// Writes how a number becomes a core value: what comes before the value in C and after it.
+fn push_made(
+    text: &mut String,
+    value: &Value,
+    place: usize,
+    words: (&str, &[&str]),
+) -> Result<(), AllocError> {
+    let (before, after) = words;
+    let (indent, path) = (value.indent.as_str(), value.path.as_str());
+    write!(text, "{indent}wit_put(flats, {place}, {before}{path}")?;
+    push_words(text, after)?;
+    text.push_str(");\n")
+}
+
+/// Writes how a number is read out of a core value: what comes before the core value, up to what reads it, and after it.
+fn push_read(
+    text: &mut String,
+    value: &Value,
+    place: usize,
+    words: (&[&str], &str),
+) -> Result<(), AllocError> {
+    let (before, after) = words;
+    push_words(text, &[value.indent.as_str(), value.path.as_str()])?;
+    push_words(text, before)?;
+    write!(text, "(&flats[{place}]){after};\n")
+}
+
 impl<'a> Types<'a> {
-    /// How many core values a value is that is passed flat.
-    fn width(&self, ty: ValType) -> usize {
-        self.laid.count(ty).unwrap_or(0)
-    }
-
     /// The steps for fields, of which the value in C begins with a front.
-    fn field_steps(
-        &self,
-        front: &str,
-        first: usize,
-        indent: &str,
-        parts: &[Part],
-    ) -> Result<Vec<Step>, AllocError> {
-        let alloc = self.alloc;
-        let (mut steps, mut place) = (Vec::new(alloc), first);
-        for part in parts {
-            if let Some(ty) = part.ty {
-                steps.push(Step::Value(Value {
-                    ty,
-                    path: format!(in alloc; "{front}{}", part.label.as_str())?,
-                    place,
-                    indent: String::from_str(alloc, indent)?,
-                }))?;
-                place = place.saturating_add(self.width(ty));
-            }
-        }
-        Ok(steps)
-    }
-
-    /// The steps for a case that holds a value of this type.
-    fn push_case(
+    fn leave_fields(
         &self,
         steps: &mut Vec<Step>,
-        value: &Value,
-        part: &Part,
-        ty: ValType,
+        front: &[&str; 2],
+        first: (usize, &str),
+        parts: &[Part],
     ) -> Result<(), AllocError> {
-        let alloc = self.alloc;
-        let head = format!(in alloc; "case {}:", part.constant.as_str())?;
-        steps.push(value.line(alloc, head.as_str())?)?;
-        steps.push(Step::Value(Value {
-            ty,
-            path: format!(in alloc; "{}.as.{}", value.path.as_str(), part.label.as_str())?,
-            place: value.place.saturating_add(1),
-            indent: format!(in alloc; "{}    ", value.indent.as_str())?,
-        }))?;
-        steps.push(value.line(alloc, "    break;")?)?;
+        let (mut place, indent) = first;
+        for part in parts {
+            if let Some(ty) = part.ty {
+                let path = [front[0], front[1], part.label.as_str()];
+                let value = value_of(self.alloc, (ty, place), &path, &[indent])?;
+                leave(steps, Step::Value(value))?;
+                place = place.saturating_add(self.laid.count(ty).unwrap_or(0));
+            }
+        }
         Ok(())
     }
 
+    /// The steps for a case, if it holds a value.
+    fn leave_case<'b>(
+        &self,
+        steps: &mut Vec<Step>,
+        value: &'b Value,
+        part: &'b Part,
+    ) -> Result<(), AllocError> {
+        let Some(ty) = part.ty else {
+            return Ok(());
+        };
+        let (alloc, indent) = (self.alloc, value.indent.as_str());
+        leave_line(
+            alloc,
+            steps,
+            &[indent, "case ", part.constant.as_str(), ":\n"],
+        )?;
+        let held = (ty, value.place.saturating_add(1));
+        let path = [value.path.as_str(), ".as.", part.label.as_str()];
+        let payload = value_of(alloc, held, &path, &[indent, "    "])?;
+        leave(steps, Step::Value(payload))?;
+        leave_line(alloc, steps, &[indent, "    break;\n"])
+    }
+
     /// The steps for the payload of a variant of these cases. There are none if no case holds something.
-    fn case_steps(&self, value: &Value, parts: &[Part]) -> Result<Vec<Step>, AllocError> {
-        let alloc = self.alloc;
-        let mut steps = Vec::new(alloc);
+    fn leave_cases(
+        &self,
+        steps: &mut Vec<Step>,
+        value: &Value,
+        parts: &[Part],
+    ) -> Result<(), AllocError> {
         if !has_held(parts) {
-            return Ok(steps);
+            return Ok(());
         }
-        let head = format!(in alloc; "switch ({}.tag) {{", value.path.as_str())?;
-        steps.push(value.line(alloc, head.as_str())?)?;
+        let (alloc, indent) = (self.alloc, value.indent.as_str());
+        let head = [indent, "switch (", value.path.as_str(), ".tag) {\n"];
+        leave_line(alloc, steps, &head)?;
         for part in parts {
-            if let Some(ty) = part.ty {
-                self.push_case(&mut steps, value, part, ty)?;
-            }
+            self.leave_case(steps, value, part)?;
         }
-        steps.push(value.line(alloc, "default:")?)?;
-        steps.push(value.line(alloc, "    break;")?)?;
-        steps.push(value.line(alloc, "}")?)?;
-        Ok(steps)
+        let end = [indent, "default:\n", indent, "    break;\n", indent, "}\n"];
+        leave_line(alloc, steps, &end)
     }
 
     /// The parts of a type.
-    fn parts(&self, ty: ValType) -> &[Part] {
+    pub(crate) fn parts(&self, ty: ValType) -> &[Part] {
         match self.end_row(ty) {
             Some(row) => row.parts.as_slice(),
             None => &[],
         }
     }
 
-    /// The bits of a number as a core value: one with a sign has it in all 32 bits.
-    fn bits(&self, value: &Value) -> Result<String, AllocError> {
-        let (alloc, path) = (self.alloc, value.path.as_str());
-        match self.end(value.ty) {
-            ValType::Primitive(Primitive::Bool) => format!(in alloc; "{path} != 0"),
+    /// What makes a core value of a number, before it and after it: one with a sign has it in all 32 bits.
+    fn bits(&self, ty: ValType) -> (&'static str, &'static str) {
+        match self.end(ty) {
+            ValType::Primitive(Primitive::Bool) => ("", " != 0"),
             ValType::Primitive(Primitive::S8 | Primitive::S16 | Primitive::S32) => {
-                format!(in alloc; "(uint32_t)(int32_t){path}")
+                ("(uint32_t)(int32_t)", "")
             }
-            ValType::Primitive(Primitive::S64) => format!(in alloc; "(uint64_t){path}"),
-            _ => String::from_str(alloc, path),
+            ValType::Primitive(Primitive::S64) => ("(uint64_t)", ""),
+            _ => ("", ""),
         }
     }
 
-    /// The number that a core value has.
-    fn number(&self, value: &Value) -> Result<String, AllocError> {
-        let (alloc, place, c) = (self.alloc, value.place, self.c(value.ty));
+    /// Writes how a number becomes a core value.
+    fn push_bits(&self, text: &mut String, value: &Value) -> Result<(), AllocError> {
+        let (before, after) = self.bits(value.ty);
+        push_made(text, value, value.place, (before, &[after]))
+    }
+
+    /// Writes how a number is read out of a core value.
+    fn push_number(&self, text: &mut String, value: &Value) -> Result<(), AllocError> {
+        let (place, c) = (value.place, self.c(value.ty));
         match self.end(value.ty) {
             ValType::Primitive(Primitive::Bool) => {
-                format!(in alloc; "wit_i32(&flats[{place}]) != 0")
+                push_read(text, value, place, (&[" = wit_i32"], " != 0"))
             }
             ValType::Primitive(Primitive::S64 | Primitive::U64) => {
-                format!(in alloc; "({c})wit_i64(&flats[{place}])")
+                push_read(text, value, place, (&[" = (", c, ")wit_i64"], ""))
             }
-            _ => format!(in alloc; "({c})wit_i32(&flats[{place}])"),
+            _ => push_read(text, value, place, (&[" = (", c, ")wit_i32"], "")),
         }
-    }
-
-    /// Writes how a number becomes a core value, or the other way round.
-    fn push_number(&self, text: &mut String, way: Way, value: &Value) -> Result<(), AllocError> {
-        let (indent, place, path) = (value.indent.as_str(), value.place, value.path.as_str());
-        match way {
-            Way::Made => {
-                let bits = self.bits(value)?;
-                writeln!(text, "{indent}wit_put(flats, {place}, {});", bits.as_str())?;
-            }
-            Way::Read => {
-                let number = self.number(value)?;
-                writeln!(text, "{indent}{path} = {};", number.as_str())?;
-            }
-        }
-        Ok(())
     }
 }
 
@@ -214,40 +243,28 @@ fn push_member(
     value: &Value,
     member: Member,
 ) -> Result<(), AllocError> {
-    let (indent, path) = (value.indent.as_str(), value.path.as_str());
-    let (name, place) = (member.name, value.place.saturating_add(member.step));
+    let place = value.place.saturating_add(member.step);
     match way {
-        Way::Made => writeln!(text, "{indent}wit_put(flats, {place}, {path}.{name});")?,
+        Way::Made => push_made(text, value, place, ("", &[".", member.name])),
         Way::Read => {
-            let cast = member.cast;
-            writeln!(
-                text,
-                "{indent}{path}.{name} = {cast}wit_i32(&flats[{place}]);"
-            )?;
+            let before = [".", member.name, " = ", member.cast, "wit_i32"];
+            push_read(text, value, place, (&before, ""))
         }
     }
-    Ok(())
 }
 
 impl<'a> Types<'a> {
-    /// The steps for a record.
-    fn record_steps(&self, value: &Value) -> Result<Vec<Step>, AllocError> {
-        let alloc = self.alloc;
-        let front = format!(in alloc; "{}.", value.path.as_str())?;
-        let (place, indent) = (value.place, value.indent.as_str());
-        self.field_steps(front.as_str(), place, indent, self.parts(value.ty))
-    }
-
     /// Writes the tag of a variant. The steps for its payload.
     fn push_variant(
         &self,
         text: &mut String,
         way: Way,
         value: &Value,
-    ) -> Result<Vec<Step>, AllocError> {
+        steps: &mut Vec<Step>,
+    ) -> Result<(), AllocError> {
         let parts = self.parts(value.ty);
         push_member(text, way, value, tag_of(parts.len()))?;
-        self.case_steps(value, parts)
+        self.leave_cases(steps, value, parts)
     }
 
     /// Writes what comes first of a value. The steps for the rest of it.
@@ -256,42 +273,71 @@ impl<'a> Types<'a> {
         text: &mut String,
         way: Way,
         value: &Value,
-    ) -> Result<Vec<Step>, AllocError> {
-        match self.form(value.ty) {
-            Form::Number => {
-                self.push_number(text, way, value)?;
-                Ok(Vec::new(self.alloc))
-            }
-            Form::Pair => {
+        steps: &mut Vec<Step>,
+    ) -> Result<(), AllocError> {
+        match (self.form(value.ty), way) {
+            (Form::Number, Way::Made) => self.push_bits(text, value),
+            (Form::Number, Way::Read) => self.push_number(text, value),
+            (Form::Pair, _) => {
                 push_member(text, way, value, ADDRESS)?;
-                push_member(text, way, value, LENGTH)?;
-                Ok(Vec::new(self.alloc))
+                push_member(text, way, value, LENGTH)
             }
-            Form::Record => self.record_steps(value),
-            Form::Variant => self.push_variant(text, way, value),
+            (Form::Record, _) => {
+                let first = (value.place, value.indent.as_str());
+                let front = [value.path.as_str(), "."];
+                self.leave_fields(steps, &front, first, self.parts(value.ty))
+            }
+            (Form::Variant, _) => self.push_variant(text, way, value, steps),
+        }
+    }
+
+    /// Writes a step. The steps that come of it are the next.
+    fn push_step(
+        &self,
+        text: &mut String,
+        way: Way,
+        step: &Step,
+        stack: &mut Vec<Step>,
+    ) -> Result<(), AllocError> {
+        match step {
+            Step::Line(line) => text.push_str(line.as_str()),
+            Step::Value(value) => {
+                let count = stack.len();
+                self.push_value(text, way, value, stack)?;
+                turn(stack, count);
+                Ok(())
+            }
         }
     }
 
     /// Writes these steps. Each writes a line, so memory ends before the steps do.
-    fn push_steps_of(
+    fn push_steps(
         &self,
         text: &mut String,
         way: Way,
-        steps: Vec<Step>,
+        steps: &mut Vec<Step>,
     ) -> Result<(), AllocError> {
-        let mut stack = Vec::new(self.alloc);
-        push_steps(&mut stack, steps)?;
+        turn(steps, 0);
         for _ in 0..usize::MAX {
-            match stack.pop() {
-                Some(Step::Line(line)) => text.push_str(line.as_str())?,
-                Some(Step::Value(value)) => {
-                    let steps = self.push_value(text, way, &value)?;
-                    push_steps(&mut stack, steps)?;
-                }
-                None => return Ok(()),
-            }
+            let Some(step) = steps.pop() else {
+                return Ok(());
+            };
+            self.push_step(text, way, &step, steps)?;
         }
         Err(AllocError)
+    }
+
+    /// Writes how parameters become core values, or the other way round. They are named in C by a front and their labels.
+    fn push_parameters(
+        &self,
+        text: &mut String,
+        way: Way,
+        front: &str,
+        parameters: &[Part],
+    ) -> Result<(), AllocError> {
+        let mut steps = Vec::new(self.alloc);
+        self.leave_fields(&mut steps, &[front, ""], (0, "    "), parameters)?;
+        self.push_steps(text, way, &mut steps)
     }
 
     /// Writes how the core values of parameters are made, which are named in C by a front and their labels.
@@ -301,8 +347,7 @@ impl<'a> Types<'a> {
         front: &str,
         parameters: &[Part],
     ) -> Result<(), AllocError> {
-        let steps = self.field_steps(front, 0, "    ", parameters)?;
-        self.push_steps_of(text, Way::Made, steps)
+        self.push_parameters(text, Way::Made, front, parameters)
     }
 
     /// Writes how parameters are read out of their core values. They are named in C by a front and their labels.
@@ -312,20 +357,14 @@ impl<'a> Types<'a> {
         front: &str,
         parameters: &[Part],
     ) -> Result<(), AllocError> {
-        let steps = self.field_steps(front, 0, "    ", parameters)?;
-        self.push_steps_of(text, Way::Read, steps)
+        self.push_parameters(text, Way::Read, front, parameters)
     }
 
     /// Writes how the core values of one value of a type are made.
     pub fn push_answered(&self, text: &mut String, ty: ValType) -> Result<(), AllocError> {
-        let alloc = self.alloc;
-        let mut steps = Vec::new(alloc);
-        steps.push(Step::Value(Value {
-            ty,
-            path: String::from_str(alloc, "value")?,
-            place: 0,
-            indent: String::from_str(alloc, "    ")?,
-        }))?;
-        self.push_steps_of(text, Way::Made, steps)
+        let mut steps = Vec::new(self.alloc);
+        let value = value_of(self.alloc, (ty, 0), &["value"], &["    "])?;
+        leave(&mut steps, Step::Value(value))?;
+        self.push_steps(text, Way::Made, &mut steps)
     }
 }

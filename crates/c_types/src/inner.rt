@@ -1,6 +1,6 @@
 //! Types without a name: lists, options, results and tuples. Those that are alike are one type in C.
 
-use crate::c_names::short_key;
+use crate::c_names::{push_words, short_key};
 use crate::types::{Form, Part, Types};
 use std::alloc::{AllocError, Global};
 use std::fmt::Write;
@@ -69,84 +69,113 @@ impl Inner {
 }
 
 impl<'a> Types<'a> {
-    /// The key of a type without a name: its word and the keys of its parts.
-    pub fn key_of(&self, inner: &Inner) -> Result<String, AllocError> {
-        let mut key = String::from_str(self.alloc, inner.word)?;
+    /// Appends the key of a type without a name, however long it is.
+    fn push_key(&self, key: &mut String, inner: &Inner) -> Result<(), AllocError> {
+        key.push_str(inner.word)?;
         if inner.word == "tuple" {
             write!(key, "{}", inner.parts.len())?;
         }
         for part in &inner.parts {
-            write!(key, "_{}", self.key(*part))?;
+            push_words(key, &["_", self.key(*part)])?;
         }
+        Ok(())
+    }
+
+    /// The key of a type without a name: its word and the keys of its parts.
+    pub fn key_of(&self, inner: &Inner) -> Result<String, AllocError> {
+        let mut key = String::new(self.alloc);
+        self.push_key(&mut key, inner)?;
         short_key(self.alloc, inner.word, key)
+    }
+
+    /// Appends a type without a name as WIT spells it.
+    fn push_spelled(&self, text: &mut String, inner: &Inner) -> Result<(), AllocError> {
+        text.push_str(inner.word)?;
+        let count = inner.spelled_count();
+        for (index, part) in inner.parts.iter().take(count).enumerate() {
+            let mark = if index == 0 { "<" } else { ", " };
+            push_words(text, &[mark, self.spelling(*part)])?;
+        }
+        text.push_str(if count > 0 { ">" } else { "" })
     }
 
     /// A type without a name as WIT spells it.
     pub fn spelled(&self, inner: &Inner) -> Result<String, AllocError> {
-        let mut text = String::from_str(self.alloc, inner.word)?;
-        let count = inner.spelled_count();
-        for (index, part) in inner.parts.iter().take(count).enumerate() {
-            text.push_str(if index == 0 { "<" } else { ", " })?;
-            text.push_str(self.spelling(*part))?;
-        }
-        if count > 0 {
-            text.push('>')?;
-        }
+        let mut text = String::new(self.alloc);
+        self.push_spelled(&mut text, inner)?;
         Ok(text)
     }
 }
 
-/// The fields of a tuple, by their numbers.
-fn numbered(alloc: Global, types: &[Option<ValType>]) -> Result<Vec<Part>, AllocError> {
-    let mut parts = Vec::new(alloc);
-    for (index, ty) in types.iter().enumerate() {
-        parts.push(Part {
-            label: format!(in alloc; "f{index}")?,
-            ty: *ty,
-            constant: String::new(alloc),
-        })?;
-    }
-    Ok(parts)
-}
-
-/// A case of an option or of a result.
-fn case(
+/// Adds a field or a case, by its label and its constant.
+fn push_part(
     alloc: Global,
-    label: &str,
+    parts: &mut Vec<Part>,
+    names: [&str; 2],
     ty: Option<ValType>,
-    constant: &str,
-) -> Result<Part, AllocError> {
-    Ok(Part {
+) -> Result<(), AllocError> {
+    let [label, constant] = names;
+    parts.push(Part {
         label: String::from_str(alloc, label)?,
         ty,
         constant: String::from_str(alloc, constant)?,
-    })
+    })?;
+    Ok(())
 }
 
-/// The cases of an option or of a result.
-fn cases(alloc: Global, inner: &Inner) -> Result<Vec<Part>, AllocError> {
-    let mut parts = Vec::new(alloc);
-    match inner.parts.as_slice() {
+/// Adds the fields of a tuple, by their numbers.
+fn push_fields(
+    alloc: Global,
+    parts: &mut Vec<Part>,
+    types: &[Option<ValType>],
+) -> Result<(), AllocError> {
+    for (index, ty) in types.iter().enumerate() {
+        let label = format!(in alloc; "f{index}")?;
+        push_part(alloc, parts, [label.as_str(), ""], *ty)?;
+    }
+    Ok(())
+}
+
+/// Adds the cases of an option or of a result.
+fn push_cases(
+    alloc: Global,
+    parts: &mut Vec<Part>,
+    types: &[Option<ValType>],
+) -> Result<(), AllocError> {
+    match types {
         [some] => {
-            parts.push(case(alloc, "none", None, "WIT_NONE")?)?;
-            parts.push(case(alloc, "some", *some, "WIT_SOME")?)?;
+            push_part(alloc, parts, ["none", "WIT_NONE"], None)?;
+            push_part(alloc, parts, ["some", "WIT_SOME"], *some)
         }
         [ok, error] => {
-            parts.push(case(alloc, "ok", *ok, "WIT_OK")?)?;
-            parts.push(case(alloc, "error", *error, "WIT_ERROR")?)?;
+            push_part(alloc, parts, ["ok", "WIT_OK"], *ok)?;
+            push_part(alloc, parts, ["error", "WIT_ERROR"], *error)
         }
-        _ => {}
+        _ => Ok(()),
     }
-    Ok(parts)
+}
+
+/// Adds the parts of a type without a name. What it is in C.
+fn push_parts(alloc: Global, parts: &mut Vec<Part>, inner: &Inner) -> Result<Form, AllocError> {
+    let types = inner.parts.as_slice();
+    match inner.word {
+        "list" => Ok(Form::Pair),
+        "tuple" => {
+            push_fields(alloc, parts, types)?;
+            Ok(Form::Record)
+        }
+        _ => {
+            push_cases(alloc, parts, types)?;
+            Ok(Form::Variant)
+        }
+    }
 }
 
 /// What a type without a name is in C.
 pub fn made_of(alloc: Global, inner: &Inner) -> Result<(Form, Vec<Part>), AllocError> {
-    match inner.word {
-        "list" => Ok((Form::Pair, Vec::new(alloc))),
-        "tuple" => Ok((Form::Record, numbered(alloc, inner.parts.as_slice())?)),
-        _ => Ok((Form::Variant, cases(alloc, inner)?)),
-    }
+    let mut parts = Vec::new(alloc);
+    let form = push_parts(alloc, &mut parts, inner)?;
+    Ok((form, parts))
 }
 
 /// Whether a row is a type without a name.

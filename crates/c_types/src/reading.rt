@@ -1,5 +1,6 @@
 //! How the result of a function is read.
 
+use crate::c_names::push_words;
 use crate::laid::tag_bits;
 use crate::types::{Form, Types};
 use canonical_abi::CoreKind;
@@ -9,32 +10,50 @@ use std::fmt::Write;
 use tables::{Primitive, ValType};
 
 impl<'a> Types<'a> {
-    /// A record of one core value is that of its first field, and so on: the fields to the value that has it, and its
-    /// type.
-    fn first_value(&self, ty: ValType) -> Result<(String, ValType), AllocError> {
-        let (mut path, mut end) = (String::from_str(self.alloc, "value")?, self.end(ty));
-        for _ in 0..MAX_DEPTH {
-            let Some(row) = self.end_row(end) else {
-                break;
-            };
-            let (Form::Record, Some(part)) = (row.form, row.parts.first()) else {
-                break;
-            };
-            let Some(field) = part.ty else {
-                break;
-            };
-            write!(path, ".{}", part.label.as_str())?;
-            end = self.end(field);
+    /// The label and the type of the first field of a record. None if the type is no record.
+    fn first_field(&self, ty: ValType) -> Option<(&str, ValType)> {
+        let row = self.end_row(ty)?;
+        if row.form != Form::Record {
+            return None;
         }
-        Ok((path, end))
+        let part = row.parts.first()?;
+        Some((part.label.as_str(), part.ty?))
     }
 
-    /// How many parts a type has.
-    fn part_count(&self, ty: ValType) -> usize {
-        match self.end_row(ty) {
-            Some(row) => row.parts.len(),
-            None => 0,
+    /// A record of one core value is that of its first field, and so on: appends the fields to the value that has it.
+    /// The type of this value.
+    fn push_first(&self, path: &mut String, ty: ValType) -> Result<ValType, AllocError> {
+        let mut end = self.end(ty);
+        for _ in 0..MAX_DEPTH {
+            let Some((label, field)) = self.first_field(end) else {
+                break;
+            };
+            push_words(path, &[".", label])?;
+            end = self.end(field);
         }
+        Ok(end)
+    }
+
+    /// Writes how a value of this name in C is read, which has one core value and is no record.
+    fn push_last(
+        &self,
+        text: &mut String,
+        path: &str,
+        end: ValType,
+        returned: Option<CoreKind>,
+    ) -> Result<(), AllocError> {
+        if self.form(end) == Form::Variant {
+            let bits = tag_bits(self.parts(end).len());
+            return writeln!(text, "    {path}.tag = (uint{bits}_t)wit_i32(back);");
+        }
+        if end == ValType::Primitive(Primitive::Bool) {
+            return push_words(text, &["    ", path, " = wit_i32(back) != 0;\n"]);
+        }
+        let reader = match returned {
+            Some(CoreKind::I64) => ")wit_i64(back);\n",
+            _ => ")wit_i32(back);\n",
+        };
+        push_words(text, &["    ", path, " = (", self.c(end), reader])
     }
 
     /// Writes how a value of one core value is read.
@@ -44,21 +63,8 @@ impl<'a> Types<'a> {
         ty: ValType,
         returned: Option<CoreKind>,
     ) -> Result<(), AllocError> {
-        let (path, end) = self.first_value(ty)?;
-        let (path, c) = (path.as_str(), self.c(end));
-        let kind = if returned == Some(CoreKind::I64) {
-            "i64"
-        } else {
-            "i32"
-        };
-        if self.form(end) == Form::Variant {
-            let bits = tag_bits(self.part_count(end));
-            writeln!(text, "    {path}.tag = (uint{bits}_t)wit_i32(back);")?;
-        } else if end == ValType::Primitive(Primitive::Bool) {
-            writeln!(text, "    {path} = wit_i32(back) != 0;")?;
-        } else {
-            writeln!(text, "    {path} = ({c})wit_{kind}(back);")?;
-        }
-        Ok(())
+        let mut path = String::from_str(self.alloc, "value")?;
+        let end = self.push_first(&mut path, ty)?;
+        self.push_last(text, path.as_str(), end, returned)
     }
 }

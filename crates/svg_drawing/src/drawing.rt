@@ -12,14 +12,14 @@ pub const CHARACTER: u32 = 8;
 const MARGIN: u32 = 12;
 
 /// A place, in pixels from the left and from the top.
-#[derive(Clone, Copy, PartialEq, Eq)]
+#[derive(Clone, Copy)]
 pub struct Point {
     pub x: u32,
     pub y: u32,
 }
 
 /// A rectangle, in pixels.
-#[derive(Clone, Copy, PartialEq, Eq)]
+#[derive(Clone, Copy)]
 pub struct Area {
     pub left: u32,
     pub top: u32,
@@ -44,6 +44,32 @@ pub fn text_width(text: &str) -> u32 {
     characters.saturating_mul(CHARACTER)
 }
 
+/// A part of a document.
+#[derive(Clone, Copy)]
+enum Piece<'a> {
+    Text(&'a str),
+    Number(u32),
+    /// A text that XML may have to write in another way.
+    Escaped(&'a str),
+}
+
+/// Appends a part of a document.
+fn push_piece(out: &mut String, piece: &Piece<'_>) -> Result<(), AllocError> {
+    match piece {
+        Piece::Text(text) => out.push_str(text),
+        Piece::Number(number) => write!(out, "{number}"),
+        Piece::Escaped(text) => push_escaped(out, text),
+    }
+}
+
+/// Appends parts of a document.
+fn push_pieces(out: &mut String, pieces: &[Piece<'_>]) -> Result<(), AllocError> {
+    for piece in pieces {
+        push_piece(out, piece)?;
+    }
+    Ok(())
+}
+
 impl Drawing {
     /// Nothing yet.
     pub fn new(alloc: Global) -> Drawing {
@@ -62,20 +88,27 @@ impl Drawing {
     }
 
     /// Adds a text whose anchor is at a place on its line.
-    fn push_text(
+    fn push_text<'a>(
         &mut self,
         at: Point,
         ink: Ink,
-        anchor: &str,
-        text: &str,
+        anchor: &'a str,
+        text: &'a str,
     ) -> Result<(), AllocError> {
-        let (x, y, class) = (at.x, at.y, ink.class());
-        write!(
-            self.content,
-            "<text class=\"{class}\" x=\"{x}\" y=\"{y}\"{anchor}>"
-        )?;
-        push_escaped(&mut self.content, text)?;
-        self.content.push_str("</text>\n")
+        let pieces = [
+            Piece::Text("<text class=\""),
+            Piece::Text(ink.class()),
+            Piece::Text("\" x=\""),
+            Piece::Number(at.x),
+            Piece::Text("\" y=\""),
+            Piece::Number(at.y),
+            Piece::Text("\""),
+            Piece::Text(anchor),
+            Piece::Text(">"),
+            Piece::Escaped(text),
+            Piece::Text("</text>\n"),
+        ];
+        push_pieces(&mut self.content, &pieces)
     }
 
     /// Adds a text that begins at a place on its line. Blanks beside each other are drawn as one.
@@ -102,57 +135,82 @@ impl Drawing {
 
     /// Adds a rectangle, with a text that is shown where a pointer is on it.
     pub fn rectangle(&mut self, area: Area, fill: Fill, about: &str) -> Result<(), AllocError> {
-        let Area {
-            left,
-            top,
-            width,
-            height,
-        } = area;
-        let class = fill.class();
-        write!(
-            self.content,
-            "<rect class=\"{class}\" x=\"{left}\" y=\"{top}\" width=\"{width}\" height=\"{height}\"><title>"
-        )?;
-        push_escaped(&mut self.content, about)?;
-        self.content.push_str("</title></rect>\n")?;
-        self.reach(left.saturating_add(width), top.saturating_add(height));
+        let pieces = [
+            Piece::Text("<rect class=\""),
+            Piece::Text(fill.class()),
+            Piece::Text("\" x=\""),
+            Piece::Number(area.left),
+            Piece::Text("\" y=\""),
+            Piece::Number(area.top),
+            Piece::Text("\" width=\""),
+            Piece::Number(area.width),
+            Piece::Text("\" height=\""),
+            Piece::Number(area.height),
+            Piece::Text("\"><title>"),
+            Piece::Escaped(about),
+            Piece::Text("</title></rect>\n"),
+        ];
+        push_pieces(&mut self.content, &pieces)?;
+        self.reach(
+            area.left.saturating_add(area.width),
+            area.top.saturating_add(area.height),
+        );
         Ok(())
+    }
+
+    /// Adds a place to a line, after a mark.
+    fn push_point(&mut self, mark: &str, at: Point) -> Result<(), AllocError> {
+        self.reach(at.x, at.y);
+        let pieces = [
+            Piece::Text(mark),
+            Piece::Number(at.x),
+            Piece::Text(" "),
+            Piece::Number(at.y),
+        ];
+        push_pieces(&mut self.content, &pieces)
     }
 
     /// Adds a line through some places, with a head at the last.
     pub fn arrow(&mut self, points: &[Point]) -> Result<(), AllocError> {
         self.content.push_str("<path class=\"arrow\" d=\"")?;
         for (index, point) in points.iter().enumerate() {
-            let mark = if index == 0 { 'M' } else { 'L' };
-            let (x, y) = (point.x, point.y);
-            write!(self.content, "{mark}{x} {y}")?;
-            self.reach(x, y);
+            self.push_point(if index == 0 { "M" } else { "L" }, *point)?;
         }
         self.content.push_str("\" marker-end=\"url(#head)\"/>\n")
     }
 
+    /// Appends the picture as a document, with a title.
+    fn push_document<'a>(&'a self, title: &'a str, out: &mut String) -> Result<(), AllocError> {
+        let width = self.right.saturating_add(MARGIN);
+        let height = self.bottom.saturating_add(MARGIN);
+        let pieces = [
+            Piece::Text("<svg xmlns=\"http://www.w3.org/2000/svg\" width=\""),
+            Piece::Number(width),
+            Piece::Text("\" height=\""),
+            Piece::Number(height),
+            Piece::Text("\" viewBox=\"0 0 "),
+            Piece::Number(width),
+            Piece::Text(" "),
+            Piece::Number(height),
+            Piece::Text("\" role=\"img\">\n<title>"),
+            Piece::Escaped(title),
+            Piece::Text("</title>\n"),
+            Piece::Text(STYLE),
+            Piece::Text("<rect class=\"page\" width=\""),
+            Piece::Number(width),
+            Piece::Text("\" height=\""),
+            Piece::Number(height),
+            Piece::Text("\"/>\n"),
+            Piece::Text(self.content.as_str()),
+            Piece::Text("</svg>\n"),
+        ];
+        push_pieces(out, &pieces)
+    }
+
     /// The picture as a document, with a title.
     pub fn finish(self, title: &str) -> Result<String, AllocError> {
-        let Drawing {
-            alloc,
-            content,
-            right,
-            bottom,
-        } = self;
-        let (width, height) = (right.saturating_add(MARGIN), bottom.saturating_add(MARGIN));
-        let mut document = format!(in alloc;
-            "<svg xmlns=\"http://www.w3.org/2000/svg\" width=\"{width}\" height=\"{height}\" \
-             viewBox=\"0 0 {width} {height}\" role=\"img\">\n<title>"
-        )?;
-        push_escaped(&mut document, title)?;
-        document.push_str("</title>\n")?;
-        document.push_str(STYLE)?;
-        writeln!(
-            document,
-            "<rect class=\"page\" width=\"{width}\" height=\"{height}\"/>"
-        )?;
-        document.push_str(content.as_str())?;
-        document.push_str("</svg>\n")?;
+        let mut document = String::new(self.alloc);
+        self.push_document(title, &mut document)?;
         Ok(document)
     }
 }

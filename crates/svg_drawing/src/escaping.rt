@@ -11,16 +11,21 @@ fn is_allowed(character: char) -> bool {
     }
 }
 
-/// Appends a text with what XML writes for some characters. One that it may not have is `U+FFFD`.
+/// Appends a character, or what XML writes for it. One that it may not have is `U+FFFD`.
+fn push_character(out: &mut String, character: char) -> Result<(), AllocError> {
+    match character {
+        '<' => out.push_str("&lt;"),
+        '>' => out.push_str("&gt;"),
+        '&' => out.push_str("&amp;"),
+        _ if is_allowed(character) => out.push(character),
+        _ => out.push('\u{fffd}'),
+    }
+}
+
+/// Appends a text with what XML writes for some characters.
 pub fn push_escaped(out: &mut String, text: &str) -> Result<(), AllocError> {
     for character in text.chars() {
-        match character {
-            '<' => out.push_str("&lt;")?,
-            '>' => out.push_str("&gt;")?,
-            '&' => out.push_str("&amp;")?,
-            _ if is_allowed(character) => out.push(character)?,
-            _ => out.push('\u{fffd}')?,
-        }
+        push_character(out, character)?;
     }
     Ok(())
 }

@@ -91,16 +91,22 @@ impl Sketch {
         self.push_words(12, Ink::Heading, text)
     }
 
-    /// Adds values after a word for them. Returns where each of them is.
-    pub fn push_values(&mut self, word: &str, values: &[String]) -> Result<Vec<Start>, AllocError> {
-        let y = self.bottom.saturating_add(16);
-        self.drawing.text(Point { x: 52, y }, Ink::Plain, word)?;
+    /// Adds values beside each other, and notes where each of them is.
+    fn push_row(&mut self, values: &[String], starts: &mut Vec<Start>) -> Result<(), AllocError> {
         self.right = LEFT;
-        let mut starts = Vec::new(self.alloc);
         for value in values {
             starts.push(self.push_value(value.as_str())?)?;
         }
         self.bottom = self.bottom.saturating_add(LINE).saturating_add(18);
+        Ok(())
+    }
+
+    /// Adds values after a word for them. Returns where each of them is.
+    pub fn push_values(&mut self, word: &str, values: &[String]) -> Result<Vec<Start>, AllocError> {
+        let y = self.bottom.saturating_add(16);
+        self.drawing.text(Point { x: 52, y }, Ink::Plain, word)?;
+        let mut starts = Vec::new(self.alloc);
+        self.push_row(values, &mut starts)?;
         Ok(starts)
     }
 
@@ -178,7 +184,6 @@ impl Sketch {
 
     /// Adds the box of a byte.
     fn push_byte(&mut self, left: u32, byte: u8, fill: Fill) -> Result<(), AllocError> {
-        let text = format!(in self.alloc; "{byte:02x}")?;
         let area = Area {
             left,
             top: self.bottom,
@@ -190,7 +195,18 @@ impl Sketch {
             x: left.saturating_add(BYTE / 2),
             y: self.bottom.saturating_add(16),
         };
+        let text = format!(in self.alloc; "{byte:02x}")?;
         self.drawing.text_around(at, Ink::Plain, text.as_str())
+    }
+
+    /// Adds an address before a line of bytes.
+    fn push_address(&mut self, address: u32) -> Result<(), AllocError> {
+        let at = Point {
+            x: LEFT - 6,
+            y: self.bottom.saturating_add(16),
+        };
+        let text = format!(in self.alloc; "{address}")?;
+        self.drawing.text_before(at, Ink::Dim, text.as_str())
     }
 
     /// Adds a line of bytes: the address of the first, and what they are.
@@ -201,10 +217,7 @@ impl Sketch {
         fill: Fill,
         note: &str,
     ) -> Result<(), AllocError> {
-        let y = self.bottom.saturating_add(16);
-        let address = format!(in self.alloc; "{at}")?;
-        self.drawing
-            .text_before(Point { x: LEFT - 6, y }, Ink::Dim, address.as_str())?;
+        self.push_address(at)?;
         let mut left = LEFT;
         for byte in bytes {
             self.push_byte(left, *byte, fill)?;

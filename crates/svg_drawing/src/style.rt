@@ -1,7 +1,7 @@
 //! How shapes and texts look.
 
 /// How the words of a text look.
-#[derive(Clone, Copy, PartialEq, Eq)]
+#[derive(Clone, Copy)]
 pub enum Ink {
     Plain,
     /// Larger and bold.
@@ -24,7 +24,7 @@ impl Ink {
 }
 
 /// What a rectangle is filled with.
-#[derive(Clone, Copy, PartialEq, Eq)]
+#[derive(Clone, Copy)]
 pub enum Fill {
     /// One of six colors in turn.
     Hue(usize),

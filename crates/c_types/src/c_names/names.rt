@@ -22,11 +22,19 @@ pub struct Names {
 impl Names {
     /// The names of the parts that all headers have.
     pub fn new(alloc: Global, keyed: KeyedState) -> Result<Names, AllocError> {
-        let mut taken = IndexSet::with_hasher(alloc, keyed);
+        let mut names = Names {
+            alloc,
+            taken: IndexSet::with_hasher(alloc, keyed),
+        };
+        names.take_common()?;
+        Ok(names)
+    }
+
+    fn take_common(&mut self) -> Result<(), AllocError> {
         for name in COMMON.split_whitespace() {
-            taken.insert(String::from_str(alloc, name)?)?;
+            self.taken.insert(String::from_str(self.alloc, name)?)?;
         }
-        Ok(Names { alloc, taken })
+        Ok(())
     }
 
     /// Whether something has this name.
@@ -34,16 +42,28 @@ impl Names {
         self.taken.contains(name)
     }
 
+    /// The first of the names that are this one with a number after it, from 2 on, that nothing else has.
+    fn numbered(&self, wanted: &str) -> Result<String, AllocError> {
+        for number in 2..usize::MAX {
+            let name = format!(in self.alloc; "{wanted}_{number}")?;
+            if !self.has(name.as_str()) {
+                return Ok(name);
+            }
+        }
+        Err(AllocError)
+    }
+
+    /// A name that nothing else has: the one that is wanted, or that with a number after it.
+    fn free(&self, wanted: String) -> Result<String, AllocError> {
+        if self.has(wanted.as_str()) {
+            return self.numbered(wanted.as_str());
+        }
+        Ok(wanted)
+    }
+
     /// A name that nothing else has, which is taken now: the one that is wanted, or that with a number after it.
     pub fn take(&mut self, wanted: String) -> Result<String, AllocError> {
-        let alloc = self.alloc;
-        let mut name = wanted.clone()?;
-        for number in 2..usize::MAX {
-            if !self.taken.contains(name.as_str()) {
-                break;
-            }
-            name = format!(in alloc; "{}_{number}", wanted.as_str())?;
-        }
+        let name = self.free(wanted)?;
         self.taken.insert(name.clone()?)?;
         Ok(name)
     }

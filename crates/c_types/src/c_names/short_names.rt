@@ -1,14 +1,13 @@
 //! Names without what the names of their package begin with.
 
 use crate::c_names::names::Names;
-use crate::c_names::words::is_reserved;
+use crate::c_names::words::{is_reserved, push_words};
 use atoms::KeyedState;
 use indexmap::IndexSet;
 use std::alloc::{AllocError, Global};
-use std::fmt::Write;
 
 /// What a name in C is of.
-#[derive(Clone, Copy, PartialEq, Eq)]
+#[derive(Clone, Copy)]
 pub enum NameKind {
     Type,
     Function,
@@ -69,11 +68,13 @@ fn without_each(alloc: Global, name: &str, front: &str) -> Result<String, AllocE
 fn push_line(text: &mut String, name: &ShortName) -> Result<(), AllocError> {
     let (full, short) = (name.full.as_str(), name.short.as_str());
     match name.kind {
-        NameKind::Type => writeln!(text, "typedef {full} {short};")?,
-        NameKind::Function => writeln!(text, "#define {short}(...) {full}(__VA_ARGS__)")?,
-        NameKind::Constant => writeln!(text, "#define {short} {full}")?,
+        NameKind::Type => push_words(text, &["typedef ", full, " ", short, ";\n"]),
+        NameKind::Function => push_words(
+            text,
+            &["#define ", short, "(...) ", full, "(__VA_ARGS__)\n"],
+        ),
+        NameKind::Constant => push_words(text, &["#define ", short, " ", full, "\n"]),
     }
-    Ok(())
 }
 
 impl ShortNames {
@@ -86,12 +87,19 @@ impl ShortNames {
         }
     }
 
-    fn insert(&mut self, kind: NameKind, full: &str, short: String) -> Result<(), AllocError> {
-        if self.met.contains(short.as_str()) {
-            self.repeated.insert(short.clone()?)?;
+    /// Notes that a name has this short name.
+    fn meet(&mut self, short: &str) -> Result<(), AllocError> {
+        let name = String::from_str(self.alloc, short)?;
+        if self.met.contains(short) {
+            self.repeated.insert(name)?;
         } else {
-            self.met.insert(short.clone()?)?;
+            self.met.insert(name)?;
         }
+        Ok(())
+    }
+
+    fn insert(&mut self, kind: NameKind, full: &str, short: String) -> Result<(), AllocError> {
+        self.meet(short.as_str())?;
         self.list.push(ShortName {
             kind,
             full: String::from_str(self.alloc, full)?,
@@ -104,7 +112,7 @@ impl ShortNames {
     /// package has no short name.
     pub fn add(&mut self, kind: NameKind, front: &str, full: &str) -> Result<(), AllocError> {
         let alloc = self.alloc;
-        if kind == NameKind::Constant || full.starts_with(front) {
+        if matches!(kind, NameKind::Constant) || full.starts_with(front) {
             let short = without_first(alloc, full, front.len())?;
             if !is_foreign(short.as_str()) {
                 self.insert(kind, full, short)?;

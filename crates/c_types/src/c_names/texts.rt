@@ -1,5 +1,6 @@
 //! Texts as constants.
 
+use crate::c_names::words::push_words;
 use std::alloc::{AllocError, Global};
 use std::fmt::Write;
 
@@ -11,19 +12,19 @@ const NUMBERS: usize = 24;
 
 /// A text as a string of C.
 fn push_lines(out: &mut String, constant: &str, text: &str) -> Result<(), AllocError> {
-    write!(out, "static const char {constant}[] =")?;
+    push_words(out, &["static const char ", constant, "[] ="])?;
     for line in text.lines() {
-        write!(out, "\n    \"{line}\\n\"")?;
+        push_words(out, &["\n    \"", line, "\\n\""])?;
     }
     out.push_str(";\n")
 }
 
 /// A text as the numbers of its bytes, and a 0.
 fn push_numbers(out: &mut String, constant: &str, text: &str) -> Result<(), AllocError> {
-    write!(out, "static const char {constant}[] = {{")?;
+    push_words(out, &["static const char ", constant, "[] = {"])?;
     for (index, byte) in text.as_bytes().iter().enumerate() {
-        out.push_str(if index % NUMBERS == 0 { "\n    " } else { " " })?;
-        write!(out, "{byte},")?;
+        let blank = if index % NUMBERS == 0 { "\n    " } else { " " };
+        write!(out, "{blank}{byte},")?;
     }
     out.push_str("\n    0,\n};\n")
 }

@@ -15,6 +15,14 @@ struct switch synchronized template this thread_local throw true try typedef typ
 union unix unsigned using virtual void volatile wchar_t while xor xor_eq
 ";
 
+/// Appends words.
+pub(crate) fn push_words(text: &mut String, words: &[&str]) -> Result<(), AllocError> {
+    for word in words {
+        text.push_str(word)?;
+    }
+    Ok(())
+}
+
 pub(crate) fn is_reserved(word: &str) -> bool {
     for reserved in RESERVED.split_whitespace() {
         if reserved == word {
@@ -28,11 +36,11 @@ pub(crate) fn is_reserved(word: &str) -> bool {
 pub fn c_word(alloc: Global, label: &str) -> Result<String, AllocError> {
     let mut word = String::new(alloc);
     for character in label.chars() {
-        if character.is_ascii_alphanumeric() {
-            word.push(character.to_ascii_lowercase())?;
+        word.push(if character.is_ascii_alphanumeric() {
+            character.to_ascii_lowercase()
         } else {
-            word.push('_')?;
-        }
+            '_'
+        })?;
     }
     Ok(word)
 }
