@@ -1,7 +1,7 @@
 //! How values are loaded and stored.
 
-use crate::header::{Header, Includer, push_words};
-use c_types::c_names::NameKind;
+use crate::header::{Header, Includer};
+use c_types::c_names::{NameKind, push_words};
 use std::alloc::AllocError;
 
 impl<'a> Header<'a> {

@@ -1,8 +1,8 @@
 //! The types of an interface.
 
-use crate::header::{Header, push_declaration, push_words};
+use crate::header::{Header, push_declaration};
 use atoms::Label;
-use c_types::c_names::{NameKind, c_label, c_word};
+use c_types::c_names::{NameKind, c_label, c_word, push_words};
 use c_types::{Form, Part, Row, tag_bits};
 use std::alloc::{AllocError, Global};
 use std::fmt::Write;

@@ -1,7 +1,7 @@
 //! What is written.
 
 use atoms::KeyedState;
-use c_types::c_names::{NameKind, Names, ShortNames};
+use c_types::c_names::{NameKind, Names, ShortNames, push_words};
 use c_types::{Laid, Types};
 use std::alloc::{AllocError, Global};
 use std::mem::replace;
@@ -21,14 +21,6 @@ pub enum Includer {
 pub struct Purpose<'a> {
     pub includer: Includer,
     pub comments: &'a Comments,
-}
-
-/// Appends words.
-pub(crate) fn push_words(text: &mut String, words: &[&str]) -> Result<(), AllocError> {
-    for word in words {
-        text.push_str(word)?;
-    }
-    Ok(())
 }
 
 /// Appends what declares a name as one of a type, after a front.

@@ -1,6 +1,7 @@
 //! How a guest reaches the elements of a list, and makes a list.
 
-use crate::header::{Header, push_words};
+use crate::header::Header;
+use c_types::c_names::push_words;
 use std::alloc::AllocError;
 
 impl<'a> Header<'a> {

@@ -1,6 +1,7 @@
 //! Records and variants as structs, with assertions of their sizes, alignments and offsets.
 
-use crate::header::{Header, push_declaration, push_words};
+use crate::header::{Header, push_declaration};
+use c_types::c_names::push_words;
 use c_types::{Form, Part, Row, has_held, tag_bits};
 use std::alloc::AllocError;
 use std::fmt::Write;

@@ -1,8 +1,8 @@
 //! Types without a name, which are written where they are met first.
 
 use crate::declarations::Entry;
-use crate::header::{Header, push_words};
-use c_types::c_names::NameKind;
+use crate::header::Header;
+use c_types::c_names::{NameKind, push_words};
 use c_types::{Form, Inner, Row, first_inner, inner_of, made_of};
 use std::alloc::AllocError;
 use tables::{TypeDefKind, TypeId, ValType};

@@ -6,7 +6,7 @@ use crate::fills::push_fill;
 use crate::reads::push_read;
 use crate::receives::push_receive;
 use c_declarations::{Header, Scope};
-use c_types::c_names::{NameKind, c_label};
+use c_types::c_names::{NameKind, c_label, push_words};
 use c_types::{Form, Laid, Part, Passing, Row, Types, parameters_of};
 use std::alloc::{AllocError, Global};
 use std::fmt::Write;
@@ -29,6 +29,19 @@ pub struct CallNames {
     pub count: String,
     pub receive: String,
     pub answer: String,
+}
+
+impl CallNames {
+    /// None yet.
+    fn new(alloc: Global) -> CallNames {
+        CallNames {
+            fill: String::new(alloc),
+            read: String::new(alloc),
+            count: String::new(alloc),
+            receive: String::new(alloc),
+            answer: String::new(alloc),
+        }
+    }
 }
 
 /// What is made for a function.
@@ -68,22 +81,32 @@ fn parameter_parts(alloc: Global, parameters: &[Parameter]) -> Result<Vec<Part>,
     Ok(parts)
 }
 
+/// Appends a function as WIT spells it.
+fn push_signature(
+    text: &mut String,
+    types: &Types<'_>,
+    function: &Function,
+) -> Result<(), AllocError> {
+    push_words(text, &[function.name.as_str(), ": func("])?;
+    for (index, parameter) in function.params.as_slice().iter().enumerate() {
+        let mark = if index == 0 { "" } else { ", " };
+        let ty = types.spelling(Some(parameter.ty));
+        push_words(text, &[mark, parameter.name.as_str(), ": ", ty])?;
+    }
+    match function.result {
+        Some(ty) => push_words(text, &[") -> ", types.spelling(Some(ty))]),
+        None => text.push(')'),
+    }
+}
+
 /// A function as WIT spells it.
 pub fn signature_of(
     alloc: Global,
     types: &Types<'_>,
     function: &Function,
 ) -> Result<String, AllocError> {
-    let mut text = format!(in alloc; "{}: func(", function.name.as_str())?;
-    for (index, parameter) in function.params.as_slice().iter().enumerate() {
-        text.push_str(if index == 0 { "" } else { ", " })?;
-        let ty = types.spelling(Some(parameter.ty));
-        write!(text, "{}: {ty}", parameter.name.as_str())?;
-    }
-    match function.result {
-        Some(ty) => write!(text, ") -> {}", types.spelling(Some(ty)))?,
-        None => text.push(')')?,
-    }
+    let mut text = String::new(alloc);
+    push_signature(&mut text, types, function)?;
     Ok(text)
 }
 
@@ -99,21 +122,29 @@ fn put_signature(
     header.put_comment(key.as_str(), signature.as_str())
 }
 
-/// Writes the name of a function.
-fn put_name(header: &mut Header<'_>, stem: &str, name: &str) -> Result<(), AllocError> {
-    let constant = format!(in header.alloc; "{stem}_name")?;
-    let constant = header.take_constant(constant.as_str())?;
-    writeln!(header.text, "#define {} \"{name}\"", constant.as_str())?;
-    Ok(())
+/// Takes the name of a constant, which consists of these words.
+fn take_constant(header: &mut Header<'_>, words: &[&str]) -> Result<String, AllocError> {
+    let name = words.concat(header.alloc)?;
+    header.take_constant(name.as_str())
 }
 
-/// Takes a name. It has a short one if it is written.
+/// Writes the name of a function.
+fn put_name(header: &mut Header<'_>, stem: &str, name: &str) -> Result<(), AllocError> {
+    let constant = take_constant(header, &[stem, "_name"])?;
+    push_words(
+        &mut header.text,
+        &["#define ", constant.as_str(), " \"", name, "\"\n"],
+    )
+}
+
+/// Takes a name, which consists of these words. It has a short one if it is written.
 fn take_if(
     header: &mut Header<'_>,
     is_written: bool,
     kind: NameKind,
-    name: String,
+    words: &[&str],
 ) -> Result<String, AllocError> {
+    let name = words.concat(header.alloc)?;
     if is_written {
         header.take_own(kind, name)
     } else {
@@ -129,15 +160,13 @@ pub fn put_parameters(
     is_written: bool,
 ) -> Result<Row, AllocError> {
     let alloc = header.alloc;
-    let parts = parameter_parts(alloc, called.function.params.as_slice())?;
-    let name = format!(in alloc; "{stem}_parameters")?;
     let row = Row {
         end: called.ty,
         spelling: String::new(alloc),
-        c: take_if(header, is_written, NameKind::Type, name)?,
+        c: take_if(header, is_written, NameKind::Type, &[stem, "_parameters"])?,
         key: String::new(alloc),
         form: Form::Record,
-        parts,
+        parts: parameter_parts(alloc, called.function.params.as_slice())?,
     };
     if is_written {
         header.put_struct(called.ty, &row)?;
@@ -145,35 +174,22 @@ pub fn put_parameters(
     Ok(row)
 }
 
-/// Takes the name of a function in C that is made for a function, and that ends so.
-fn take_function(
-    header: &mut Header<'_>,
-    is_written: bool,
-    stem: &str,
-    word: &str,
-) -> Result<String, AllocError> {
-    let name = format!(in header.alloc; "{stem}_{word}")?;
-    take_if(header, is_written, NameKind::Function, name)
-}
-
 /// Takes the names of what is made for a function.
-fn names_of(
+fn take_names(
     header: &mut Header<'_>,
     stem: &str,
     function: &Function,
-) -> Result<CallNames, AllocError> {
+    names: &mut CallNames,
+) -> Result<(), AllocError> {
+    let kind = NameKind::Function;
     let has_parameters = !function.params.as_slice().is_empty();
     let has_result = function.result.is_some();
-    let fill = take_function(header, true, stem, "fill")?;
-    let read = take_function(header, has_result, stem, "read")?;
-    let count = format!(in header.alloc; "{stem}_flats")?;
-    Ok(CallNames {
-        fill,
-        read,
-        count: header.take_constant(count.as_str())?,
-        receive: take_function(header, has_parameters, stem, "receive")?,
-        answer: take_function(header, has_result, stem, "answer")?,
-    })
+    names.fill = take_if(header, true, kind, &[stem, "_fill"])?;
+    names.read = take_if(header, has_result, kind, &[stem, "_read"])?;
+    names.count = take_constant(header, &[stem, "_flats"])?;
+    names.receive = take_if(header, has_parameters, kind, &[stem, "_receive"])?;
+    names.answer = take_if(header, has_result, kind, &[stem, "_answer"])?;
+    Ok(())
 }
 
 /// Writes the parameters of a function, and takes the names of what is made for it.
@@ -183,45 +199,45 @@ fn call_of<'a>(
     called: Called<'a>,
 ) -> Result<Call<'a>, AllocError> {
     let has_parameters = !called.function.params.as_slice().is_empty();
-    let parameters = put_parameters(header, stem, &called, has_parameters)?;
-    let names = names_of(header, stem, called.function)?;
-    Ok(Call {
+    let mut call = Call {
+        parameters: put_parameters(header, stem, &called, has_parameters)?,
+        names: CallNames::new(header.alloc),
         called,
-        parameters,
-        names,
-    })
+    };
+    take_names(header, stem, call.called.function, &mut call.names)?;
+    Ok(call)
+}
+
+/// Writes a number as a constant, whose name consists of these words.
+fn put_number(header: &mut Header<'_>, words: &[&str], number: u32) -> Result<(), AllocError> {
+    let name = take_constant(header, words)?;
+    writeln!(header.text, "#define {} {number}", name.as_str())
 }
 
 /// Writes the size and the alignment of a block for a value of a type, under names that begin so.
-fn put_block(header: &mut Header<'_>, front: &str, ty: ValType) -> Result<(), AllocError> {
-    let alloc = header.alloc;
-    let size = format!(in alloc; "{front}_size")?;
-    let size = header.take_constant(size.as_str())?;
-    let align = format!(in alloc; "{front}_align")?;
-    let align = header.take_constant(align.as_str())?;
-    let (bytes, alignment) = (header.types.laid.size(ty), header.types.laid.align(ty));
-    writeln!(header.text, "#define {} {bytes}", size.as_str())?;
-    writeln!(header.text, "#define {} {alignment}", align.as_str())?;
-    Ok(())
+fn put_block(
+    header: &mut Header<'_>,
+    stem: &str,
+    word: &str,
+    ty: ValType,
+) -> Result<(), AllocError> {
+    let (size, align) = (header.types.laid.size(ty), header.types.laid.align(ty));
+    put_number(header, &[stem, word, "_size"], size)?;
+    put_number(header, &[stem, word, "_align"], align)
 }
 
 /// Writes the number of core values of a call, and the blocks that it needs.
 fn put_numbers(header: &mut Header<'_>, stem: &str, call: &Call<'_>) -> Result<(), AllocError> {
-    let alloc = header.alloc;
     let (called, count) = (&call.called, call.names.count.as_str());
     let flats = called.passing.lowered.params.len();
     writeln!(header.text, "#define {count} {flats}")?;
     if called.passing.is_spilled {
-        let front = format!(in alloc; "{stem}_parameters")?;
-        put_block(header, front.as_str(), called.ty)?;
+        put_block(header, stem, "_parameters", called.ty)?;
     }
-    if let Some(ty) = called.function.result
-        && called.passing.has_area()
-    {
-        let front = format!(in alloc; "{stem}_area")?;
-        put_block(header, front.as_str(), ty)?;
+    match called.function.result {
+        Some(ty) if called.passing.has_area() => put_block(header, stem, "_area", ty),
+        _ => Ok(()),
     }
-    Ok(())
 }
 
 /// Writes the functions that make the core values of a call and read its result, and those of its callee.
@@ -237,6 +253,13 @@ fn push_call(text: &mut String, types: &Types<'_>, call: &Call<'_>) -> Result<()
     }
 }
 
+/// Writes what is made for a function that is called so.
+fn put_called(header: &mut Header<'_>, stem: &str, called: Called<'_>) -> Result<(), AllocError> {
+    let call = call_of(header, stem, called)?;
+    put_numbers(header, stem, &call)?;
+    push_call(&mut header.text, &header.types, &call)
+}
+
 /// Writes what is made for a function.
 pub fn put_function(
     header: &mut Header<'_>,
@@ -250,7 +273,5 @@ pub fn put_function(
     let stem = scope.name(header.alloc, called.function.name.as_str())?;
     put_signature(header, scope, called.function)?;
     put_name(header, stem.as_str(), called.function.name.as_str())?;
-    let call = call_of(header, stem.as_str(), called)?;
-    put_numbers(header, stem.as_str(), &call)?;
-    push_call(&mut header.text, &header.types, &call)
+    put_called(header, stem.as_str(), called)
 }

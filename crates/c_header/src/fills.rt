@@ -2,6 +2,7 @@
 
 use crate::calls::Call;
 use crate::comments::push_comment;
+use c_types::c_names::push_words;
 use c_types::{Laid, Types};
 use canonical_abi::CoreKind;
 use std::alloc::{AllocError, Global};
@@ -19,37 +20,43 @@ fn push_kinds(text: &mut String, kinds: &[CoreKind]) -> Result<(), AllocError> {
     Ok(())
 }
 
-/// Appends the size and the alignment of a block for a value of a type.
-pub fn push_extent(comment: &mut String, laid: &Laid<'_>, ty: ValType) -> Result<(), AllocError> {
+/// Appends the size and the alignment of a block for a value of a type, after what is said of it.
+pub fn push_extent(
+    comment: &mut String,
+    front: &str,
+    laid: &Laid<'_>,
+    ty: ValType,
+) -> Result<(), AllocError> {
     let (size, align) = (laid.size(ty), laid.align(ty));
-    write!(comment, "{size} bytes and alignment {align}")?;
-    Ok(())
+    write!(comment, "{front}{size} bytes and alignment {align}")
 }
 
-/// What the function does that makes core values, without the blocks that it needs.
-fn made_comment(alloc: Global, call: &Call<'_>) -> Result<String, AllocError> {
-    if call.called.passing.lowered.params.as_slice().is_empty() {
-        return String::from_str(alloc, "A call has no core values");
-    }
-    let count = call.names.count.as_str();
-    format!(in alloc; "Makes the {count} core values of a call")
-}
-
-/// What the function does that makes core values.
-fn fill_comment(alloc: Global, laid: &Laid<'_>, call: &Call<'_>) -> Result<String, AllocError> {
+/// Appends what the function does that makes core values.
+fn push_purpose(comment: &mut String, laid: &Laid<'_>, call: &Call<'_>) -> Result<(), AllocError> {
     let called = &call.called;
-    let mut comment = made_comment(alloc, call)?;
+    if called.passing.lowered.params.as_slice().is_empty() {
+        comment.push_str("A call has no core values")?;
+    } else {
+        let count = call.names.count.as_str();
+        push_words(comment, &["Makes the ", count, " core values of a call"])?;
+    }
     if called.passing.is_spilled {
-        comment.push_str(", whose parameters go to at, a block of the caller's of ")?;
-        push_extent(&mut comment, laid, called.ty)?;
+        let front = ", whose parameters go to at, a block of the caller's of ";
+        push_extent(comment, front, laid, called.ty)?;
     }
     if let Some(ty) = called.function.result
         && called.passing.has_area()
     {
-        comment.push_str(". area is a block of the caller's for the result, of ")?;
-        push_extent(&mut comment, laid, ty)?;
+        let front = ". area is a block of the caller's for the result, of ";
+        push_extent(comment, front, laid, ty)?;
     }
-    comment.push('.')?;
+    comment.push('.')
+}
+
+/// What the function does that makes core values.
+fn fill_comment(alloc: Global, laid: &Laid<'_>, call: &Call<'_>) -> Result<String, AllocError> {
+    let mut comment = String::new(alloc);
+    push_purpose(&mut comment, laid, call)?;
     Ok(comment)
 }
 
@@ -59,8 +66,10 @@ fn push_parameters(text: &mut String, call: &Call<'_>) -> Result<(), AllocError>
         text.push_str(", uint8_t *memory, uint32_t at")?;
     }
     if !call.parameters.parts.is_empty() {
-        let c = call.parameters.c.as_str();
-        write!(text, ", const {c} *parameters")?;
+        push_words(
+            text,
+            &[", const ", call.parameters.c.as_str(), " *parameters"],
+        )?;
     }
     if call.called.passing.has_area() {
         text.push_str(", uint32_t area")?;
@@ -71,7 +80,10 @@ fn push_parameters(text: &mut String, call: &Call<'_>) -> Result<(), AllocError>
 /// Writes the head of the function that makes core values.
 fn push_head(text: &mut String, call: &Call<'_>) -> Result<(), AllocError> {
     let fill = call.names.fill.as_str();
-    write!(text, "static inline void {fill}(witcall_value *flats")?;
+    push_words(
+        text,
+        &["static inline void ", fill, "(witcall_value *flats"],
+    )?;
     push_parameters(text, call)?;
     text.push_str(") {\n    wit_begin(flats, \"")?;
     push_kinds(text, call.called.passing.lowered.params.as_slice())?;

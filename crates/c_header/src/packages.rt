@@ -6,10 +6,10 @@ use crate::prefixes::{prefix_of, stems_of};
 use atoms::{KeyedState, Label, NameKey};
 use c_declarations::{Header, Includer, Purpose, Scope};
 use c_types::Laid;
-use c_types::c_names::{c_word, text_constant};
+use c_types::c_names::{c_word, push_words, text_constant};
 use std::alloc::{AllocError, Global};
 use std::fmt::Write;
-use tables::{FunctionId, Interface, PackageName};
+use tables::{Interface, PackageName};
 use wit_comments::Comments;
 
 /// What the texts of packages say.
@@ -45,24 +45,15 @@ pub fn scope_of(
     })
 }
 
-fn put_functions(
-    header: &mut Header<'_>,
-    scope: &Scope,
-    ids: &[FunctionId],
-) -> Result<(), AllocError> {
-    for id in ids {
-        put_function(header, scope, *id)?;
-    }
-    Ok(())
-}
-
 /// Writes the full name of an interface as a constant.
 fn put_full_name(header: &mut Header<'_>, scope: &Scope) -> Result<(), AllocError> {
-    let constant = format!(in header.alloc; "{}_interface", scope.prefix.as_str())?;
+    let constant = [scope.prefix.as_str(), "_interface"].concat(header.alloc)?;
     let constant = header.take_constant(constant.as_str())?;
-    let (constant, full_name) = (constant.as_str(), scope.full_name.as_str());
-    writeln!(header.text, "#define {constant} \"{full_name}\"")?;
-    Ok(())
+    let full_name = scope.full_name.as_str();
+    push_words(
+        &mut header.text,
+        &["#define ", constant.as_str(), " \"", full_name, "\"\n"],
+    )
 }
 
 /// Writes what an interface has.
@@ -74,7 +65,21 @@ fn put_entries(
     put_full_name(header, scope)?;
     header.put_types(scope, interface.uses.as_slice())?;
     header.put_types(scope, interface.types.as_slice())?;
-    put_functions(header, scope, interface.functions.as_slice())
+    for id in interface.functions.as_slice() {
+        put_function(header, scope, *id)?;
+    }
+    Ok(())
+}
+
+/// Writes a text, so that it takes effect once: it is guarded by a name of these two words.
+pub fn put_guarded(
+    header: &mut Header<'_>,
+    front: &str,
+    name: &str,
+    own: &str,
+) -> Result<(), AllocError> {
+    let guard = [front, name].concat(header.alloc)?;
+    header.put_guarded(guard.as_str(), own)
 }
 
 /// Writes an interface.
@@ -89,8 +94,12 @@ fn put_interface(
     let last = format!(in header.alloc; "---- {}", scope.full_name.as_str())?;
     header.put_comment(scope.full_name.as_str(), last.as_str())?;
     header.text.push('\n')?;
-    let guard = format!(in header.alloc; "wit_interface_{}", scope.prefix.as_str())?;
-    header.put_guarded(guard.as_str(), own.as_str())
+    put_guarded(
+        header,
+        "wit_interface_",
+        scope.prefix.as_str(),
+        own.as_str(),
+    )
 }
 
 /// Writes the interfaces of the package of this number.
@@ -120,8 +129,7 @@ fn put_text(
     let constant = header.names.take(format!(in alloc; "{prefix}_text")?)?;
     write!(header.text, "\n/* The package {package}. */\n")?;
     let own = text_constant(alloc, constant.as_str(), text)?;
-    let guard = format!(in alloc; "wit_package_{prefix}")?;
-    header.put_guarded(guard.as_str(), own.as_str())
+    put_guarded(header, "wit_package_", prefix, own.as_str())
 }
 
 /// Writes the packages that have these texts.
@@ -149,26 +157,20 @@ pub fn put_short_names(header: &mut Header<'_>) -> Result<(), AllocError> {
     header.text.push_str("#endif /* WIT_SHORT_NAMES */\n")
 }
 
-/// Takes the guard of a header that is called by this package.
-fn take_guard(
-    header: &mut Header<'_>,
-    stems: &[String],
-    main: &PackageName,
-) -> Result<String, AllocError> {
-    let prefix = prefix_of(header.alloc, stems, main)?;
-    let guard = format!(in header.alloc; "wit_{}_h", prefix.as_str())?;
+/// Takes the guard of a header that is called by what has this prefix.
+pub fn take_guard(header: &mut Header<'_>, prefix: &str) -> Result<String, AllocError> {
+    let guard = format!(in header.alloc; "wit_{prefix}_h")?;
     header.take_upper(guard.as_str())
 }
 
-/// Writes a header that is called by this package.
+/// Writes a header that is called by this package and has this guard.
 fn put_header(
     header: &mut Header<'_>,
-    stems: &[String],
-    texts: &[String],
+    packages: (&[String], &[String]),
     main: &PackageName,
+    guard: &str,
 ) -> Result<(), AllocError> {
-    let guard = take_guard(header, stems, main)?;
-    let guard = guard.as_str();
+    let (stems, texts) = packages;
     writeln!(
         header.text,
         "/* {main} for C and C++ hosts of witcall, by wit-explain bind c. Do not edit. */"
@@ -176,8 +178,19 @@ fn put_header(
     write!(header.text, "#ifndef {guard}\n#define {guard}\n\n{COMMON}")?;
     put_packages(header, stems, texts)?;
     put_short_names(header)?;
-    write!(header.text, "\n#endif /* {guard} */\n")?;
-    Ok(())
+    push_words(&mut header.text, &["\n#endif /* ", guard, " */\n"])
+}
+
+/// Writes a header that is called by this package.
+fn put_main(
+    header: &mut Header<'_>,
+    stems: &[String],
+    texts: &[String],
+    main: &PackageName,
+) -> Result<(), AllocError> {
+    let prefix = prefix_of(header.alloc, stems, main)?;
+    let guard = take_guard(header, prefix.as_str())?;
+    put_header(header, (stems, texts), main, guard.as_str())
 }
 
 /// The header of packages that have these texts, each package after those that it uses. It is called by the
@@ -197,7 +210,7 @@ pub fn header_of(
     let texts = texts.canonical;
     let mut header = Header::new(alloc, laid, keyed_by(texts), purpose)?;
     if let Some(main) = packages.get(main) {
-        put_header(&mut header, stems.as_slice(), texts, main)?;
+        put_main(&mut header, stems.as_slice(), texts, main)?;
     }
     Ok(header.text)
 }

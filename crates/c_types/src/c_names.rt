@@ -14,5 +14,4 @@ pub use keys::short_key;
 pub use names::Names;
 pub use short_names::{NameKind, ShortNames};
 pub use texts::text_constant;
-pub(crate) use words::push_words;
-pub use words::{c_label, c_word};
+pub use words::{c_label, c_word, push_words};

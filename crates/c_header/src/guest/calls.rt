@@ -1,12 +1,12 @@
 //! A function of a world, and what its import and its export have in common.
 
-use crate::calls::{Called, signature_of};
+use crate::calls::{Called, put_parameters, signature_of};
 use crate::guest::places::Place;
 use c_declarations::Header;
+use c_types::c_names::{NameKind, push_words};
 use c_types::{Part, Row, Types};
 use canonical_abi::CoreKind;
 use std::alloc::AllocError;
-use std::fmt::Write;
 use tables::{Direction, Function};
 
 /// A function of a world, and the names of what is made for it.
@@ -19,6 +19,8 @@ pub struct GuestCall<'a> {
     pub name: String,
     /// The function of core values.
     pub core: String,
+    /// What the names begin with.
+    pub stem: String,
 }
 
 impl<'a> GuestCall<'a> {
@@ -30,6 +32,25 @@ impl<'a> GuestCall<'a> {
             self.called.passing.returned
         }
     }
+}
+
+/// Takes the names of what is made for a function: that of core values and that of values begin so.
+pub fn guest_call_of<'a>(
+    header: &mut Header<'_>,
+    place: &Place,
+    fronts: [&str; 2],
+    called: Called<'a>,
+) -> Result<GuestCall<'a>, AllocError> {
+    let (alloc, [core, name]) = (header.alloc, fronts);
+    let stem = place.scope.name(alloc, called.function.name.as_str())?;
+    let is_spilled = called.passing.is_spilled;
+    Ok(GuestCall {
+        parameters: put_parameters(header, stem.as_str(), &called, is_spilled)?,
+        core: header.names.take([core, stem.as_str()].concat(alloc)?)?,
+        name: header.take_own(NameKind::Function, [name, stem.as_str()].concat(alloc)?)?,
+        stem,
+        called,
+    })
 }
 
 /// A core value in C.
@@ -78,10 +99,10 @@ pub fn put_heading(
     direction: Direction,
 ) -> Result<(), AllocError> {
     let (alloc, full_name) = (header.alloc, place.scope.full_name.as_str());
-    let (before, name) = (word_before(place, direction), function.name.as_str());
-    let key = format!(in alloc; "{full_name} {before}{name}")?;
     let signature = signature_of(alloc, &header.types, function)?;
     let last = format!(in alloc; "{full_name} {}", signature.as_str())?;
+    let (before, name) = (word_before(place, direction), function.name.as_str());
+    let key = format!(in alloc; "{full_name} {before}{name}")?;
     header.put_comment(key.as_str(), last.as_str())
 }
 
@@ -96,8 +117,8 @@ fn push_parameters(
     }
     for (index, part) in parameters.iter().enumerate() {
         if let Some(ty) = part.ty {
-            let (c, label) = (types.c(ty), part.label.as_str());
-            write!(text, "{}{c} in_{label}", comma(index))?;
+            text.push_str(comma(index))?;
+            push_words(text, &[types.c(ty), " in_", part.label.as_str()])?;
         }
     }
     Ok(())
@@ -113,7 +134,7 @@ pub fn push_value_head(
         Some(ty) => types.c(ty),
         None => "void",
     };
-    write!(text, "{c} {}(", call.name.as_str())?;
+    push_words(text, &[c, " ", call.name.as_str(), "("])?;
     push_parameters(text, types, call.parameters.parts.as_slice())?;
-    text.push_str(")")
+    text.push(')')
 }

@@ -1,14 +1,15 @@
 //! A function that a guest exports: the function of values that the guest defines, and the export of core values that
 //! calls it.
 
-use crate::calls::{Called, called_of, put_parameters};
+use crate::calls::{Called, called_of};
 use crate::guest::calls::{
-    GuestCall, comma, core_type, push_value_head, put_heading, reader_of, returned_type,
+    GuestCall, comma, core_type, guest_call_of, push_value_head, put_heading, reader_of,
+    returned_type,
 };
 use crate::guest::places::Place;
 use c_declarations::Header;
 use c_types::Types;
-use c_types::c_names::NameKind;
+use c_types::c_names::push_words;
 use std::alloc::AllocError;
 use std::fmt::Write;
 use tables::{Direction, FunctionId};
@@ -26,16 +27,32 @@ fn push_core_parameters(text: &mut String, call: &GuestCall<'_>) -> Result<(), A
     Ok(())
 }
 
+/// Writes that a function is exported under a name that consists of these words.
+fn push_export_name(
+    text: &mut String,
+    before: &str,
+    front: &str,
+    name: &str,
+) -> Result<(), AllocError> {
+    push_words(
+        text,
+        &[
+            "\n__attribute__((export_name(\"",
+            before,
+            front,
+            name,
+            "\")))\n",
+        ],
+    )
+}
+
 /// Writes the head of the export of core values.
 fn push_head(text: &mut String, place: &Place, call: &GuestCall<'_>) -> Result<(), AllocError> {
     let (front, name) = (place.front.as_str(), call.called.function.name.as_str());
-    writeln!(text, "\n__attribute__((export_name(\"{front}{name}\")))")?;
-    write!(
-        text,
-        "{} {}(",
-        returned_type(call.called.passing.returned),
-        call.core.as_str()
-    )?;
+    let returned = returned_type(call.called.passing.returned);
+    push_export_name(text, "", front, name)?;
+    text.push_str(returned)?;
+    push_words(text, &[" ", call.core.as_str(), "("])?;
     push_core_parameters(text, call)?;
     text.push_str(") {\n")
 }
@@ -54,8 +71,7 @@ fn push_value(
     } else {
         ""
     };
-    writeln!(text, "    {storage}{} value;", types.c(ty))?;
-    Ok(())
+    push_words(text, &["    ", storage, types.c(ty), " value;\n"])
 }
 
 /// Writes the core values of the parameters, which have room for that of the result.
@@ -87,16 +103,17 @@ fn push_parameters(
 ) -> Result<(), AllocError> {
     if call.called.passing.is_spilled {
         let c = call.parameters.c.as_str();
-        writeln!(
-            text,
-            "    const {c} *parameters = (const {c} *)(uintptr_t)flat0;"
-        )?;
-        return Ok(());
+        let words = ["    const ", c, " *parameters = (const ", c];
+        push_words(text, &words)?;
+        return text.push_str(" *)(uintptr_t)flat0;\n");
     }
     let parts = call.parameters.parts.as_slice();
     for part in parts {
         if let Some(ty) = part.ty {
-            writeln!(text, "    {} in_{};", types.c(ty), part.label.as_str())?;
+            push_words(
+                text,
+                &["    ", types.c(ty), " in_", part.label.as_str(), ";\n"],
+            )?;
         }
     }
     types.push_received(text, "in_", parts)
@@ -104,11 +121,10 @@ fn push_parameters(
 
 /// Writes the call of what the guest defines.
 fn push_value_call(text: &mut String, call: &GuestCall<'_>) -> Result<(), AllocError> {
+    let is_kept = call.called.function.result.is_some();
     text.push_str("    wit_enter();\n    ")?;
-    if call.called.function.result.is_some() {
-        text.push_str("value = ")?;
-    }
-    write!(text, "{}(", call.name.as_str())?;
+    text.push_str(if is_kept { "value = " } else { "" })?;
+    push_words(text, &[call.name.as_str(), "("])?;
     let front = if call.called.passing.is_spilled {
         "parameters->"
     } else {
@@ -132,7 +148,7 @@ fn push_returned(
     text.push_str("    wit_leave();\n")?;
     if let (Some(ty), Some(kind)) = (call.called.function.result, call.one()) {
         types.push_answered(text, ty)?;
-        writeln!(text, "    return {}(&flats[0]);", reader_of(kind))?;
+        push_words(text, &["    return ", reader_of(kind), "(&flats[0]);\n"])?;
     }
     Ok(())
 }
@@ -153,38 +169,32 @@ fn push_export(
     text.push_str("}\n")
 }
 
-/// Writes what the host calls when it has read a result in memory.
-fn push_post(
-    text: &mut String,
+/// Writes what the host calls when it has read the result of a function, if it is in memory.
+fn put_post(
+    header: &mut Header<'_>,
+    bodies: &mut String,
     place: &Place,
     call: &GuestCall<'_>,
-    post: &str,
 ) -> Result<(), AllocError> {
+    if !call.called.passing.has_area() {
+        return Ok(());
+    }
+    let post = format!(in header.alloc; "wit_post_{}", call.stem.as_str())?;
+    let post = header.names.take(post)?;
     let (front, name) = (place.front.as_str(), call.called.function.name.as_str());
-    writeln!(
-        text,
-        "\n__attribute__((export_name(\"cabi_post_{front}{name}\")))"
-    )?;
-    writeln!(text, "void {post}(uint32_t value) {{")?;
-    text.push_str("    (void)value;\n    wit_leave();\n}\n")
+    push_export_name(bodies, "cabi_post_", front, name)?;
+    push_words(bodies, &["void ", post.as_str(), "(uint32_t value) {\n"])?;
+    bodies.push_str("    (void)value;\n    wit_leave();\n}\n")
 }
 
 /// Writes the declaration of a function that the guest defines, and takes the names of what is made for it.
 fn put_prototype<'a>(
     header: &mut Header<'_>,
     place: &Place,
-    stem: &str,
     called: Called<'a>,
 ) -> Result<GuestCall<'a>, AllocError> {
-    let alloc = header.alloc;
     put_heading(header, place, called.function, Direction::Export)?;
-    let is_spilled = called.passing.is_spilled;
-    let call = GuestCall {
-        parameters: put_parameters(header, stem, &called, is_spilled)?,
-        core: header.names.take(format!(in alloc; "wit_export_{stem}")?)?,
-        name: header.take_own(NameKind::Function, format!(in alloc; "exports_{stem}")?)?,
-        called,
-    };
+    let call = guest_call_of(header, place, ["wit_export_", "exports_"], called)?;
     push_value_head(&mut header.text, &header.types, &call)?;
     header.text.push_str(";\n")?;
     Ok(call)
@@ -201,15 +211,7 @@ pub fn put_export(
         return Ok(());
     };
     header.put_inners(id.0)?;
-    let stem = place
-        .scope
-        .name(header.alloc, called.function.name.as_str())?;
-    let call = put_prototype(header, place, stem.as_str(), called)?;
+    let call = put_prototype(header, place, called)?;
     push_export(bodies, &header.types, place, &call)?;
-    if call.called.passing.has_area() {
-        let post = format!(in header.alloc; "wit_post_{}", stem.as_str())?;
-        let post = header.names.take(post)?;
-        push_post(bodies, place, &call, post.as_str())?;
-    }
-    Ok(())
+    put_post(header, bodies, place, &call)
 }

@@ -1,13 +1,14 @@
 //! A function that a guest imports: the import of core values, and the function of values that calls it.
 
-use crate::calls::{called_of, put_parameters};
+use crate::calls::called_of;
 use crate::guest::calls::{
-    GuestCall, comma, core_type, push_value_head, put_heading, reader_of, returned_type,
+    GuestCall, comma, core_type, guest_call_of, push_value_head, put_heading, reader_of,
+    returned_type,
 };
 use crate::guest::places::Place;
 use c_declarations::Header;
 use c_types::Types;
-use c_types::c_names::NameKind;
+use c_types::c_names::push_words;
 use canonical_abi::CoreKind;
 use std::alloc::AllocError;
 use std::fmt::Write;
@@ -19,7 +20,7 @@ fn push_core_types(text: &mut String, kinds: &[CoreKind]) -> Result<(), AllocErr
         return text.push_str("void");
     }
     for (index, kind) in kinds.iter().enumerate() {
-        write!(text, "{}{}", comma(index), core_type(*kind))?;
+        push_words(text, &[comma(index), core_type(*kind)])?;
     }
     Ok(())
 }
@@ -27,16 +28,11 @@ fn push_core_types(text: &mut String, kinds: &[CoreKind]) -> Result<(), AllocErr
 /// Writes the import of core values.
 fn push_core(text: &mut String, place: &Place, call: &GuestCall<'_>) -> Result<(), AllocError> {
     let (module, name) = (place.module.as_str(), call.called.function.name.as_str());
-    writeln!(
-        text,
-        "__attribute__((import_module(\"{module}\"), import_name(\"{name}\")))"
-    )?;
-    write!(
-        text,
-        "{} {}(",
-        returned_type(call.one()),
-        call.core.as_str()
-    )?;
+    push_words(text, &["__attribute__((import_module(\"", module, "\"), "])?;
+    push_words(text, &["import_name(\"", name, "\")))\n"])?;
+    let returned = returned_type(call.one());
+    text.push_str(returned)?;
+    push_words(text, &[" ", call.core.as_str(), "("])?;
     push_core_types(text, call.called.passing.lowered.params.as_slice())?;
     text.push_str(");\n")
 }
@@ -52,24 +48,18 @@ fn push_variables(
         writeln!(text, "    wit_flat flats[{count}] = {{0}};")?;
     }
     if call.called.passing.is_spilled {
-        writeln!(text, "    {} parameters;", call.parameters.c.as_str())?;
+        push_words(
+            text,
+            &["    ", call.parameters.c.as_str(), " parameters;\n"],
+        )?;
     }
     if call.one().is_some() {
         text.push_str("    wit_flat back[1];\n")?;
     }
     if let Some(ty) = call.called.function.result {
-        writeln!(text, "    {} value;", types.c(ty))?;
+        push_words(text, &["    ", types.c(ty), " value;\n"])?;
     }
     Ok(())
-}
-
-/// Writes how the record of the parameters is made, whose address is the one core value.
-fn push_record(text: &mut String, call: &GuestCall<'_>) -> Result<(), AllocError> {
-    for part in &call.parameters.parts {
-        let label = part.label.as_str();
-        writeln!(text, "    parameters.{label} = in_{label};")?;
-    }
-    text.push_str("    wit_put(flats, 0, (uintptr_t)&parameters);\n")
 }
 
 /// Writes how the core values are made.
@@ -80,7 +70,11 @@ fn push_flats(
 ) -> Result<(), AllocError> {
     let passing = &call.called.passing;
     if passing.is_spilled {
-        push_record(text, call)?;
+        for part in &call.parameters.parts {
+            let label = part.label.as_str();
+            push_words(text, &["    parameters.", label, " = in_", label, ";\n"])?;
+        }
+        text.push_str("    wit_put(flats, 0, (uintptr_t)&parameters);\n")?;
     } else {
         types.push_flats(text, "in_", call.parameters.parts.as_slice())?;
     }
@@ -96,11 +90,9 @@ fn push_flats(
 
 /// Writes the call of the import of core values.
 fn push_core_call(text: &mut String, call: &GuestCall<'_>) -> Result<(), AllocError> {
-    text.push_str("    ")?;
-    if call.one().is_some() {
-        text.push_str("back[0] = ")?;
-    }
-    write!(text, "{}(", call.core.as_str())?;
+    let is_kept = call.one().is_some();
+    text.push_str(if is_kept { "    back[0] = " } else { "    " })?;
+    push_words(text, &[call.core.as_str(), "("])?;
     let kinds = call.called.passing.lowered.params.as_slice();
     for (index, kind) in kinds.iter().enumerate() {
         write!(
@@ -153,19 +145,9 @@ pub fn put_import(
     let Some(called) = called_of(&header.types.laid, id) else {
         return Ok(());
     };
-    let alloc = header.alloc;
     header.put_inners(id.0)?;
     put_heading(header, place, called.function, Direction::Import)?;
-    let stem = place.scope.name(alloc, called.function.name.as_str())?;
-    let is_spilled = called.passing.is_spilled;
-    let call = GuestCall {
-        parameters: put_parameters(header, stem.as_str(), &called, is_spilled)?,
-        core: header
-            .names
-            .take(format!(in alloc; "wit_import_{}", stem.as_str())?)?,
-        name: header.take_own(NameKind::Function, stem)?,
-        called,
-    };
+    let call = guest_call_of(header, place, ["wit_import_", ""], called)?;
     push_core(&mut header.text, place, &call)?;
     push_value(&mut header.text, &header.types, &call)
 }

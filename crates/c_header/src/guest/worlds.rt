@@ -4,10 +4,11 @@ use crate::guest::common::{COMMON, END, IMPLEMENTATION};
 use crate::guest::exports::put_export;
 use crate::guest::imports::put_import;
 use crate::guest::places::{Place, place_of_interface, place_of_world};
-use crate::packages::{Texts, keyed_by, put_short_names};
+use crate::packages::{Texts, keyed_by, put_guarded, put_short_names, take_guard};
 use crate::prefixes::stems_of;
 use c_declarations::{Header, Includer, Purpose, Scope, needs_of};
 use c_types::Laid;
+use c_types::c_names::push_words;
 use std::alloc::{AllocError, Global};
 use std::fmt::Write;
 use tables::{Direction, FunctionId, Interface, InterfaceId, World, WorldItem, WorldItemKind};
@@ -34,10 +35,9 @@ impl<'a> Guest<'a> {
             return Ok(());
         }
         let full_name = scope.full_name.as_str();
-        let text = &mut self.header.text;
-        write!(text, "\n/* ---- {full_name} */\n\n")?;
-        let guard = format!(in self.header.alloc; "wit_interface_{}", scope.prefix.as_str())?;
-        self.header.put_guarded(guard.as_str(), own.as_str())
+        push_words(&mut self.header.text, &["\n/* ---- ", full_name, " */\n\n"])?;
+        let prefix = scope.prefix.as_str();
+        put_guarded(&mut self.header, "wit_interface_", prefix, own.as_str())
     }
 
     /// Writes the types of an interface, with the short names of its package.
@@ -130,9 +130,10 @@ impl<'a> Guest<'a> {
         if own.as_str().is_empty() {
             return Ok(());
         }
-        let text = &mut self.header.text;
-        write!(text, "\n/* ---- {title} */\n")?;
-        text.push_str(own.as_str())
+        push_words(
+            &mut self.header.text,
+            &["\n/* ---- ", title, " */\n", own.as_str()],
+        )
     }
 
     /// Writes the functions of the world of this scope.
@@ -155,8 +156,7 @@ impl<'a> Guest<'a> {
     /// Writes the header of the world of this place.
     fn put_header(&mut self, place: &Place) -> Result<(), AllocError> {
         let scope = &place.scope;
-        let guard = format!(in self.header.alloc; "wit_{}_h", scope.prefix.as_str())?;
-        let guard = self.header.take_upper(guard.as_str())?;
+        let guard = take_guard(&mut self.header, scope.prefix.as_str())?;
         let (guard, full_name) = (guard.as_str(), scope.full_name.as_str());
         let text = &mut self.header.text;
         writeln!(
@@ -168,9 +168,7 @@ impl<'a> Guest<'a> {
         self.put_directions(scope)?;
         self.put_implementation()?;
         put_short_names(&mut self.header)?;
-        let text = &mut self.header.text;
-        write!(text, "\n#endif /* {guard} */\n")?;
-        Ok(())
+        push_words(&mut self.header.text, &["\n#endif /* ", guard, " */\n"])
     }
 }
 

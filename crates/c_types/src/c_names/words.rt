@@ -16,7 +16,7 @@ union unix unsigned using virtual void volatile wchar_t while xor xor_eq
 ";
 
 /// Appends words.
-pub(crate) fn push_words(text: &mut String, words: &[&str]) -> Result<(), AllocError> {
+pub fn push_words(text: &mut String, words: &[&str]) -> Result<(), AllocError> {
     for word in words {
         text.push_str(word)?;
     }
