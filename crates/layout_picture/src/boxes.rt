@@ -57,51 +57,74 @@ fn push_piece(alloc: Global, text: &mut String, piece: &Piece<'_>) -> Result<(),
     push_times(text, ' ', room.saturating_sub(used).saturating_sub(1))
 }
 
-/// The line of a row.
-fn line_of(alloc: Global, row: &Row<'_>) -> Result<Line, AllocError> {
-    let mut line = Line::empty(alloc);
-    let offset = row.offset;
-    write!(line.margin, "{offset:>8}")?;
-    line.text.push('│')?;
-    for piece in &row.pieces {
-        if !piece.is_last {
-            line.opens = (piece.column as usize).saturating_mul(BYTE);
-        }
-        if !piece.is_first {
-            line.closes = (piece.size as usize).saturating_mul(BYTE);
-        }
-        push_piece(alloc, &mut line.text, piece)?;
-        line.text.push('│')?;
+/// Appends the pieces of a row.
+fn push_pieces(alloc: Global, text: &mut String, pieces: &[Piece<'_>]) -> Result<(), AllocError> {
+    text.push('│')?;
+    for piece in pieces {
+        push_piece(alloc, text, piece)?;
+        text.push('│')?;
     }
-    Ok(line)
+    Ok(())
 }
 
-/// The line in place of bytes that are left out.
-fn gap_of(alloc: Global, skipped: u32) -> Result<Line, AllocError> {
-    let width = (ROW as usize).saturating_mul(BYTE);
-    let words = format!(in alloc; " .. {skipped} bytes are left out")?;
+impl Line {
+    /// Notes which of its cells go on from the line before or in the next line.
+    fn join(&mut self, pieces: &[Piece<'_>]) {
+        for piece in pieces {
+            if !piece.is_last {
+                self.opens = (piece.column as usize).saturating_mul(BYTE);
+            }
+            if !piece.is_first {
+                self.closes = (piece.size as usize).saturating_mul(BYTE);
+            }
+        }
+    }
+}
+
+/// Adds the line of a row. This word is before the line above it.
+fn push_line(
+    alloc: Global,
+    lines: &mut Vec<Line>,
+    before: &'static str,
+    row: &Row<'_>,
+) -> Result<(), AllocError> {
     let mut line = Line::empty(alloc);
-    write!(line.text, "│{}", words.as_str())?;
-    let used = words.len().saturating_add(1);
-    push_times(&mut line.text, ' ', width.saturating_sub(used))?;
-    line.text.push('│')?;
+    line.before = before;
+    line.join(row.pieces.as_slice());
+    line.margin = format!(in alloc; "{:>8}", row.offset)?;
+    push_pieces(alloc, &mut line.text, row.pieces.as_slice())?;
+    lines.push(line)?;
+    Ok(())
+}
+
+/// Appends what is told in place of bytes that are left out, in a line of this width.
+fn push_gap_text(text: &mut String, skipped: u32, width: usize) -> Result<(), AllocError> {
+    write!(text, "│ .. {skipped} bytes are left out")?;
+    let used = text.as_str().chars().count();
+    push_times(text, ' ', width.saturating_sub(used))?;
+    text.push('│')
+}
+
+/// Adds the line in place of bytes that are left out after a row, if there are some.
+fn push_gap(alloc: Global, lines: &mut Vec<Line>, skipped: u32) -> Result<(), AllocError> {
+    if skipped == 0 {
+        return Ok(());
+    }
+    let width = (ROW as usize).saturating_mul(BYTE);
+    let mut line = Line::empty(alloc);
     line.opens = 0;
     line.closes = width;
-    Ok(line)
+    push_gap_text(&mut line.text, skipped, width)?;
+    lines.push(line)?;
+    Ok(())
 }
 
 /// Adds the lines of a lane.
 fn push_lane(alloc: Global, lines: &mut Vec<Line>, lane: &Lane) -> Result<(), AllocError> {
-    let is_other = lines.len() > 1;
+    let first = if lines.len() > 1 { "or" } else { "" };
     for (index, row) in rows_of(alloc, lane, ROW)?.iter().enumerate() {
-        let mut line = line_of(alloc, row)?;
-        if index == 0 && is_other {
-            line.before = "or";
-        }
-        lines.push(line)?;
-        if row.skipped > 0 {
-            lines.push(gap_of(alloc, row.skipped)?)?;
-        }
+        push_line(alloc, lines, if index == 0 { first } else { "" }, row)?;
+        push_gap(alloc, lines, row.skipped)?;
     }
     Ok(())
 }
@@ -157,8 +180,31 @@ fn push_ruler(out: &mut String, size: u32) -> Result<(), AllocError> {
 fn push_note(out: &mut String, note: &Note) -> Result<(), AllocError> {
     let text = note.text.as_str();
     match note.offset {
-        Some(offset) => writeln!(out, "{offset:>8} {text}")?,
-        None => writeln!(out, "         {text}")?,
+        Some(offset) => writeln!(out, "{offset:>8} {text}"),
+        None => writeln!(out, "         {text}"),
+    }
+}
+
+/// Adds the lines of these lanes, between two empty ones.
+fn push_lanes(alloc: Global, lines: &mut Vec<Line>, lanes: &[Lane]) -> Result<(), AllocError> {
+    lines.push(Line::empty(alloc))?;
+    for lane in lanes {
+        push_lane(alloc, lines, lane)?;
+    }
+    lines.push(Line::empty(alloc))?;
+    Ok(())
+}
+
+/// Appends these lines, and what is between each two.
+fn push_lines(out: &mut String, lines: &[Line]) -> Result<(), AllocError> {
+    for pair in lines.windows(2) {
+        let [above, below] = pair else {
+            continue;
+        };
+        if !above.text.is_empty() {
+            writeln!(out, "{:>8} {}", above.margin.as_str(), above.text.as_str())?;
+        }
+        push_rule(out, above, below)?;
     }
     Ok(())
 }
@@ -171,22 +217,9 @@ pub fn push_boxes(
     size: u32,
 ) -> Result<(), AllocError> {
     let mut lines = Vec::new(alloc);
-    lines.push(Line::empty(alloc))?;
-    for lane in &diagram.lanes {
-        push_lane(alloc, &mut lines, lane)?;
-    }
-    lines.push(Line::empty(alloc))?;
+    push_lanes(alloc, &mut lines, diagram.lanes.as_slice())?;
     push_ruler(out, size)?;
-    for pair in lines.as_slice().windows(2) {
-        let [above, below] = pair else {
-            continue;
-        };
-        if !above.text.is_empty() {
-            writeln!(out, "{:>8} {}", above.margin.as_str(), above.text.as_str())?;
-        }
-        push_rule(out, above, below)?;
-    }
-    Ok(())
+    push_lines(out, lines.as_slice())
 }
 
 /// Appends the list below boxes.

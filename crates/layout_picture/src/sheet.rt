@@ -9,7 +9,7 @@ use std::fmt::Write;
 use svg_drawing::{Drawing, Ink, Point};
 
 /// How a picture is written.
-#[derive(Clone, Copy, PartialEq, Eq)]
+#[derive(Clone, Copy)]
 pub enum Form {
     /// As lines of characters, for a terminal.
     Boxes,
@@ -18,7 +18,7 @@ pub enum Form {
 }
 
 /// How far a line of text is from the left.
-#[derive(Clone, Copy, PartialEq, Eq)]
+#[derive(Clone, Copy)]
 pub enum Level {
     /// A line about an item.
     First,
