@@ -1,9 +1,9 @@
 //! A host of one package: it calls `upper` over two memories, and prints what is answered. The function's code is a body
 //! of the host, `Upper`.
 
-mod upper;
+mod body;
 
-use crate::letters::upper::Upper;
+use crate::letters::body::Upper;
 use crate::{memory, print};
 use std::alloc::Global;
 use witcall::{JsonError, Package, Refused, Session, Val, ValType, from_json, open};
