@@ -127,7 +127,7 @@ impl<'a, 'b> Asked<'a, 'b> {
             Verb::Layout | Verb::Call => self.words.get(..1),
             _ => Some(self.words),
         };
-        paths.unwrap_or(&[])
+        paths.unwrap_or(self.words)
     }
 
     /// The first of them.
