@@ -1,0 +1,119 @@
+//! A text that is written from front to end, and keeps the first allocation that is refused up to its end.
+//!
+//! What writes to a `TextBuilder` has no result: once an allocation was refused, nothing more is written, and
+//! `TextBuilder::finish` says so. It stands on no other crate.
+#![tactic(auto)]
+
+ghost use Rattle.std.specs.Prelude.{◌≡◌, ◌++◌, List, ℕ, [], IfOk, IfSome, IsSomeAnd, Option, Some, None};
+ghost use Rattle.std.specs.Prelude.{if◌then◌else◌, string_bytes, flat_map, IsSome};
+
+use std::alloc::{AllocError, Global};
+use std::fmt::Write;
+use std::marker::Model;
+
+/// A text so far. In clauses it is its bytes, or nothing if an allocation was refused.
+#[derive(Drop)]
+pub struct TextBuilder {
+    alloc: Global,
+    text: String,
+    is_whole: bool,
+}
+
+impl Model for TextBuilder {
+    ghost Value = { Option (List ℕ) };
+
+    ghost view = { λ t. if t.is_whole then Some (string_bytes t.text) else None };
+}
+
+impl TextBuilder {
+    /// Nothing yet.
+    pub fn new(alloc: Global) -> TextBuilder
+        ensures { result ≡ Some [] }
+    {
+        TextBuilder {
+            alloc,
+            text: String::new(alloc),
+            is_whole: true,
+        }
+    }
+
+    /// What is written so far.
+    pub fn as_str(&self) -> &str {
+        self.text.as_str()
+    }
+
+    /// Notes that an allocation was refused.
+    pub fn refuse(&mut self) {
+        self.is_whole = false;
+    }
+
+    /// Notes whether an allocation was refused.
+    pub fn note(&mut self, done: Result<(), AllocError>) {
+        self.is_whole = self.is_whole && done.is_ok();
+    }
+
+    /// Appends a text.
+    pub fn push(&mut self, part: &str)
+        ensures { IfSome self.new (λ all. IsSomeAnd self.old (λ before. all ≡ before ++ part.now)) }
+    {
+        if self.is_whole {
+            self.is_whole = self.text.push_str(part).is_ok();
+        }
+    }
+
+    /// Appends texts.
+    pub fn push_all(&mut self, parts: &[&str]) {
+        for part in parts {
+            self.push(part);
+        }
+    }
+
+    /// Appends a character.
+    pub fn push_char(&mut self, character: char) {
+        if self.is_whole {
+            self.is_whole = self.text.push(character).is_ok();
+        }
+    }
+
+    /// Appends a number in decimal digits.
+    pub fn push_number(&mut self, number: usize) {
+        if self.is_whole {
+            self.is_whole = write!(self.text, "{number}").is_ok();
+        }
+    }
+
+    /// Appends a text that was made, unless an allocation was refused for it.
+    pub fn push_made(&mut self, made: Result<String, AllocError>) {
+        match made {
+            Ok(text) => self.push(text.as_str()),
+            Err(_) => self.is_whole = false,
+        }
+    }
+
+    /// Appends another such text, and keeps what it keeps.
+    pub fn append(&mut self, other: TextBuilder) {
+        self.push_made(other.finish());
+    }
+
+    /// A text that was made, or an empty one if an allocation was refused for it.
+    pub fn kept(&mut self, made: Result<String, AllocError>) -> String {
+        match made {
+            Ok(text) => text,
+            Err(_) => {
+                self.is_whole = false;
+                String::new(self.alloc)
+            }
+        }
+    }
+
+    /// The text, unless an allocation was refused.
+    pub fn finish(self) -> Result<String, AllocError>
+        ensures { IfOk result (λ text. self ≡ Some (string_bytes text)) }
+    {
+        if self.is_whole {
+            Ok(self.text)
+        } else {
+            Err(AllocError)
+        }
+    }
+}
