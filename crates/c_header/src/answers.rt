@@ -4,59 +4,59 @@ use crate::calls::Call;
 use crate::comments::push_comment;
 use crate::fills::push_extent;
 use c_types::Types;
-use c_types::c_names::push_words;
 use canonical_abi::CoreKind;
-use std::alloc::AllocError;
 use tables::ValType;
+use text_builder::TextBuilder;
 
 /// Writes the function that puts a result into memory.
 fn push_area(
-    text: &mut String,
+    text: &mut TextBuilder,
     types: &Types<'_>,
     ty: ValType,
     answer: &str,
-) -> Result<(), AllocError> {
-    let mut comment = String::new(types.alloc);
+) {
+    let mut comment = TextBuilder::new(types.alloc);
     let front = "For the callee: stores the result at area, a block of the callee's of ";
-    push_extent(&mut comment, front, &types.laid, ty)?;
-    comment.push_str(", and makes the core value that the callee returns.")?;
-    push_comment(text, comment.as_str())?;
-    push_words(text, &[MADE, answer, "(uint8_t *memory, uint32_t area, "])?;
-    push_words(text, &[types.c(ty), STORED, RETURNED])
+    push_extent(&mut comment, front, &types.laid, ty);
+    comment.push(", and makes the core value that the callee returns.");
+    let comment = text.kept(comment.finish());
+    push_comment(text, comment.as_str());
+    text.push_all(&[MADE, answer, "(uint8_t *memory, uint32_t area, "]);
+    text.push_all(&[types.c(ty), STORED, RETURNED]);
 }
 
 /// Writes the function that makes the one core value of a result.
 fn push_one(
-    text: &mut String,
+    text: &mut TextBuilder,
     types: &Types<'_>,
     ty: ValType,
     call: &Call<'_>,
-) -> Result<(), AllocError> {
+) {
     push_comment(
         text,
         "For the callee: makes the core value that it returns, of a result.",
-    )?;
+    );
     let begun = match call.called.passing.returned {
         Some(CoreKind::I64) => "I\");\n",
         _ => "i\");\n",
     };
-    push_words(text, &[MADE, call.names.answer.as_str(), "("])?;
-    push_words(text, &[types.c(ty), BEGUN, begun])?;
-    types.push_answered(text, ty)?;
-    text.push_str(RETURNED)
+    text.push_all(&[MADE, call.names.answer.as_str(), "("]);
+    text.push_all(&[types.c(ty), BEGUN, begun]);
+    types.push_answered(text, ty);
+    text.push(RETURNED);
 }
 
 /// Writes the function that gives a result of this type.
 pub fn push_answer(
-    text: &mut String,
+    text: &mut TextBuilder,
     types: &Types<'_>,
     call: &Call<'_>,
     ty: ValType,
-) -> Result<(), AllocError> {
+) {
     if call.called.passing.has_area() {
-        push_area(text, types, ty, call.names.answer.as_str())
+        push_area(text, types, ty, call.names.answer.as_str());
     } else {
-        push_one(text, types, ty, call)
+        push_one(text, types, ty, call);
     }
 }
 

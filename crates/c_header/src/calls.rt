@@ -6,11 +6,11 @@ use crate::fills::push_fill;
 use crate::reads::push_read;
 use crate::receives::push_receive;
 use c_declarations::{Header, Scope};
-use c_types::c_names::{NameKind, c_label, push_words};
+use c_types::c_names::{NameKind, c_label};
 use c_types::{Form, Laid, Part, Passing, Row, Types, parameters_of};
 use std::alloc::{AllocError, Global};
-use std::fmt::Write;
 use tables::{Definition, Function, FunctionId, Parameter, ValType};
+use text_builder::TextBuilder;
 
 /// A function, and how it is called.
 #[derive(Drop)]
@@ -29,19 +29,6 @@ pub struct CallNames {
     pub count: String,
     pub receive: String,
     pub answer: String,
-}
-
-impl CallNames {
-    /// None yet.
-    fn new(alloc: Global) -> CallNames {
-        CallNames {
-            fill: String::new(alloc),
-            read: String::new(alloc),
-            count: String::new(alloc),
-            receive: String::new(alloc),
-            answer: String::new(alloc),
-        }
-    }
 }
 
 /// What is made for a function.
@@ -65,37 +52,38 @@ pub fn called_of<'a>(laid: &Laid<'a>, id: FunctionId) -> Option<Called<'a>> {
     })
 }
 
-fn parameter_part(alloc: Global, parameter: &Parameter) -> Result<Part, AllocError> {
-    Ok(Part {
-        label: c_label(alloc, parameter.name.as_str())?,
+fn parameter_part(text: &mut TextBuilder, alloc: Global, parameter: &Parameter) -> Part {
+    Part {
+        label: text.kept(c_label(alloc, parameter.name.as_str())),
         ty: Some(parameter.ty),
         constant: String::new(alloc),
-    })
+    }
 }
 
-fn parameter_parts(alloc: Global, parameters: &[Parameter]) -> Result<Vec<Part>, AllocError> {
-    let mut parts = Vec::new(alloc);
+fn parameter_parts(header: &mut Header<'_>, parameters: &[Parameter]) -> Vec<Part> {
+    let mut parts = Vec::new(header.alloc);
     for parameter in parameters {
-        parts.push(parameter_part(alloc, parameter)?)?;
+        let part = parameter_part(&mut header.text, header.alloc, parameter);
+        header.text.note(parts.push(part));
     }
-    Ok(parts)
+    parts
 }
 
 /// Appends a function as WIT spells it.
 fn push_signature(
-    text: &mut String,
+    text: &mut TextBuilder,
     types: &Types<'_>,
     function: &Function,
-) -> Result<(), AllocError> {
-    push_words(text, &[function.name.as_str(), ": func("])?;
+) {
+    text.push_all(&[function.name.as_str(), ": func("]);
     for (index, parameter) in function.params.as_slice().iter().enumerate() {
         let mark = if index == 0 { "" } else { ", " };
         let ty = types.spelling(Some(parameter.ty));
-        push_words(text, &[mark, parameter.name.as_str(), ": ", ty])?;
+        text.push_all(&[mark, parameter.name.as_str(), ": ", ty]);
     }
     match function.result {
-        Some(ty) => push_words(text, &[") -> ", types.spelling(Some(ty))]),
-        None => text.push(')'),
+        Some(ty) => text.push_all(&[") -> ", types.spelling(Some(ty))]),
+        None => text.push(")"),
     }
 }
 
@@ -105,9 +93,9 @@ pub fn signature_of(
     types: &Types<'_>,
     function: &Function,
 ) -> Result<String, AllocError> {
-    let mut text = String::new(alloc);
-    push_signature(&mut text, types, function)?;
-    Ok(text)
+    let mut text = TextBuilder::new(alloc);
+    push_signature(&mut text, types, function);
+    text.finish()
 }
 
 /// Writes the comment of a function.
@@ -115,40 +103,42 @@ fn put_signature(
     header: &mut Header<'_>,
     scope: &Scope,
     function: &Function,
-) -> Result<(), AllocError> {
+) {
     let alloc = header.alloc;
-    let signature = signature_of(alloc, &header.types, function)?;
-    let key = format!(in alloc; "{} {}", scope.full_name.as_str(), function.name.as_str())?;
-    header.put_comment(key.as_str(), signature.as_str())
+    let signature = signature_of(alloc, &header.types, function);
+    let signature = header.text.kept(signature);
+    let key = [scope.full_name.as_str(), " ", function.name.as_str()].concat(alloc);
+    let key = header.text.kept(key);
+    header.put_comment(key.as_str(), signature.as_str());
 }
 
 /// Takes the name of a constant, which consists of these words.
-fn take_constant(header: &mut Header<'_>, words: &[&str]) -> Result<String, AllocError> {
-    let name = words.concat(header.alloc)?;
+pub fn take_constant(header: &mut Header<'_>, words: &[&str]) -> String {
+    let name = header.text.kept(words.concat(header.alloc));
     header.take_constant(name.as_str())
 }
 
 /// Writes the name of a function.
-fn put_name(header: &mut Header<'_>, stem: &str, name: &str) -> Result<(), AllocError> {
-    let constant = take_constant(header, &[stem, "_name"])?;
-    push_words(
-        &mut header.text,
-        &["#define ", constant.as_str(), " \"", name, "\"\n"],
-    )
+fn put_name(header: &mut Header<'_>, stem: &str, name: &str) {
+    let constant = take_constant(header, &[stem, "_name"]);
+    header
+        .text
+        .push_all(&["#define ", constant.as_str(), " \"", name, "\"\n"]);
 }
 
 /// Takes a name, which consists of these words. It has a short one if it is written.
-fn take_if(
+pub fn take_if(
     header: &mut Header<'_>,
     is_written: bool,
     kind: NameKind,
     words: &[&str],
-) -> Result<String, AllocError> {
-    let name = words.concat(header.alloc)?;
+) -> String {
+    let name = header.text.kept(words.concat(header.alloc));
     if is_written {
         header.take_own(kind, name)
     } else {
-        header.names.take(name)
+        let name = header.names.take(name);
+        header.text.kept(name)
     }
 }
 
@@ -158,60 +148,52 @@ pub fn put_parameters(
     stem: &str,
     called: &Called<'_>,
     is_written: bool,
-) -> Result<Row, AllocError> {
+) -> Row {
     let alloc = header.alloc;
     let row = Row {
         end: called.ty,
         spelling: String::new(alloc),
-        c: take_if(header, is_written, NameKind::Type, &[stem, "_parameters"])?,
+        c: take_if(header, is_written, NameKind::Type, &[stem, "_parameters"]),
         key: String::new(alloc),
         form: Form::Record,
-        parts: parameter_parts(alloc, called.function.params.as_slice())?,
+        parts: parameter_parts(header, called.function.params.as_slice()),
     };
     if is_written {
-        header.put_struct(called.ty, &row)?;
+        header.put_struct(called.ty, &row);
     }
-    Ok(row)
+    row
 }
 
 /// Takes the names of what is made for a function.
-fn take_names(
-    header: &mut Header<'_>,
-    stem: &str,
-    function: &Function,
-    names: &mut CallNames,
-) -> Result<(), AllocError> {
+fn take_names(header: &mut Header<'_>, stem: &str, function: &Function) -> CallNames {
     let kind = NameKind::Function;
     let has_parameters = !function.params.as_slice().is_empty();
     let has_result = function.result.is_some();
-    names.fill = take_if(header, true, kind, &[stem, "_fill"])?;
-    names.read = take_if(header, has_result, kind, &[stem, "_read"])?;
-    names.count = take_constant(header, &[stem, "_flats"])?;
-    names.receive = take_if(header, has_parameters, kind, &[stem, "_receive"])?;
-    names.answer = take_if(header, has_result, kind, &[stem, "_answer"])?;
-    Ok(())
+    CallNames {
+        fill: take_if(header, true, kind, &[stem, "_fill"]),
+        read: take_if(header, has_result, kind, &[stem, "_read"]),
+        count: take_constant(header, &[stem, "_flats"]),
+        receive: take_if(header, has_parameters, kind, &[stem, "_receive"]),
+        answer: take_if(header, has_result, kind, &[stem, "_answer"]),
+    }
 }
 
 /// Writes the parameters of a function, and takes the names of what is made for it.
-fn call_of<'a>(
-    header: &mut Header<'_>,
-    stem: &str,
-    called: Called<'a>,
-) -> Result<Call<'a>, AllocError> {
+fn call_of<'a>(header: &mut Header<'_>, stem: &str, called: Called<'a>) -> Call<'a> {
     let has_parameters = !called.function.params.as_slice().is_empty();
-    let mut call = Call {
-        parameters: put_parameters(header, stem, &called, has_parameters)?,
-        names: CallNames::new(header.alloc),
+    Call {
+        parameters: put_parameters(header, stem, &called, has_parameters),
+        names: take_names(header, stem, called.function),
         called,
-    };
-    take_names(header, stem, call.called.function, &mut call.names)?;
-    Ok(call)
+    }
 }
 
 /// Writes a number as a constant, whose name consists of these words.
-fn put_number(header: &mut Header<'_>, words: &[&str], number: u32) -> Result<(), AllocError> {
-    let name = take_constant(header, words)?;
-    writeln!(header.text, "#define {} {number}", name.as_str())
+fn put_number(header: &mut Header<'_>, words: &[&str], number: u32) {
+    let name = take_constant(header, words);
+    header.text.push_all(&["#define ", name.as_str(), " "]);
+    header.text.push_number(number as usize);
+    header.text.push("\n");
 }
 
 /// Writes the size and the alignment of a block for a value of a type, under names that begin so.
@@ -220,44 +202,46 @@ fn put_block(
     stem: &str,
     word: &str,
     ty: ValType,
-) -> Result<(), AllocError> {
+) {
     let (size, align) = (header.types.laid.size(ty), header.types.laid.align(ty));
-    put_number(header, &[stem, word, "_size"], size)?;
-    put_number(header, &[stem, word, "_align"], align)
+    put_number(header, &[stem, word, "_size"], size);
+    put_number(header, &[stem, word, "_align"], align);
 }
 
 /// Writes the number of core values of a call, and the blocks that it needs.
-fn put_numbers(header: &mut Header<'_>, stem: &str, call: &Call<'_>) -> Result<(), AllocError> {
+fn put_numbers(header: &mut Header<'_>, stem: &str, call: &Call<'_>) {
     let (called, count) = (&call.called, call.names.count.as_str());
     let flats = called.passing.lowered.params.len();
-    writeln!(header.text, "#define {count} {flats}")?;
+    header.text.push_all(&["#define ", count, " "]);
+    header.text.push_number(flats);
+    header.text.push("\n");
     if called.passing.is_spilled {
-        put_block(header, stem, "_parameters", called.ty)?;
+        put_block(header, stem, "_parameters", called.ty);
     }
-    match called.function.result {
-        Some(ty) if called.passing.has_area() => put_block(header, stem, "_area", ty),
-        _ => Ok(()),
+    if let Some(ty) = called.function.result
+        && called.passing.has_area()
+    {
+        put_block(header, stem, "_area", ty);
     }
 }
 
 /// Writes the functions that make the core values of a call and read its result, and those of its callee.
-fn push_call(text: &mut String, types: &Types<'_>, call: &Call<'_>) -> Result<(), AllocError> {
-    push_fill(text, types, call)?;
+fn push_call(text: &mut TextBuilder, types: &Types<'_>, call: &Call<'_>) {
+    push_fill(text, types, call);
     if let Some(ty) = call.called.function.result {
-        push_read(text, types, call, ty)?;
+        push_read(text, types, call, ty);
     }
-    push_receive(text, types, call)?;
-    match call.called.function.result {
-        Some(ty) => push_answer(text, types, call, ty),
-        None => Ok(()),
+    push_receive(text, types, call);
+    if let Some(ty) = call.called.function.result {
+        push_answer(text, types, call, ty);
     }
 }
 
 /// Writes what is made for a function that is called so.
-fn put_called(header: &mut Header<'_>, stem: &str, called: Called<'_>) -> Result<(), AllocError> {
-    let call = call_of(header, stem, called)?;
-    put_numbers(header, stem, &call)?;
-    push_call(&mut header.text, &header.types, &call)
+fn put_called(header: &mut Header<'_>, stem: &str, called: Called<'_>) {
+    let call = call_of(header, stem, called);
+    put_numbers(header, stem, &call);
+    push_call(&mut header.text, &header.types, &call);
 }
 
 /// Writes what is made for a function.
@@ -265,13 +249,14 @@ pub fn put_function(
     header: &mut Header<'_>,
     scope: &Scope,
     id: FunctionId,
-) -> Result<(), AllocError> {
+) {
     let Some(called) = called_of(&header.types.laid, id) else {
-        return Ok(());
+        return;
     };
-    header.put_inners(id.0)?;
-    let stem = scope.name(header.alloc, called.function.name.as_str())?;
-    put_signature(header, scope, called.function)?;
-    put_name(header, stem.as_str(), called.function.name.as_str())?;
-    put_called(header, stem.as_str(), called)
+    header.put_inners(id.0);
+    let stem = scope.name(header.alloc, called.function.name.as_str());
+    let stem = header.text.kept(stem);
+    put_signature(header, scope, called.function);
+    put_name(header, stem.as_str(), called.function.name.as_str());
+    put_called(header, stem.as_str(), called);
 }

@@ -1,30 +1,29 @@
 //! Comments of a header.
 
-use c_types::c_names::push_words;
-use std::alloc::AllocError;
+use text_builder::TextBuilder;
 
 /// Writes a comment, in lines of about 110 letters.
-pub fn push_comment(text: &mut String, comment: &str) -> Result<(), AllocError> {
-    text.push_str("\n/*")?;
+pub fn push_comment(text: &mut TextBuilder, comment: &str) {
+    text.push("\n/*");
     let mut width: usize = 2;
     for word in comment.split(' ') {
         let is_full = width.saturating_add(word.len()) > 110;
-        push_words(text, &[if is_full { "\n * " } else { " " }, word])?;
+        text.push_all(&[if is_full { "\n * " } else { " " }, word]);
         width = if is_full { 2 } else { width };
         width = width.saturating_add(word.len()).saturating_add(1);
     }
-    text.push_str(" */\n")
+    text.push(" */\n");
 }
 
 /// Writes a comment, the head of a function of this name that returns a value of a type, and the variable of the value.
 /// The words are the comment and what comes before and after the variable's type.
 pub fn push_reader(
-    text: &mut String,
+    text: &mut TextBuilder,
     c: &str,
     name: &str,
     words: [&str; 3],
-) -> Result<(), AllocError> {
+) {
     let [comment, before, after] = words;
-    push_comment(text, comment)?;
-    push_words(text, &["static inline ", c, " ", name, before, c, after])
+    push_comment(text, comment);
+    text.push_all(&["static inline ", c, " ", name, before, c, after]);
 }

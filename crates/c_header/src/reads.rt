@@ -3,24 +3,24 @@
 use crate::calls::Call;
 use crate::comments::push_reader;
 use c_types::Types;
-use std::alloc::AllocError;
 use tables::ValType;
+use text_builder::TextBuilder;
 
 /// Writes the function that reads a result of this type.
 pub fn push_read(
-    text: &mut String,
+    text: &mut TextBuilder,
     types: &Types<'_>,
     call: &Call<'_>,
     ty: ValType,
-) -> Result<(), AllocError> {
+) {
     let (c, read) = (types.c(ty), call.names.read.as_str());
     if call.called.passing.has_area() {
-        push_reader(text, c, read, IN_AREA)?;
+        push_reader(text, c, read, IN_AREA);
     } else {
-        push_reader(text, c, read, IN_ONE)?;
-        types.push_one(text, ty, call.called.passing.returned)?;
+        push_reader(text, c, read, IN_ONE);
+        types.push_one(text, ty, call.called.passing.returned);
     }
-    text.push_str("    return value;\n}\n")
+    text.push("    return value;\n}\n");
 }
 
 const IN_AREA: [&str; 3] = [

@@ -3,25 +3,25 @@
 use crate::calls::Call;
 use crate::comments::push_reader;
 use c_types::Types;
-use std::alloc::AllocError;
+use text_builder::TextBuilder;
 
 /// Writes the function that reads the parameters of a function, if it has some.
 pub fn push_receive(
-    text: &mut String,
+    text: &mut TextBuilder,
     types: &Types<'_>,
     call: &Call<'_>,
-) -> Result<(), AllocError> {
+) {
     if call.parameters.parts.is_empty() {
-        return Ok(());
+        return;
     }
     let (c, receive) = (call.parameters.c.as_str(), call.names.receive.as_str());
     if call.called.passing.is_spilled {
-        push_reader(text, c, receive, IN_RECORD)?;
+        push_reader(text, c, receive, IN_RECORD);
     } else {
-        push_reader(text, c, receive, IN_FLATS)?;
-        types.push_received(text, "parameters.", call.parameters.parts.as_slice())?;
+        push_reader(text, c, receive, IN_FLATS);
+        types.push_received(text, "parameters.", call.parameters.parts.as_slice());
     }
-    text.push_str("    return parameters;\n}\n")
+    text.push("    return parameters;\n}\n");
 }
 
 const IN_RECORD: [&str; 3] = [

@@ -1,13 +1,13 @@
 //! A function of a world, and what its import and its export have in common.
 
-use crate::calls::{Called, put_parameters, signature_of};
+use crate::calls::{Called, put_parameters, signature_of, take_if};
 use crate::guest::places::Place;
 use c_declarations::Header;
-use c_types::c_names::{NameKind, push_words};
+use c_types::c_names::NameKind;
 use c_types::{Part, Row, Types};
 use canonical_abi::CoreKind;
-use std::alloc::AllocError;
 use tables::{Direction, Function};
+use text_builder::TextBuilder;
 
 /// A function of a world, and the names of what is made for it.
 #[derive(Drop)]
@@ -40,17 +40,20 @@ pub fn guest_call_of<'a>(
     place: &Place,
     fronts: [&str; 2],
     called: Called<'a>,
-) -> Result<GuestCall<'a>, AllocError> {
-    let (alloc, [core, name]) = (header.alloc, fronts);
-    let stem = place.scope.name(alloc, called.function.name.as_str())?;
+) -> GuestCall<'a> {
+    let [core, name] = fronts;
+    let stem = place
+        .scope
+        .name(header.alloc, called.function.name.as_str());
+    let stem = header.text.kept(stem);
     let is_spilled = called.passing.is_spilled;
-    Ok(GuestCall {
-        parameters: put_parameters(header, stem.as_str(), &called, is_spilled)?,
-        core: header.names.take([core, stem.as_str()].concat(alloc)?)?,
-        name: header.take_own(NameKind::Function, [name, stem.as_str()].concat(alloc)?)?,
+    GuestCall {
+        parameters: put_parameters(header, stem.as_str(), &called, is_spilled),
+        core: take_if(header, false, NameKind::Function, &[core, stem.as_str()]),
+        name: take_if(header, true, NameKind::Function, &[name, stem.as_str()]),
         stem,
         called,
-    })
+    }
 }
 
 /// A core value in C.
@@ -97,44 +100,47 @@ pub fn put_heading(
     place: &Place,
     function: &Function,
     direction: Direction,
-) -> Result<(), AllocError> {
+) {
     let (alloc, full_name) = (header.alloc, place.scope.full_name.as_str());
-    let signature = signature_of(alloc, &header.types, function)?;
-    let last = format!(in alloc; "{full_name} {}", signature.as_str())?;
+    let signature = signature_of(alloc, &header.types, function);
+    let signature = header.text.kept(signature);
+    let last = [full_name, " ", signature.as_str()].concat(alloc);
+    let last = header.text.kept(last);
     let (before, name) = (word_before(place, direction), function.name.as_str());
-    let key = format!(in alloc; "{full_name} {before}{name}")?;
-    header.put_comment(key.as_str(), last.as_str())
+    let key = [full_name, " ", before, name].concat(alloc);
+    let key = header.text.kept(key);
+    header.put_comment(key.as_str(), last.as_str());
 }
 
 /// Writes the parameters of a function of values.
 fn push_parameters(
-    text: &mut String,
+    text: &mut TextBuilder,
     types: &Types<'_>,
     parameters: &[Part],
-) -> Result<(), AllocError> {
+) {
     if parameters.is_empty() {
-        return text.push_str("void");
+        text.push("void");
+        return;
     }
     for (index, part) in parameters.iter().enumerate() {
         if let Some(ty) = part.ty {
-            text.push_str(comma(index))?;
-            push_words(text, &[types.c(ty), " in_", part.label.as_str()])?;
+            text.push(comma(index));
+            text.push_all(&[types.c(ty), " in_", part.label.as_str()]);
         }
     }
-    Ok(())
 }
 
 /// Writes the head of a function of values, up to its parameters.
 pub fn push_value_head(
-    text: &mut String,
+    text: &mut TextBuilder,
     types: &Types<'_>,
     call: &GuestCall<'_>,
-) -> Result<(), AllocError> {
+) {
     let c = match call.called.function.result {
         Some(ty) => types.c(ty),
         None => "void",
     };
-    push_words(text, &[c, " ", call.name.as_str(), "("])?;
-    push_parameters(text, types, call.parameters.parts.as_slice())?;
-    text.push(')')
+    text.push_all(&[c, " ", call.name.as_str(), "("]);
+    push_parameters(text, types, call.parameters.parts.as_slice());
+    text.push(")");
 }

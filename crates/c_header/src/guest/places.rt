@@ -4,7 +4,6 @@ use crate::packages::scope_of;
 use crate::prefixes::prefix_of;
 use atoms::Label;
 use c_declarations::{Header, Scope};
-use std::alloc::AllocError;
 use tables::{Interface, PackageId, World};
 
 /// The module that a core module imports a function of the world itself from.
@@ -25,52 +24,48 @@ pub struct Place {
 /// What the names of a package begin with in C, and the scope of an interface or a world of this name in it. None if
 /// there is no such package.
 fn named(
-    header: &Header<'_>,
+    header: &mut Header<'_>,
     stems: &[String],
     package: PackageId,
     name: &Label,
-) -> Result<Option<(String, Scope)>, AllocError> {
+) -> Option<(String, Scope)> {
     let packages = header.types.laid.resolve.packages.as_slice();
-    let Some(package) = packages.get(package.0 as usize) else {
-        return Ok(None);
-    };
-    let prefix = prefix_of(header.alloc, stems, package)?;
-    let scope = scope_of(header.alloc, prefix.as_str(), package, name)?;
-    Ok(Some((prefix, scope)))
+    let package = packages.get(package.0 as usize)?;
+    let prefix = header.text.kept(prefix_of(header.alloc, stems, package));
+    let scope = scope_of(header, prefix.as_str(), package, name);
+    Some((prefix, scope))
 }
 
 /// The place of an interface. None if its package is not there.
 pub fn place_of_interface(
-    header: &Header<'_>,
+    header: &mut Header<'_>,
     stems: &[String],
     interface: &Interface,
-) -> Result<Option<Place>, AllocError> {
-    let Some((package, scope)) = named(header, stems, interface.package, &interface.name)? else {
-        return Ok(None);
-    };
-    let module = scope.full_name.clone()?;
-    let front = format!(in header.alloc; "{}#", scope.full_name.as_str())?;
-    Ok(Some(Place {
+) -> Option<Place> {
+    let (package, scope) = named(header, stems, interface.package, &interface.name)?;
+    let full_name = scope.full_name.as_str();
+    let module = String::from_str(header.alloc, full_name);
+    let front = [full_name, "#"].concat(header.alloc);
+    Some(Place {
+        module: header.text.kept(module),
+        front: header.text.kept(front),
         scope,
         package,
-        module,
-        front,
-    }))
+    })
 }
 
 /// The place of a world. None if its package is not there.
 pub fn place_of_world(
-    header: &Header<'_>,
+    header: &mut Header<'_>,
     stems: &[String],
     world: &World,
-) -> Result<Option<Place>, AllocError> {
-    let Some((package, scope)) = named(header, stems, world.package, &world.name)? else {
-        return Ok(None);
-    };
-    Ok(Some(Place {
+) -> Option<Place> {
+    let (package, scope) = named(header, stems, world.package, &world.name)?;
+    let module = String::from_str(header.alloc, ROOT);
+    Some(Place {
         scope,
         package,
-        module: String::from_str(header.alloc, ROOT)?,
+        module: header.text.kept(module),
         front: String::new(header.alloc),
-    }))
+    })
 }
