@@ -22,7 +22,7 @@ compare() {
 
 echo "$version" | grep -qE '^[0-9]+\.[0-9]+\.[0-9]+$' || { echo "VERSION is no version of three numbers"; exit 1; }
 compare include/witcall.h "$(sed -n 's/^#define WITCALL_VERSION "\(.*\)".*/\1/p' include/witcall.h)"
-help=crates/explanation/src/help.rt
+help=crates/explain/src/help.rt
 compare $help "$(sed -n 's/^pub static VERSION.*"wit-explain \([^\\"]*\).*/\1/p' $help)"
 # in the library's sources, each text that is a version and nothing else
 texts=$(grep -rhoE '"[0-9]+\.[0-9]+\.[0-9]+(\\0)?"' crates/witcall_c/src || true)
