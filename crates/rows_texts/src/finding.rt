@@ -2,7 +2,7 @@
 
 use crate::opened::line_of;
 use row_inputs::{Inputs, Set, first_word, inputs_in};
-use row_sets::indexed_behind;
+use row_inputs::row_sets::indexed_behind;
 use std::alloc::Global;
 use witcall::Refused;
 

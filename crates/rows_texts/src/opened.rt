@@ -2,7 +2,7 @@
 
 use atoms::Watched;
 use row_inputs::Set;
-use row_sets::opened_behind;
+use row_inputs::row_sets::opened_behind;
 use std::alloc::{AllocError, Global};
 use witcall::{Package, Refused, report};
 

@@ -1,6 +1,5 @@
 //! Rows of sets of inputs: packages that are opened behind those that they use, and inputs that are cut or changed in
 //! one byte. docs/FORMATS.md has the language of rows.
-#![tactic(auto)]
 
 pub mod changes;
 mod opened;

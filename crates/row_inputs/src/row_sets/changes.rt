@@ -1,10 +1,10 @@
 //! Inputs that are cut after each byte, and binaries with each byte changed to every other, alone or behind the
 //! packages that they use.
 
-use crate::opened::opened_behind;
+use crate::row_sets::opened::opened_behind;
 use ctype_bin::{BinError, Fault, decode};
 use opening::{OpenError, Package, open};
-use row_inputs::{Set, Tally, opened_number};
+use crate::{Set, Tally, opened_number};
 use std::alloc::{AllocError, Global};
 
 /// The line of opening.

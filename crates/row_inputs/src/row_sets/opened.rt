@@ -3,7 +3,7 @@
 ghost use Rattle.std.specs.Prelude.{◌<◌, IfOk, length};
 
 use opening::{IndexedPackage, OpenError, Package, open_indexed, open_set};
-use row_inputs::Set;
+use crate::Set;
 use std::alloc::{AllocError, Global};
 use wit_text::parse;
 
