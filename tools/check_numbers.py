@@ -28,7 +28,7 @@ from repository import (
     ROOT, SPAN, all_crates, blocks, columns, counted, edits, is_reference, pages, place, text_rows, vectors
 )
 
-CODE = ("tests_in_code", "tests_of_formats", "tests_of_hosts")
+CODE = ("tests_in_code", "tests_of_formats")
 ROWS = ("rows_texts", "vectors", *CODE)
 NUMBER = re.compile(r"-?\b\d[\d,]*\b")
 # `row-1` to `row-3`

@@ -16,3 +16,11 @@ pub fn function(package: &Package) -> Result<FunctionId, Fail>
         None => Err(Fail::from("no function")),
     }
 }
+
+/// Its number.
+pub fn number(package: &Package) -> u32 {
+    match package.resolve().function("a:b/c", "f") {
+        Some(f) => f.0,
+        None => u32::MAX,
+    }
+}
