@@ -4,8 +4,10 @@
 //! `TextBuilder::finish` says so. It stands on no other crate.
 #![tactic(auto)]
 
-ghost use Rattle.std.specs.Prelude.{◌≡◌, ◌++◌, List, ℕ, [], IfOk, IfSome, IsSomeAnd, Option, Some, None};
-ghost use Rattle.std.specs.Prelude.{if◌then◌else◌, string_bytes, flat_map, IsSome};
+ghost use Rattle.std.specs.Prelude.{◌≡◌, List, ℕ, [], IfOk, IfErr, IfSome, Option, Some, None, if◌then◌else◌};
+ghost use Rattle.std.specs.Prelude.{string_bytes, flat_map, encode_utf8};
+ghost use Rattle.std.specs.Fmt.{decimal};
+ghost use Rattle.text_builder.specs.Growth.{Grows};
 
 use std::alloc::{AllocError, Global};
 use std::fmt::Write;
@@ -38,23 +40,32 @@ impl TextBuilder {
     }
 
     /// What is written so far.
-    pub fn as_str(&self) -> &str {
+    pub fn as_str(&self) -> &str
+        ensures { IfSome self.now (λ all. result.now ≡ all) }
+    {
         self.text.as_str()
     }
 
     /// Notes that an allocation was refused.
-    pub fn refuse(&mut self) {
+    pub fn refuse(&mut self)
+        ensures { self.new ≡ None }
+    {
         self.is_whole = false;
     }
 
     /// Notes whether an allocation was refused.
-    pub fn note(&mut self, done: Result<(), AllocError>) {
-        self.is_whole = self.is_whole && done.is_ok();
+    pub fn note(&mut self, done: Result<(), AllocError>)
+        ensures done { IfOk done (λ _. self.new ≡ self.old) }
+        ensures refused { IfErr done (λ _. self.new ≡ None) }
+    {
+        if done.is_err() {
+            self.refuse();
+        }
     }
 
     /// Appends a text.
     pub fn push(&mut self, part: &str)
-        ensures { IfSome self.new (λ all. IsSomeAnd self.old (λ before. all ≡ before ++ part.now)) }
+        ensures { Grows part.now self.old self.new }
     {
         if self.is_whole {
             self.is_whole = self.text.push_str(part).is_ok();
@@ -62,45 +73,60 @@ impl TextBuilder {
     }
 
     /// Appends texts.
-    pub fn push_all(&mut self, parts: &[&str]) {
+    pub fn push_all(&mut self, parts: &[&str])
+        ensures { Grows (flat_map (λ part. part.now) parts.now) self.old self.new }
+    {
         for part in parts {
             self.push(part);
         }
     }
 
     /// Appends a character.
-    pub fn push_char(&mut self, character: char) {
+    pub fn push_char(&mut self, character: char)
+        ensures { Grows (encode_utf8 character) self.old self.new }
+    {
         if self.is_whole {
             self.is_whole = self.text.push(character).is_ok();
         }
     }
 
     /// Appends a number in decimal digits.
-    pub fn push_number(&mut self, number: usize) {
+    pub fn push_number(&mut self, number: usize)
+        ensures { Grows (decimal number) self.old self.new }
+    {
         if self.is_whole {
             self.is_whole = write!(self.text, "{number}").is_ok();
         }
     }
 
     /// Appends a text that was made, unless an allocation was refused for it.
-    pub fn push_made(&mut self, made: Result<String, AllocError>) {
+    pub fn push_made(&mut self, made: Result<String, AllocError>)
+        ensures made { IfOk made (λ text. Grows (string_bytes text) self.old self.new) }
+        ensures refused { IfErr made (λ _. self.new ≡ None) }
+    {
         match made {
             Ok(text) => self.push(text.as_str()),
-            Err(_) => self.is_whole = false,
+            Err(_) => self.refuse(),
         }
     }
 
-    /// Appends another such text, and keeps what it keeps.
-    pub fn append(&mut self, other: TextBuilder) {
+    /// Appends another such text. It keeps what that one keeps.
+    pub fn append(&mut self, other: TextBuilder)
+        ensures { IfSome self.new (λ _. IfSome other (λ text. Grows text self.old self.new)) }
+    {
         self.push_made(other.finish());
     }
 
     /// A text that was made, or an empty one if an allocation was refused for it.
-    pub fn kept(&mut self, made: Result<String, AllocError>) -> String {
+    pub fn kept(&mut self, made: Result<String, AllocError>) -> String
+        ensures made { IfOk made (λ text. string_bytes result ≡ string_bytes text) }
+        ensures same { IfOk made (λ _. self.new ≡ self.old) }
+        ensures refused { IfErr made (λ _. self.new ≡ None) }
+    {
         match made {
             Ok(text) => text,
             Err(_) => {
-                self.is_whole = false;
+                self.refuse();
                 String::new(self.alloc)
             }
         }
