@@ -13,8 +13,8 @@ use layout::Layouts;
 use layout_limits::first_above_limits;
 use package_adding::PackageSet;
 use std::alloc::{AllocError, Global};
-use std::fmt::Write;
 use tables::{Resolve, Sequence};
+use text_builder::TextBuilder;
 use wit_binaries::with_texts;
 use wit_comments::Comments;
 use wit_faults::{Cause, Known, PackageRef, Report, first_path};
@@ -180,7 +180,8 @@ impl<'a> Checker<'a> {
             × (length self.new.checked.items ≡ length self.old.checked.items + 1)) }
     {
         if let Some(package) = self.first_bad(used) {
-            return report.leave_out(self.alloc, member.files.as_slice(), package);
+            report.leave_out(self.alloc, member.files.as_slice(), package);
+            return Ok(());
         }
         if member.has_fault {
             report.status = 1;
@@ -233,16 +234,16 @@ fn check_each<'a>(
 fn ring_words(alloc: Global, members: &[Member<'_>], ring: &[usize]) -> Result<String, AllocError>
     requires { All (λ place. place < length members.now) ring.now }
 {
-    let mut words = String::from_str(alloc, "packages depend on each other: ")?;
+    let mut words = TextBuilder::new(alloc);
+    words.push("packages depend on each other: ");
     for place in ring {
-        let package = members[*place].package();
-        write!(words, "{package} -> ")?;
+        words.push_made(members[*place].package().to_string(alloc));
+        words.push(" -> ");
     }
     if let Some(place) = ring.first() {
-        let package = members[*place].package();
-        write!(words, "{package}")?;
+        words.push_made(members[*place].package().to_string(alloc));
     }
-    Ok(words)
+    words.finish()
 }
 
 /// Reports packages that depend on each other, at the path in the first that names the second.
@@ -251,16 +252,16 @@ fn report_ring(
     report: &mut Report,
     members: &[Member<'_>],
     ring: &[usize],
-) -> Result<(), AllocError>
+)
     requires some { 0 < length ring.now }
     requires within { All (λ place. place < length members.now) ring.now }
-    ensures { OnOk result (report.new.status ≡ 1) }
+    ensures { report.new.status ≡ 1 }
 {
-    let words = ring_words(alloc, members, ring)?;
+    let words = report.text.kept(ring_words(alloc, members, ring));
     let files = members[ring[0]].files.as_slice();
     let second = members[ring[1 % ring.len()]].package();
     let hint = "move what both use into a package of its own";
-    report.add_found(alloc, first_path(files, second), words.as_str(), hint)
+    report.add_found(alloc, first_path(files, second), words.as_str(), hint);
 }
 
 /// Checks these members, each after those that it depends on, and reports each fault. Packages that depend on each
@@ -279,7 +280,7 @@ pub fn check_members<'a>(
             check_each(alloc, report, members, graph.as_slice(), order.as_slice())
         }
         Arrangement::Cycle(ring) => {
-            report_ring(alloc, report, members, ring.as_slice())?;
+            report_ring(alloc, report, members, ring.as_slice());
             Ok(CheckedSet::none(alloc))
         }
     }

@@ -92,7 +92,7 @@ impl<'a> NameFaults<'a> {
         for fault in list {
             if let Some(lexed) = rest.files.get(fault.place.0) {
                 let (words, hint) = (fault.words.as_str(), fault.hint.as_str());
-                report.add_at(alloc, lexed, fault.span, words, hint)?;
+                report.add_at(alloc, lexed, fault.span, words, hint);
             }
         }
         report.status = 1;

@@ -31,7 +31,6 @@ pub fn faults_of(alloc: Global, texts: &[&[u8]]) -> Result<String, AllocError> {
     }
     let mut report = Report::new(alloc, Style::Json);
     let _packages = check_sources(alloc, &mut report, sources)?;
-    report.finish()?;
-    let Report { text, .. } = report;
-    Ok(text)
+    report.finish();
+    report.text.finish()
 }

@@ -6,8 +6,8 @@ use checked_packages::{Checked, is_in_form};
 use json_faults::{Fault, first_fault};
 use serde_json::Value as Json;
 use std::alloc::{AllocError, Global};
-use std::fmt::Write;
 use tables::{Definition, Function, FunctionId, Interface, Resolve, ValType};
+use text_builder::TextBuilder;
 use wit_faults::Report;
 
 /// The words of a call.
@@ -123,21 +123,18 @@ fn fault_of(
 }
 
 /// Appends why a call was not made: the place that is wrong, if there is one.
-fn push_refused(
-    text: &mut String,
-    refused: Refused,
-    fault: Option<&Fault>,
-) -> Result<(), AllocError> {
+fn push_refused(text: &mut TextBuilder, refused: Refused, fault: Option<&Fault>) {
     let (Refused::Answer(error) | Refused::Arguments(error)) = refused;
-    write!(text, "wit-explain: {error}\n   = ")?;
+    text.push("wit-explain: ");
+    text.push_made(error.to_string(text.alloc()));
+    text.push("\n   = ");
     match fault {
         Some(fault) => {
             let (path, words) = (fault.path.as_str(), fault.words.as_str());
-            writeln!(text, "at `{path}`: {words}")?;
+            text.push_all(&["at `", path, "`: ", words, "\n"]);
         }
-        None => writeln!(text, "{}", hint_of(refused))?,
+        None => text.push_all(&[hint_of(refused), "\n"]),
     }
-    Ok(())
 }
 
 /// Reports why a call of a function was not made.
@@ -150,7 +147,8 @@ fn report_refused(
 ) -> Result<(), AllocError> {
     report.status = 1;
     let fault = fault_of(alloc, function, refused, words)?;
-    push_refused(&mut report.text, refused, fault.as_ref())
+    push_refused(&mut report.text, refused, fault.as_ref());
+    Ok(())
 }
 
 /// Makes a call of a function of a package, and returns what it did. Reports why it was not made.
@@ -210,52 +208,38 @@ fn interface_in<'a>(
 }
 
 /// Appends the name of a function at a place of a list.
-fn push_function(text: &mut String, place: usize, function: &Function) -> Result<(), AllocError> {
-    text.push_str(if place == 0 { "`" } else { ", `" })?;
-    text.push_str(function.name.as_str())?;
-    text.push_str("`")
+fn push_function(text: &mut TextBuilder, place: usize, function: &Function) {
+    let before = if place == 0 { "`" } else { ", `" };
+    text.push_all(&[before, function.name.as_str(), "`"]);
 }
 
 /// Appends the names of an interface's functions, the first of them.
-fn push_functions(
-    text: &mut String,
-    tables: &Resolve,
-    interface: &Interface,
-) -> Result<(), AllocError> {
+fn push_functions(text: &mut TextBuilder, tables: &Resolve, interface: &Interface) {
     let functions = interface.functions.as_slice();
     if functions.is_empty() {
-        return text.push_str("none\n");
+        text.push("none");
     }
-    for (place, func) in functions.iter().enumerate() {
-        if place == MOST_NAMED {
-            return text.push_str(", ..\n");
-        }
+    for (place, func) in functions.iter().take(MOST_NAMED).enumerate() {
         if let Some(function) = function_of(tables, *func) {
-            push_function(text, place, function)?;
+            push_function(text, place, function);
         }
     }
-    text.push_str("\n")
+    let is_cut = functions.len() > MOST_NAMED;
+    text.push(if is_cut { ", ..\n" } else { "\n" });
 }
 
 /// Appends that no package has an interface of this name with the function.
-fn push_no_interface(text: &mut String, words: &CallWords<'_>) -> Result<(), AllocError> {
-    let (interface, function) = (words.interface, words.function);
-    writeln!(
-        text,
-        "wit-explain: error 63 no function\n   = no package has a function `{function}` in an interface `{interface}`; \
-         its full name is `NAMESPACE:PACKAGE/NAME`, with `@VERSION` if there is one"
-    )?;
-    Ok(())
+fn push_no_interface(text: &mut TextBuilder, words: &CallWords<'_>) {
+    text.push("wit-explain: error 63 no function\n   = no package has a function `");
+    text.push_all(&[words.function, "` in an interface `", words.interface]);
+    text.push("`; its full name is `NAMESPACE:PACKAGE/NAME`, with `@VERSION` if there is one\n");
 }
 
 /// Appends that an interface does not have the function.
-fn push_no_function(text: &mut String, words: &CallWords<'_>) -> Result<(), AllocError> {
-    let (interface, function) = (words.interface, words.function);
-    write!(
-        text,
-        "wit-explain: error 63 no function\n   = `{interface}` has no function `{function}`; it has "
-    )?;
-    Ok(())
+fn push_no_function(text: &mut TextBuilder, words: &CallWords<'_>) {
+    text.push("wit-explain: error 63 no function\n   = `");
+    text.push_all(&[words.interface, "` has no function `", words.function]);
+    text.push("`; it has ");
 }
 
 /// Reports that no package has the function: with those of the interface, if one has that.
@@ -268,11 +252,13 @@ fn report_missing(
     report.status = 1;
     for package in packages {
         if let Some(found) = interface_in(alloc, &package.tables, words.interface)? {
-            push_no_function(&mut report.text, words)?;
-            return push_functions(&mut report.text, &package.tables, found);
+            push_no_function(&mut report.text, words);
+            push_functions(&mut report.text, &package.tables, found);
+            return Ok(());
         }
     }
-    push_no_interface(&mut report.text, words)
+    push_no_interface(&mut report.text, words);
+    Ok(())
 }
 
 /// Calls the function of the first package that has it, and returns what the call did. If there is none, or if a text
@@ -283,12 +269,17 @@ pub fn report_call(
     report: &mut Report,
     packages: &[Checked],
     words: &CallWords<'_>,
-) -> Result<Option<String>, AllocError> {
+) -> Option<String> {
     for package in packages {
         if let Some(func) = package.tables.function(words.interface, words.function) {
-            return report_picture(alloc, report, package, func, words);
+            let picture = report_picture(alloc, report, package, func, words);
+            if picture.is_err() {
+                report.text.refuse();
+            }
+            return picture.unwrap_or(None);
         }
     }
-    report_missing(alloc, report, packages, words)?;
-    Ok(None)
+    let missing = report_missing(alloc, report, packages, words);
+    report.text.note(missing);
+    None
 }

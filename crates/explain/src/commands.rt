@@ -10,15 +10,12 @@ use package_commands::{
     Unembedded, binary_of, declarations_for_ts, document_of, embedded, encoded, header_for_c,
     header_for_guest, picture_of, push_contents, text_of,
 };
-use std::alloc::AllocError;
-use std::fmt::Write;
 use wit_faults::Report;
 
 /// Writes all that a package has as one JSON document.
-fn document(rt: &HostRuntime, report: &mut Report, package: &Checked) -> Result<(), AllocError> {
-    let document = document_of(rt.alloc(), package)?;
-    report.text.push_str(document.as_str())?;
-    report.text.push_str("\n")
+fn document(rt: &HostRuntime, report: &mut Report, package: &Checked) {
+    report.text.push_made(document_of(rt.alloc(), package));
+    report.text.push("\n");
 }
 
 /// Writes the canonical text of a package.
@@ -27,13 +24,12 @@ fn text(
     report: &mut Report,
     packages: &CheckedSet,
     asked: &Asked<'_, '_>,
-) -> Result<(), AllocError> {
+) {
     let list = packages.list.as_slice();
-    let Some(package) = list.get(main_of(list)) else {
-        return Ok(());
-    };
-    let text = text_of(rt.alloc(), packages, package);
-    push_written(report, asked, &text)
+    if let Some(package) = list.get(main_of(list)) {
+        let text = text_of(rt.alloc(), packages, package);
+        push_written(report, asked, &text);
+    }
 }
 
 /// Writes the binary of a package to a file.
@@ -42,9 +38,9 @@ fn binary(
     report: &mut Report,
     package: &Checked,
     asked: &Asked<'_, '_>,
-) -> Result<(), AllocError> {
+) {
     let bytes = binary_of(rt.alloc(), package);
-    save_written(rt, report, asked, &bytes)
+    save_written(rt, report, asked, &bytes);
 }
 
 /// Writes a package to a file as other tools read it, or a world of it.
@@ -53,9 +49,9 @@ fn encode(
     report: &mut Report,
     package: &Checked,
     asked: &Asked<'_, '_>,
-) -> Result<(), AllocError> {
+) {
     let bytes = encoded(rt.alloc(), package, asked.options.world);
-    save_written(rt, report, asked, &bytes)
+    save_written(rt, report, asked, &bytes);
 }
 
 /// Reports why a module is not written with a world of a package.
@@ -63,18 +59,17 @@ fn refuse_module(
     report: &mut Report,
     asked: &Asked<'_, '_>,
     error: &Unembedded,
-) -> Result<(), AllocError> {
+) {
     let module = asked.word(0);
     match error {
-        Unembedded::World(error) => refuse(report, asked.path(), error)?,
+        Unembedded::World(error) => refuse(report, asked.path(), error),
         Unembedded::Embed(EmbedError::Unfit(misfits)) => {
             for misfit in misfits {
-                refuse(report, module, misfit)?;
+                refuse(report, module, misfit);
             }
         }
-        error => refuse(report, module, error)?,
+        error => refuse(report, module, error),
     }
-    Ok(())
 }
 
 /// Writes a module to a file, with a world of a package.
@@ -83,7 +78,7 @@ fn embed(
     report: &mut Report,
     package: &Checked,
     asked: &Asked<'_, '_>,
-) -> Result<(), AllocError> {
+) {
     let world = asked.options.world.unwrap_or("");
     let bytes = embedded(rt, package, world, asked.word(0));
     match &bytes {
@@ -102,10 +97,11 @@ fn form_of(asked: &Asked<'_, '_>) -> Form {
 }
 
 /// Reports that a package has no type and no function of a name.
-fn refuse_name(report: &mut Report, path: &str, name: &str) -> Result<(), AllocError> {
+fn refuse_name(report: &mut Report, path: &str, name: &str) {
     report.status = 1;
-    writeln!(report.text, "{path}: no type or function `{name}`")?;
-    Ok(())
+    report
+        .text
+        .push_all(&[path, ": no type or function `", name, "`\n"]);
 }
 
 /// Draws the types of packages, or the types and functions of a name.
@@ -114,12 +110,13 @@ fn layout(
     report: &mut Report,
     packages: &[Checked],
     asked: &Asked<'_, '_>,
-) -> Result<(), AllocError> {
+) {
     let wanted = asked.words.get(1).copied();
-    let picture = picture_of(rt.alloc(), packages, form_of(asked), wanted)?;
+    let picture = picture_of(rt.alloc(), packages, form_of(asked), wanted);
     match &picture {
-        Some(picture) => show(rt, report, asked.options.svg, picture.as_str()),
-        None => refuse_name(report, asked.word(0), wanted.unwrap_or("")),
+        Ok(Some(picture)) => show(rt, report, asked.options.svg, picture.as_str()),
+        Ok(None) => refuse_name(report, asked.word(0), wanted.unwrap_or("")),
+        Err(_) => report.text.refuse(),
     }
 }
 
@@ -129,7 +126,7 @@ fn call(
     report: &mut Report,
     packages: &[Checked],
     asked: &Asked<'_, '_>,
-) -> Result<(), AllocError> {
+) {
     let words = CallWords {
         interface: asked.word(1),
         function: asked.word(2),
@@ -137,10 +134,9 @@ fn call(
         answer: asked.words.get(4).copied().unwrap_or("[]"),
         form: form_of(asked),
     };
-    let picture = report_call(rt.alloc(), report, packages, &words)?;
-    match &picture {
-        Some(picture) => show(rt, report, asked.options.svg, picture.as_str()),
-        None => Ok(()),
+    let picture = report_call(rt.alloc(), report, packages, &words);
+    if let Some(picture) = &picture {
+        show(rt, report, asked.options.svg, picture.as_str());
     }
 }
 
@@ -150,9 +146,9 @@ fn bind_c(
     report: &mut Report,
     packages: &CheckedSet,
     asked: &Asked<'_, '_>,
-) -> Result<(), AllocError> {
+) {
     let header = header_for_c(rt.alloc(), packages);
-    push_written(report, asked, &header)
+    push_written(report, asked, &header);
 }
 
 /// Writes a header for guests of a world of a package.
@@ -161,15 +157,16 @@ fn bind_guest(
     report: &mut Report,
     packages: &CheckedSet,
     asked: &Asked<'_, '_>,
-) -> Result<(), AllocError> {
+) {
     let header = header_for_guest(rt.alloc(), packages, asked.options.world);
-    push_written(report, asked, &header)
+    push_written(report, asked, &header);
 }
 
 /// Writes declarations for TypeScript of packages.
-fn bind_ts(rt: &HostRuntime, report: &mut Report, packages: &CheckedSet) -> Result<(), AllocError> {
-    let declarations = declarations_for_ts(rt.alloc(), packages)?;
-    report.text.push_str(declarations.as_str())
+fn bind_ts(rt: &HostRuntime, report: &mut Report, packages: &CheckedSet) {
+    report
+        .text
+        .push_made(declarations_for_ts(rt.alloc(), packages));
 }
 
 /// Does with the last package that is no dependency what a command asks for.
@@ -178,16 +175,16 @@ fn run_on_main(
     report: &mut Report,
     packages: &[Checked],
     asked: &Asked<'_, '_>,
-) -> Result<(), AllocError> {
+) {
     let Some(package) = packages.get(main_of(packages)) else {
-        return Ok(());
+        return;
     };
     match asked.verb {
         Verb::Document => document(rt, report, package),
         Verb::Binary => binary(rt, report, package, asked),
         Verb::Encode => encode(rt, report, package, asked),
         Verb::Embed => embed(rt, report, package, asked),
-        _ => Ok(()),
+        _ => {}
     }
 }
 
@@ -197,7 +194,7 @@ pub fn run_on(
     report: &mut Report,
     packages: &CheckedSet,
     asked: &Asked<'_, '_>,
-) -> Result<(), AllocError> {
+) {
     let list = packages.list.as_slice();
     match asked.verb {
         Verb::Contents => push_contents(rt.alloc(), report, list),

@@ -35,12 +35,14 @@ fn lent<'a>(rt: &HostRuntime, words: &'a [String]) -> Result<Vec<&'a str>, Alloc
 fn execute(rt: &HostRuntime) -> io::Result<u8> {
     let words = words(rt)?;
     let report = run(rt, lent(rt, words.as_slice())?.as_slice())?;
-    if report.status == 2 {
-        eprint!(rt; "{}", report.text.as_str())?;
+    let status = report.status;
+    let text = report.text.finish()?;
+    if status == 2 {
+        eprint!(rt; "{}", text.as_str())?;
     } else {
-        print!(rt; "{}", report.text.as_str())?;
+        print!(rt; "{}", text.as_str())?;
     }
-    Ok(report.status)
+    Ok(status)
 }
 
 fn main(rt: HostRuntime) -> ExitCode {

@@ -56,11 +56,10 @@ fn checked_paths(
 }
 
 /// Prints the packages of a binary that another tool wrote.
-fn decode(rt: &HostRuntime, report: &mut Report, path: &str) -> Result<(), AllocError> {
+fn decode(rt: &HostRuntime, report: &mut Report, path: &str) {
     let decoded = push_decoded(rt, report, path);
-    match &decoded {
-        Ok(()) => Ok(()),
-        Err(error) => refuse(report, path, error),
+    if let Err(error) = &decoded {
+        refuse(report, path, error);
     }
 }
 
@@ -75,7 +74,8 @@ fn differences_to(
     if report.status != 0 {
         return Ok(());
     }
-    push_differences(rt.alloc(), report, before, after.list.as_slice())
+    push_differences(rt.alloc(), report, before, after.list.as_slice());
+    Ok(())
 }
 
 /// Tells what changed from the package of one path to that of another.
@@ -97,9 +97,11 @@ fn run_on_paths(
 ) -> Result<(), AllocError> {
     let packages = checked_paths(rt, report, asked.paths())?;
     if report.status != 0 || matches!(asked.verb, Verb::Check) {
-        return report.finish();
+        report.finish();
+    } else {
+        run_on(rt, report, &packages, asked);
     }
-    run_on(rt, report, &packages, asked)
+    Ok(())
 }
 
 /// Does what a command asks for.
@@ -109,11 +111,12 @@ fn run_command(
     asked: &Asked<'_, '_>,
 ) -> Result<(), AllocError> {
     match asked.verb {
-        Verb::Version => report.text.push_str(VERSION),
+        Verb::Version => report.text.push(VERSION),
         Verb::Decode => decode(rt, report, asked.word(0)),
-        Verb::Differences => differences(rt, report, asked.word(0), asked.word(1)),
-        _ => run_on_paths(rt, report, asked),
+        Verb::Differences => differences(rt, report, asked.word(0), asked.word(1))?,
+        _ => run_on_paths(rt, report, asked)?,
     }
+    Ok(())
 }
 
 /// The report of a command.
@@ -126,22 +129,22 @@ fn report_of(rt: &HostRuntime, asked: &Asked<'_, '_>) -> Result<Report, AllocErr
 /// Says that there is no such command, or how the commands are written.
 fn refuse_words(rt: &HostRuntime, words: &[&str]) -> Result<Report, AllocError> {
     let text = refusal_of_words(rt.alloc(), words)?;
-    Report::said(rt.alloc(), text.as_str(), 2)
+    Ok(Report::said(rt.alloc(), text.as_str(), 2))
 }
 
 /// Says that there is no such option.
 fn refuse_option(rt: &HostRuntime, option: &str) -> Result<Report, AllocError> {
     let text = refusal_of_option(rt.alloc(), option)?;
-    Report::said(rt.alloc(), text.as_str(), 2)
+    Ok(Report::said(rt.alloc(), text.as_str(), 2))
 }
 
 /// Says what the program or a command does.
 fn help(rt: &HostRuntime, words: &[&str]) -> Result<Report, AllocError> {
     let Some(command) = words.first() else {
-        return Report::said(rt.alloc(), usage(), 0);
+        return Ok(Report::said(rt.alloc(), usage(), 0));
     };
     match help_of(command) {
-        Some(text) => Report::said(rt.alloc(), text, 0),
+        Some(text) => Ok(Report::said(rt.alloc(), text, 0)),
         None => refuse_words(rt, words),
     }
 }
@@ -167,7 +170,7 @@ fn run_parsed(
     match parsed {
         Parsed::Options => run_options(rt, options),
         Parsed::Unknown(option) => refuse_option(rt, option),
-        Parsed::Incomplete => Report::said(rt.alloc(), usage(), 2),
+        Parsed::Incomplete => Ok(Report::said(rt.alloc(), usage(), 2)),
     }
 }
 

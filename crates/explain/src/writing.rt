@@ -1,29 +1,23 @@
 //! What is written to a report or to a file, and why something is not.
 
 use crate::asked::Asked;
-use std::alloc::AllocError;
-use std::fmt::{Display, Write};
+use std::fmt::Display;
 use std::fs;
 use wit_faults::Report;
 
 /// Reports why something of a path is not written.
-pub fn refuse<E: Display>(report: &mut Report, path: &str, error: &E) -> Result<(), AllocError> {
+pub fn refuse<E: Display>(report: &mut Report, path: &str, error: &E) {
     report.status = 1;
-    writeln!(report.text, "{path}: {error}")?;
-    Ok(())
+    report.text.push_all(&[path, ": "]);
+    report.text.push_made(error.to_string(report.text.alloc()));
+    report.text.push("\n");
 }
 
 /// Writes bytes to a file.
-pub fn save(
-    rt: &HostRuntime,
-    report: &mut Report,
-    file: &str,
-    bytes: &[u8],
-) -> Result<(), AllocError> {
+pub fn save(rt: &HostRuntime, report: &mut Report, file: &str, bytes: &[u8]) {
     if fs::write(rt, file, bytes).is_err() {
-        return refuse(report, file, &"error 65 write");
+        refuse(report, file, &"error 65 write");
     }
-    Ok(())
 }
 
 /// Prints a text, or reports at the first of a command's paths why there is none.
@@ -31,9 +25,9 @@ pub fn push_written<E: Display>(
     report: &mut Report,
     asked: &Asked<'_, '_>,
     written: &Result<String, E>,
-) -> Result<(), AllocError> {
+) {
     match written {
-        Ok(text) => report.text.push_str(text.as_str()),
+        Ok(text) => report.text.push(text.as_str()),
         Err(error) => refuse(report, asked.path(), error),
     }
 }
@@ -44,7 +38,7 @@ pub fn save_written<E: Display>(
     report: &mut Report,
     asked: &Asked<'_, '_>,
     written: &Result<Vec<u8>, E>,
-) -> Result<(), AllocError> {
+) {
     match written {
         Ok(bytes) => save(rt, report, asked.file(), bytes.as_slice()),
         Err(error) => refuse(report, asked.path(), error),
@@ -52,14 +46,9 @@ pub fn save_written<E: Display>(
 }
 
 /// Prints a picture, or writes it to a file that is not `-`.
-pub fn show(
-    rt: &HostRuntime,
-    report: &mut Report,
-    file: Option<&str>,
-    picture: &str,
-) -> Result<(), AllocError> {
+pub fn show(rt: &HostRuntime, report: &mut Report, file: Option<&str>, picture: &str) {
     match file {
         Some(file) if file != "-" => save(rt, report, file, picture.as_bytes()),
-        _ => report.text.push_str(picture),
+        _ => report.text.push(picture),
     }
 }

@@ -11,14 +11,12 @@ pub fn push_contents(
     alloc: Global,
     report: &mut Report,
     packages: &[Checked],
-) -> Result<(), AllocError> {
+) {
     for package in packages {
         if !package.is_dependency {
-            let lines = shown(alloc, &package.tables)?;
-            report.text.push_str(lines.as_str())?;
+            report.text.push_made(shown(alloc, &package.tables));
         }
     }
-    Ok(())
 }
 
 /// All that a package and those that it uses have, as one JSON document.

@@ -51,10 +51,10 @@ fn check_binary(source: &Source) -> Result<(), Undecoded> {
 fn push_texts(alloc: Global, report: &mut Report, packages: &CheckedSet) -> Result<(), Undecoded> {
     for (place, package) in packages.list.iter().enumerate() {
         if place > 0 {
-            report.text.push('\n')?;
+            report.text.push("\n");
         }
         let text = text_of(alloc, packages, package)?;
-        report.text.push_str(text.as_str())?;
+        report.text.push(text.as_str());
     }
     Ok(())
 }

@@ -39,6 +39,11 @@ impl TextBuilder {
         }
     }
 
+    /// What its memory is of.
+    pub fn alloc(&self) -> Global {
+        self.alloc
+    }
+
     /// What is written so far.
     pub fn as_str(&self) -> &str
         ensures { IfSome self.now (λ all. result.now ≡ all) }

@@ -74,12 +74,12 @@ fn refuse(
     report: &mut Report,
     binary: &Source,
     error: &DecodeError,
-) -> Result<(), AllocError>
-    ensures { OnOk result (report.new.status ≡ 1) }
+)
+    ensures { report.new.status ≡ 1 }
 {
-    let words = format!(in alloc; "{error}")?;
+    let words = report.text.kept(error.to_string(alloc));
     let lexed = Lexed::new(alloc, binary.path.as_str(), "");
-    report.add_at(alloc, &lexed, None, words.as_str(), hint_of(error))
+    report.add_at(alloc, &lexed, None, words.as_str(), hint_of(error));
 }
 
 /// Adds a text, or the texts of a binary. If it has no packages, it is reported.
@@ -95,7 +95,10 @@ fn push_source(
     match &source.bytes {
         Ok(bytes) if is_binary(bytes.as_slice()) => match texts_in(alloc, bytes.as_slice()) {
             Ok(packages) => push_texts(alloc, texts, &source, packages),
-            Err(error) => refuse(alloc, report, &source, &error),
+            Err(error) => {
+                refuse(alloc, report, &source, &error);
+                Ok(())
+            }
         },
         _ => {
             texts.push(source)?;

@@ -188,15 +188,10 @@ fn skip_last(
 }
 
 /// Reports faults of a file.
-fn report_each(
-    alloc: Global,
-    report: &mut Report,
-    faults: &[TextFault<'_>],
-) -> Result<(), AllocError> {
+fn report_each(alloc: Global, report: &mut Report, faults: &[TextFault<'_>]) {
     for fault in faults {
-        report.add(alloc, &fault.lexed, &[], &fault.cause)?;
+        report.add(alloc, &fault.lexed, &[], &fault.cause);
     }
-    Ok(())
 }
 
 /// The first lines that name packages. A text without one is read below that of its folder.
@@ -309,7 +304,7 @@ impl<'a> Headers<'a> {
         let mut faults = Vec::new(self.alloc);
         let tree = self.tree_of_rest(file, first, &mut faults)?;
         faults.sort_by_key(|fault| fault.place.unwrap_or(usize::MAX))?;
-        report_each(self.alloc, report, faults.as_slice())?;
+        report_each(self.alloc, report, faults.as_slice());
         report.status = 1;
         match tree {
             Some(tree) => Ok(Some(tree)),
