@@ -1,46 +1,44 @@
 //! The name of a package, and how much each interface and each world of it has.
-ghost use Rattle.std.specs.Prelude.{◌≡◌, ◌++◌, IfOk, OnOk, string_bytes, flat_map};
+ghost use Rattle.std.specs.Prelude.{◌≡◌, ◌++◌, IfOk, string_bytes, flat_map};
+ghost use Rattle.std.specs.Fmt.{decimal};
 ghost use Rattle.std.specs.List.{count_by};
 ghost use Rattle.overview.specs.Contents.{package_line, interface_line, interface_shown, crosses, world_line};
 ghost use Rattle.overview.specs.Contents.{world_shown, shown};
+ghost use Rattle.text_builder.specs.Growth.{Grows};
 
 use package_form::own_package;
 use std::alloc::{AllocError, Global};
 use tables::{Direction, Interface, PackageName, Resolve, World, WorldItem};
+use text_builder::TextBuilder;
 
-/// The line of a package's name.
-fn package_line(alloc: Global, name: &PackageName) -> Result<String, AllocError>
-    ensures { IfOk result (λ s. string_bytes s ≡ package_line name.now) }
+/// Writes the line of a package's name.
+fn push_package(text: &mut TextBuilder, name: &PackageName)
+    ensures { Grows (package_line name.now) text.old text.new }
 {
-    let mut line = String::from_str(alloc, "package ")?;
-    line.push_str(name.namespace.as_str())?;
-    line.push(':')?;
-    line.push_str(name.name.as_str())?;
+    text.push_all(&["package ", name.namespace.as_str(), ":", name.name.as_str()]);
     if let Some(version) = &name.version {
-        line.push('@')?;
-        line.push_str(version.as_str())?;
+        text.push_all(&["@", version.as_str()]);
     }
-    line.push('\n')?;
-    Ok(line)
+    text.push("\n");
 }
 
-/// The line of an interface: how many names it uses, and how many types and functions it has.
-fn interface_line(alloc: Global, interface: &Interface) -> Result<String, AllocError>
-    ensures { IfOk result (λ s. string_bytes s ≡ interface_line interface.now) }
+/// Writes a number behind words for it.
+pub(crate) fn push_count(text: &mut TextBuilder, words: &str, count: usize)
+    ensures { Grows (words.now ++ decimal count) text.old text.new }
 {
-    let uses = interface.uses.as_slice().len().to_string(alloc)?;
-    let types = interface.types.as_slice().len().to_string(alloc)?;
-    let functions = interface.functions.as_slice().len().to_string(alloc)?;
-    let mut line = String::from_str(alloc, "interface ")?;
-    line.push_str(interface.name.as_str())?;
-    line.push_str(" uses ")?;
-    line.push_str(uses.as_str())?;
-    line.push_str(" types ")?;
-    line.push_str(types.as_str())?;
-    line.push_str(" funcs ")?;
-    line.push_str(functions.as_str())?;
-    line.push('\n')?;
-    Ok(line)
+    text.push(words);
+    text.push_number(count);
+}
+
+/// Writes the line of an interface: how many names it uses, and how many types and functions it has.
+fn push_interface(text: &mut TextBuilder, interface: &Interface)
+    ensures { Grows (interface_line interface.now) text.old text.new }
+{
+    text.push_all(&["interface ", interface.name.as_str()]);
+    push_count(text, " uses ", interface.uses.as_slice().len());
+    push_count(text, " types ", interface.types.as_slice().len());
+    push_count(text, " funcs ", interface.functions.as_slice().len());
+    text.push("\n");
 }
 
 fn crosses(direction: Direction, item: WorldItem) -> bool
@@ -65,66 +63,44 @@ fn count_of(direction: Direction, items: &[WorldItem]) -> usize
     count
 }
 
-/// The line of a world: how many items it imports and how many it exports.
-fn world_line(alloc: Global, world: &World) -> Result<String, AllocError>
-    ensures { IfOk result (λ s. string_bytes s ≡ world_line world.now) }
+/// Writes the line of a world: how many items it imports and how many it exports.
+fn push_world(text: &mut TextBuilder, world: &World)
+    ensures { Grows (world_line world.now) text.old text.new }
 {
-    let imports = count_of(Direction::Import, world.items.as_slice()).to_string(alloc)?;
-    let exports = count_of(Direction::Export, world.items.as_slice()).to_string(alloc)?;
-    let mut line = String::from_str(alloc, "world ")?;
-    line.push_str(world.name.as_str())?;
-    line.push_str(" imports ")?;
-    line.push_str(imports.as_str())?;
-    line.push_str(" exports ")?;
-    line.push_str(exports.as_str())?;
-    line.push('\n')?;
-    Ok(line)
+    let imports = count_of(Direction::Import, world.items.as_slice());
+    let exports = count_of(Direction::Export, world.items.as_slice());
+    text.push_all(&["world ", world.name.as_str()]);
+    push_count(text, " imports ", imports);
+    push_count(text, " exports ", exports);
+    text.push("\n");
 }
 
-fn push_packages(
-    alloc: Global,
-    text: &mut String,
-    packages: &[PackageName],
-) -> Result<(), AllocError>
-    ensures { OnOk result (string_bytes text.new ≡ string_bytes text.old ++ flat_map package_line packages.now) }
+fn push_packages(text: &mut TextBuilder, packages: &[PackageName])
+    ensures { Grows (flat_map package_line packages.now) text.old text.new }
 {
     for name in packages {
-        text.push_str(package_line(alloc, name)?.as_str())?;
+        push_package(text, name);
     }
-    Ok(())
 }
 
-fn push_interfaces(
-    alloc: Global,
-    text: &mut String,
-    own: usize,
-    interfaces: &[Interface],
-) -> Result<(), AllocError>
-    ensures { OnOk result (string_bytes text.new ≡ string_bytes text.old
-        ++ flat_map (interface_shown own) interfaces.now) }
+fn push_interfaces(text: &mut TextBuilder, own: usize, interfaces: &[Interface])
+    ensures { Grows (flat_map (interface_shown own) interfaces.now) text.old text.new }
 {
     for interface in interfaces {
         if interface.package.0 as usize == own {
-            text.push_str(interface_line(alloc, interface)?.as_str())?;
+            push_interface(text, interface);
         }
     }
-    Ok(())
 }
 
-fn push_worlds(
-    alloc: Global,
-    text: &mut String,
-    own: usize,
-    worlds: &[World],
-) -> Result<(), AllocError>
-    ensures { OnOk result (string_bytes text.new ≡ string_bytes text.old ++ flat_map (world_shown own) worlds.now) }
+fn push_worlds(text: &mut TextBuilder, own: usize, worlds: &[World])
+    ensures { Grows (flat_map (world_shown own) worlds.now) text.old text.new }
 {
     for world in worlds {
         if world.package.0 as usize == own {
-            text.push_str(world_line(alloc, world)?.as_str())?;
+            push_world(text, world);
         }
     }
-    Ok(())
 }
 
 /// A line `package` with the name of the last package, and a line for each interface and each world of it, with its
@@ -133,11 +109,11 @@ fn push_worlds(
 pub fn shown(alloc: Global, resolve: &Resolve) -> Result<String, AllocError>
     ensures { IfOk result (λ s. string_bytes s ≡ shown resolve.now) }
 {
-    let mut text = String::new(alloc);
+    let mut text = TextBuilder::new(alloc);
     let packages = resolve.packages.as_slice();
     let own = own_package(packages);
-    push_packages(alloc, &mut text, &packages[own..])?;
-    push_interfaces(alloc, &mut text, own, resolve.interfaces.as_slice())?;
-    push_worlds(alloc, &mut text, own, resolve.worlds.as_slice())?;
-    Ok(text)
+    push_packages(&mut text, &packages[own..]);
+    push_interfaces(&mut text, own, resolve.interfaces.as_slice());
+    push_worlds(&mut text, own, resolve.worlds.as_slice());
+    text.finish()
 }

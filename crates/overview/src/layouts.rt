@@ -1,5 +1,5 @@
 //! The sizes and alignments of a package's types, and the core signatures of its functions.
-ghost use Rattle.std.specs.Prelude.{◌≡◌, ◌<◌, ◌++◌, length, IfOk, OnOk, IsTrue, string_bytes, flat_map, codes};
+ghost use Rattle.std.specs.Prelude.{◌≡◌, ◌<◌, ◌++◌, length, IfOk, IsTrue, string_bytes, flat_map, codes};
 ghost use Rattle.std.specs.Prelude.{slice_get};
 ghost use Rattle.std.specs.List.{list_all};
 ghost use Rattle.layout.specs.Layout.{layouts_of, core_signature_of, results_of};
@@ -9,12 +9,15 @@ ghost use Rattle.tables.specs.Names.{full_name};
 ghost use Rattle.tables.specs.Tables.{type_of, is_type_id, is_function_id, is_placed};
 ghost use Rattle.overview.specs.LayoutLines.{kind_word, kinds_text, signature_text, type_label, type_line};
 ghost use Rattle.overview.specs.LayoutLines.{function_line, lines_of, laid_out};
+ghost use Rattle.text_builder.specs.Growth.{Grows};
 
+use crate::contents::push_count;
 use canonical_abi::CoreKind;
 use layout::{CoreSignature, Layouts};
 use package_form::own_package;
 use std::alloc::{AllocError, Global};
 use tables::{Definition, FunctionId, Interface, Name, Resolve, TypeId, ValType};
+use text_builder::TextBuilder;
 
 fn kind_word(kind: CoreKind) -> &'static str
     ensures { result.now ≡ kind_word kind }
@@ -25,48 +28,45 @@ fn kind_word(kind: CoreKind) -> &'static str
     }
 }
 
-/// Appends kinds, with a space before each.
-fn push_kinds(text: &mut String, kinds: &[CoreKind]) -> Result<(), AllocError>
-    ensures { OnOk result (string_bytes text.new ≡ string_bytes text.old
-        ++ flat_map (λ k. codes " " ++ kind_word k) kinds.now) }
+/// Writes kinds, with a space before each.
+fn push_kinds(text: &mut TextBuilder, kinds: &[CoreKind])
+    ensures { Grows (flat_map (λ k. codes " " ++ kind_word k) kinds.now) text.old text.new }
 {
     for kind in kinds {
-        text.push(' ')?;
-        text.push_str(kind_word(*kind))?;
+        text.push_all(&[" ", kind_word(*kind)]);
     }
-    Ok(())
 }
 
-/// Kinds in parentheses.
-fn kinds_text(alloc: Global, kinds: &[CoreKind]) -> Result<String, AllocError>
-    ensures { IfOk result (λ s. string_bytes s ≡ kinds_text kinds.now) }
+/// Writes kinds in parentheses.
+fn push_kinds_within(text: &mut TextBuilder, kinds: &[CoreKind])
+    ensures { Grows (kinds_text kinds.now) text.old text.new }
 {
-    let mut text = String::from_str(alloc, "(")?;
+    text.push("(");
     if let Some((first, rest)) = kinds.split_first() {
-        text.push_str(kind_word(*first))?;
-        push_kinds(&mut text, rest)?;
+        text.push(kind_word(*first));
+        push_kinds(text, rest);
     }
-    text.push(')')?;
-    Ok(text)
+    text.push(")");
 }
 
-fn result_text(alloc: Global, kind: Option<CoreKind>) -> Result<String, AllocError>
-    ensures { IfOk result (λ s. string_bytes s ≡ kinds_text (results_of kind)) }
+/// Writes the kinds of results in parentheses.
+fn push_results(text: &mut TextBuilder, kind: Option<CoreKind>)
+    ensures { Grows (kinds_text (results_of kind)) text.old text.new }
 {
     match kind {
-        None => kinds_text(alloc, &[]),
-        Some(kind) => kinds_text(alloc, &[kind]),
+        None => push_kinds_within(text, &[]),
+        Some(kind) => push_kinds_within(text, &[kind]),
     }
 }
 
-/// A core signature: its parameters' kinds and its results'.
-fn signature_text(alloc: Global, signature: &CoreSignature) -> Result<String, AllocError>
-    ensures { IfOk result (λ s. string_bytes s ≡ signature_text (core_signature_of signature.now)) }
+/// Writes a core signature behind words for it: its parameters' kinds and its results'.
+fn push_signature(text: &mut TextBuilder, words: &str, signature: &CoreSignature)
+    ensures { Grows (words.now ++ signature_text (core_signature_of signature.now)) text.old text.new }
 {
-    let mut text = kinds_text(alloc, signature.params.as_slice())?;
-    text.push_str(" -> ")?;
-    text.push_str(result_text(alloc, signature.result)?.as_str())?;
-    Ok(text)
+    text.push(words);
+    push_kinds_within(text, signature.params.as_slice());
+    text.push(" -> ");
+    push_results(text, signature.result);
 }
 
 /// The label of a type.
@@ -118,136 +118,93 @@ fn lowered(resolve: &Resolve, layouts: &Layouts, id: FunctionId) -> CoreSignatur
     layouts.lowered(id)
 }
 
-/// The line of a type of the interface of this full name.
-fn type_line(
-    alloc: Global,
+/// Writes the line of a type of the interface of this full name.
+fn push_type(
+    text: &mut TextBuilder,
     resolve: &Resolve,
     layouts: &Layouts,
     interface: &str,
     id: TypeId,
-) -> Result<String, AllocError>
+)
     requires laid_out { layouts.now ≡ layouts_of resolve.now }
     requires placed { IsTrue (is_type_id resolve.now.definitions id) }
-    ensures { IfOk result (λ s. string_bytes s ≡ type_line resolve.now interface.now id) }
+    ensures { Grows (type_line resolve.now interface.now id) text.old text.new }
 {
-    let size = size_of(resolve, layouts, id).to_string(alloc)?;
-    let align = align_of(resolve, layouts, id).to_string(alloc)?;
-    let mut line = String::from_str(alloc, "type ")?;
-    line.push_str(interface)?;
-    line.push(' ')?;
-    line.push_str(label_of(resolve, id))?;
-    line.push_str(" size ")?;
-    line.push_str(size.as_str())?;
-    line.push_str(" align ")?;
-    line.push_str(align.as_str())?;
-    line.push('\n')?;
-    Ok(line)
+    let size = size_of(resolve, layouts, id);
+    let align = align_of(resolve, layouts, id);
+    text.push_all(&["type ", interface, " ", label_of(resolve, id)]);
+    push_count(text, " size ", size as usize);
+    push_count(text, " align ", align as usize);
+    text.push("\n");
 }
 
-/// The line of a function of the interface of this full name.
-fn function_line(
-    alloc: Global,
+/// Writes the line of a function of the interface of this full name.
+fn push_function(
+    text: &mut TextBuilder,
     resolve: &Resolve,
     layouts: &Layouts,
     interface: &str,
     id: FunctionId,
-) -> Result<String, AllocError>
+)
     requires laid_out { layouts.now ≡ layouts_of resolve.now }
     requires function { IsFunction resolve.now id }
-    ensures { IfOk result (λ s. string_bytes s ≡ function_line resolve.now interface.now id) }
+    ensures { Grows (function_line resolve.now interface.now id) text.old text.new }
 {
-    let lifted = signature_text(alloc, &lifted(resolve, layouts, id))?;
-    let lowered = signature_text(alloc, &lowered(resolve, layouts, id))?;
-    let mut line = String::from_str(alloc, "func ")?;
-    line.push_str(interface)?;
-    line.push(' ')?;
-    line.push_str(resolve.signature(id).name.as_str())?;
-    line.push_str(" lift ")?;
-    line.push_str(lifted.as_str())?;
-    line.push_str(" lower ")?;
-    line.push_str(lowered.as_str())?;
-    line.push('\n')?;
-    Ok(line)
+    let lifted = lifted(resolve, layouts, id);
+    let lowered = lowered(resolve, layouts, id);
+    text.push_all(&["func ", interface, " ", resolve.signature(id).name.as_str()]);
+    push_signature(text, " lift ", &lifted);
+    push_signature(text, " lower ", &lowered);
+    text.push("\n");
 }
 
 fn push_types(
-    alloc: Global,
+    text: &mut TextBuilder,
     resolve: &Resolve,
     layouts: &Layouts,
-    text: &mut String,
     interface: &str,
     ids: &[TypeId],
-) -> Result<(), AllocError>
+)
     requires laid_out { layouts.now ≡ layouts_of resolve.now }
     requires placed { IsTrue (list_all (is_type_id resolve.now.definitions) ids.now) }
-    ensures { OnOk result (string_bytes text.new ≡ string_bytes text.old
-        ++ flat_map (type_line resolve.now interface.now) ids.now) }
+    ensures { Grows (flat_map (type_line resolve.now interface.now) ids.now) text.old text.new }
 {
     for id in ids {
-        let line = type_line(alloc, resolve, layouts, interface, *id)?;
-        text.push_str(line.as_str())?;
+        push_type(text, resolve, layouts, interface, *id);
     }
-    Ok(())
 }
 
 fn push_functions(
-    alloc: Global,
+    text: &mut TextBuilder,
     resolve: &Resolve,
     layouts: &Layouts,
-    text: &mut String,
     interface: &str,
     ids: &[FunctionId],
-) -> Result<(), AllocError>
+)
     requires laid_out { layouts.now ≡ layouts_of resolve.now }
     requires functions { IsTrue (list_all (is_function_id resolve.now.definitions) ids.now) }
-    ensures { OnOk result (string_bytes text.new ≡ string_bytes text.old
-        ++ flat_map (function_line resolve.now interface.now) ids.now) }
+    ensures { Grows (flat_map (function_line resolve.now interface.now) ids.now) text.old text.new }
 {
     for id in ids {
-        let line = function_line(alloc, resolve, layouts, interface, *id)?;
-        text.push_str(line.as_str())?;
+        push_function(text, resolve, layouts, interface, *id);
     }
-    Ok(())
 }
 
-/// Appends the lines of an interface: used names, types, functions.
+/// Writes the lines of an interface: used names, types, functions.
 fn push_interface(
-    alloc: Global,
+    text: &mut TextBuilder,
     resolve: &Resolve,
     layouts: &Layouts,
-    text: &mut String,
     name: &str,
     interface: &Interface,
-) -> Result<(), AllocError>
+)
     requires laid_out { layouts.now ≡ layouts_of resolve.now }
     requires placed { IsTrue (is_placed resolve.now.definitions interface.now) }
-    ensures { OnOk result (string_bytes text.new ≡ string_bytes text.old
-        ++ lines_of resolve.now name.now interface.now) }
+    ensures { Grows (lines_of resolve.now name.now interface.now) text.old text.new }
 {
-    push_types(
-        alloc,
-        resolve,
-        layouts,
-        text,
-        name,
-        interface.uses.as_slice(),
-    )?;
-    push_types(
-        alloc,
-        resolve,
-        layouts,
-        text,
-        name,
-        interface.types.as_slice(),
-    )?;
-    push_functions(
-        alloc,
-        resolve,
-        layouts,
-        text,
-        name,
-        interface.functions.as_slice(),
-    )
+    push_types(text, resolve, layouts, name, interface.uses.as_slice());
+    push_types(text, resolve, layouts, name, interface.types.as_slice());
+    push_functions(text, resolve, layouts, name, interface.functions.as_slice());
 }
 
 /// The full name of an interface.
@@ -266,13 +223,13 @@ pub fn laid_out(alloc: Global, resolve: &Resolve, layouts: &Layouts) -> Result<S
     requires laid_out { layouts.now ≡ layouts_of resolve.now }
     ensures { IfOk result (λ s. string_bytes s ≡ laid_out resolve.now) }
 {
-    let mut text = String::new(alloc);
+    let mut text = TextBuilder::new(alloc);
     let own = own_package(resolve.packages.as_slice());
     for interface in resolve.interfaces.as_slice() {
         if interface.package.0 as usize == own {
             let name = full_name(alloc, resolve, interface)?;
-            push_interface(alloc, resolve, layouts, &mut text, name.as_str(), interface)?;
+            push_interface(&mut text, resolve, layouts, name.as_str(), interface);
         }
     }
-    Ok(text)
+    text.finish()
 }

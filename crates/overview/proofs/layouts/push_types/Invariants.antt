@@ -1,6 +1,7 @@
-use Rattle.std.proofs.Common.{◌≡◌, ◌++◌, string_bytes, flat_map, take}
+use Rattle.std.proofs.Common.{flat_map, take}
+use Rattle.text_builder.specs.Growth.{Grows}
 use Rattle.overview.specs.LayoutLines.{type_line}
 use Rattle.overview.proofs.layouts.push_types.Given as goal
 
 abbrev pub invariant-loop-id : goal.invariant-loop-id
-invariant-loop-id l = string_bytes l.text ≡ string_bytes l.fn.text ++ flat_map (type_line l.resolve l.interface) (take l.id-index l.ids)
+invariant-loop-id l = Grows (flat_map (type_line l.resolve l.interface) (take l.id-index l.ids)) l.fn.text l.text
