@@ -9,12 +9,7 @@ use tables::ValType;
 use text_builder::TextBuilder;
 
 /// Writes the function that puts a result into memory.
-fn push_area(
-    text: &mut TextBuilder,
-    types: &Types<'_>,
-    ty: ValType,
-    answer: &str,
-) {
+fn push_area(text: &mut TextBuilder, types: &Types<'_>, ty: ValType, answer: &str) {
     let mut comment = TextBuilder::new(types.alloc);
     let front = "For the callee: stores the result at area, a block of the callee's of ";
     push_extent(&mut comment, front, &types.laid, ty);
@@ -26,12 +21,7 @@ fn push_area(
 }
 
 /// Writes the function that makes the one core value of a result.
-fn push_one(
-    text: &mut TextBuilder,
-    types: &Types<'_>,
-    ty: ValType,
-    call: &Call<'_>,
-) {
+fn push_one(text: &mut TextBuilder, types: &Types<'_>, ty: ValType, call: &Call<'_>) {
     push_comment(
         text,
         "For the callee: makes the core value that it returns, of a result.",
@@ -47,12 +37,7 @@ fn push_one(
 }
 
 /// Writes the function that gives a result of this type.
-pub fn push_answer(
-    text: &mut TextBuilder,
-    types: &Types<'_>,
-    call: &Call<'_>,
-    ty: ValType,
-) {
+pub fn push_answer(text: &mut TextBuilder, types: &Types<'_>, call: &Call<'_>, ty: ValType) {
     if call.called.passing.has_area() {
         push_area(text, types, ty, call.names.answer.as_str());
     } else {

@@ -64,17 +64,15 @@ fn parameter_parts(header: &mut Header<'_>, parameters: &[Parameter]) -> Vec<Par
     let mut parts = Vec::new(header.alloc);
     for parameter in parameters {
         let part = parameter_part(&mut header.text, header.alloc, parameter);
-        header.text.note(parts.push(part));
+        if parts.push(part).is_err() {
+            header.text.refuse();
+        }
     }
     parts
 }
 
 /// Appends a function as WIT spells it.
-fn push_signature(
-    text: &mut TextBuilder,
-    types: &Types<'_>,
-    function: &Function,
-) {
+fn push_signature(text: &mut TextBuilder, types: &Types<'_>, function: &Function) {
     text.push_all(&[function.name.as_str(), ": func("]);
     for (index, parameter) in function.params.as_slice().iter().enumerate() {
         let mark = if index == 0 { "" } else { ", " };
@@ -99,11 +97,7 @@ pub fn signature_of(
 }
 
 /// Writes the comment of a function.
-fn put_signature(
-    header: &mut Header<'_>,
-    scope: &Scope,
-    function: &Function,
-) {
+fn put_signature(header: &mut Header<'_>, scope: &Scope, function: &Function) {
     let alloc = header.alloc;
     let signature = signature_of(alloc, &header.types, function);
     let signature = header.text.kept(signature);
@@ -197,12 +191,7 @@ fn put_number(header: &mut Header<'_>, words: &[&str], number: u32) {
 }
 
 /// Writes the size and the alignment of a block for a value of a type, under names that begin so.
-fn put_block(
-    header: &mut Header<'_>,
-    stem: &str,
-    word: &str,
-    ty: ValType,
-) {
+fn put_block(header: &mut Header<'_>, stem: &str, word: &str, ty: ValType) {
     let (size, align) = (header.types.laid.size(ty), header.types.laid.align(ty));
     put_number(header, &[stem, word, "_size"], size);
     put_number(header, &[stem, word, "_align"], align);
@@ -245,11 +234,7 @@ fn put_called(header: &mut Header<'_>, stem: &str, called: Called<'_>) {
 }
 
 /// Writes what is made for a function.
-pub fn put_function(
-    header: &mut Header<'_>,
-    scope: &Scope,
-    id: FunctionId,
-) {
+pub fn put_function(header: &mut Header<'_>, scope: &Scope, id: FunctionId) {
     let Some(called) = called_of(&header.types.laid, id) else {
         return;
     };

@@ -17,12 +17,7 @@ pub fn push_comment(text: &mut TextBuilder, comment: &str) {
 
 /// Writes a comment, the head of a function of this name that returns a value of a type, and the variable of the value.
 /// The words are the comment and what comes before and after the variable's type.
-pub fn push_reader(
-    text: &mut TextBuilder,
-    c: &str,
-    name: &str,
-    words: [&str; 3],
-) {
+pub fn push_reader(text: &mut TextBuilder, c: &str, name: &str, words: [&str; 3]) {
     let [comment, before, after] = words;
     push_comment(text, comment);
     text.push_all(&["static inline ", c, " ", name, before, c, after]);

@@ -19,12 +19,7 @@ fn push_kinds(text: &mut TextBuilder, kinds: &[CoreKind]) {
 }
 
 /// Appends the size and the alignment of a block for a value of a type, after what is said of it.
-pub fn push_extent(
-    comment: &mut TextBuilder,
-    front: &str,
-    laid: &Laid<'_>,
-    ty: ValType,
-) {
+pub fn push_extent(comment: &mut TextBuilder, front: &str, laid: &Laid<'_>, ty: ValType) {
     let (size, align) = (laid.size(ty), laid.align(ty));
     comment.push(front);
     comment.push_number(size as usize);

@@ -37,11 +37,7 @@ fn prefixed(alloc: Global, prefix: &str, label: &Label) -> Result<String, AllocE
 }
 
 /// The full name of an interface or a world of this name.
-fn full_name_of(
-    alloc: Global,
-    package: &PackageName,
-    name: &Label,
-) -> Result<String, AllocError> {
+fn full_name_of(alloc: Global, package: &PackageName, name: &Label) -> Result<String, AllocError> {
     let full_name = package.full_name(alloc, name)?;
     String::from_str(alloc, full_name.as_str())
 }
@@ -70,11 +66,7 @@ fn put_full_name(header: &mut Header<'_>, scope: &Scope) {
 }
 
 /// Writes what an interface has.
-fn put_entries(
-    header: &mut Header<'_>,
-    scope: &Scope,
-    interface: &Interface,
-) {
+fn put_entries(header: &mut Header<'_>, scope: &Scope, interface: &Interface) {
     put_full_name(header, scope);
     header.put_types(scope, interface.uses.as_slice());
     header.put_types(scope, interface.types.as_slice());
@@ -84,22 +76,13 @@ fn put_entries(
 }
 
 /// Writes a text, so that it takes effect once: it is guarded by a name of these two words.
-pub fn put_guarded(
-    header: &mut Header<'_>,
-    front: &str,
-    name: &str,
-    own: &str,
-) {
+pub fn put_guarded(header: &mut Header<'_>, front: &str, name: &str, own: &str) {
     let guard = header.text.kept([front, name].concat(header.alloc));
     header.put_guarded(guard.as_str(), own);
 }
 
 /// Writes an interface.
-fn put_interface(
-    header: &mut Header<'_>,
-    scope: &Scope,
-    interface: &Interface,
-) {
+fn put_interface(header: &mut Header<'_>, scope: &Scope, interface: &Interface) {
     let before = header.begin();
     put_entries(header, scope, interface);
     let own = header.end(before);
@@ -116,12 +99,7 @@ fn put_interface(
 }
 
 /// Writes the interfaces of the package of this number.
-fn put_interfaces(
-    header: &mut Header<'_>,
-    place: usize,
-    prefix: &str,
-    package: &PackageName,
-) {
+fn put_interfaces(header: &mut Header<'_>, place: usize, prefix: &str, package: &PackageName) {
     for interface in header.types.laid.resolve.interfaces.as_slice() {
         if interface.package.0 as usize == place {
             let scope = scope_of(header, prefix, package, &interface.name);
@@ -131,12 +109,7 @@ fn put_interfaces(
 }
 
 /// Writes the text of a package.
-fn put_text(
-    header: &mut Header<'_>,
-    prefix: &str,
-    package: &PackageName,
-    text: &str,
-) {
+fn put_text(header: &mut Header<'_>, prefix: &str, package: &PackageName, text: &str) {
     let constant = take_if(header, false, NameKind::Constant, &[prefix, "_text"]);
     header.text.push("\n/* The package ");
     header.text.push_made(package.to_string(header.alloc));
@@ -148,11 +121,7 @@ fn put_text(
 }
 
 /// Writes the packages that have these texts.
-fn put_packages(
-    header: &mut Header<'_>,
-    stems: &[String],
-    texts: &[String],
-) {
+fn put_packages(header: &mut Header<'_>, stems: &[String], texts: &[String]) {
     let packages = header.types.laid.resolve.packages.as_slice();
     for (place, package) in packages.iter().enumerate() {
         if let Some(text) = texts.get(place) {
@@ -198,9 +167,7 @@ fn put_header(
     let (stems, texts) = packages;
     header.text.push("/* ");
     header.text.push_made(main.to_string(header.alloc));
-    header
-        .text
-        .push(" for C and C++ hosts of witcall, by wit-explain bind c. Do not edit. */\n");
+    header.text.push(" for C and C++ hosts of witcall, by wit-explain bind c. Do not edit. */\n");
     push_guard(&mut header.text, guard);
     header.text.push(COMMON);
     put_packages(header, stems, texts);
@@ -209,12 +176,7 @@ fn put_header(
 }
 
 /// Writes a header that is called by this package.
-fn put_main(
-    header: &mut Header<'_>,
-    stems: &[String],
-    texts: &[String],
-    main: &PackageName,
-) {
+fn put_main(header: &mut Header<'_>, stems: &[String], texts: &[String], main: &PackageName) {
     let prefix = header.text.kept(prefix_of(header.alloc, stems, main));
     let guard = take_guard(header, prefix.as_str());
     put_header(header, (stems, texts), main, guard.as_str());

@@ -7,12 +7,7 @@ use tables::ValType;
 use text_builder::TextBuilder;
 
 /// Writes the function that reads a result of this type.
-pub fn push_read(
-    text: &mut TextBuilder,
-    types: &Types<'_>,
-    call: &Call<'_>,
-    ty: ValType,
-) {
+pub fn push_read(text: &mut TextBuilder, types: &Types<'_>, call: &Call<'_>, ty: ValType) {
     let (c, read) = (types.c(ty), call.names.read.as_str());
     if call.called.passing.has_area() {
         push_reader(text, c, read, IN_AREA);

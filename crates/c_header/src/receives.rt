@@ -6,11 +6,7 @@ use c_types::Types;
 use text_builder::TextBuilder;
 
 /// Writes the function that reads the parameters of a function, if it has some.
-pub fn push_receive(
-    text: &mut TextBuilder,
-    types: &Types<'_>,
-    call: &Call<'_>,
-) {
+pub fn push_receive(text: &mut TextBuilder, types: &Types<'_>, call: &Call<'_>) {
     if call.parameters.parts.is_empty() {
         return;
     }

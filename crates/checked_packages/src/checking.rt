@@ -247,12 +247,7 @@ fn ring_words(alloc: Global, members: &[Member<'_>], ring: &[usize]) -> Result<S
 }
 
 /// Reports packages that depend on each other, at the path in the first that names the second.
-fn report_ring(
-    alloc: Global,
-    report: &mut Report,
-    members: &[Member<'_>],
-    ring: &[usize],
-)
+fn report_ring(alloc: Global, report: &mut Report, members: &[Member<'_>], ring: &[usize])
     requires some { 0 < length ring.now }
     requires within { All (λ place. place < length members.now) ring.now }
     ensures { report.new.status ≡ 1 }

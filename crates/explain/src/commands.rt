@@ -19,12 +19,7 @@ fn document(rt: &HostRuntime, report: &mut Report, package: &Checked) {
 }
 
 /// Writes the canonical text of a package.
-fn text(
-    rt: &HostRuntime,
-    report: &mut Report,
-    packages: &CheckedSet,
-    asked: &Asked<'_, '_>,
-) {
+fn text(rt: &HostRuntime, report: &mut Report, packages: &CheckedSet, asked: &Asked<'_, '_>) {
     let list = packages.list.as_slice();
     if let Some(package) = list.get(main_of(list)) {
         let text = text_of(rt.alloc(), packages, package);
@@ -33,33 +28,19 @@ fn text(
 }
 
 /// Writes the binary of a package to a file.
-fn binary(
-    rt: &HostRuntime,
-    report: &mut Report,
-    package: &Checked,
-    asked: &Asked<'_, '_>,
-) {
+fn binary(rt: &HostRuntime, report: &mut Report, package: &Checked, asked: &Asked<'_, '_>) {
     let bytes = binary_of(rt.alloc(), package);
     save_written(rt, report, asked, &bytes);
 }
 
 /// Writes a package to a file as other tools read it, or a world of it.
-fn encode(
-    rt: &HostRuntime,
-    report: &mut Report,
-    package: &Checked,
-    asked: &Asked<'_, '_>,
-) {
+fn encode(rt: &HostRuntime, report: &mut Report, package: &Checked, asked: &Asked<'_, '_>) {
     let bytes = encoded(rt.alloc(), package, asked.options.world);
     save_written(rt, report, asked, &bytes);
 }
 
 /// Reports why a module is not written with a world of a package.
-fn refuse_module(
-    report: &mut Report,
-    asked: &Asked<'_, '_>,
-    error: &Unembedded,
-) {
+fn refuse_module(report: &mut Report, asked: &Asked<'_, '_>, error: &Unembedded) {
     let module = asked.word(0);
     match error {
         Unembedded::World(error) => refuse(report, asked.path(), error),
@@ -73,12 +54,7 @@ fn refuse_module(
 }
 
 /// Writes a module to a file, with a world of a package.
-fn embed(
-    rt: &HostRuntime,
-    report: &mut Report,
-    package: &Checked,
-    asked: &Asked<'_, '_>,
-) {
+fn embed(rt: &HostRuntime, report: &mut Report, package: &Checked, asked: &Asked<'_, '_>) {
     let world = asked.options.world.unwrap_or("");
     let bytes = embedded(rt, package, world, asked.word(0));
     match &bytes {
@@ -105,12 +81,7 @@ fn refuse_name(report: &mut Report, path: &str, name: &str) {
 }
 
 /// Draws the types of packages, or the types and functions of a name.
-fn layout(
-    rt: &HostRuntime,
-    report: &mut Report,
-    packages: &[Checked],
-    asked: &Asked<'_, '_>,
-) {
+fn layout(rt: &HostRuntime, report: &mut Report, packages: &[Checked], asked: &Asked<'_, '_>) {
     let wanted = asked.words.get(1).copied();
     let picture = picture_of(rt.alloc(), packages, form_of(asked), wanted);
     match &picture {
@@ -121,12 +92,7 @@ fn layout(
 }
 
 /// Makes a call of a function of a package.
-fn call(
-    rt: &HostRuntime,
-    report: &mut Report,
-    packages: &[Checked],
-    asked: &Asked<'_, '_>,
-) {
+fn call(rt: &HostRuntime, report: &mut Report, packages: &[Checked], asked: &Asked<'_, '_>) {
     let words = CallWords {
         interface: asked.word(1),
         function: asked.word(2),
@@ -141,23 +107,13 @@ fn call(
 }
 
 /// Writes a header for C of packages.
-fn bind_c(
-    rt: &HostRuntime,
-    report: &mut Report,
-    packages: &CheckedSet,
-    asked: &Asked<'_, '_>,
-) {
+fn bind_c(rt: &HostRuntime, report: &mut Report, packages: &CheckedSet, asked: &Asked<'_, '_>) {
     let header = header_for_c(rt.alloc(), packages);
     push_written(report, asked, &header);
 }
 
 /// Writes a header for guests of a world of a package.
-fn bind_guest(
-    rt: &HostRuntime,
-    report: &mut Report,
-    packages: &CheckedSet,
-    asked: &Asked<'_, '_>,
-) {
+fn bind_guest(rt: &HostRuntime, report: &mut Report, packages: &CheckedSet, asked: &Asked<'_, '_>) {
     let header = header_for_guest(rt.alloc(), packages, asked.options.world);
     push_written(report, asked, &header);
 }
@@ -170,12 +126,7 @@ fn bind_ts(rt: &HostRuntime, report: &mut Report, packages: &CheckedSet) {
 }
 
 /// Does with the last package that is no dependency what a command asks for.
-fn run_on_main(
-    rt: &HostRuntime,
-    report: &mut Report,
-    packages: &[Checked],
-    asked: &Asked<'_, '_>,
-) {
+fn run_on_main(rt: &HostRuntime, report: &mut Report, packages: &[Checked], asked: &Asked<'_, '_>) {
     let Some(package) = packages.get(main_of(packages)) else {
         return;
     };
@@ -189,12 +140,7 @@ fn run_on_main(
 }
 
 /// Does with packages what a command asks for.
-pub fn run_on(
-    rt: &HostRuntime,
-    report: &mut Report,
-    packages: &CheckedSet,
-    asked: &Asked<'_, '_>,
-) {
+pub fn run_on(rt: &HostRuntime, report: &mut Report, packages: &CheckedSet, asked: &Asked<'_, '_>) {
     let list = packages.list.as_slice();
     match asked.verb {
         Verb::Contents => push_contents(rt.alloc(), report, list),

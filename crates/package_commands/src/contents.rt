@@ -7,11 +7,7 @@ use std::alloc::{AllocError, Global};
 use wit_faults::Report;
 
 /// Appends what each package has that is no dependency: the lines of `witcall show`.
-pub fn push_contents(
-    alloc: Global,
-    report: &mut Report,
-    packages: &[Checked],
-) {
+pub fn push_contents(alloc: Global, report: &mut Report, packages: &[Checked]) {
     for package in packages {
         if !package.is_dependency {
             report.text.push_made(shown(alloc, &package.tables));

@@ -26,12 +26,7 @@ fn push_changes(report: &mut Report, changes: &Changes) {
 
 /// Appends what changed from the last package that is no dependency of one list to that of another one. The status is 1
 /// if a host that was built for the old one can't call each of its functions any more.
-pub fn push_differences(
-    alloc: Global,
-    report: &mut Report,
-    old: &[Checked],
-    new: &[Checked],
-) {
+pub fn push_differences(alloc: Global, report: &mut Report, old: &[Checked], new: &[Checked]) {
     if let (Some(old), Some(new)) = (old.get(main_of(old)), new.get(main_of(new))) {
         match &changes_of(alloc, side(old), side(new)) {
             Ok(changes) => push_changes(report, changes),

@@ -1,8 +1,8 @@
 //! Functions that are found by their names.
 
 use crate::opened::line_of;
-use row_inputs::{Inputs, Set, first_word, inputs_in};
 use row_inputs::row_sets::indexed_behind;
+use row_inputs::{Inputs, Set, first_word, inputs_in};
 use std::alloc::Global;
 use witcall::Refused;
 

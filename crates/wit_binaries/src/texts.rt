@@ -69,12 +69,7 @@ fn hint_of(error: &DecodeError) -> &'static str {
 }
 
 /// Reports a binary that has no packages.
-fn refuse(
-    alloc: Global,
-    report: &mut Report,
-    binary: &Source,
-    error: &DecodeError,
-)
+fn refuse(alloc: Global, report: &mut Report, binary: &Source, error: &DecodeError)
     ensures { report.new.status ≡ 1 }
 {
     let words = report.text.kept(error.to_string(alloc));

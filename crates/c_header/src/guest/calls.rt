@@ -113,11 +113,7 @@ pub fn put_heading(
 }
 
 /// Writes the parameters of a function of values.
-fn push_parameters(
-    text: &mut TextBuilder,
-    types: &Types<'_>,
-    parameters: &[Part],
-) {
+fn push_parameters(text: &mut TextBuilder, types: &Types<'_>, parameters: &[Part]) {
     if parameters.is_empty() {
         text.push("void");
         return;
@@ -131,11 +127,7 @@ fn push_parameters(
 }
 
 /// Writes the head of a function of values, up to its parameters.
-pub fn push_value_head(
-    text: &mut TextBuilder,
-    types: &Types<'_>,
-    call: &GuestCall<'_>,
-) {
+pub fn push_value_head(text: &mut TextBuilder, types: &Types<'_>, call: &GuestCall<'_>) {
     let c = match call.called.function.result {
         Some(ty) => types.c(ty),
         None => "void",

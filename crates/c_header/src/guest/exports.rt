@@ -28,13 +28,14 @@ fn push_core_parameters(text: &mut TextBuilder, call: &GuestCall<'_>) {
 }
 
 /// Writes that a function is exported under a name that consists of these words.
-fn push_export_name(
-    text: &mut TextBuilder,
-    before: &str,
-    front: &str,
-    name: &str,
-) {
-    text.push_all(&["\n__attribute__((export_name(\"", before, front, name, "\")))\n"]);
+fn push_export_name(text: &mut TextBuilder, before: &str, front: &str, name: &str) {
+    text.push_all(&[
+        "\n__attribute__((export_name(\"",
+        before,
+        front,
+        name,
+        "\")))\n",
+    ]);
 }
 
 /// Writes the head of the export of core values.
@@ -48,11 +49,7 @@ fn push_head(text: &mut TextBuilder, place: &Place, call: &GuestCall<'_>) {
 }
 
 /// Writes the variable of the result. One that goes through memory is there until the host has read it.
-fn push_value(
-    text: &mut TextBuilder,
-    types: &Types<'_>,
-    call: &GuestCall<'_>,
-) {
+fn push_value(text: &mut TextBuilder, types: &Types<'_>, call: &GuestCall<'_>) {
     let Some(ty) = call.called.function.result else {
         return;
     };
@@ -89,11 +86,7 @@ fn push_flats(text: &mut TextBuilder, call: &GuestCall<'_>) {
 }
 
 /// Writes how the parameters are read.
-fn push_parameters(
-    text: &mut TextBuilder,
-    types: &Types<'_>,
-    call: &GuestCall<'_>,
-) {
+fn push_parameters(text: &mut TextBuilder, types: &Types<'_>, call: &GuestCall<'_>) {
     if call.called.passing.is_spilled {
         let c = call.parameters.c.as_str();
         text.push_all(&["    const ", c, " *parameters = (const ", c]);
@@ -127,11 +120,7 @@ fn push_value_call(text: &mut TextBuilder, call: &GuestCall<'_>) {
 }
 
 /// Writes how the result is returned. Blocks of one in memory are there until the host has read them.
-fn push_returned(
-    text: &mut TextBuilder,
-    types: &Types<'_>,
-    call: &GuestCall<'_>,
-) {
+fn push_returned(text: &mut TextBuilder, types: &Types<'_>, call: &GuestCall<'_>) {
     if call.called.passing.has_area() {
         text.push("    return (uint32_t)(uintptr_t)&value;\n");
         return;
@@ -144,12 +133,7 @@ fn push_returned(
 }
 
 /// Writes the export of core values.
-fn push_export(
-    text: &mut TextBuilder,
-    types: &Types<'_>,
-    place: &Place,
-    call: &GuestCall<'_>,
-) {
+fn push_export(text: &mut TextBuilder, types: &Types<'_>, place: &Place, call: &GuestCall<'_>) {
     push_head(text, place, call);
     push_value(text, types, call);
     push_flats(text, call);
@@ -178,11 +162,7 @@ fn put_post(
 }
 
 /// Writes the declaration of a function that the guest defines, and takes the names of what is made for it.
-fn put_prototype<'a>(
-    header: &mut Header<'_>,
-    place: &Place,
-    called: Called<'a>,
-) -> GuestCall<'a> {
+fn put_prototype<'a>(header: &mut Header<'_>, place: &Place, called: Called<'a>) -> GuestCall<'a> {
     put_heading(header, place, called.function, Direction::Export);
     let call = guest_call_of(header, place, ["wit_export_", "exports_"], called);
     push_value_head(&mut header.text, &header.types, &call);

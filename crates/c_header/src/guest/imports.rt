@@ -34,11 +34,7 @@ fn push_core(text: &mut TextBuilder, place: &Place, call: &GuestCall<'_>) {
 }
 
 /// Writes the variables of the function of values.
-fn push_variables(
-    text: &mut TextBuilder,
-    types: &Types<'_>,
-    call: &GuestCall<'_>,
-) {
+fn push_variables(text: &mut TextBuilder, types: &Types<'_>, call: &GuestCall<'_>) {
     let count = call.called.passing.lowered.params.len();
     if count > 0 {
         text.push("    wit_flat flats[");
@@ -57,11 +53,7 @@ fn push_variables(
 }
 
 /// Writes how the core values are made.
-fn push_flats(
-    text: &mut TextBuilder,
-    types: &Types<'_>,
-    call: &GuestCall<'_>,
-) {
+fn push_flats(text: &mut TextBuilder, types: &Types<'_>, call: &GuestCall<'_>) {
     let passing = &call.called.passing;
     if passing.is_spilled {
         for part in &call.parameters.parts {
@@ -94,11 +86,7 @@ fn push_core_call(text: &mut TextBuilder, call: &GuestCall<'_>) {
 }
 
 /// Writes how the result is read and returned.
-fn push_result(
-    text: &mut TextBuilder,
-    types: &Types<'_>,
-    call: &GuestCall<'_>,
-) {
+fn push_result(text: &mut TextBuilder, types: &Types<'_>, call: &GuestCall<'_>) {
     let Some(ty) = call.called.function.result else {
         return;
     };
@@ -109,11 +97,7 @@ fn push_result(
 }
 
 /// Writes the function of values.
-fn push_value(
-    text: &mut TextBuilder,
-    types: &Types<'_>,
-    call: &GuestCall<'_>,
-) {
+fn push_value(text: &mut TextBuilder, types: &Types<'_>, call: &GuestCall<'_>) {
     text.push("\nstatic inline ");
     push_value_head(text, types, call);
     text.push(" {\n");
@@ -125,11 +109,7 @@ fn push_value(
 }
 
 /// Writes a function that the guest imports.
-pub fn put_import(
-    header: &mut Header<'_>,
-    place: &Place,
-    id: FunctionId,
-) {
+pub fn put_import(header: &mut Header<'_>, place: &Place, id: FunctionId) {
     let Some(called) = called_of(&header.types.laid, id) else {
         return;
     };

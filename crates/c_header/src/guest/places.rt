@@ -55,11 +55,7 @@ pub fn place_of_interface(
 }
 
 /// The place of a world. None if its package is not there.
-pub fn place_of_world(
-    header: &mut Header<'_>,
-    stems: &[String],
-    world: &World,
-) -> Option<Place> {
+pub fn place_of_world(header: &mut Header<'_>, stems: &[String], world: &World) -> Option<Place> {
     let (package, scope) = named(header, stems, world.package, &world.name)?;
     let module = String::from_str(header.alloc, ROOT);
     Some(Place {

@@ -39,7 +39,9 @@ impl<'a> Guest<'a> {
             return;
         }
         let full_name = scope.full_name.as_str();
-        self.header.text.push_all(&["\n/* ---- ", full_name, " */\n\n"]);
+        self.header
+            .text
+            .push_all(&["\n/* ---- ", full_name, " */\n\n"]);
         let prefix = scope.prefix.as_str();
         put_guarded(&mut self.header, "wit_interface_", prefix, own.as_str());
     }
@@ -64,12 +66,7 @@ impl<'a> Guest<'a> {
     }
 
     /// Writes functions that cross the border of the world in this direction.
-    fn put_functions(
-        &mut self,
-        place: &Place,
-        direction: Direction,
-        ids: &[FunctionId],
-    ) {
+    fn put_functions(&mut self, place: &Place, direction: Direction, ids: &[FunctionId]) {
         self.header.begin_package(place.package.as_str());
         for id in ids {
             match direction {
@@ -80,11 +77,7 @@ impl<'a> Guest<'a> {
     }
 
     /// Writes the functions of an interface.
-    fn put_functions_of(
-        &mut self,
-        direction: Direction,
-        id: InterfaceId,
-    ) {
+    fn put_functions_of(&mut self, direction: Direction, id: InterfaceId) {
         let interfaces = self.header.types.laid.resolve.interfaces.as_slice();
         let Some(interface) = interfaces.get(id.0 as usize) else {
             return;

@@ -2,9 +2,9 @@
 //! packages that they use.
 
 use crate::row_sets::opened::opened_behind;
+use crate::{Set, Tally, opened_number};
 use ctype_bin::{BinError, Fault, decode};
 use opening::{OpenError, Package, open};
-use crate::{Set, Tally, opened_number};
 use std::alloc::{AllocError, Global};
 
 /// The line of opening.

@@ -2,8 +2,8 @@
 
 ghost use Rattle.std.specs.Prelude.{◌<◌, IfOk, length};
 
-use opening::{IndexedPackage, OpenError, Package, open_indexed, open_set};
 use crate::Set;
+use opening::{IndexedPackage, OpenError, Package, open_indexed, open_set};
 use std::alloc::{AllocError, Global};
 use wit_text::parse;
 
