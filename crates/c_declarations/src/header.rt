@@ -1,10 +1,11 @@
 //! What is written.
 
 use atoms::KeyedState;
-use c_types::c_names::{NameKind, Names, ShortNames, push_words};
+use c_types::c_names::{NameKind, Names, ShortNames};
 use c_types::{Laid, Types};
 use std::alloc::{AllocError, Global};
 use std::mem::replace;
+use text_builder::TextBuilder;
 use wit_comments::{Block, Comments};
 
 /// Who includes a header.
@@ -24,13 +25,8 @@ pub struct Purpose<'a> {
 }
 
 /// Appends what declares a name as one of a type, after a front.
-pub(crate) fn push_declaration(
-    text: &mut String,
-    front: &str,
-    c: &str,
-    name: &str,
-) -> Result<(), AllocError> {
-    push_words(text, &[front, c, " ", name, ";\n"])
+pub(crate) fn push_declaration(text: &mut TextBuilder, front: &str, c: &str, name: &str) {
+    text.push_all(&[front, c, " ", name, ";\n"]);
 }
 
 /// The header so far.
@@ -38,7 +34,7 @@ pub(crate) fn push_declaration(
 pub struct Header<'a> {
     pub alloc: Global,
     pub purpose: Purpose<'a>,
-    pub text: String,
+    pub text: TextBuilder,
     pub names: Names,
     pub types: Types<'a>,
     short_names: ShortNames,
@@ -57,7 +53,7 @@ impl<'a> Header<'a> {
         Ok(Header {
             alloc,
             purpose,
-            text: String::new(alloc),
+            text: TextBuilder::new(alloc),
             names: Names::new(alloc, keyed)?,
             types: Types::new(alloc, laid, keyed)?,
             short_names: ShortNames::new(alloc, keyed),
@@ -66,82 +62,81 @@ impl<'a> Header<'a> {
     }
 
     /// Begins a package, whose names begin with a prefix and `_`.
-    pub fn begin_package(&mut self, prefix: &str) -> Result<(), AllocError> {
-        self.front = format!(in self.alloc; "{prefix}_")?;
-        Ok(())
+    pub fn begin_package(&mut self, prefix: &str) {
+        self.front = self.text.kept([prefix, "_"].concat(self.alloc));
     }
 
     /// Writes the comment of an item that these words name, and what it is.
-    pub fn put_comment(&mut self, key: &str, last: &str) -> Result<(), AllocError> {
+    pub fn put_comment(&mut self, key: &str, last: &str) {
         let block = Block {
             open: "/*",
             indent: "",
             lines: self.purpose.comments.of(key),
             last,
         };
-        self.text.push('\n')?;
-        block.push(&mut self.text)?;
-        self.text.push('\n')
+        self.text.push("\n");
+        block.push(&mut self.text);
+        self.text.push("\n");
     }
 
     /// Begins a text of its own, and gives the text before it.
-    pub fn begin(&mut self) -> String {
-        replace(&mut self.text, String::new(self.alloc))
+    pub fn begin(&mut self) -> TextBuilder {
+        replace(&mut self.text, TextBuilder::new(self.alloc))
     }
 
     /// Goes on with the text before, and gives the text of its own.
-    pub fn end(&mut self, before: String) -> String {
-        replace(&mut self.text, before)
+    pub fn end(&mut self, before: TextBuilder) -> String {
+        let own = replace(&mut self.text, before);
+        self.text.kept(own.finish())
     }
 
     /// Takes a name in upper case.
-    pub fn take_upper(&mut self, name: &str) -> Result<String, AllocError> {
-        let upper = name.to_ascii_uppercase(self.alloc)?;
-        self.names.take(upper)
+    pub fn take_upper(&mut self, name: &str) -> String {
+        let upper = self.text.kept(name.to_ascii_uppercase(self.alloc));
+        self.text.kept(self.names.take(upper))
     }
 
     /// Takes a name of a type or a function of the package.
-    pub fn take_own(&mut self, kind: NameKind, name: String) -> Result<String, AllocError> {
-        let full = self.names.take(name)?;
-        self.short_names
-            .add(kind, self.front.as_str(), full.as_str())?;
-        Ok(full)
+    pub fn take_own(&mut self, kind: NameKind, name: String) -> String {
+        let full = self.text.kept(self.names.take(name));
+        let added = self
+            .short_names
+            .add(kind, self.front.as_str(), full.as_str());
+        self.text.note(added);
+        full
     }
 
     /// Takes a name of a function of the package, which consists of these words.
-    pub(crate) fn take_function(&mut self, words: &[&str]) -> Result<String, AllocError> {
-        let name = words.concat(self.alloc)?;
+    pub(crate) fn take_function(&mut self, words: &[&str]) -> String {
+        let name = self.text.kept(words.concat(self.alloc));
         self.take_own(NameKind::Function, name)
     }
 
     /// Takes a name of a constant of the package, in upper case.
-    pub fn take_constant(&mut self, name: &str) -> Result<String, AllocError> {
-        let upper = name.to_ascii_uppercase(self.alloc)?;
+    pub fn take_constant(&mut self, name: &str) -> String {
+        let upper = self.text.kept(name.to_ascii_uppercase(self.alloc));
         self.take_own(NameKind::Constant, upper)
     }
 
     /// Writes the short names that nothing else has.
-    pub fn put_short_names(&mut self) -> Result<(), AllocError> {
-        self.short_names.push_lines(&mut self.text, &self.names)
+    pub fn put_short_names(&mut self) {
+        self.short_names.push_lines(&mut self.text, &self.names);
     }
 
     /// Writes a text that takes effect once, though several headers have it. It is guarded by this name in upper case.
-    pub fn put_guarded(&mut self, name: &str, text: &str) -> Result<(), AllocError> {
-        let guard = self.take_upper(name)?;
+    pub fn put_guarded(&mut self, name: &str, text: &str) {
+        let guard = self.take_upper(name);
         let guard = guard.as_str();
-        push_words(
-            &mut self.text,
-            &[
-                "#ifndef ",
-                guard,
-                "\n#define ",
-                guard,
-                "\n",
-                text,
-                "#endif /* ",
-                guard,
-                " */\n",
-            ],
-        )
+        self.text.push_all(&[
+            "#ifndef ",
+            guard,
+            "\n#define ",
+            guard,
+            "\n",
+            text,
+            "#endif /* ",
+            guard,
+            " */\n",
+        ]);
     }
 }

@@ -1,90 +1,72 @@
 //! How a guest reaches the elements of a list, and makes a list.
 
 use crate::header::Header;
-use c_types::c_names::push_words;
-use std::alloc::AllocError;
+use text_builder::TextBuilder;
 
 impl<'a> Header<'a> {
     /// Writes the functions of a list for a guest.
-    pub(crate) fn put_pointers(&mut self, c: &str, element: &str) -> Result<(), AllocError> {
-        let elements = self.take_function(&[c, "_elements"])?;
-        push_elements(&mut self.text, c, element, elements.as_str())?;
-        let of = self.take_function(&[c, "_of"])?;
-        push_of(&mut self.text, c, element, of.as_str())?;
-        self.put_new(c, element, of.as_str())
+    pub(crate) fn put_pointers(&mut self, c: &str, element: &str) {
+        let elements = self.take_function(&[c, "_elements"]);
+        push_elements(&mut self.text, c, element, elements.as_str());
+        let of = self.take_function(&[c, "_of"]);
+        push_of(&mut self.text, c, element, of.as_str());
+        self.put_new(c, element, of.as_str());
     }
 
     /// Writes the function that makes a list in a new block, by the one of this name.
-    fn put_new(&mut self, c: &str, element: &str, of: &str) -> Result<(), AllocError> {
-        let new = self.take_function(&[c, "_new"])?;
-        push_new_head(&mut self.text, c, new.as_str())?;
-        push_new_body(&mut self.text, element, of)
+    fn put_new(&mut self, c: &str, element: &str, of: &str) {
+        let new = self.take_function(&[c, "_new"]);
+        push_new_head(&mut self.text, c, new.as_str());
+        push_new_body(&mut self.text, element, of);
     }
 }
 
 /// Writes the function that gives the elements of a list.
-fn push_elements(
-    text: &mut String,
-    c: &str,
-    element: &str,
-    elements: &str,
-) -> Result<(), AllocError> {
-    push_words(
-        text,
-        &[
-            "\nstatic inline ",
-            element,
-            " *",
-            elements,
-            "(",
-            c,
-            " list) {\n    return (",
-            element,
-            " *)(uintptr_t)list.address;\n}\n",
-        ],
-    )
+fn push_elements(text: &mut TextBuilder, c: &str, element: &str, elements: &str) {
+    text.push_all(&[
+        "\nstatic inline ",
+        element,
+        " *",
+        elements,
+        "(",
+        c,
+        " list) {\n    return (",
+        element,
+        " *)(uintptr_t)list.address;\n}\n",
+    ]);
 }
 
 /// Writes the function that makes a list of elements that are there.
-fn push_of(text: &mut String, c: &str, element: &str, of: &str) -> Result<(), AllocError> {
-    push_words(
-        text,
-        &[
-            "\nstatic inline ",
-            c,
-            " ",
-            of,
-            "(const ",
-            element,
-            " *elements, size_t length) {\n    ",
-            c,
-            " list = {(uint32_t)(uintptr_t)elements, (uint32_t)length};\n    return list;\n}\n",
-        ],
-    )
+fn push_of(text: &mut TextBuilder, c: &str, element: &str, of: &str) {
+    text.push_all(&[
+        "\nstatic inline ",
+        c,
+        " ",
+        of,
+        "(const ",
+        element,
+        " *elements, size_t length) {\n    ",
+        c,
+        " list = {(uint32_t)(uintptr_t)elements, (uint32_t)length};\n    return list;\n}\n",
+    ]);
 }
 
 /// Writes the head of the function that makes a list in a new block.
-fn push_new_head(text: &mut String, c: &str, new: &str) -> Result<(), AllocError> {
-    push_words(
-        text,
-        &["\nstatic inline ", c, " ", new, "(size_t length) {\n"],
-    )
+fn push_new_head(text: &mut TextBuilder, c: &str, new: &str) {
+    text.push_all(&["\nstatic inline ", c, " ", new, "(size_t length) {\n"]);
 }
 
 /// Writes what the function does that makes a list in a new block.
-fn push_new_body(text: &mut String, element: &str, of: &str) -> Result<(), AllocError> {
-    push_words(
-        text,
-        &[
-            "    void *block = wit_allocate_all(alignof(",
-            element,
-            "), sizeof(",
-            element,
-            "), length);\n    return ",
-            of,
-            "((const ",
-            element,
-            " *)block, length);\n}\n",
-        ],
-    )
+fn push_new_body(text: &mut TextBuilder, element: &str, of: &str) {
+    text.push_all(&[
+        "    void *block = wit_allocate_all(alignof(",
+        element,
+        "), sizeof(",
+        element,
+        "), length);\n    return ",
+        of,
+        "((const ",
+        element,
+        " *)block, length);\n}\n",
+    ]);
 }

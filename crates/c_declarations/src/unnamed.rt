@@ -2,136 +2,131 @@
 
 use crate::declarations::Entry;
 use crate::header::Header;
-use c_types::c_names::{NameKind, push_words};
-use c_types::{Form, Inner, Row, first_inner, inner_of, made_of};
-use std::alloc::AllocError;
+use c_types::c_names::NameKind;
+use c_types::{Form, Inner, Part, Row, first_inner, inner_of, made_of};
 use tables::{TypeDefKind, TypeId, ValType};
 
 impl<'a> Header<'a> {
     /// Writes a list.
-    fn put_list(&mut self, ty: ValType, c: &str, inner: &Inner) -> Result<(), AllocError> {
-        push_words(
-            &mut self.text,
-            &[
-                "typedef struct {\n    uint32_t address;\n    uint32_t length;\n} ",
-                c,
-                ";\n",
-            ],
-        )?;
-        self.put_extent(c, ty)?;
-        self.put_access(c)?;
-        match inner.parts.as_slice() {
-            [Some(element)] => self.put_elements_of(c, *element),
-            _ => Ok(()),
+    fn put_list(&mut self, ty: ValType, c: &str, inner: &Inner) {
+        self.text.push_all(&[
+            "typedef struct {\n    uint32_t address;\n    uint32_t length;\n} ",
+            c,
+            ";\n",
+        ]);
+        self.put_extent(c, ty);
+        self.put_access(c);
+        if let [Some(element)] = inner.parts.as_slice() {
+            self.put_elements_of(c, *element);
         }
     }
 
     /// Writes how the elements of a list are reached that have this type.
-    fn put_elements_of(&mut self, c: &str, ty: ValType) -> Result<(), AllocError> {
-        let element = String::from_str(self.alloc, self.types.c(ty))?;
-        self.put_elements(c, element.as_str())
+    fn put_elements_of(&mut self, c: &str, ty: ValType) {
+        let made = String::from_str(self.alloc, self.types.c(ty));
+        let element = self.text.kept(made);
+        self.put_elements(c, element.as_str());
     }
 
     /// Writes a type without a name.
-    fn put_made(&mut self, ty: ValType, row: &Row, inner: &Inner) -> Result<(), AllocError> {
+    fn put_made(&mut self, ty: ValType, row: &Row, inner: &Inner) {
         if row.form == Form::Pair {
-            return self.put_list(ty, row.c.as_str(), inner);
+            self.put_list(ty, row.c.as_str(), inner);
+        } else {
+            self.put_struct(ty, row);
+            self.put_access(row.c.as_str());
         }
-        self.put_struct(ty, row)?;
-        self.put_access(row.c.as_str())
     }
 
-    /// What a type without a name is in C, under a name that is taken now.
-    fn unnamed_row(&mut self, end: ValType, inner: &Inner, key: String) -> Result<Row, AllocError> {
-        let alloc = self.alloc;
-        let (form, parts) = made_of(alloc, inner)?;
-        Ok(Row {
+    /// What a type without a name is in C that is made so, under a name that is taken now.
+    fn unnamed_row(&mut self, end: ValType, key: String, made: (Form, Vec<Part>)) -> Row {
+        let (form, parts) = made;
+        let name = self.text.kept(["wit_", key.as_str()].concat(self.alloc));
+        Row {
             end,
-            spelling: String::new(alloc),
-            c: self.take_own(NameKind::Type, format!(in alloc; "wit_{}", key.as_str())?)?,
+            spelling: String::new(self.alloc),
+            c: self.take_own(NameKind::Type, name),
             key,
             form,
             parts,
-        })
+        }
     }
 
     /// Writes a type without a name, which takes effect once.
-    fn put_shared(&mut self, ty: ValType, row: &Row, inner: &Inner) -> Result<(), AllocError> {
+    fn put_shared(&mut self, ty: ValType, row: &Row, inner: &Inner) {
         let before = self.begin();
-        self.put_made(ty, row, inner)?;
+        self.put_made(ty, row, inner);
         let own = self.end(before);
-        self.put_defined(row.c.as_str(), own.as_str())
+        self.put_defined(row.c.as_str(), own.as_str());
     }
 
     /// Writes what defines a type of this name, so that it takes effect once.
-    fn put_defined(&mut self, c: &str, own: &str) -> Result<(), AllocError> {
-        self.text.push('\n')?;
-        let guard = format!(in self.alloc; "{c}_defined")?;
-        self.put_guarded(guard.as_str(), own)
+    fn put_defined(&mut self, c: &str, own: &str) {
+        self.text.push("\n");
+        let guard = self.text.kept([c, "_defined"].concat(self.alloc));
+        self.put_guarded(guard.as_str(), own);
     }
 
-    /// Writes the first type without a name that has this key.
-    fn put_first(&mut self, id: TypeId, inner: &Inner, key: String) -> Result<(), AllocError> {
+    /// Writes the first type without a name that has this key, and is made so.
+    fn put_first(&mut self, id: TypeId, inner: &Inner, key: String, made: (Form, Vec<Part>)) {
         let end = ValType::Id(id);
-        self.types.add_unnamed(key.as_str(), end)?;
-        let row = self.unnamed_row(end, inner, key)?;
-        self.put_shared(end, &row, inner)?;
+        self.text.note(self.types.add_unnamed(key.as_str(), end));
+        let row = self.unnamed_row(end, key, made);
+        self.put_shared(end, &row, inner);
         self.types.set(id, row);
-        Ok(())
     }
 
     /// Writes a type without a name if there is none like it yet. What it is in the end.
-    fn put_unnamed(&mut self, id: TypeId, inner: &Inner) -> Result<ValType, AllocError> {
-        let key = self.types.key_of(inner)?;
+    fn put_unnamed(&mut self, id: TypeId, inner: &Inner) -> ValType {
+        let key = self.text.kept(self.types.key_of(inner));
         if let Some(end) = self.types.unnamed_with(key.as_str()) {
-            return Ok(end);
+            return end;
         }
-        self.put_first(id, inner, key)?;
-        Ok(ValType::Id(id))
+        match made_of(self.alloc, inner) {
+            Ok(made) => self.put_first(id, inner, key, made),
+            Err(_) => self.text.refuse(),
+        }
+        ValType::Id(id)
     }
 
     /// Writes a type without a name, which is that of a row.
-    fn put_spelled(&mut self, id: TypeId, inner: &Inner) -> Result<(), AllocError> {
-        let end = self.put_unnamed(id, inner)?;
-        let spelling = self.types.spelled(inner)?;
+    fn put_spelled(&mut self, id: TypeId, inner: &Inner) {
+        let end = self.put_unnamed(id, inner);
+        let spelling = self.text.kept(self.types.spelled(inner));
         self.types.set_end(id, end, spelling);
-        Ok(())
     }
 
     /// Writes the type without a name of a row.
-    fn put_inner(&mut self, id: TypeId, kind: &TypeDefKind) -> Result<(), AllocError> {
-        match inner_of(self.alloc, kind)? {
-            Some(inner) => self.put_spelled(id, &inner),
-            None => Ok(()),
+    fn put_inner(&mut self, id: TypeId, kind: &TypeDefKind) {
+        match inner_of(self.alloc, kind) {
+            Ok(Some(inner)) => self.put_spelled(id, &inner),
+            Ok(None) => {}
+            Err(_) => self.text.refuse(),
         }
     }
 
     /// Writes the types without a name right before a row, of which its definition is made.
-    pub fn put_inners(&mut self, place: u32) -> Result<(), AllocError> {
+    pub fn put_inners(&mut self, place: u32) {
         for inner in first_inner(self.types.laid.resolve, place)..place {
             if let Some(definition) = self.types.laid.definition(TypeId(inner)) {
-                self.put_inner(TypeId(inner), &definition.kind)?;
+                self.put_inner(TypeId(inner), &definition.kind);
             }
         }
-        Ok(())
     }
 
     /// Writes another name of a type without a name, which is this one.
-    fn put_inner_alias(&mut self, entry: &Entry<'_>, inner: &Inner) -> Result<(), AllocError> {
-        let end = self.put_unnamed(entry.id, inner)?;
-        let spelling = self.types.spelled(inner)?;
-        self.put_type_alias(entry, end, spelling.as_str())
+    fn put_inner_alias(&mut self, entry: &Entry<'_>, inner: &Inner) {
+        let end = self.put_unnamed(entry.id, inner);
+        let spelling = self.text.kept(self.types.spelled(inner));
+        self.put_type_alias(entry, end, spelling.as_str());
     }
 
     /// Writes another name of a type without a name.
-    pub(crate) fn put_named_inner(
-        &mut self,
-        entry: &Entry<'_>,
-        kind: &TypeDefKind,
-    ) -> Result<(), AllocError> {
-        match inner_of(self.alloc, kind)? {
-            Some(inner) => self.put_inner_alias(entry, &inner),
-            None => Ok(()),
+    pub(crate) fn put_named_inner(&mut self, entry: &Entry<'_>, kind: &TypeDefKind) {
+        match inner_of(self.alloc, kind) {
+            Ok(Some(inner)) => self.put_inner_alias(entry, &inner),
+            Ok(None) => {}
+            Err(_) => self.text.refuse(),
         }
     }
 }

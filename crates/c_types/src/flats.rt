@@ -1,11 +1,10 @@
 //! How the core values of values are made, and how values are read out of them.
 
-use crate::c_names::push_words;
 use crate::laid::tag_bits;
 use crate::types::{Form, Part, Types, has_held};
-use std::alloc::{AllocError, Global};
-use std::fmt::Write;
+use std::alloc::AllocError;
 use tables::{Primitive, ValType};
+use text_builder::TextBuilder;
 
 /// Which way values go.
 #[derive(Clone, Copy)]
@@ -69,32 +68,22 @@ enum Step {
     Value(Value),
 }
 
+/// Fields that are still to be written.
+#[derive(Clone, Copy)]
+struct Fields<'a> {
+    /// What they begin with in C.
+    front: [&'a str; 2],
+    /// The number of their first core value.
+    place: usize,
+    indent: &'a str,
+    parts: &'a [Part],
+}
+
 /// Leaves a step to be written.
-fn leave(steps: &mut Vec<Step>, step: Step) -> Result<(), AllocError> {
-    steps.push(step)?;
-    Ok(())
-}
-
-/// Leaves lines to be written, which consist of these words.
-fn leave_line(alloc: Global, steps: &mut Vec<Step>, words: &[&str]) -> Result<(), AllocError> {
-    let line = words.concat(alloc)?;
-    leave(steps, Step::Line(line))
-}
-
-/// A value of a type, by the number of its first core value, the words that it is in C, and those of its indent.
-fn value_of(
-    alloc: Global,
-    held: (ValType, usize),
-    path: &[&str],
-    indent: &[&str],
-) -> Result<Value, AllocError> {
-    let (ty, place) = held;
-    Ok(Value {
-        ty,
-        path: path.concat(alloc)?,
-        place,
-        indent: indent.concat(alloc)?,
-    })
+fn leave(text: &mut TextBuilder, steps: &mut Vec<Step>, step: Step) {
+    if steps.push(step).is_err() {
+        text.refuse();
+    }
 }
 
 /// Turns the steps after so many around.
@@ -105,94 +94,102 @@ fn turn(steps: &mut Vec<Step>, count: usize) {
 }
 
 /// Writes how a number becomes a core value: what comes before the value in C and after it.
-fn push_made(
-    text: &mut String,
-    value: &Value,
-    place: usize,
-    words: (&str, &[&str]),
-) -> Result<(), AllocError> {
+fn push_made(text: &mut TextBuilder, value: &Value, place: usize, words: (&str, &[&str])) {
     let (before, after) = words;
-    let (indent, path) = (value.indent.as_str(), value.path.as_str());
-    write!(text, "{indent}wit_put(flats, {place}, {before}{path}")?;
-    push_words(text, after)?;
-    text.push_str(");\n")
+    text.push_all(&[value.indent.as_str(), "wit_put(flats, "]);
+    text.push_number(place);
+    text.push_all(&[", ", before, value.path.as_str()]);
+    text.push_all(after);
+    text.push(");\n");
 }
 
 /// Writes how a number is read out of a core value: what comes before the core value, up to what reads it, and after it.
-fn push_read(
-    text: &mut String,
-    value: &Value,
-    place: usize,
-    words: (&[&str], &str),
-) -> Result<(), AllocError> {
+fn push_read(text: &mut TextBuilder, value: &Value, place: usize, words: (&[&str], &str)) {
     let (before, after) = words;
-    push_words(text, &[value.indent.as_str(), value.path.as_str()])?;
-    push_words(text, before)?;
-    write!(text, "(&flats[{place}]){after};\n")
+    text.push_all(&[value.indent.as_str(), value.path.as_str()]);
+    text.push_all(before);
+    text.push("(&flats[");
+    text.push_number(place);
+    text.push_all(&["])", after, ";\n"]);
 }
 
 impl<'a> Types<'a> {
-    /// The steps for fields, of which the value in C begins with a front.
-    fn leave_fields(
+    /// Leaves lines to be written, which consist of these words.
+    fn leave_line(&self, text: &mut TextBuilder, steps: &mut Vec<Step>, words: &[&str]) {
+        let line = text.kept(words.concat(self.alloc));
+        leave(text, steps, Step::Line(line));
+    }
+
+    /// Leaves a value of a type to be written, by the number of its first core value, the words that it is in C, and
+    /// its indent.
+    fn leave_value(
         &self,
+        text: &mut TextBuilder,
         steps: &mut Vec<Step>,
-        front: &[&str; 2],
-        first: (usize, &str),
-        parts: &[Part],
-    ) -> Result<(), AllocError> {
-        let (mut place, indent) = first;
-        for part in parts {
+        held: (ValType, usize),
+        words: (&[&str], &[&str]),
+    ) {
+        let ((ty, place), (path, indent)) = (held, words);
+        let value = Value {
+            ty,
+            path: text.kept(path.concat(self.alloc)),
+            place,
+            indent: text.kept(indent.concat(self.alloc)),
+        };
+        leave(text, steps, Step::Value(value));
+    }
+
+    /// The steps for fields.
+    fn leave_fields(&self, text: &mut TextBuilder, steps: &mut Vec<Step>, fields: Fields<'_>) {
+        let (front, mut place) = (fields.front, fields.place);
+        for part in fields.parts {
             if let Some(ty) = part.ty {
                 let path = [front[0], front[1], part.label.as_str()];
-                let value = value_of(self.alloc, (ty, place), &path, &[indent])?;
-                leave(steps, Step::Value(value))?;
+                self.leave_value(text, steps, (ty, place), (&path, &[fields.indent]));
                 place = place.saturating_add(self.laid.count(ty).unwrap_or(0));
             }
         }
-        Ok(())
     }
 
     /// The steps for a case, if it holds a value.
     fn leave_case<'b>(
         &self,
+        text: &mut TextBuilder,
         steps: &mut Vec<Step>,
         value: &'b Value,
         part: &'b Part,
-    ) -> Result<(), AllocError> {
+    ) {
         let Some(ty) = part.ty else {
-            return Ok(());
+            return;
         };
-        let (alloc, indent) = (self.alloc, value.indent.as_str());
-        leave_line(
-            alloc,
-            steps,
-            &[indent, "case ", part.constant.as_str(), ":\n"],
-        )?;
+        let indent = value.indent.as_str();
+        let head = [indent, "case ", part.constant.as_str(), ":\n"];
+        self.leave_line(text, steps, &head);
         let held = (ty, value.place.saturating_add(1));
         let path = [value.path.as_str(), ".as.", part.label.as_str()];
-        let payload = value_of(alloc, held, &path, &[indent, "    "])?;
-        leave(steps, Step::Value(payload))?;
-        leave_line(alloc, steps, &[indent, "    break;\n"])
+        self.leave_value(text, steps, held, (&path, &[indent, "    "]));
+        self.leave_line(text, steps, &[indent, "    break;\n"]);
     }
 
     /// The steps for the payload of a variant of these cases. There are none if no case holds something.
     fn leave_cases(
         &self,
+        text: &mut TextBuilder,
         steps: &mut Vec<Step>,
         value: &Value,
         parts: &[Part],
-    ) -> Result<(), AllocError> {
+    ) {
         if !has_held(parts) {
-            return Ok(());
+            return;
         }
-        let (alloc, indent) = (self.alloc, value.indent.as_str());
+        let indent = value.indent.as_str();
         let head = [indent, "switch (", value.path.as_str(), ".tag) {\n"];
-        leave_line(alloc, steps, &head)?;
+        self.leave_line(text, steps, &head);
         for part in parts {
-            self.leave_case(steps, value, part)?;
+            self.leave_case(text, steps, value, part);
         }
         let end = [indent, "default:\n", indent, "    break;\n", indent, "}\n"];
-        leave_line(alloc, steps, &end)
+        self.leave_line(text, steps, &end);
     }
 
     /// The parts of a type.
@@ -216,13 +213,13 @@ impl<'a> Types<'a> {
     }
 
     /// Writes how a number becomes a core value.
-    fn push_bits(&self, text: &mut String, value: &Value) -> Result<(), AllocError> {
+    fn push_bits(&self, text: &mut TextBuilder, value: &Value) {
         let (before, after) = self.bits(value.ty);
-        push_made(text, value, value.place, (before, &[after]))
+        push_made(text, value, value.place, (before, &[after]));
     }
 
     /// Writes how a number is read out of a core value.
-    fn push_number(&self, text: &mut String, value: &Value) -> Result<(), AllocError> {
+    fn push_number(&self, text: &mut TextBuilder, value: &Value) {
         let (place, c) = (value.place, self.c(value.ty));
         match self.end(value.ty) {
             ValType::Primitive(Primitive::Bool) => {
@@ -237,12 +234,7 @@ impl<'a> Types<'a> {
 }
 
 /// Writes how a member of a value becomes a core value, or the other way round.
-fn push_member(
-    text: &mut String,
-    way: Way,
-    value: &Value,
-    member: Member,
-) -> Result<(), AllocError> {
+fn push_member(text: &mut TextBuilder, way: Way, value: &Value, member: Member) {
     let place = value.place.saturating_add(member.step);
     match way {
         Way::Made => push_made(text, value, place, ("", &[".", member.name])),
@@ -255,116 +247,97 @@ fn push_member(
 
 impl<'a> Types<'a> {
     /// Writes the tag of a variant. The steps for its payload.
-    fn push_variant(
-        &self,
-        text: &mut String,
-        way: Way,
-        value: &Value,
-        steps: &mut Vec<Step>,
-    ) -> Result<(), AllocError> {
+    fn push_variant(&self, text: &mut TextBuilder, way: Way, value: &Value, steps: &mut Vec<Step>) {
         let parts = self.parts(value.ty);
-        push_member(text, way, value, tag_of(parts.len()))?;
-        self.leave_cases(steps, value, parts)
+        push_member(text, way, value, tag_of(parts.len()));
+        self.leave_cases(text, steps, value, parts);
     }
 
     /// Writes what comes first of a value. The steps for the rest of it.
-    fn push_value(
-        &self,
-        text: &mut String,
-        way: Way,
-        value: &Value,
-        steps: &mut Vec<Step>,
-    ) -> Result<(), AllocError> {
+    fn push_value(&self, text: &mut TextBuilder, way: Way, value: &Value, steps: &mut Vec<Step>) {
         match (self.form(value.ty), way) {
             (Form::Number, Way::Made) => self.push_bits(text, value),
             (Form::Number, Way::Read) => self.push_number(text, value),
             (Form::Pair, _) => {
-                push_member(text, way, value, ADDRESS)?;
-                push_member(text, way, value, LENGTH)
+                push_member(text, way, value, ADDRESS);
+                push_member(text, way, value, LENGTH);
             }
-            (Form::Record, _) => {
-                let first = (value.place, value.indent.as_str());
-                let front = [value.path.as_str(), "."];
-                self.leave_fields(steps, &front, first, self.parts(value.ty))
-            }
+            (Form::Record, _) => self.leave_record(text, value, steps),
             (Form::Variant, _) => self.push_variant(text, way, value, steps),
         }
     }
 
-    /// Writes a step. The steps that come of it are the next.
-    fn push_step(
-        &self,
-        text: &mut String,
-        way: Way,
-        step: &Step,
-        stack: &mut Vec<Step>,
-    ) -> Result<(), AllocError> {
+    /// The steps for the fields of a record.
+    fn leave_record<'b>(&'b self, text: &mut TextBuilder, value: &'b Value, steps: &mut Vec<Step>) {
+        let fields = Fields {
+            front: [value.path.as_str(), "."],
+            place: value.place,
+            indent: value.indent.as_str(),
+            parts: self.parts(value.ty),
+        };
+        self.leave_fields(text, steps, fields);
+    }
+
+    /// What a step writes. The steps that come of it are the next.
+    fn step_text(&self, way: Way, step: Step, stack: &mut Vec<Step>) -> Result<String, AllocError> {
         match step {
-            Step::Line(line) => text.push_str(line.as_str()),
+            Step::Line(line) => Ok(line),
             Step::Value(value) => {
                 let count = stack.len();
-                self.push_value(text, way, value, stack)?;
+                let mut text = TextBuilder::new(self.alloc);
+                self.push_value(&mut text, way, &value, stack);
                 turn(stack, count);
-                Ok(())
+                text.finish()
             }
         }
     }
 
-    /// Writes these steps. Each writes a line, so memory ends before the steps do.
-    fn push_steps(
-        &self,
-        text: &mut String,
-        way: Way,
-        steps: &mut Vec<Step>,
-    ) -> Result<(), AllocError> {
-        turn(steps, 0);
+    /// What these steps write. Each writes a line, so memory ends before the steps do.
+    fn steps_text(&self, way: Way, mut steps: Vec<Step>) -> Result<String, AllocError> {
+        let mut text = String::new(self.alloc);
+        turn(&mut steps, 0);
         for _ in 0..usize::MAX {
             let Some(step) = steps.pop() else {
-                return Ok(());
+                return Ok(text);
             };
-            self.push_step(text, way, &step, steps)?;
+            text.push_str(self.step_text(way, step, &mut steps)?.as_str())?;
         }
         Err(AllocError)
     }
 
     /// Writes how parameters become core values, or the other way round. They are named in C by a front and their labels.
-    fn push_parameters(
+    fn push_parameters<'b>(
         &self,
-        text: &mut String,
+        text: &mut TextBuilder,
         way: Way,
-        front: &str,
-        parameters: &[Part],
-    ) -> Result<(), AllocError> {
+        front: &'b str,
+        parameters: &'b [Part],
+    ) {
         let mut steps = Vec::new(self.alloc);
-        self.leave_fields(&mut steps, &[front, ""], (0, "    "), parameters)?;
-        self.push_steps(text, way, &mut steps)
+        let fields = Fields {
+            front: [front, ""],
+            place: 0,
+            indent: "    ",
+            parts: parameters,
+        };
+        self.leave_fields(text, &mut steps, fields);
+        text.push_made(self.steps_text(way, steps));
     }
 
     /// Writes how the core values of parameters are made, which are named in C by a front and their labels.
-    pub fn push_flats(
-        &self,
-        text: &mut String,
-        front: &str,
-        parameters: &[Part],
-    ) -> Result<(), AllocError> {
-        self.push_parameters(text, Way::Made, front, parameters)
+    pub fn push_flats(&self, text: &mut TextBuilder, front: &str, parameters: &[Part]) {
+        self.push_parameters(text, Way::Made, front, parameters);
     }
 
     /// Writes how parameters are read out of their core values. They are named in C by a front and their labels.
-    pub fn push_received(
-        &self,
-        text: &mut String,
-        front: &str,
-        parameters: &[Part],
-    ) -> Result<(), AllocError> {
-        self.push_parameters(text, Way::Read, front, parameters)
+    pub fn push_received(&self, text: &mut TextBuilder, front: &str, parameters: &[Part]) {
+        self.push_parameters(text, Way::Read, front, parameters);
     }
 
     /// Writes how the core values of one value of a type are made.
-    pub fn push_answered(&self, text: &mut String, ty: ValType) -> Result<(), AllocError> {
+    pub fn push_answered(&self, text: &mut TextBuilder, ty: ValType) {
         let mut steps = Vec::new(self.alloc);
-        let value = value_of(self.alloc, (ty, 0), &["value"], &["    "])?;
-        leave(&mut steps, Step::Value(value))?;
-        self.push_steps(text, Way::Made, &mut steps)
+        self.leave_value(text, &mut steps, (ty, 0), (&["value"], &["    "]));
+        text.push_made(self.steps_text(Way::Made, steps));
     }
 }

@@ -1,10 +1,10 @@
 //! Types without a name: lists, options, results and tuples. Those that are alike are one type in C.
 
-use crate::c_names::{push_words, short_key};
+use crate::c_names::short_key;
 use crate::types::{Form, Part, Types};
 use std::alloc::{AllocError, Global};
-use std::fmt::Write;
 use tables::{Definition, Resolve, TypeDef, TypeDefKind, ValType};
+use text_builder::TextBuilder;
 
 /// A type without a name.
 #[derive(Drop)]
@@ -70,40 +70,34 @@ impl Inner {
 
 impl<'a> Types<'a> {
     /// Appends the key of a type without a name, however long it is.
-    fn push_key(&self, key: &mut String, inner: &Inner) -> Result<(), AllocError> {
-        key.push_str(inner.word)?;
+    fn push_key(&self, key: &mut TextBuilder, inner: &Inner) {
+        key.push(inner.word);
         if inner.word == "tuple" {
-            write!(key, "{}", inner.parts.len())?;
+            key.push_number(inner.parts.len());
         }
         for part in &inner.parts {
-            push_words(key, &["_", self.key(*part)])?;
+            key.push_all(&["_", self.key(*part)]);
         }
-        Ok(())
     }
 
     /// The key of a type without a name: its word and the keys of its parts.
     pub fn key_of(&self, inner: &Inner) -> Result<String, AllocError> {
-        let mut key = String::new(self.alloc);
-        self.push_key(&mut key, inner)?;
-        short_key(self.alloc, inner.word, key)
-    }
-
-    /// Appends a type without a name as WIT spells it.
-    fn push_spelled(&self, text: &mut String, inner: &Inner) -> Result<(), AllocError> {
-        text.push_str(inner.word)?;
-        let count = inner.spelled_count();
-        for (index, part) in inner.parts.iter().take(count).enumerate() {
-            let mark = if index == 0 { "<" } else { ", " };
-            push_words(text, &[mark, self.spelling(*part)])?;
-        }
-        text.push_str(if count > 0 { ">" } else { "" })
+        let mut key = TextBuilder::new(self.alloc);
+        self.push_key(&mut key, inner);
+        short_key(self.alloc, inner.word, key.finish()?)
     }
 
     /// A type without a name as WIT spells it.
     pub fn spelled(&self, inner: &Inner) -> Result<String, AllocError> {
-        let mut text = String::new(self.alloc);
-        self.push_spelled(&mut text, inner)?;
-        Ok(text)
+        let mut text = TextBuilder::new(self.alloc);
+        text.push(inner.word);
+        let count = inner.spelled_count();
+        for (index, part) in inner.parts.iter().take(count).enumerate() {
+            let mark = if index == 0 { "<" } else { ", " };
+            text.push_all(&[mark, self.spelling(*part)]);
+        }
+        text.push(if count > 0 { ">" } else { "" });
+        text.finish()
     }
 }
 

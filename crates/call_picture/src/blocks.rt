@@ -3,8 +3,8 @@
 use crate::noted::Request;
 use crate::place::{Block, Content, Place};
 use crate::viewer::Viewer;
-use std::alloc::AllocError;
 use svg_drawing::{Level, Start};
+use text_builder::TextBuilder;
 
 /// Values that were put into a memory: the arguments, or the result.
 #[derive(Clone, Copy)]
@@ -29,104 +29,118 @@ fn purpose(content: Content<'_>) -> &'static str {
     }
 }
 
+/// Appends which block was granted, if one was.
+fn push_granted(text: &mut TextBuilder, at: Option<u32>) {
+    match at {
+        Some(at) => {
+            text.push("block at ");
+            text.push_number(at as usize);
+        }
+        None => text.push("no block"),
+    }
+}
+
 impl<'a> Viewer<'a> {
     /// Says what was requested and what was granted.
-    fn push_heading(&mut self, block: &Block<'a>, request: Request) -> Result<(), AllocError> {
-        let alloc = self.page.alloc;
-        let (size, align) = (request.size, request.align);
-        let (purpose, path) = (purpose(block.content), block.path.as_str());
-        let (words, start) = match request.at {
-            Some(at) if size > 0 => (format!(in alloc; "block at {at}")?, block.start),
-            Some(at) => (format!(in alloc; "block at {at}")?, None),
-            None => (String::from_str(alloc, "no block")?, None),
-        };
-        let words = words.as_str();
-        let heading = format!(in alloc; "{words}: size {size}, align {align}, {purpose}{path}")?;
-        self.page.push_block(heading.as_str(), start)
+    fn push_heading(&mut self, block: &Block<'a>, request: Request) {
+        let mut heading = TextBuilder::new(self.page.alloc);
+        push_granted(&mut heading, request.at);
+        heading.push(": size ");
+        heading.push_number(request.size as usize);
+        heading.push(", align ");
+        heading.push_number(request.align as usize);
+        heading.push_all(&[", ", purpose(block.content), block.path.as_str()]);
+        let heading = self.page.kept(heading.finish());
+        let is_drawn = request.size > 0 && request.at.is_some();
+        let start = if is_drawn { block.start } else { None };
+        self.page.push_block(heading.as_str(), start);
     }
 
     /// Says how many blocks were left out since the last one that is shown, if there are some.
-    fn end_hidden(&mut self) -> Result<(), AllocError> {
+    fn end_hidden(&mut self) {
         let count = self.hidden;
         if count > 0 {
-            let line = format!(in self.page.alloc; ".. {count} more blocks")?;
-            self.page.push_line(Level::Inner, line.as_str())?;
+            let line = format!(in self.page.alloc; ".. {count} more blocks");
+            self.page.push_made(Level::Inner, line);
             self.hidden = 0;
         }
-        Ok(())
+    }
+
+    /// Begins to show a block that was requested. Returns where its values are.
+    fn begin_block(&mut self, block: &Block<'a>, request: Request, is_whole: bool) -> Place {
+        if !block.is_shown {
+            self.hidden = self.hidden.saturating_add(1);
+            return Place::Hidden;
+        }
+        self.end_hidden();
+        self.push_heading(block, request);
+        match request.at {
+            Some(at) if is_whole => Place::At(at),
+            _ => Place::Elsewhere,
+        }
     }
 
     /// Shows a block that was requested, with its bytes if it has its values.
-    fn show_block(
-        &mut self,
-        block: Block<'a>,
-        request: Request,
-        is_whole: bool,
-    ) -> Result<(), AllocError> {
-        if !block.is_shown {
-            self.hidden = self.hidden.saturating_add(1);
-            return self.show_content(block.content, Place::Hidden, 0, block.path);
+    fn show_block(&mut self, block: Block<'a>, request: Request, is_whole: bool) {
+        let place = self.begin_block(&block, request, is_whole);
+        self.show_content(block.content, place, request.size, block.path);
+    }
+
+    /// Leaves a block to be shown before those that come next.
+    fn push_next(&mut self, block: Block<'a>) {
+        if self.next.push(block).is_err() {
+            self.page.refuse();
         }
-        self.end_hidden()?;
-        self.push_heading(&block, request)?;
-        let place = match request.at {
-            Some(at) if is_whole => Place::At(at),
-            _ => Place::Elsewhere,
-        };
-        self.show_content(block.content, place, request.size, block.path)
     }
 
     /// Moves the blocks that were found last before those that come next.
-    fn move_found(&mut self, next: &mut Vec<Block<'a>>) -> Result<(), AllocError> {
+    fn move_found(&mut self) {
         for _ in 0..self.found.len() {
             if let Some(block) = self.found.pop() {
-                next.push(block)?;
+                self.push_next(block);
             }
         }
-        Ok(())
     }
 
-    /// The blocks with which values begin, the last first.
-    fn first_blocks(&mut self, way: &Way<'a>) -> Result<Vec<Block<'a>>, AllocError> {
-        let alloc = self.page.alloc;
-        let mut next = Vec::new(alloc);
-        let path = String::from_str(alloc, way.path)?;
+    /// Leaves the blocks with which values begin to be shown.
+    fn push_first(&mut self, way: &Way<'a>) {
+        self.next.clear();
+        let path = self.page.kept(String::from_str(self.page.alloc, way.path));
         if way.has_block {
-            next.push(Block {
+            self.push_next(Block {
                 content: way.content,
                 path,
                 start: way.start,
                 is_shown: true,
-            })?;
+            });
         } else {
             let place = if way.is_whole {
                 Place::Core(0)
             } else {
                 Place::Elsewhere
             };
-            self.show_content(way.content, place, 0, path)?;
-            self.move_found(&mut next)?;
+            self.show_content(way.content, place, 0, path);
+            self.move_found();
         }
-        Ok(next)
     }
 
     /// Shows the blocks of values, which were requested by the first of these requests. Returns how many they are.
-    fn show_blocks(&mut self, way: &Way<'a>, requests: &[Request]) -> Result<usize, AllocError> {
-        let mut next = self.first_blocks(way)?;
+    fn show_blocks(&mut self, way: &Way<'a>, requests: &[Request]) -> usize {
+        self.push_first(way);
         for (index, request) in requests.iter().enumerate() {
-            let Some(block) = next.pop() else {
-                return Ok(index);
+            let Some(block) = self.next.pop() else {
+                return index;
             };
-            self.show_block(block, *request, way.is_whole)?;
-            self.move_found(&mut next)?;
+            self.show_block(block, *request, way.is_whole);
+            self.move_found();
         }
-        Ok(requests.len())
+        requests.len()
     }
 
     /// The same. Then it says how many blocks were left out at the end.
-    pub fn show_way(&mut self, way: &Way<'a>, requests: &[Request]) -> Result<usize, AllocError> {
-        let count = self.show_blocks(way, requests)?;
-        self.end_hidden()?;
-        Ok(count)
+    pub fn show_way(&mut self, way: &Way<'a>, requests: &[Request]) -> usize {
+        let count = self.show_blocks(way, requests);
+        self.end_hidden();
+        count
     }
 }

@@ -2,6 +2,7 @@
 
 use canonical_abi::Flat;
 use std::alloc::{AllocError, Global};
+use text_builder::TextBuilder;
 
 /// A core value with its type.
 fn flat_text(alloc: Global, flat: Flat) -> Result<String, AllocError> {
@@ -11,22 +12,20 @@ fn flat_text(alloc: Global, flat: Flat) -> Result<String, AllocError> {
     }
 }
 
-/// Each of these core values with its type.
-pub fn flat_texts(alloc: Global, flats: &[Flat]) -> Result<Vec<String>, AllocError> {
+/// Each of these core values with its type. A text keeps whether an allocation was refused.
+pub fn flat_texts(alloc: Global, text: &mut TextBuilder, flats: &[Flat]) -> Vec<String> {
     let mut texts = Vec::new(alloc);
     for flat in flats {
-        texts.push(flat_text(alloc, *flat)?)?;
+        if texts.push(text.kept(flat_text(alloc, *flat))).is_err() {
+            text.refuse();
+        }
     }
-    Ok(texts)
+    texts
 }
 
 /// Appends texts, with commas between them.
-pub fn push_list(line: &mut String, texts: &[String]) -> Result<(), AllocError> {
+pub fn push_list(line: &mut TextBuilder, texts: &[String]) {
     for (index, text) in texts.iter().enumerate() {
-        if index > 0 {
-            line.push_str(", ")?;
-        }
-        line.push_str(text.as_str())?;
+        line.push_all(&[if index > 0 { ", " } else { "" }, text.as_str()]);
     }
-    Ok(())
 }

@@ -42,10 +42,21 @@ impl Course {
     }
 }
 
-/// Core values to be shown.
-pub fn copied(alloc: Global, flats: &[Flat]) -> Result<Vec<Flat>, Fault> {
+/// Keeps core values to be shown.
+pub fn keep(alloc: Global, kept: &mut Option<Vec<Flat>>, flats: &[Flat]) -> Result<(), Fault> {
     match flats.iter().copied().collect::<Vec<Flat>>(alloc) {
-        Ok(copies) => Ok(copies),
+        Ok(copies) => {
+            *kept = Some(copies);
+            Ok(())
+        }
         Err(_) => Err(Fault::NoMemory),
+    }
+}
+
+/// Core values that are kept. None if the call didn't come to them.
+pub fn kept(flats: &Option<Vec<Flat>>) -> &[Flat] {
+    match flats {
+        Some(flats) => flats.as_slice(),
+        None => &[],
     }
 }

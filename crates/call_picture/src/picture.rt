@@ -69,14 +69,10 @@ impl<'a> Side<'a> {
 }
 
 /// Adds core values, if the call came to them. Returns where each of them is drawn.
-fn push_values(
-    page: &mut Page,
-    word: &'static str,
-    flats: &Option<Vec<Flat>>,
-) -> Result<Vec<Start>, AllocError> {
+fn push_values(page: &mut Page, word: &'static str, flats: &Option<Vec<Flat>>) -> Vec<Start> {
     match flats {
         Some(flats) => page.push_values(word, flats.as_slice()),
-        None => Ok(Vec::new(page.alloc)),
+        None => Vec::new(page.alloc),
     }
 }
 
@@ -129,15 +125,22 @@ impl Call<'_> {
         })
     }
 
+    /// Shows the blocks of one side.
+    fn show_blocks<'a>(&self, viewer: &mut Viewer<'a>, side: &Side<'a>, starts: &Starts) {
+        let Ok(requests) = side.memory.requests() else {
+            viewer.page.refuse();
+            return;
+        };
+        let way = self.arguments_way(side, starts);
+        let count = viewer.show_way(&way, requests);
+        if let Some(way) = self.answer_way(side, starts) {
+            viewer.show_way(&way, requests.get(count..).unwrap_or(&[]));
+        }
+    }
+
     /// Adds the blocks of one side to a page.
-    fn draw_blocks(
-        &self,
-        page: Page,
-        side: &Side<'_>,
-        starts: &Starts,
-    ) -> Result<Page, AllocError> {
+    fn draw_blocks(&self, page: Page, side: &Side<'_>, starts: &Starts) -> Page {
         let alloc = self.alloc;
-        let requests = side.memory.requests()?;
         let mut viewer = Viewer {
             page,
             resolve: self.resolve,
@@ -145,25 +148,22 @@ impl Call<'_> {
             memory: side.memory.bytes(),
             parts: Vec::new(alloc),
             found: Vec::new(alloc),
+            next: Vec::new(alloc),
             starts: starts.given.as_slice(),
             values: 0,
             hidden: 0,
         };
-        let way = self.arguments_way(side, starts);
-        let count = viewer.show_way(&way, requests)?;
-        if let Some(way) = self.answer_way(side, starts) {
-            viewer.show_way(&way, requests.get(count..).unwrap_or(&[]))?;
-        }
-        Ok(viewer.page)
+        self.show_blocks(&mut viewer, side, starts);
+        viewer.page
     }
 
     /// Adds one side to a page.
-    fn draw_side(&self, page: Page, side: &Side<'_>) -> Result<Page, AllocError> {
+    fn draw_side(&self, page: Page, side: &Side<'_>) -> Page {
         let mut page = page;
         let [heading, given, answered] = side.words;
-        page.push_side(heading)?;
-        let given = push_values(&mut page, given, side.given)?;
-        let answered = push_values(&mut page, answered, side.answered)?;
+        page.push_side(heading);
+        let given = push_values(&mut page, given, side.given);
+        let answered = push_values(&mut page, answered, side.answered);
         let area = if side.is_caller {
             given.last().copied()
         } else {
@@ -172,33 +172,40 @@ impl Call<'_> {
         self.draw_blocks(page, side, &Starts { given, area })
     }
 
-    /// A page that begins with the function and its core signatures.
-    fn heading(&self, interface: &str, form: Form) -> Result<Page, AllocError> {
+    /// The function and its core signatures.
+    fn heading(&self, interface: &str) -> Result<String, AllocError> {
         let mut sheet = Sheet::new(self.alloc, Form::Boxes);
         let tables = (self.resolve, self.layouts);
-        draw_function(&mut sheet, tables, interface, self.func)?;
-        let mut page = Page::new(self.alloc, form);
-        for (index, line) in sheet.finish()?.as_str().lines().enumerate() {
-            if index == 0 {
-                page.push_side(line)?;
-            } else {
-                page.push_line(Level::Inner, line.trim_start())?;
-            }
-        }
-        Ok(page)
+        draw_function(&mut sheet, tables, interface, self.func);
+        sheet.finish()
     }
 
-    /// How the call ended.
-    fn outcome_line(&self, outcome: &Result<Option<Val>, Fault>) -> Result<String, AllocError> {
+    /// Adds how the call ended.
+    fn push_outcome(&self, page: &mut Page, outcome: &Result<Option<Val>, Fault>) {
         match outcome {
             Ok(Some(value)) => {
-                let json = self.json_text(value)?;
-                format!(in self.alloc; "answer: {}", json.as_str())
+                let json = page.kept(self.json_text(value));
+                let line = page.kept(["answer: ", json.as_str()].concat(self.alloc));
+                page.add(Level::Outer, line.as_str());
             }
-            Ok(None) => String::from_str(self.alloc, "answer: nothing"),
-            Err(Fault::NoMemory) => Err(AllocError),
-            Err(Fault::Trap(trap)) => format!(in self.alloc; "{trap}"),
+            Ok(None) => page.add(Level::Outer, "answer: nothing"),
+            Err(Fault::NoMemory) => page.refuse(),
+            Err(Fault::Trap(trap)) => {
+                let line = page.kept(trap.to_string(self.alloc));
+                page.add(Level::Outer, line.as_str());
+            }
         }
+    }
+
+    /// The page of a call that was made.
+    fn page(&self, title: (&str, Form), course: &Course, values: (&[Val], &[Val])) -> Page {
+        let (interface, form) = title;
+        let (arguments, answer) = values;
+        let mut page = Page::new(self.alloc, form);
+        let heading = page.kept(self.heading(interface));
+        push_heading(&mut page, heading.as_str());
+        let page = self.draw_side(page, &Side::caller(course, arguments, answer));
+        self.draw_side(page, &Side::callee(course, arguments, answer))
     }
 
     /// Makes the call over two fresh memories, and shows what it did, in this form. The interface is that of the
@@ -214,21 +221,36 @@ impl Call<'_> {
         requires answer { HaveTypes (map value_of answer.now)
             (fields_of_types self.now.resolve.now self.now.results.items) }
     {
-        let (interface, form) = title;
         let mut course = Course::new(self.alloc)?;
         let outcome = self.make(&mut course, arguments, answer);
-        let page = self.heading(interface, form)?;
-        let caller = Side::caller(&course, arguments, answer);
-        let page = self.draw_side(page, &caller)?;
-        let callee = Side::callee(&course, arguments, answer);
-        let mut page = self.draw_side(page, &callee)?;
-        let (there, back) = (course.nodes_there, course.nodes_back);
-        let line = format!(in self.alloc; "nodes: {there} of the arguments, {back} of the result")?;
-        page.add(Level::Outer, line.as_str())?;
-        page.add(Level::Outer, self.outcome_line(&outcome)?.as_str())?;
-        Ok(Picture {
-            text: page.finish()?,
-            is_answered: outcome.is_ok(),
-        })
+        let mut page = self.page(title, &course, (arguments, answer));
+        push_nodes(&mut page, &course);
+        self.push_outcome(&mut page, &outcome);
+        match page.finish() {
+            Ok(text) => Ok(Picture {
+                text,
+                is_answered: outcome.is_ok(),
+            }),
+            Err(error) => Err(error),
+        }
     }
+}
+
+/// Adds the lines of a heading: the function, and its core signatures.
+fn push_heading(page: &mut Page, heading: &str) {
+    for (index, line) in heading.lines().enumerate() {
+        if index == 0 {
+            page.push_side(line);
+        } else {
+            page.push_line(Level::Inner, line.trim_start());
+        }
+    }
+}
+
+/// Adds how many nodes were visited.
+fn push_nodes(page: &mut Page, course: &Course) {
+    let (there, back) = (course.nodes_there, course.nodes_back);
+    let line = format!(in page.alloc; "nodes: {there} of the arguments, {back} of the result");
+    let line = page.kept(line);
+    page.add(Level::Outer, line.as_str());
 }

@@ -4,20 +4,20 @@ use layout::Shape;
 use layout_picture::{TypeLayout, case_number_size, member_name, type_text};
 use lift_lower::Val;
 use std::alloc::{AllocError, Global};
-use tables::Resolve;
+use text_builder::TextBuilder;
 
 /// A value of a primitive type other than string. No text for other values.
 fn scalar_text(alloc: Global, value: &Val) -> Result<String, AllocError> {
     match value {
-        Val::Bool(value) => format!(in alloc; "{value}"),
-        Val::S8(value) => format!(in alloc; "{value}"),
-        Val::U8(value) => format!(in alloc; "{value}"),
-        Val::S16(value) => format!(in alloc; "{value}"),
-        Val::U16(value) => format!(in alloc; "{value}"),
-        Val::S32(value) => format!(in alloc; "{value}"),
-        Val::U32(value) => format!(in alloc; "{value}"),
-        Val::S64(value) => format!(in alloc; "{value}"),
-        Val::U64(value) => format!(in alloc; "{value}"),
+        Val::Bool(value) => value.to_string(alloc),
+        Val::S8(value) => value.to_string(alloc),
+        Val::U8(value) => value.to_string(alloc),
+        Val::S16(value) => value.to_string(alloc),
+        Val::U16(value) => value.to_string(alloc),
+        Val::S32(value) => value.to_string(alloc),
+        Val::U32(value) => value.to_string(alloc),
+        Val::S64(value) => value.to_string(alloc),
+        Val::U64(value) => value.to_string(alloc),
         Val::Char(value) => {
             let number = u32::from(*value);
             format!(in alloc; "U+{number:04X}")
@@ -26,44 +26,41 @@ fn scalar_text(alloc: Global, value: &Val) -> Result<String, AllocError> {
     }
 }
 
-/// The labels of the bits that are set.
-fn flags_text(
-    alloc: Global,
-    layout: &TypeLayout<'_>,
-    bits: u32,
-    count: usize,
-) -> Result<String, AllocError> {
-    let mut text = String::from_str(alloc, "{")?;
+/// Appends the labels of the bits that are set.
+fn push_flags(text: &mut TextBuilder, layout: &TypeLayout<'_>, bits: u32, count: usize) {
+    text.push(" = {");
+    let mut mark = "";
     let mut rest = bits;
     for index in 0..count {
         if rest % 2 == 1 {
-            if text.len() > 1 {
-                text.push_str(", ")?;
-            }
-            text.push_str(member_name(layout, index))?;
+            text.push_all(&[mark, member_name(layout, index)]);
+            mark = ", ";
         }
         rest /= 2;
     }
-    text.push('}')?;
-    Ok(text)
+    text.push("}");
 }
 
-/// The value that a value's own bytes say, after its type.
-fn own_value(alloc: Global, layout: &TypeLayout<'_>, value: &Val) -> Result<String, AllocError> {
+/// Appends the value that a value's own bytes say, after its type.
+fn push_own_value(alloc: Global, text: &mut TextBuilder, layout: &TypeLayout<'_>, value: &Val) {
     match (value, layout.shape()) {
-        (Val::String(text), _) => format!(in alloc; " of {} bytes", text.len()),
-        (Val::List(values), _) => format!(in alloc; " of {} elements", values.len()),
+        (Val::String(bytes), _) => {
+            text.push(" of ");
+            text.push_number(bytes.len());
+            text.push(" bytes");
+        }
+        (Val::List(values), _) => {
+            text.push(" of ");
+            text.push_number(values.len());
+            text.push(" elements");
+        }
         (Val::Variant(case, _), _) => {
-            let name = member_name(layout, *case as usize);
-            format!(in alloc; " = {name}")
+            text.push_all(&[" = ", member_name(layout, *case as usize)]);
         }
-        (Val::Flags(bits), Shape::Flags(count)) => {
-            let labels = flags_text(alloc, layout, *bits, count)?;
-            format!(in alloc; " = {}", labels.as_str())
-        }
+        (Val::Flags(bits), Shape::Flags(count)) => push_flags(text, layout, *bits, count),
         _ => {
-            let scalar = scalar_text(alloc, value)?;
-            format!(in alloc; " = {}", scalar.as_str())
+            text.push(" = ");
+            text.push_made(scalar_text(alloc, value));
         }
     }
 }
@@ -71,14 +68,15 @@ fn own_value(alloc: Global, layout: &TypeLayout<'_>, value: &Val) -> Result<Stri
 /// The path of a value, its type, and what its own bytes say.
 pub fn own_words(
     alloc: Global,
-    resolve: &Resolve,
-    layout: &TypeLayout<'_>,
     path: &str,
+    layout: &TypeLayout<'_>,
     value: &Val,
 ) -> Result<String, AllocError> {
-    let ty = type_text(alloc, resolve, layout.ty)?;
-    let own = own_value(alloc, layout, value)?;
-    format!(in alloc; "{path}: {}{}", ty.as_str(), own.as_str())
+    let mut text = TextBuilder::new(alloc);
+    text.push_all(&[path, ": "]);
+    text.push_made(type_text(alloc, layout.resolve, layout.ty));
+    push_own_value(alloc, &mut text, layout, value);
+    text.finish()
 }
 
 /// How many bytes a value has of its own, from its first one on: those of a record are its fields', and those after the
@@ -101,6 +99,6 @@ pub fn member_path(
     match (path, name) {
         (_, "") => format!(in alloc; "{path}.{index}"),
         ("", _) => String::from_str(alloc, name),
-        _ => format!(in alloc; "{path}.{name}"),
+        _ => [path, ".", name].concat(alloc),
     }
 }

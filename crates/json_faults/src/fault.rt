@@ -4,8 +4,8 @@ use crate::parts::{Part, Step, push_members, push_parts};
 use crate::wanted::push_wanted;
 use serde_json::Value as Json;
 use std::alloc::{AllocError, Global};
-use std::fmt::Write;
 use tables::{Resolve, ValType};
+use text_builder::TextBuilder;
 
 /// How deep a value is followed: a text of JSON nests at most 127 deep.
 const MOST_DEPTH: usize = 128;
@@ -20,28 +20,31 @@ pub struct Fault {
 }
 
 /// Appends a step to a path.
-fn push_step(path: &mut String, step: Step<'_>) -> Result<(), AllocError> {
+fn push_step(path: &mut TextBuilder, step: Step<'_>) {
     match step {
-        Step::Item(place) => write!(path, "[{place}]")?,
-        Step::Key(key) => write!(path, ".{key}")?,
+        Step::Item(place) => {
+            path.push("[");
+            path.push_number(place);
+            path.push("]");
+        }
+        Step::Key(key) => path.push_all(&[".", key]),
     }
-    Ok(())
 }
 
 /// The path of these steps, of which the last one comes first.
 fn path_of(alloc: Global, steps: &[Step<'_>]) -> Result<String, AllocError> {
-    let mut path = String::new(alloc);
+    let mut path = TextBuilder::new(alloc);
     for step in steps.iter().rev() {
-        push_step(&mut path, *step)?;
+        push_step(&mut path, *step);
     }
-    Ok(path)
+    path.finish()
 }
 
 /// What has to be in place of a part, in words.
 fn words_of(alloc: Global, resolve: &Resolve, part: Part<'_>) -> Result<String, AllocError> {
-    let mut words = String::new(alloc);
-    push_wanted(alloc, &mut words, resolve, part)?;
-    Ok(words)
+    let mut words = TextBuilder::new(alloc);
+    push_wanted(&mut words, alloc, resolve, part);
+    words.finish()
 }
 
 /// The fault that a part is, to which these steps lead.

@@ -2,8 +2,9 @@
 
 use crate::parts::{Part, defined, unnamed};
 use serde_json::Value as Json;
-use std::alloc::{AllocError, Global};
+use std::alloc::Global;
 use tables::{Primitive, Resolve, TypeDefKind, ValType};
+use text_builder::TextBuilder;
 
 /// The most labels that are named, and the most bytes of a value that are shown.
 const MOST_LABELS: usize = 8;
@@ -68,41 +69,23 @@ pub fn is_scalar(ty: ValType, value: &Json) -> bool {
     }
 }
 
-/// Appends texts one after another.
-fn push_all(words: &mut String, texts: &[&str]) -> Result<(), AllocError> {
-    for text in texts {
-        words.push_str(text)?;
-    }
-    Ok(())
-}
-
 /// Appends a text, cut short.
-fn push_shown(words: &mut String, text: &str) -> Result<(), AllocError> {
+fn push_shown(words: &mut TextBuilder, text: &str) {
     for (place, character) in text.chars().enumerate() {
         if place == MOST_SHOWN {
-            return words.push_str("..");
+            return words.push("..");
         }
-        words.push(character)?;
+        words.push_char(character);
     }
-    Ok(())
-}
-
-/// Appends what stands there in place of a value, cut short.
-fn push_found(alloc: Global, words: &mut String, value: &Json) -> Result<(), AllocError> {
-    let text = value.to_string(alloc)?;
-    push_shown(words, text.as_str())
 }
 
 /// Appends what a primitive value or a text is.
-fn push_scalar(words: &mut String, ty: ValType) -> Result<(), AllocError> {
+fn push_scalar(words: &mut TextBuilder, ty: ValType) {
     match ty {
         ValType::Primitive(primitive) => {
-            push_all(
-                words,
-                &["a `", primitive.keyword(), "` is ", values_of(primitive)],
-            )
+            words.push_all(&["a `", primitive.keyword(), "` is ", values_of(primitive)]);
         }
-        ValType::String | ValType::Id(_) => words.push_str("a `string` is a text"),
+        ValType::String | ValType::Id(_) => words.push("a `string` is a text"),
     }
 }
 
@@ -138,28 +121,27 @@ fn label_at(kind: &TypeDefKind, place: usize) -> Option<Label<'_>> {
 }
 
 /// Appends a label as JSON.
-fn push_label(words: &mut String, place: usize, label: Label<'_>) -> Result<(), AllocError> {
+fn push_label(words: &mut TextBuilder, place: usize, label: Label<'_>) {
     let mark = if place == 0 { "" } else { ", " };
     let (before, after) = if label.1 {
         ("`{\"", "\":..}`")
     } else {
         ("`\"", "\"`")
     };
-    push_all(words, &[mark, before, label.0, after])
+    words.push_all(&[mark, before, label.0, after]);
 }
 
 /// Appends the labels of a kind as JSON, the first of them.
-fn push_labels(words: &mut String, kind: &TypeDefKind) -> Result<(), AllocError> {
+fn push_labels(words: &mut TextBuilder, kind: &TypeDefKind) {
     for place in 0..MOST_LABELS {
         let Some(label) = label_at(kind, place) else {
-            return Ok(());
+            return;
         };
-        push_label(words, place, label)?;
+        push_label(words, place, label);
     }
     if label_at(kind, MOST_LABELS).is_some() {
-        words.push_str(", ..")?;
+        words.push(", ..");
     }
-    Ok(())
 }
 
 /// What a value of a kind is, up to its labels.
@@ -177,26 +159,22 @@ fn beginning(kind: &TypeDefKind) -> &'static str {
 }
 
 /// Appends what a value of a type is.
-fn push_type(words: &mut String, resolve: &Resolve, ty: ValType) -> Result<(), AllocError> {
+fn push_type(words: &mut TextBuilder, resolve: &Resolve, ty: ValType) {
     let ty = unnamed(resolve, ty);
     match defined(resolve, ty) {
         Some(kind) => {
-            words.push_str(beginning(kind))?;
-            push_labels(words, kind)
+            words.push(beginning(kind));
+            push_labels(words, kind);
         }
         None => push_scalar(words, ty),
     }
 }
 
 /// Says what has to be in place of a part, and what is there.
-pub fn push_wanted(
-    alloc: Global,
-    words: &mut String,
-    resolve: &Resolve,
-    part: Part<'_>,
-) -> Result<(), AllocError> {
-    push_type(words, resolve, part.ty)?;
-    words.push_str(", and not `")?;
-    push_found(alloc, words, part.value)?;
-    words.push('`')
+pub fn push_wanted(words: &mut TextBuilder, alloc: Global, resolve: &Resolve, part: Part<'_>) {
+    push_type(words, resolve, part.ty);
+    words.push(", and not `");
+    let found = words.kept(part.value.to_string(alloc));
+    push_shown(words, found.as_str());
+    words.push("`");
 }

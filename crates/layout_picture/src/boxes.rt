@@ -3,7 +3,7 @@
 use crate::cells::{Diagram, Lane, Note};
 use crate::rows::{Piece, Row, label_of, rows_of};
 use std::alloc::{AllocError, Global};
-use std::fmt::Write;
+use text_builder::TextBuilder;
 
 /// The bytes of a row.
 const ROW: u32 = 8;
@@ -11,11 +11,14 @@ const ROW: u32 = 8;
 /// The characters of a byte, with the line before it.
 const BYTE: usize = 8;
 
+/// What is before a line that has no offset and no word before it.
+const MARGIN: &str = "         ";
+
 /// A line of characters, from the line before its first byte to that after its last.
 #[derive(Drop)]
 struct Line {
-    /// What is before it: an offset, or nothing.
-    margin: String,
+    /// The offset before it, if it has one.
+    offset: Option<u32>,
     text: String,
     /// What is before the line above it.
     before: &'static str,
@@ -26,48 +29,16 @@ struct Line {
 }
 
 impl Line {
-    fn empty(alloc: Global) -> Line {
+    fn new(text: String) -> Line {
         Line {
-            margin: String::new(alloc),
-            text: String::new(alloc),
-            before: "",
+            offset: None,
+            text,
+            before: MARGIN,
             opens: usize::MAX,
             closes: 0,
         }
     }
-}
 
-/// Appends a character so many times.
-fn push_times(text: &mut String, character: char, count: usize) -> Result<(), AllocError> {
-    for _ in 0..count {
-        text.push(character)?;
-    }
-    Ok(())
-}
-
-/// Appends the bytes of a piece: its words, and then blanks or the shade of padding.
-fn push_piece(alloc: Global, text: &mut String, piece: &Piece<'_>) -> Result<(), AllocError> {
-    let room = (piece.size as usize).saturating_mul(BYTE).saturating_sub(1);
-    if piece.cell.member.is_none() {
-        return push_times(text, '░', room);
-    }
-    let label = label_of(alloc, piece, room.saturating_sub(1))?;
-    write!(text, " {}", label.as_str())?;
-    let used = label.as_str().chars().count();
-    push_times(text, ' ', room.saturating_sub(used).saturating_sub(1))
-}
-
-/// Appends the pieces of a row.
-fn push_pieces(alloc: Global, text: &mut String, pieces: &[Piece<'_>]) -> Result<(), AllocError> {
-    text.push('│')?;
-    for piece in pieces {
-        push_piece(alloc, text, piece)?;
-        text.push('│')?;
-    }
-    Ok(())
-}
-
-impl Line {
     /// Notes which of its cells go on from the line before or in the next line.
     fn join(&mut self, pieces: &[Piece<'_>]) {
         for piece in pieces {
@@ -81,52 +52,123 @@ impl Line {
     }
 }
 
-/// Adds the line of a row. This word is before the line above it.
-fn push_line(
-    alloc: Global,
-    lines: &mut Vec<Line>,
-    before: &'static str,
-    row: &Row<'_>,
-) -> Result<(), AllocError> {
-    let mut line = Line::empty(alloc);
-    line.before = before;
-    line.join(row.pieces.as_slice());
-    line.margin = format!(in alloc; "{:>8}", row.offset)?;
-    push_pieces(alloc, &mut line.text, row.pieces.as_slice())?;
-    lines.push(line)?;
-    Ok(())
+/// Appends a character so many times.
+fn push_times(text: &mut TextBuilder, character: char, count: usize) {
+    for _ in 0..count {
+        text.push_char(character);
+    }
 }
 
-/// Appends what is told in place of bytes that are left out, in a line of this width.
-fn push_gap_text(text: &mut String, skipped: u32, width: usize) -> Result<(), AllocError> {
-    write!(text, "│ .. {skipped} bytes are left out")?;
+/// Appends the bytes of a piece: its words, and then blanks or the shade of padding.
+fn push_piece(alloc: Global, text: &mut TextBuilder, piece: &Piece<'_>) {
+    let room = (piece.size as usize).saturating_mul(BYTE).saturating_sub(1);
+    if piece.cell.member.is_none() {
+        push_times(text, '░', room);
+        return;
+    }
+    let label = text.kept(label_of(alloc, piece, room.saturating_sub(1)));
+    text.push_all(&[" ", label.as_str()]);
+    let used = label.as_str().chars().count();
+    push_times(text, ' ', room.saturating_sub(used).saturating_sub(1));
+}
+
+/// The text of a row.
+fn row_text(alloc: Global, pieces: &[Piece<'_>]) -> Result<String, AllocError> {
+    let mut text = TextBuilder::new(alloc);
+    text.push("│");
+    for piece in pieces {
+        push_piece(alloc, &mut text, piece);
+        text.push("│");
+    }
+    text.finish()
+}
+
+/// What is told in place of bytes that are left out, in a line of this width.
+fn gap_text(alloc: Global, skipped: u32, width: usize) -> Result<String, AllocError> {
+    let mut text = TextBuilder::new(alloc);
+    text.push("│ .. ");
+    text.push_number(skipped as usize);
+    text.push(" bytes are left out");
     let used = text.as_str().chars().count();
-    push_times(text, ' ', width.saturating_sub(used))?;
-    text.push('│')
+    push_times(&mut text, ' ', width.saturating_sub(used));
+    text.push("│");
+    text.finish()
 }
 
-/// Adds the line in place of bytes that are left out after a row, if there are some.
-fn push_gap(alloc: Global, lines: &mut Vec<Line>, skipped: u32) -> Result<(), AllocError> {
-    if skipped == 0 {
-        return Ok(());
-    }
-    let width = (ROW as usize).saturating_mul(BYTE);
-    let mut line = Line::empty(alloc);
-    line.opens = 0;
-    line.closes = width;
-    push_gap_text(&mut line.text, skipped, width)?;
-    lines.push(line)?;
-    Ok(())
+/// The lines of a diagram.
+#[derive(Drop)]
+struct Lines {
+    alloc: Global,
+    list: Vec<Line>,
+    /// No text. It keeps whether an allocation was refused.
+    refusals: TextBuilder,
 }
 
-/// Adds the lines of a lane.
-fn push_lane(alloc: Global, lines: &mut Vec<Line>, lane: &Lane) -> Result<(), AllocError> {
-    let first = if lines.len() > 1 { "or" } else { "" };
-    for (index, row) in rows_of(alloc, lane, ROW)?.iter().enumerate() {
-        push_line(alloc, lines, if index == 0 { first } else { "" }, row)?;
-        push_gap(alloc, lines, row.skipped)?;
+impl Lines {
+    fn push(&mut self, line: Line) {
+        if self.list.push(line).is_err() {
+            self.refusals.refuse();
+        }
     }
-    Ok(())
+
+    /// Adds a line without text.
+    fn push_empty(&mut self) {
+        self.push(Line::new(String::new(self.alloc)));
+    }
+
+    /// Adds the line of a row. This word is before the line above it.
+    fn push_row(&mut self, before: &'static str, row: &Row<'_>) {
+        let pieces = row.pieces.as_slice();
+        let text = self.refusals.kept(row_text(self.alloc, pieces));
+        let mut line = Line::new(text);
+        line.offset = Some(row.offset);
+        line.before = before;
+        line.join(pieces);
+        self.push(line);
+    }
+
+    /// Adds the line in place of bytes that are left out after a row, if there are some.
+    fn push_gap(&mut self, skipped: u32) {
+        if skipped == 0 {
+            return;
+        }
+        let width = (ROW as usize).saturating_mul(BYTE);
+        let text = self.refusals.kept(gap_text(self.alloc, skipped, width));
+        let mut line = Line::new(text);
+        line.opens = 0;
+        line.closes = width;
+        self.push(line);
+    }
+
+    /// Adds the lines of rows. This word is before the line above the first of them.
+    fn push_rows(&mut self, first: &'static str, rows: &[Row<'_>]) {
+        for (index, row) in rows.iter().enumerate() {
+            self.push_row(if index == 0 { first } else { MARGIN }, row);
+            self.push_gap(row.skipped);
+        }
+    }
+
+    /// Adds the lines of a lane.
+    fn push_lane(&mut self, lane: &Lane) {
+        let first = if self.list.len() > 1 {
+            "      or "
+        } else {
+            MARGIN
+        };
+        match rows_of(self.alloc, lane, ROW) {
+            Ok(rows) => self.push_rows(first, rows.as_slice()),
+            Err(_) => self.refusals.refuse(),
+        }
+    }
+
+    /// Adds the lines of these lanes, between two empty ones.
+    fn push_lanes(&mut self, lanes: &[Lane]) {
+        self.push_empty();
+        for lane in lanes {
+            self.push_lane(lane);
+        }
+        self.push_empty();
+    }
 }
 
 /// Where lines meet: those up, down, to the left and to the right.
@@ -146,86 +188,72 @@ fn joint(up: bool, down: bool, left: bool, right: bool) -> char {
 }
 
 /// Appends what is between two lines. Between bytes of one cell it is dashed.
-fn push_rule(out: &mut String, above: &Line, below: &Line) -> Result<(), AllocError> {
+fn push_rule(out: &mut TextBuilder, above: &Line, below: &Line) {
     let (upper, lower) = (above.text.as_str(), below.text.as_str());
     let length = upper.chars().count().max(lower.chars().count());
     let (mut ups, mut downs) = (upper.chars(), lower.chars());
-    write!(out, "{:>8} ", below.before)?;
+    out.push(below.before);
     for place in 0..length {
         let up = ups.next() == Some('│');
         let down = downs.next() == Some('│');
         let mark = joint(up, down, place > 0, length.saturating_sub(place) > 1);
         let is_one_cell = mark == '─' && above.opens < place && place < below.closes;
-        out.push(if is_one_cell { '╌' } else { mark })?;
+        out.push_char(if is_one_cell { '╌' } else { mark });
     }
-    out.push('\n')
+    out.push("\n");
 }
 
 /// Appends the numbers of the bytes of a row.
-fn push_ruler(out: &mut String, size: u32) -> Result<(), AllocError> {
+fn push_ruler(out: &mut TextBuilder, size: u32) {
     if size < 2 {
-        return Ok(());
+        return;
     }
-    out.push_str("         ")?;
+    out.push(MARGIN);
     for byte in 0..size.min(ROW) {
-        if byte > 0 {
-            out.push_str("       ")?;
-        }
-        write!(out, "{byte}")?;
+        out.push(if byte > 0 { "       " } else { "" });
+        out.push_number(byte as usize);
     }
-    out.push('\n')
+    out.push("\n");
 }
 
-/// Appends a line of the list below boxes.
-fn push_note(out: &mut String, note: &Note) -> Result<(), AllocError> {
-    let text = note.text.as_str();
-    match note.offset {
-        Some(offset) => writeln!(out, "{offset:>8} {text}"),
-        None => writeln!(out, "         {text}"),
+/// Appends a line after an offset, if it has one.
+fn push_line(alloc: Global, out: &mut TextBuilder, offset: Option<u32>, text: &str) {
+    match offset {
+        Some(offset) => out.push_made(format!(in alloc; "{offset:>8} ")),
+        None => out.push(MARGIN),
     }
-}
-
-/// Adds the lines of these lanes, between two empty ones.
-fn push_lanes(alloc: Global, lines: &mut Vec<Line>, lanes: &[Lane]) -> Result<(), AllocError> {
-    lines.push(Line::empty(alloc))?;
-    for lane in lanes {
-        push_lane(alloc, lines, lane)?;
-    }
-    lines.push(Line::empty(alloc))?;
-    Ok(())
+    out.push_all(&[text, "\n"]);
 }
 
 /// Appends these lines, and what is between each two.
-fn push_lines(out: &mut String, lines: &[Line]) -> Result<(), AllocError> {
+fn push_lines(alloc: Global, out: &mut TextBuilder, lines: &[Line]) {
     for pair in lines.windows(2) {
         let [above, below] = pair else {
             continue;
         };
         if !above.text.is_empty() {
-            writeln!(out, "{:>8} {}", above.margin.as_str(), above.text.as_str())?;
+            push_line(alloc, out, above.offset, above.text.as_str());
         }
-        push_rule(out, above, below)?;
+        push_rule(out, above, below);
     }
-    Ok(())
 }
 
-/// Appends a diagram of a type of this size: its boxes, and the list below them.
-pub fn push_boxes(
-    alloc: Global,
-    out: &mut String,
-    diagram: &Diagram,
-    size: u32,
-) -> Result<(), AllocError> {
-    let mut lines = Vec::new(alloc);
-    push_lanes(alloc, &mut lines, diagram.lanes.as_slice())?;
-    push_ruler(out, size)?;
-    push_lines(out, lines.as_slice())
+/// Appends the boxes of a diagram of a type of this size.
+pub fn push_boxes(alloc: Global, out: &mut TextBuilder, diagram: &Diagram, size: u32) {
+    let mut lines = Lines {
+        alloc,
+        list: Vec::new(alloc),
+        refusals: TextBuilder::new(alloc),
+    };
+    lines.push_lanes(diagram.lanes.as_slice());
+    push_ruler(out, size);
+    push_lines(alloc, out, lines.list.as_slice());
+    out.append(lines.refusals);
 }
 
 /// Appends the list below boxes.
-pub fn push_notes(out: &mut String, diagram: &Diagram) -> Result<(), AllocError> {
-    for note in &diagram.notes {
-        push_note(out, note)?;
+pub fn push_notes(alloc: Global, out: &mut TextBuilder, notes: &[Note]) {
+    for note in notes {
+        push_line(alloc, out, note.offset, note.text.as_str());
     }
-    Ok(())
 }

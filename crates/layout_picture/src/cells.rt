@@ -3,8 +3,8 @@
 use crate::names::{member_name, type_text};
 use crate::type_layout::{Part, TypeLayout, case_number_size};
 use layout::Shape;
-use std::alloc::{AllocError, Global};
-use std::fmt::Write;
+use std::alloc::Global;
+use text_builder::TextBuilder;
 
 /// Bytes that belong together.
 #[derive(Drop)]
@@ -25,8 +25,6 @@ pub struct Cell {
 #[derive(Drop)]
 pub struct Lane {
     pub cells: Vec<Cell>,
-    /// The offset after the last cell.
-    end: u32,
 }
 
 /// A line of the list below the boxes of a type.
@@ -40,356 +38,286 @@ pub struct Note {
 /// What is drawn of a type.
 #[derive(Drop)]
 pub struct Diagram {
+    alloc: Global,
     pub lanes: Vec<Lane>,
     pub notes: Vec<Note>,
+    /// The cells of the next lane.
+    cells: Vec<Cell>,
+    /// The offset after the last of them.
+    end: u32,
+    /// No text. It keeps whether an allocation was refused.
+    pub refusals: TextBuilder,
 }
 
 /// The most characters of a line of labels.
 const LINE: usize = 96;
 
-impl Lane {
-    fn new(alloc: Global) -> Lane {
-        Lane {
-            cells: Vec::new(alloc),
-            end: 0,
+impl Diagram {
+    /// Adds a cell where it begins, after those before it.
+    fn push_cell(&mut self, cell: Cell) {
+        self.end = cell.offset.saturating_add(cell.size);
+        if self.cells.push(cell).is_err() {
+            self.refusals.refuse();
         }
     }
 
-    /// Adds a cell where it begins, after those before it.
-    fn push(&mut self, cell: Cell) -> Result<(), AllocError> {
-        self.end = cell.offset.saturating_add(cell.size);
-        self.cells.push(cell)?;
-        Ok(())
+    /// Adds a cell of these words, which is a member of this number.
+    fn push_words(&mut self, offset: u32, size: u32, words: (&str, &str, usize)) {
+        let (name, text, member) = words;
+        let cell = Cell {
+            offset,
+            size,
+            name: self.refusals.kept(String::from_str(self.alloc, name)),
+            text: self.refusals.kept(String::from_str(self.alloc, text)),
+            member: Some(member),
+        };
+        self.push_cell(cell);
     }
 
     /// Adds bytes that no value uses, up to an offset. Returns how many they are.
-    fn pad(&mut self, alloc: Global, offset: u32) -> Result<u32, AllocError> {
+    fn pad(&mut self, offset: u32) -> u32 {
         let size = offset.saturating_sub(self.end);
         if size > 0 {
-            self.push(Cell {
+            let cell = Cell {
                 offset: self.end,
                 size,
-                name: String::new(alloc),
-                text: String::from_str(alloc, "padding")?,
+                name: String::new(self.alloc),
+                text: self.refusals.kept(String::from_str(self.alloc, "padding")),
                 member: None,
-            })?;
+            };
+            self.push_cell(cell);
         }
-        Ok(size)
+        size
     }
-}
 
-impl Diagram {
-    /// Adds a line that tells of an offset.
-    fn note(&mut self, offset: u32, text: String) -> Result<(), AllocError> {
-        self.notes.push(Note {
-            offset: Some(offset),
-            text,
-        })?;
-        Ok(())
+    /// Ends the lane of the cells that were added last.
+    fn end_lane(&mut self) {
+        let lane = Lane {
+            cells: std::mem::replace(&mut self.cells, Vec::new(self.alloc)),
+        };
+        if self.lanes.push(lane).is_err() {
+            self.refusals.refuse();
+        }
+        self.end = 0;
+    }
+
+    /// Adds a line that tells of an offset, if there is one.
+    fn note(&mut self, offset: Option<u32>, text: String) {
+        if self.notes.push(Note { offset, text }).is_err() {
+            self.refusals.refuse();
+        }
     }
 
     /// Adds a line that tells of padding before an offset, if there is some.
-    fn note_padding(&mut self, alloc: Global, offset: u32, size: u32) -> Result<(), AllocError> {
-        if size == 0 {
-            return Ok(());
+    fn note_padding(&mut self, offset: u32, size: u32) {
+        if size > 0 {
+            let text = self
+                .refusals
+                .kept(format!(in self.alloc; "padding, size {size}"));
+            self.note(Some(offset.saturating_sub(size)), text);
         }
-        let text = format!(in alloc; "padding, size {size}")?;
-        self.note(offset.saturating_sub(size), text)
     }
 
-    /// Adds lines of all labels of a type, each with its number, up to the last line.
-    fn note_first_labels(
-        &mut self,
-        alloc: Global,
-        layout: &TypeLayout<'_>,
-        count: usize,
-        line: &mut String,
-    ) -> Result<(), AllocError> {
-        for index in 0..count {
-            let name = member_name(layout, index);
-            if line.len().saturating_add(name.len()) > LINE {
-                let text = std::mem::replace(line, String::new(alloc));
-                self.notes.push(Note { offset: None, text })?;
-            }
-            let mark = if index + 1 == count { "" } else { "," };
-            let blank = if line.is_empty() { "" } else { " " };
-            write!(line, "{blank}{index} {name}{mark}")?;
+    /// Adds a line that tells what is at an offset, with the size and the alignment of its type.
+    fn note_sized(&mut self, offset: u32, text: &str, layout: &TypeLayout<'_>) {
+        let (size, align) = (layout.size(), layout.align());
+        let text = self.refusals.kept(format!(in self.alloc; "{text}, size {size}, align {align}"));
+        self.note(Some(offset), text);
+    }
+
+    /// Adds a line of labels.
+    fn note_line(&mut self, line: TextBuilder) {
+        let text = self.refusals.kept(line.finish());
+        self.note(None, text);
+    }
+
+    /// Adds a line of labels, if it has no room for a label of this length, and begins the next one.
+    fn end_line(&mut self, line: &mut TextBuilder, length: usize) {
+        if line.as_str().len().saturating_add(length) > LINE {
+            let full = std::mem::replace(line, TextBuilder::new(self.alloc));
+            self.note_line(full);
         }
-        Ok(())
     }
 
     /// Adds lines of all labels of a type, each with its number.
-    fn note_labels(
-        &mut self,
-        alloc: Global,
-        layout: &TypeLayout<'_>,
-        count: usize,
-    ) -> Result<(), AllocError> {
-        let mut text = String::new(alloc);
-        self.note_first_labels(alloc, layout, count, &mut text)?;
-        self.notes.push(Note { offset: None, text })?;
-        Ok(())
+    fn note_labels(&mut self, layout: &TypeLayout<'_>, count: usize) {
+        let mut line = TextBuilder::new(self.alloc);
+        for index in 0..count {
+            let name = member_name(layout, index);
+            self.end_line(&mut line, name.len());
+            line.push(if line.as_str().is_empty() { "" } else { " " });
+            line.push_number(index);
+            line.push_all(&[" ", name, if index + 1 == count { "" } else { "," }]);
+        }
+        self.note_line(line);
     }
-}
 
-/// The size and the alignment of a type, after what it is.
-fn sized(alloc: Global, text: &str, layout: &TypeLayout<'_>) -> Result<String, AllocError> {
-    let (size, align) = (layout.size(), layout.align());
-    format!(in alloc; "{text}, size {size}, align {align}")
-}
+    /// The bytes of a value of this name.
+    fn named_cell(&mut self, part: &Part<'_>, name: String, member: usize) -> Cell {
+        let mut text = TextBuilder::new(self.alloc);
+        text.push_all(&[name.as_str(), ": "]);
+        text.push_made(type_text(self.alloc, part.layout.resolve, part.layout.ty));
+        Cell {
+            offset: part.offset,
+            size: part.layout.size(),
+            text: self.refusals.kept(text.finish()),
+            name,
+            member: Some(member),
+        }
+    }
 
-/// The bytes of a value of this name.
-fn named_cell(
-    alloc: Global,
-    part: &Part<'_>,
-    name: String,
-    member: usize,
-) -> Result<Cell, AllocError> {
-    let ty = type_text(alloc, part.layout.resolve, part.layout.ty)?;
-    Ok(Cell {
-        offset: part.offset,
-        size: part.layout.size(),
-        text: format!(in alloc; "{}: {}", name.as_str(), ty.as_str())?,
-        name,
-        member: Some(member),
-    })
-}
+    /// The name of a field of a record. One of a tuple goes by its number.
+    fn field_name(&mut self, label: &str, index: usize) -> String {
+        self.refusals.kept(match label {
+            "" => format!(in self.alloc; "{index}"),
+            _ => String::from_str(self.alloc, label),
+        })
+    }
 
-/// A field of a record. One of a tuple goes by its number.
-fn field_cell(
-    alloc: Global,
-    part: &Part<'_>,
-    label: &str,
-    index: usize,
-) -> Result<Cell, AllocError> {
-    let name = match label {
-        "" => format!(in alloc; "{index}")?,
-        _ => String::from_str(alloc, label)?,
-    };
-    named_cell(alloc, part, name, index)
-}
+    /// Adds a field of a record, with what is told of it.
+    fn push_field(&mut self, part: &Part<'_>, label: &str, index: usize) {
+        let name = self.field_name(label, index);
+        let cell = self.named_cell(part, name, index);
+        self.note_sized(part.offset, cell.text.as_str(), &part.layout);
+        self.push_cell(cell);
+    }
 
-/// Adds a field of a record, with what is told of it.
-fn push_field(
-    alloc: Global,
-    diagram: &mut Diagram,
-    lane: &mut Lane,
-    part: &Part<'_>,
-    named: (&str, usize),
-) -> Result<(), AllocError> {
-    let (label, index) = named;
-    let cell = field_cell(alloc, part, label, index)?;
-    diagram.note(part.offset, sized(alloc, cell.text.as_str(), &part.layout)?)?;
-    lane.push(cell)
-}
+    /// Adds padding up to an offset, with what is told of it.
+    fn push_padding(&mut self, offset: u32) {
+        let size = self.pad(offset);
+        self.note_padding(offset, size);
+    }
 
-/// Adds padding up to an offset, with what is told of it.
-fn push_padding(
-    alloc: Global,
-    diagram: &mut Diagram,
-    lane: &mut Lane,
-    offset: u32,
-) -> Result<(), AllocError> {
-    let size = lane.pad(alloc, offset)?;
-    diagram.note_padding(alloc, offset, size)
-}
+    /// Adds the fields of a record, and the padding between and after them.
+    fn push_fields(&mut self, layout: &TypeLayout<'_>, count: usize) {
+        for index in 0..count {
+            let Some(part) = layout.field(index) else {
+                break;
+            };
+            self.push_padding(part.offset);
+            self.push_field(&part, member_name(layout, index), index);
+        }
+        self.push_padding(layout.size());
+        self.end_lane();
+    }
 
-/// Adds the fields of a record to its lane, and the padding between and after them.
-fn fill_lane(
-    alloc: Global,
-    diagram: &mut Diagram,
-    lane: &mut Lane,
-    layout: &TypeLayout<'_>,
-    count: usize,
-) -> Result<(), AllocError> {
-    for index in 0..count {
-        let Some(part) = layout.field(index) else {
-            break;
+    /// Adds the number of a case of this name, in so many bytes.
+    fn push_case_number(&mut self, name: &str, index: usize, size: u32) {
+        let cell = Cell {
+            offset: 0,
+            size,
+            name: self.refusals.kept(format!(in self.alloc; "{index}")),
+            text: self.refusals.kept(format!(in self.alloc; "{index} {name}")),
+            member: Some(0),
         };
-        push_padding(alloc, diagram, lane, part.offset)?;
-        let named = (member_name(layout, index), index);
-        push_field(alloc, diagram, lane, &part, named)?;
+        self.push_cell(cell);
     }
-    push_padding(alloc, diagram, lane, layout.size())
-}
 
-/// Adds the fields of a record.
-fn push_fields(
-    alloc: Global,
-    diagram: &mut Diagram,
-    layout: &TypeLayout<'_>,
-    count: usize,
-) -> Result<(), AllocError> {
-    let mut lane = Lane::new(alloc);
-    fill_lane(alloc, diagram, &mut lane, layout, count)?;
-    diagram.lanes.push(lane)?;
-    Ok(())
-}
-
-/// The number of a case, in its bytes.
-fn case_cell(alloc: Global, name: &str, index: usize, size: u32) -> Result<Cell, AllocError> {
-    Ok(Cell {
-        offset: 0,
-        size,
-        name: format!(in alloc; "{index}")?,
-        text: format!(in alloc; "{index} {name}")?,
-        member: Some(0),
-    })
-}
-
-/// Adds a payload to the lane of its case of this name. Returns what is told of the case.
-fn push_part(
-    alloc: Global,
-    lane: &mut Lane,
-    part: &Part<'_>,
-    named: (&str, usize),
-) -> Result<String, AllocError> {
-    let (name, index) = named;
-    lane.pad(alloc, part.offset)?;
-    let name = String::from_str(alloc, name)?;
-    let cell = named_cell(alloc, part, name, index.saturating_add(1))?;
-    let told = format!(in alloc; "case {index} {}", cell.text.as_str())?;
-    lane.push(cell)?;
-    sized(alloc, told.as_str(), &part.layout)
-}
-
-/// Adds the number of a case, its payload and the padding to its lane. Returns what is told of the case.
-fn fill_case(
-    alloc: Global,
-    lane: &mut Lane,
-    layout: &TypeLayout<'_>,
-    numbered: (usize, u32),
-) -> Result<String, AllocError> {
-    let (index, number_size) = numbered;
-    let name = member_name(layout, index);
-    lane.push(case_cell(alloc, name, index, number_size)?)?;
-    match layout.payload(index) {
-        Some(part) => push_part(alloc, lane, &part, (name, index)),
-        None => format!(in alloc; "case {index} {name}"),
+    /// Adds a payload of the case of this name and number, with what is told of the case at this offset.
+    fn push_part(&mut self, part: &Part<'_>, start: u32, named: (&str, usize)) {
+        let (name, index) = named;
+        self.pad(part.offset);
+        let name = self.refusals.kept(String::from_str(self.alloc, name));
+        let cell = self.named_cell(part, name, index.saturating_add(1));
+        let text = cell.text.as_str();
+        let told = self
+            .refusals
+            .kept(format!(in self.alloc; "case {index} {text}"));
+        self.note_sized(start, told.as_str(), &part.layout);
+        self.push_cell(cell);
     }
-}
 
-/// Adds a case of a variant, of which this offset is told.
-fn push_case(
-    alloc: Global,
-    diagram: &mut Diagram,
-    layout: &TypeLayout<'_>,
-    start: u32,
-    numbered: (usize, u32),
-) -> Result<(), AllocError> {
-    let mut lane = Lane::new(alloc);
-    let told = fill_case(alloc, &mut lane, layout, numbered)?;
-    diagram.note(start, told)?;
-    lane.pad(alloc, layout.size())?;
-    diagram.lanes.push(lane)?;
-    Ok(())
-}
-
-/// Adds the cases of a variant, each in a lane of its own.
-fn push_cases(
-    alloc: Global,
-    diagram: &mut Diagram,
-    layout: &TypeLayout<'_>,
-    count: usize,
-) -> Result<(), AllocError> {
-    let number_size = case_number_size(count);
-    let start = layout.payload_offset().unwrap_or(number_size);
-    let told = format!(in alloc; "case number, size {number_size}, align {number_size}")?;
-    diagram.note(0, told)?;
-    diagram.note_padding(alloc, start, start.saturating_sub(number_size))?;
-    for index in 0..count {
-        push_case(alloc, diagram, layout, start, (index, number_size))?;
-    }
-    Ok(())
-}
-
-/// A cell of these words, which is a member of this number.
-fn cell_of(
-    alloc: Global,
-    offset: u32,
-    size: u32,
-    words: (&str, &str, usize),
-) -> Result<Cell, AllocError> {
-    let (name, text, member) = words;
-    Ok(Cell {
-        offset,
-        size,
-        name: String::from_str(alloc, name)?,
-        text: String::from_str(alloc, text)?,
-        member: Some(member),
-    })
-}
-
-/// Adds a lane of one cell, with all bytes of the type.
-fn push_whole(
-    alloc: Global,
-    diagram: &mut Diagram,
-    layout: &TypeLayout<'_>,
-    words: (&str, &str),
-) -> Result<(), AllocError> {
-    let (name, text) = words;
-    diagram.note(0, sized(alloc, text, layout)?)?;
-    let mut lane = Lane::new(alloc);
-    lane.push(cell_of(alloc, 0, layout.size(), (name, text, 0))?)?;
-    diagram.lanes.push(lane)?;
-    Ok(())
-}
-
-/// Adds the address or the length of a string or a list, at this offset.
-fn push_half(
-    alloc: Global,
-    diagram: &mut Diagram,
-    lane: &mut Lane,
-    offset: u32,
-    words: (&str, &str, usize),
-) -> Result<(), AllocError> {
-    lane.push(cell_of(alloc, offset, 4, words)?)?;
-    let (_, text, _) = words;
-    diagram.note(offset, format!(in alloc; "{text}, size 4, align 4")?)
-}
-
-/// Adds what a string or a list has in place: the address of its bytes or elements, and their number.
-fn push_pointer(alloc: Global, diagram: &mut Diagram, length: &str) -> Result<(), AllocError> {
-    let mut lane = Lane::new(alloc);
-    push_half(alloc, diagram, &mut lane, 0, ("address", "address", 0))?;
-    push_half(alloc, diagram, &mut lane, 4, ("length", length, 1))?;
-    diagram.lanes.push(lane)?;
-    Ok(())
-}
-
-/// Adds what is drawn of a type.
-fn push_type(
-    alloc: Global,
-    diagram: &mut Diagram,
-    layout: &TypeLayout<'_>,
-) -> Result<(), AllocError> {
-    match layout.shape() {
-        Shape::Record(count) => push_fields(alloc, diagram, layout, count),
-        Shape::Variant(count) if layout.size() == case_number_size(count) => {
-            push_whole(alloc, diagram, layout, ("case", "case number"))?;
-            diagram.note_labels(alloc, layout, count)
+    /// Adds what a case of this name and number has after the number, with what is told of the case at this offset.
+    fn push_payload(&mut self, layout: &TypeLayout<'_>, start: u32, named: (&str, usize)) {
+        let (name, index) = named;
+        match layout.payload(index) {
+            Some(part) => self.push_part(&part, start, named),
+            None => {
+                let told = self
+                    .refusals
+                    .kept(format!(in self.alloc; "case {index} {name}"));
+                self.note(Some(start), told);
+            }
         }
-        Shape::Variant(count) => push_cases(alloc, diagram, layout, count),
-        Shape::Flags(count) => {
-            let words = ("bits", "a bit for each label");
-            push_whole(alloc, diagram, layout, words)?;
-            diagram.note_labels(alloc, layout, count)
+    }
+
+    /// Adds the cases of a variant, each in a lane of its own.
+    fn push_cases(&mut self, layout: &TypeLayout<'_>, count: usize) {
+        let size = case_number_size(count);
+        let start = layout.payload_offset().unwrap_or(size);
+        let told = self.refusals.kept(format!(in self.alloc;
+            "case number, size {size}, align {size}"
+        ));
+        self.note(Some(0), told);
+        self.note_padding(start, start.saturating_sub(size));
+        for index in 0..count {
+            let name = member_name(layout, index);
+            self.push_case_number(name, index, size);
+            self.push_payload(layout, start, (name, index));
+            self.pad(layout.size());
+            self.end_lane();
         }
-        Shape::String => push_pointer(alloc, diagram, "length in bytes"),
-        Shape::List(_) => push_pointer(alloc, diagram, "length in elements"),
-        Shape::Primitive(_) => {
-            let text = type_text(alloc, layout.resolve, layout.ty)?;
-            push_whole(alloc, diagram, layout, (text.as_str(), text.as_str()))
+    }
+
+    /// Adds a lane of one cell, with all bytes of the type.
+    fn push_whole(&mut self, layout: &TypeLayout<'_>, name: &str, text: &str) {
+        self.note_sized(0, text, layout);
+        self.push_words(0, layout.size(), (name, text, 0));
+        self.end_lane();
+    }
+
+    /// Adds a lane of one cell, with all bytes of a type that has no members.
+    fn push_simple(&mut self, layout: &TypeLayout<'_>) {
+        let text = type_text(self.alloc, layout.resolve, layout.ty);
+        let text = self.refusals.kept(text);
+        self.push_whole(layout, text.as_str(), text.as_str());
+    }
+
+    /// Adds the address or the length of a string or a list, at this offset.
+    fn push_half(&mut self, offset: u32, words: (&str, &str, usize)) {
+        self.push_words(offset, 4, words);
+        let text = [words.1, ", size 4, align 4"].concat(self.alloc);
+        let text = self.refusals.kept(text);
+        self.note(Some(offset), text);
+    }
+
+    /// Adds what a string or a list has in place: the address of its bytes or elements, and their number.
+    fn push_pointer(&mut self, length: &str) {
+        self.push_half(0, ("address", "address", 0));
+        self.push_half(4, ("length", length, 1));
+        self.end_lane();
+    }
+
+    /// Adds what is drawn of a type.
+    fn push_type(&mut self, layout: &TypeLayout<'_>) {
+        match layout.shape() {
+            Shape::Record(count) => self.push_fields(layout, count),
+            Shape::Variant(count) if layout.size() == case_number_size(count) => {
+                self.push_whole(layout, "case", "case number");
+                self.note_labels(layout, count);
+            }
+            Shape::Variant(count) => self.push_cases(layout, count),
+            Shape::Flags(count) => {
+                self.push_whole(layout, "bits", "a bit for each label");
+                self.note_labels(layout, count);
+            }
+            Shape::String => self.push_pointer("length in bytes"),
+            Shape::List(_) => self.push_pointer("length in elements"),
+            Shape::Primitive(_) => self.push_simple(layout),
         }
     }
 }
 
 /// What is drawn of a type.
-pub fn diagram_of(alloc: Global, layout: &TypeLayout<'_>) -> Result<Diagram, AllocError> {
+pub fn diagram_of(alloc: Global, layout: &TypeLayout<'_>) -> Diagram {
     let mut diagram = Diagram {
+        alloc,
         lanes: Vec::new(alloc),
         notes: Vec::new(alloc),
+        cells: Vec::new(alloc),
+        end: 0,
+        refusals: TextBuilder::new(alloc),
     };
-    push_type(alloc, &mut diagram, layout)?;
-    Ok(diagram)
+    diagram.push_type(layout);
+    diagram
 }

@@ -3,6 +3,7 @@
 use crate::type_layout::TypeLayout;
 use std::alloc::{AllocError, Global};
 use tables::{Definition, Resolve, TypeDef, TypeDefKind, TypeId, ValType};
+use text_builder::TextBuilder;
 
 /// The most pieces of which a type is spelled. After these it goes on with `..`.
 const MAX_PIECES: usize = 32;
@@ -67,90 +68,113 @@ pub fn owner_of(alloc: Global, resolve: &Resolve, id: TypeId) -> Result<String, 
     Ok(String::new(alloc))
 }
 
-/// Leaves pieces to be written: types between `<` and `>`.
-fn push_members(pieces: &mut Vec<Piece>, members: &[Option<ValType>]) -> Result<(), AllocError> {
-    pieces.push(Piece::Mark(">"))?;
-    for (index, member) in members.iter().rev().enumerate() {
-        if index > 0 {
-            pieces.push(Piece::Mark(", "))?;
-        }
-        pieces.push(Piece::Type(*member))?;
-    }
-    pieces.push(Piece::Mark("<"))?;
-    Ok(())
-}
-
-/// Leaves the pieces of a type without a label to be written.
-fn push_kind(
-    alloc: Global,
-    pieces: &mut Vec<Piece>,
-    kind: &TypeDefKind,
-) -> Result<&'static str, AllocError> {
-    match kind {
-        TypeDefKind::List(ty) => {
-            push_members(pieces, &[Some(*ty)])?;
-            Ok("list")
-        }
-        TypeDefKind::Option(ty) => {
-            push_members(pieces, &[Some(*ty)])?;
-            Ok("option")
-        }
-        TypeDefKind::Result(None, None) => Ok("result"),
-        TypeDefKind::Result(ok, None) => {
-            push_members(pieces, &[*ok])?;
-            Ok("result")
-        }
-        TypeDefKind::Result(ok, error) => {
-            push_members(pieces, &[*ok, *error])?;
-            Ok("result")
-        }
-        TypeDefKind::Tuple(types) => {
-            let members = types.as_slice().iter().map(|ty| Some(*ty));
-            push_members(
-                pieces,
-                members.collect::<Vec<Option<ValType>>>(alloc)?.as_slice(),
-            )?;
-            Ok("tuple")
-        }
-        _ => Ok("_"),
-    }
-}
-
-/// The next word of a type's text. What comes after it is left in the pieces.
-fn next_word<'a>(
-    alloc: Global,
-    pieces: &mut Vec<Piece>,
+/// The text of a type while it is written.
+#[derive(Drop)]
+struct Spelling<'a> {
     resolve: &'a Resolve,
-    piece: Piece,
-) -> Result<&'a str, AllocError> {
-    match piece {
-        Piece::Mark(mark) => Ok(mark),
-        Piece::Type(None) => Ok("_"),
-        Piece::Type(Some(ValType::Primitive(primitive))) => Ok(primitive.keyword()),
-        Piece::Type(Some(ValType::String)) => Ok("string"),
-        Piece::Type(Some(ValType::Id(id))) => match (
-            label_of(resolve, id),
-            definition(resolve, id),
-        ) {
-            ("", Some(definition)) => push_kind(alloc, pieces, &definition.kind),
-            (label, _) => Ok(label),
-        },
+    text: TextBuilder,
+    /// The pieces that are still to be written, the last first.
+    pieces: Vec<Piece>,
+}
+
+impl Spelling<'_> {
+    /// Leaves a piece to be written.
+    fn leave(&mut self, piece: Piece) {
+        if self.pieces.push(piece).is_err() {
+            self.text.refuse();
+        }
+    }
+
+    /// Leaves types between `<` and `>` to be written.
+    fn leave_members(&mut self, members: &[Option<ValType>]) {
+        self.leave(Piece::Mark(">"));
+        for (index, member) in members.iter().rev().enumerate() {
+            if index > 0 {
+                self.leave(Piece::Mark(", "));
+            }
+            self.leave(Piece::Type(*member));
+        }
+        self.leave(Piece::Mark("<"));
+    }
+
+    /// Leaves the types of a tuple to be written.
+    fn leave_elements(&mut self, types: &[ValType]) {
+        self.leave(Piece::Mark(">"));
+        for (index, ty) in types.iter().rev().enumerate() {
+            if index > 0 {
+                self.leave(Piece::Mark(", "));
+            }
+            self.leave(Piece::Type(Some(*ty)));
+        }
+        self.leave(Piece::Mark("<"));
+    }
+
+    /// Leaves the pieces of a type without a label to be written, after its word.
+    fn push_kind(&mut self, kind: &TypeDefKind) {
+        self.text.push(kind_word(kind));
+        match kind {
+            TypeDefKind::List(ty) | TypeDefKind::Option(ty) => self.leave_members(&[Some(*ty)]),
+            TypeDefKind::Result(None, None) => {}
+            TypeDefKind::Result(ok, None) => self.leave_members(&[*ok]),
+            TypeDefKind::Result(ok, error) => self.leave_members(&[*ok, *error]),
+            TypeDefKind::Tuple(types) => self.leave_elements(types.as_slice()),
+            _ => {}
+        }
+    }
+
+    /// Appends the label of a type, or its word.
+    fn push_definition(&mut self, id: TypeId) {
+        let resolve = self.resolve;
+        match (label_of(resolve, id), definition(resolve, id)) {
+            ("", Some(definition)) => self.push_kind(&definition.kind),
+            (label, _) => self.text.push(label),
+        }
+    }
+
+    /// Appends the next word. What comes after it is left in the pieces.
+    fn push_piece(&mut self, piece: Piece) {
+        match piece {
+            Piece::Mark(mark) => self.text.push(mark),
+            Piece::Type(None) => self.text.push("_"),
+            Piece::Type(Some(ValType::Primitive(primitive))) => self.text.push(primitive.keyword()),
+            Piece::Type(Some(ValType::String)) => self.text.push("string"),
+            Piece::Type(Some(ValType::Id(id))) => self.push_definition(id),
+        }
+    }
+
+    /// Appends all pieces, as far as a type is spelled.
+    fn push_pieces(&mut self) {
+        for _ in 0..MAX_PIECES {
+            let Some(piece) = self.pieces.pop() else {
+                return;
+            };
+            self.push_piece(piece);
+        }
+        self.text.push("..");
+    }
+}
+
+/// The word of a type without a label.
+fn kind_word(kind: &TypeDefKind) -> &'static str {
+    match kind {
+        TypeDefKind::List(_) => "list",
+        TypeDefKind::Option(_) => "option",
+        TypeDefKind::Result(_, _) => "result",
+        TypeDefKind::Tuple(_) => "tuple",
+        _ => "_",
     }
 }
 
 /// A type as WIT spells it: its label, or what it is.
 pub fn type_text(alloc: Global, resolve: &Resolve, ty: ValType) -> Result<String, AllocError> {
-    let mut text = String::new(alloc);
-    let mut pieces = Vec::new(alloc);
-    pieces.push(Piece::Type(Some(ty)))?;
-    for _ in 0..MAX_PIECES {
-        let Some(piece) = pieces.pop() else {
-            return Ok(text);
-        };
-        text.push_str(next_word(alloc, &mut pieces, resolve, piece)?)?;
-    }
-    text.push_str("..")?;
-    Ok(text)
+    let mut spelling = Spelling {
+        resolve,
+        text: TextBuilder::new(alloc),
+        pieces: Vec::new(alloc),
+    };
+    spelling.leave(Piece::Type(Some(ty)));
+    spelling.push_pieces();
+    spelling.text.finish()
 }
 
 /// What a type is in the end: used names and aliases are followed.

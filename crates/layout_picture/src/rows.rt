@@ -41,6 +41,8 @@ struct Rows<'a> {
     pieces: Vec<Piece<'a>>,
     offset: u32,
     column: u32,
+    /// Whether no allocation was refused.
+    is_whole: bool,
 }
 
 /// How many of the bytes that a cell has left are left out: whole rows, so that one row or less is left.
@@ -54,49 +56,62 @@ fn skipped_of(left: u32, width: u32) -> u32 {
 
 impl<'a> Rows<'a> {
     /// Ends the row, after which so many bytes are left out.
-    fn end_row(&mut self, skipped: u32) -> Result<(), AllocError> {
-        let pieces = std::mem::replace(&mut self.pieces, Vec::new(self.alloc));
-        self.list.push(Row {
+    fn end_row(&mut self, skipped: u32) {
+        let row = Row {
             offset: self.offset,
-            pieces,
+            pieces: std::mem::replace(&mut self.pieces, Vec::new(self.alloc)),
             skipped,
-        })?;
+        };
+        if self.list.push(row).is_err() {
+            self.is_whole = false;
+        }
         let after = self.offset.saturating_add(self.width);
         self.offset = after.saturating_add(skipped);
         self.column = 0;
-        Ok(())
     }
 
     /// Adds the next bytes of a cell, as many as the row has room for. Returns how many of the cell are left.
-    fn push_piece(&mut self, cell: &'a Cell, left: u32) -> Result<u32, AllocError> {
+    fn push_piece(&mut self, cell: &'a Cell, left: u32) -> u32 {
         let size = self.width.saturating_sub(self.column).min(left);
-        self.pieces.push(Piece {
+        let piece = Piece {
             cell,
             column: self.column,
             size,
             is_first: left == cell.size,
             is_last: left == size,
-        })?;
+        };
+        if self.pieces.push(piece).is_err() {
+            self.is_whole = false;
+        }
         self.column = self.column.saturating_add(size);
         let left = left.saturating_sub(size);
         if self.column < self.width {
-            return Ok(left);
+            return left;
         }
         let skipped = skipped_of(left, self.width);
-        self.end_row(skipped)?;
-        Ok(left.saturating_sub(skipped))
+        self.end_row(skipped);
+        left.saturating_sub(skipped)
     }
 
     /// Adds a cell.
-    fn push_cell(&mut self, cell: &'a Cell) -> Result<(), AllocError> {
+    fn push_cell(&mut self, cell: &'a Cell) {
         let mut left = cell.size;
         for _ in 0..MOST_ROWS + 2 {
             if left == 0 {
                 break;
             }
-            left = self.push_piece(cell, left)?;
+            left = self.push_piece(cell, left);
         }
-        Ok(())
+    }
+
+    /// Adds the cells of a lane.
+    fn push_cells(&mut self, cells: &'a [Cell]) {
+        for cell in cells {
+            self.push_cell(cell);
+        }
+        if self.column > 0 {
+            self.end_row(0);
+        }
     }
 }
 
@@ -109,14 +124,14 @@ pub fn rows_of<'a>(alloc: Global, lane: &'a Lane, width: u32) -> Result<Vec<Row<
         pieces: Vec::new(alloc),
         offset: 0,
         column: 0,
+        is_whole: true,
     };
-    for cell in &lane.cells {
-        rows.push_cell(cell)?;
+    rows.push_cells(lane.cells.as_slice());
+    if rows.is_whole {
+        Ok(rows.list)
+    } else {
+        Err(AllocError)
     }
-    if rows.column > 0 {
-        rows.end_row(0)?;
-    }
-    Ok(rows.list)
 }
 
 /// The words for a piece that has room for so many characters: as many as fit, of those of its cell. What is cut ends

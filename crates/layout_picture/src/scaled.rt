@@ -2,7 +2,7 @@
 
 use crate::cells::{Cell, Diagram, Lane, Note};
 use crate::rows::{Piece, Row, label_of, rows_of};
-use std::alloc::{AllocError, Global};
+use std::alloc::Global;
 use svg_drawing::{Area, Drawing, Fill, Ink, Point};
 
 /// The bytes of a row.
@@ -35,18 +35,37 @@ fn fill_of(cell: &Cell) -> Fill {
 }
 
 /// Adds a text before the boxes.
-fn push_margin(drawing: &mut Drawing, y: u32, text: &str) -> Result<(), AllocError> {
+fn push_margin(drawing: &mut Drawing, y: u32, text: &str) {
     let x = LEFT - 8;
-    drawing.text_before(Point { x, y }, Ink::Dim, text)
+    drawing.text_before(Point { x, y }, Ink::Dim, text);
+}
+
+/// Adds an offset before the boxes.
+fn push_offset(alloc: Global, drawing: &mut Drawing, y: u32, offset: u32) {
+    let text = drawing.kept(format!(in alloc; "{offset}"));
+    push_margin(drawing, y, text.as_str());
+}
+
+/// Adds the rectangle of a piece.
+fn push_rectangle(alloc: Global, drawing: &mut Drawing, area: Area, cell: &Cell) {
+    let (offset, size, text) = (cell.offset, cell.size, cell.text.as_str());
+    let about = drawing.kept(format!(in alloc; "{offset}: {text}, size {size}"));
+    drawing.rectangle(area, fill_of(cell), about.as_str());
+}
+
+/// Adds the words of a piece that begins at a place.
+fn push_label(alloc: Global, drawing: &mut Drawing, at: Point, piece: &Piece<'_>) {
+    let room = (piece.size as usize)
+        .saturating_mul(CHARACTERS)
+        .saturating_sub(1);
+    let label = drawing.kept(label_of(alloc, piece, room));
+    if !label.is_empty() {
+        drawing.text(at, Ink::Plain, label.as_str());
+    }
 }
 
 /// Adds the box of a piece, with its words.
-fn push_piece(
-    alloc: Global,
-    drawing: &mut Drawing,
-    top: u32,
-    piece: &Piece<'_>,
-) -> Result<(), AllocError> {
+fn push_piece(alloc: Global, drawing: &mut Drawing, top: u32, piece: &Piece<'_>) {
     let left = LEFT.saturating_add(piece.column.saturating_mul(BYTE));
     let area = Area {
         left,
@@ -54,76 +73,61 @@ fn push_piece(
         width: piece.size.saturating_mul(BYTE),
         height: HEIGHT,
     };
-    let (offset, size, text) = (piece.cell.offset, piece.cell.size, piece.cell.text.as_str());
-    let about = format!(in alloc; "{offset}: {text}, size {size}")?;
-    drawing.rectangle(area, fill_of(piece.cell), about.as_str())?;
-    let room = (piece.size as usize)
-        .saturating_mul(CHARACTERS)
-        .saturating_sub(1);
-    let label = label_of(alloc, piece, room)?;
-    if label.is_empty() {
-        return Ok(());
-    }
+    push_rectangle(alloc, drawing, area, piece.cell);
     let at = Point {
         x: left.saturating_add(5),
         y: top.saturating_add(17),
     };
-    drawing.text(at, Ink::Plain, label.as_str())
+    push_label(alloc, drawing, at, piece);
 }
 
-/// Adds a row, and what is told of bytes that are left out after it. Returns where it ends.
-fn push_row(
-    alloc: Global,
-    drawing: &mut Drawing,
-    top: u32,
-    row: &Row<'_>,
-) -> Result<u32, AllocError> {
-    let offset = row.offset;
-    push_margin(
-        drawing,
-        top.saturating_add(17),
-        format!(in alloc; "{offset}")?.as_str(),
-    )?;
-    for piece in &row.pieces {
-        push_piece(alloc, drawing, top, piece)?;
-    }
-    let bottom = top.saturating_add(HEIGHT);
-    let skipped = row.skipped;
+/// Adds what is told of bytes that are left out after a row that ends here. Returns where it ends.
+fn push_gap(alloc: Global, drawing: &mut Drawing, bottom: u32, skipped: u32) -> u32 {
     if skipped == 0 {
-        return Ok(bottom);
+        return bottom;
     }
     let at = Point {
         x: LEFT.saturating_add(5),
         y: bottom.saturating_add(13),
     };
-    let words = format!(in alloc; ".. {skipped} bytes are left out")?;
-    drawing.text(at, Ink::Dim, words.as_str())?;
-    Ok(bottom.saturating_add(LINE))
+    let words = drawing.kept(format!(in alloc; ".. {skipped} bytes are left out"));
+    drawing.text(at, Ink::Dim, words.as_str());
+    bottom.saturating_add(LINE)
+}
+
+/// Adds a row, and what is told of bytes that are left out after it. Returns where it ends.
+fn push_row(alloc: Global, drawing: &mut Drawing, top: u32, row: &Row<'_>) -> u32 {
+    push_offset(alloc, drawing, top.saturating_add(17), row.offset);
+    for piece in &row.pieces {
+        push_piece(alloc, drawing, top, piece);
+    }
+    push_gap(alloc, drawing, top.saturating_add(HEIGHT), row.skipped)
+}
+
+/// Adds rows. Returns where they end.
+fn push_rows(alloc: Global, drawing: &mut Drawing, top: u32, rows: &[Row<'_>]) -> u32 {
+    let mut bottom = top;
+    for row in rows {
+        bottom = push_row(alloc, drawing, bottom, row);
+    }
+    bottom
 }
 
 /// Adds a lane. Returns where it ends.
-fn push_lane(
-    alloc: Global,
-    drawing: &mut Drawing,
-    top: u32,
-    lane: &Lane,
-) -> Result<u32, AllocError> {
-    let mut bottom = top;
-    for row in &rows_of(alloc, lane, ROW)? {
-        bottom = push_row(alloc, drawing, bottom, row)?;
+fn push_lane(alloc: Global, drawing: &mut Drawing, top: u32, lane: &Lane) -> u32 {
+    match rows_of(alloc, lane, ROW) {
+        Ok(rows) => push_rows(alloc, drawing, top, rows.as_slice()),
+        Err(_) => {
+            drawing.refuse();
+            top
+        }
     }
-    Ok(bottom)
 }
 
 /// Adds the numbers of the bytes of a row. Returns where they end.
-fn push_ruler(
-    alloc: Global,
-    drawing: &mut Drawing,
-    top: u32,
-    size: u32,
-) -> Result<u32, AllocError> {
+fn push_ruler(alloc: Global, drawing: &mut Drawing, top: u32, size: u32) -> u32 {
     if size < 2 {
-        return Ok(top.saturating_add(4));
+        return top.saturating_add(4);
     }
     for byte in 0..size.min(ROW) {
         let at = Point {
@@ -132,9 +136,10 @@ fn push_ruler(
                 .saturating_add(BYTE / 2),
             y: top.saturating_add(13),
         };
-        drawing.text_around(at, Ink::Dim, format!(in alloc; "{byte}")?.as_str())?;
+        let number = drawing.kept(format!(in alloc; "{byte}"));
+        drawing.text_around(at, Ink::Dim, number.as_str());
     }
-    Ok(top.saturating_add(LINE))
+    top.saturating_add(LINE)
 }
 
 /// Adds the boxes of a diagram of a type of this size. Returns where they end.
@@ -143,44 +148,34 @@ pub fn push_scaled(
     drawing: &mut Drawing,
     from: (u32, u32),
     diagram: &Diagram,
-) -> Result<u32, AllocError> {
+) -> u32 {
     let (top, size) = from;
-    let mut bottom = push_ruler(alloc, drawing, top, size)?;
+    let mut bottom = push_ruler(alloc, drawing, top, size);
     for (index, lane) in diagram.lanes.iter().enumerate() {
         if index > 0 {
-            push_margin(drawing, bottom.saturating_add(12), "or")?;
+            push_margin(drawing, bottom.saturating_add(12), "or");
             bottom = bottom.saturating_add(GAP);
         }
-        bottom = push_lane(alloc, drawing, bottom, lane)?;
+        bottom = push_lane(alloc, drawing, bottom, lane);
     }
-    Ok(bottom.saturating_add(4))
+    bottom.saturating_add(4)
 }
 
 /// Adds a line of the list below boxes.
-fn push_note(
-    alloc: Global,
-    drawing: &mut Drawing,
-    top: u32,
-    note: &Note,
-) -> Result<(), AllocError> {
+fn push_note(alloc: Global, drawing: &mut Drawing, top: u32, note: &Note) {
     let y = top.saturating_add(13);
     if let Some(offset) = note.offset {
-        push_margin(drawing, y, format!(in alloc; "{offset}")?.as_str())?;
+        push_offset(alloc, drawing, y, offset);
     }
-    drawing.text(Point { x: LEFT, y }, Ink::Dim, note.text.as_str())
+    drawing.text(Point { x: LEFT, y }, Ink::Dim, note.text.as_str());
 }
 
 /// Adds the list below boxes. Returns where it ends.
-pub fn push_list(
-    alloc: Global,
-    drawing: &mut Drawing,
-    top: u32,
-    diagram: &Diagram,
-) -> Result<u32, AllocError> {
+pub fn push_list(alloc: Global, drawing: &mut Drawing, top: u32, notes: &[Note]) -> u32 {
     let mut bottom = top;
-    for note in &diagram.notes {
-        push_note(alloc, drawing, bottom, note)?;
+    for note in notes {
+        push_note(alloc, drawing, bottom, note);
         bottom = bottom.saturating_add(LINE);
     }
-    Ok(bottom)
+    bottom
 }

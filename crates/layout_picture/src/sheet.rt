@@ -1,12 +1,13 @@
 //! What pictures are drawn on.
 
 use crate::boxes::{push_boxes, push_notes};
-use crate::cells::Diagram;
+use crate::cells::{Diagram, diagram_of};
 use crate::scaled::{LINE, push_list, push_scaled};
+use crate::type_layout::TypeLayout;
 use std::alloc::{AllocError, Global};
 use std::collections::BTreeSet;
-use std::fmt::Write;
 use svg_drawing::{Drawing, Ink, Point};
+use text_builder::TextBuilder;
 
 /// How a picture is written.
 #[derive(Clone, Copy)]
@@ -33,12 +34,15 @@ pub enum Level {
 pub struct Sheet {
     pub alloc: Global,
     form: Form,
-    text: String,
+    /// The lines. It keeps whether an allocation was refused.
+    text: TextBuilder,
     drawing: Drawing,
     /// Where the drawing ends, in pixels.
     bottom: u32,
     /// The types that were drawn, by their interfaces and names.
     drawn: BTreeSet<String>,
+    /// Whether nothing is drawn yet, and no allocation was refused.
+    is_empty: bool,
 }
 
 impl Sheet {
@@ -47,80 +51,109 @@ impl Sheet {
         Sheet {
             alloc,
             form,
-            text: String::new(alloc),
+            text: TextBuilder::new(alloc),
             drawing: Drawing::new(alloc),
             bottom: 0,
             drawn: BTreeSet::new(alloc),
+            is_empty: true,
         }
     }
 
-    /// Whether nothing is drawn yet.
+    /// Whether nothing is drawn yet. False if an allocation was refused.
     pub fn is_empty(&self) -> bool {
-        self.text.is_empty() && self.bottom == 0
+        self.is_empty
+    }
+
+    /// Notes that an allocation was refused.
+    pub fn refuse(&mut self) {
+        self.is_empty = false;
+        self.text.refuse();
+    }
+
+    /// A text that was made, or an empty one if an allocation was refused for it.
+    pub fn kept(&mut self, made: Result<String, AllocError>) -> String {
+        if made.is_err() {
+            self.is_empty = false;
+        }
+        self.text.kept(made)
     }
 
     /// Notes that a type is drawn. False if it was drawn already.
-    pub fn draw_once(&mut self, type_name: String) -> Result<bool, AllocError> {
-        Ok(self.drawn.insert(type_name)?)
+    pub fn draw_once(&mut self, type_name: &str) -> bool {
+        let type_name = self.kept(String::from_str(self.alloc, type_name));
+        match self.drawn.insert(type_name) {
+            Ok(is_new) => is_new,
+            Err(_) => {
+                self.refuse();
+                false
+            }
+        }
     }
 
     /// Adds a line of text to the drawing, so many pixels from the left.
-    fn draw_line(&mut self, x: u32, ink: Ink, line: &str) -> Result<(), AllocError> {
+    fn draw_line(&mut self, x: u32, ink: Ink, line: &str) {
         let y = self.bottom.saturating_add(14);
-        self.drawing.text(Point { x, y }, ink, line)?;
+        self.drawing.text(Point { x, y }, ink, line);
         self.bottom = self.bottom.saturating_add(LINE);
-        Ok(())
     }
 
     /// Begins an item, after an empty line if there is one before it.
-    pub fn push_heading(&mut self, heading: &str) -> Result<(), AllocError> {
+    pub fn push_heading(&mut self, heading: &str) {
         match self.form {
             Form::Boxes => {
-                let gap = if self.text.is_empty() { "" } else { "\n" };
-                writeln!(self.text, "{gap}{heading}")?;
-                Ok(())
+                let gap = if self.is_empty { "" } else { "\n" };
+                self.text.push_all(&[gap, heading, "\n"]);
             }
             Form::Svg => {
                 self.bottom = self.bottom.saturating_add(8);
-                self.draw_line(12, Ink::Heading, heading)
+                self.draw_line(12, Ink::Heading, heading);
             }
         }
+        self.is_empty = false;
     }
 
     /// Adds a line of text about an item.
-    pub fn push_line(&mut self, level: Level, line: &str) -> Result<(), AllocError> {
+    pub fn push_line(&mut self, level: Level, line: &str) {
+        self.is_empty = false;
         match (self.form, level) {
-            (Form::Boxes, Level::Second) => writeln!(self.text, "        {line}")?,
-            (Form::Boxes, _) => writeln!(self.text, "    {line}")?,
-            (Form::Svg, Level::First) => self.draw_line(28, Ink::Plain, line)?,
-            (Form::Svg, Level::Title) => self.draw_line(28, Ink::Bold, line)?,
-            (Form::Svg, Level::Second) => self.draw_line(44, Ink::Plain, line)?,
+            (Form::Boxes, Level::Second) => self.text.push_all(&["        ", line, "\n"]),
+            (Form::Boxes, _) => self.text.push_all(&["    ", line, "\n"]),
+            (Form::Svg, Level::First) => self.draw_line(28, Ink::Plain, line),
+            (Form::Svg, Level::Title) => self.draw_line(28, Ink::Bold, line),
+            (Form::Svg, Level::Second) => self.draw_line(44, Ink::Plain, line),
         }
-        Ok(())
     }
 
     /// Adds the boxes of a type of this size, and a list of what is in them.
-    pub fn push_diagram(&mut self, diagram: &Diagram, size: u32) -> Result<(), AllocError> {
+    fn draw(&mut self, diagram: &Diagram, size: u32) {
+        let notes = diagram.notes.as_slice();
         match self.form {
             Form::Boxes => {
-                push_boxes(self.alloc, &mut self.text, diagram, size)?;
-                push_notes(&mut self.text, diagram)
+                push_boxes(self.alloc, &mut self.text, diagram, size);
+                push_notes(self.alloc, &mut self.text, notes);
             }
             Form::Svg => {
                 let from = (self.bottom, size);
-                let end = push_scaled(self.alloc, &mut self.drawing, from, diagram)?;
-                self.bottom = push_list(self.alloc, &mut self.drawing, end, diagram)?;
-                Ok(())
+                let end = push_scaled(self.alloc, &mut self.drawing, from, diagram);
+                self.bottom = push_list(self.alloc, &mut self.drawing, end, notes);
             }
         }
+    }
+
+    /// Adds the boxes of a type, and a list of what is in them.
+    pub fn push_diagram(&mut self, layout: &TypeLayout<'_>) {
+        self.is_empty = false;
+        let diagram = diagram_of(self.alloc, layout);
+        self.draw(&diagram, layout.size());
+        self.text.append(diagram.refusals);
     }
 
     /// What is drawn, as a text.
     pub fn finish(self) -> Result<String, AllocError> {
-        let (text, drawing) = (self.text, self.drawing);
-        match self.form {
-            Form::Boxes => Ok(text),
-            Form::Svg => drawing.finish("The bytes of types"),
+        let (mut text, drawing) = (self.text, self.drawing);
+        if matches!(self.form, Form::Svg) {
+            text.push_made(drawing.finish("The bytes of types"));
         }
+        text.finish()
     }
 }

@@ -2,7 +2,7 @@
 
 use canonical_abi::CoreKind;
 use layout::{CoreSignature, Kinds};
-use std::alloc::AllocError;
+use text_builder::TextBuilder;
 
 fn kind_word(kind: CoreKind) -> &'static str {
     match kind {
@@ -12,31 +12,27 @@ fn kind_word(kind: CoreKind) -> &'static str {
 }
 
 /// Appends kinds, with a blank between each two.
-fn push_kinds(text: &mut String, kinds: &[CoreKind]) -> Result<(), AllocError> {
+fn push_kinds(text: &mut TextBuilder, kinds: &[CoreKind]) {
     for (index, kind) in kinds.iter().enumerate() {
-        if index > 0 {
-            text.push(' ')?;
-        }
-        text.push_str(kind_word(*kind))?;
+        text.push_all(&[if index > 0 { " " } else { "" }, kind_word(*kind)]);
     }
-    Ok(())
 }
 
 /// Appends flat core values.
-pub fn push_flat(text: &mut String, kinds: &Kinds) -> Result<(), AllocError> {
+pub fn push_flat(text: &mut TextBuilder, kinds: &Kinds) {
     match kinds {
         Kinds::Flat(kinds) => push_kinds(text, kinds.as_slice()),
-        Kinds::Spilled => text.push_str("more than 16, so in memory"),
+        Kinds::Spilled => text.push("more than 16, so in memory"),
     }
 }
 
 /// Appends a core signature.
-pub fn push_signature(text: &mut String, signature: &CoreSignature) -> Result<(), AllocError> {
-    text.push('(')?;
-    push_kinds(text, signature.params.as_slice())?;
-    text.push_str(") -> (")?;
+pub fn push_signature(text: &mut TextBuilder, signature: &CoreSignature) {
+    text.push("(");
+    push_kinds(text, signature.params.as_slice());
+    text.push(") -> (");
     if let Some(kind) = signature.result {
-        text.push_str(kind_word(kind))?;
+        text.push(kind_word(kind));
     }
-    text.push(')')
+    text.push(")");
 }

@@ -12,6 +12,7 @@ use layout::{CoreSignature, Layouts};
 use layout_picture::push_signature;
 use std::alloc::{AllocError, Global};
 use tables::{FunctionId, Resolve};
+use text_builder::TextBuilder;
 
 /// A table with its layouts.
 #[derive(Clone, Copy)]
@@ -127,13 +128,11 @@ impl Signatures {
         are_same(&self.lifted, &other.lifted) && are_same(&self.lowered, &other.lowered)
     }
 
-    /// Both, as `(i32) -> () of the callee and (i32) -> () of the caller`.
-    pub(crate) fn words(&self, alloc: Global) -> Result<String, AllocError> {
-        let mut words = String::new(alloc);
-        push_signature(&mut words, &self.lifted)?;
-        words.push_str(" of the callee and ")?;
-        push_signature(&mut words, &self.lowered)?;
-        words.push_str(" of the caller")?;
-        Ok(words)
+    /// Appends both, as `(i32) -> () of the callee and (i32) -> () of the caller`.
+    pub(crate) fn push(&self, text: &mut TextBuilder) {
+        push_signature(text, &self.lifted);
+        text.push(" of the callee and ");
+        push_signature(text, &self.lowered);
+        text.push(" of the caller");
     }
 }

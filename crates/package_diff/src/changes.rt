@@ -1,15 +1,15 @@
 //! What changed, item by item.
-ghost use Rattle.std.specs.Prelude.{◌≡◌, ◌↔◌, ◌+◌, ◌++◌, min, if◌then◌else◌, string_bytes, true, IfOk, OnOk, IsTrue};
+ghost use Rattle.std.specs.Prelude.{◌≡◌, ◌↔◌, ◌+◌, ◌++◌, min, if◌then◌else◌, true, IfSome, IsSomeAnd, IsTrue};
 ghost use Rattle.std.specs.Option.{ForSome};
 ghost use Rattle.package_diff.specs.Calls.{AreCalledAlike, verdict};
 
 use crate::calling::{Side, Versions};
-use crate::items::{Crossing, Item, Items};
+use crate::items::{Crossing, Item, items_of};
 use atoms::{KeyedState, NameKey};
 use indexmap::IndexMap;
 use std::alloc::{AllocError, Global};
-use std::fmt::Write;
 use tables::{FunctionId, Resolve};
+use text_builder::TextBuilder;
 
 /// What changed.
 #[derive(Drop)]
@@ -59,132 +59,132 @@ fn verdict_words(can: bool) -> &'static str
 /// The changes between two packages while they are compared.
 #[derive(Drop)]
 struct Comparison<'a> {
-    alloc: Global,
     versions: &'a Versions<'a>,
-    changes: Changes,
+    /// A line for each item that changed, with lines about it.
+    text: TextBuilder,
+    /// How many functions the old package has.
+    functions: usize,
+    /// How many of them a host that was built for it can't call any more.
+    lost: usize,
 }
 
 impl Comparison<'_> {
     /// Says which core signatures a function had and has, if they differ.
-    fn push_signatures(&mut self, old: FunctionId, new: FunctionId) -> Result<(), AllocError>
-        ensures { OnOk result (self.new.changes.lost ≡ self.old.changes.lost) }
+    fn push_signatures(&mut self, old: FunctionId, new: FunctionId)
+        ensures { self.new.lost ≡ self.old.lost }
     {
         let was = self.versions.old.signatures(old);
         let is = self.versions.new.signatures(new);
         let (Some(was), Some(is)) = (was, is) else {
-            return Ok(());
+            return;
         };
         if was.are_those_of(&is) {
-            return Ok(());
+            return;
         }
-        let (was, is) = (was.words(self.alloc)?, is.words(self.alloc)?);
-        let text = &mut self.changes.text;
-        writeln!(text, "    its core signatures were {}", was.as_str())?;
-        writeln!(text, "    and are {}", is.as_str())?;
-        Ok(())
+        let text = &mut self.text;
+        text.push("    its core signatures were ");
+        was.push(text);
+        text.push("\n    and are ");
+        is.push(text);
+        text.push("\n");
     }
 
     /// Says of a function whether a host that was built for the old package can call it. If not, it counts as lost.
-    fn push_verdict(&mut self, old: FunctionId, new: FunctionId) -> Result<bool, AllocError>
-        ensures alike { IfOk result (λ can. IsTrue can ↔ AreCalledAlike self.old.versions.now.old.table.now old
-            self.old.versions.now.new.table.now new) }
-        ensures text { IfOk result (λ can. string_bytes self.new.changes.text
-            ≡ string_bytes self.old.changes.text ++ verdict can) }
-        ensures lost { IfOk result (λ can. self.new.changes.lost
-            ≡ (if can then self.old.changes.lost else min usize.MAX (self.old.changes.lost + 1))) }
+    fn push_verdict(&mut self, old: FunctionId, new: FunctionId) -> bool
+        ensures alike { IsTrue result ↔ AreCalledAlike self.old.versions.now.old.table.now old
+            self.old.versions.now.new.table.now new }
+        ensures text { IfSome self.new.text (λ all. IsSomeAnd self.old.text (λ before.
+            all ≡ before ++ verdict result)) }
+        ensures lost { self.new.lost
+            ≡ (if result then self.old.lost else min usize.MAX (self.old.lost + 1)) }
     {
         let can = self.versions.are_called_alike(old, new);
         if !can {
-            self.changes.lost = self.changes.lost.saturating_add(1);
+            self.lost = self.lost.saturating_add(1);
         }
-        self.changes.text.push_str(verdict_words(can))?;
-        Ok(can)
+        self.text.push(verdict_words(can));
+        can
     }
 
     /// Says of a function whether a host that was built for the old package can call it, and if not, how it changed.
-    fn push_call(&mut self, item: &Item, other: &Item) -> Result<(), AllocError>
-        ensures kept { OnOk result (ForSome item.now.function (λ f. ForSome other.now.function (λ g.
+    fn push_call(&mut self, item: &Item, other: &Item)
+        ensures kept { ForSome item.now.function (λ f. ForSome other.now.function (λ g.
             AreCalledAlike self.old.versions.now.old.table.now f self.old.versions.now.new.table.now g
-            → (string_bytes self.new.changes.text ≡ string_bytes self.old.changes.text ++ verdict true)
-            × (self.new.changes.lost ≡ self.old.changes.lost)))) }
-        ensures lost { OnOk result (ForSome item.now.function (λ f. ForSome other.now.function (λ g.
+            → (IfSome self.new.text (λ all. IsSomeAnd self.old.text (λ before. all ≡ before ++ verdict true)))
+            × (self.new.lost ≡ self.old.lost))) }
+        ensures lost { ForSome item.now.function (λ f. ForSome other.now.function (λ g.
             ¬ AreCalledAlike self.old.versions.now.old.table.now f self.old.versions.now.new.table.now g
-            → self.new.changes.lost ≡ min usize.MAX (self.old.changes.lost + 1)))) }
+            → self.new.lost ≡ min usize.MAX (self.old.lost + 1))) }
     {
         let (Some(old), Some(new)) = (item.function, other.function) else {
-            return Ok(());
+            return;
         };
-        if self.push_verdict(old, new)? {
-            return Ok(());
+        if self.push_verdict(old, new) {
+            return;
         }
-        self.push_signatures(old, new)
+        self.push_signatures(old, new);
     }
 
     /// Tells an item that both packages have, if it changed.
-    fn push_kept(&mut self, item: &Item, other: &Item) -> Result<(), AllocError> {
-        let is_spelled_alike = item.words.as_str() == other.words.as_str();
+    fn push_kept(&mut self, item: &Item, other: &Item) {
+        let (was, is) = (item.words.as_str(), other.words.as_str());
+        let is_spelled_alike = was == is;
         if is_spelled_alike && item.crossing == other.crossing {
-            return Ok(());
+            return;
         }
-        let text = &mut self.changes.text;
-        writeln!(text, "{}: {}", item.name.as_str(), item.words.as_str())?;
+        self.text.push_all(&[item.name.as_str(), ": ", was, "\n"]);
         if is_spelled_alike {
-            text.push_str("    a type that it names changed\n")?;
+            self.text.push("    a type that it names changed\n");
         } else {
-            writeln!(text, "    now {}", other.words.as_str())?;
+            self.text.push_all(&["    now ", is, "\n"]);
         }
-        self.push_call(item, other)
+        self.push_call(item, other);
     }
 
     /// Tells an item that the new package lacks.
-    fn push_removed(&mut self, item: &Item) -> Result<(), AllocError> {
+    fn push_removed(&mut self, item: &Item) {
         if item.function.is_some() {
-            self.changes.lost = self.changes.lost.saturating_add(1);
+            self.lost = self.lost.saturating_add(1);
         }
-        let text = &mut self.changes.text;
-        writeln!(
-            text,
-            "{}: removed, it was {}",
-            item.name.as_str(),
-            item.words.as_str()
-        )?;
-        Ok(())
+        let (name, was) = (item.name.as_str(), item.words.as_str());
+        self.text.push_all(&[name, ": removed, it was ", was, "\n"]);
     }
 
     /// Tells what happened to the items of the old package.
-    fn push_old(
-        &mut self,
-        items: &[Item],
-        others: &[Item],
-        places: &Places,
-    ) -> Result<(), AllocError> {
+    fn push_old(&mut self, items: &[Item], others: &[Item], places: &Places) {
         for item in items {
             if matches!(item.crossing, Crossing::Function(_)) {
-                self.changes.functions = self.changes.functions.saturating_add(1);
+                self.functions = self.functions.saturating_add(1);
             }
             let place = places.get(item.name.as_str()).copied();
             match place.and_then(|place| others.get(place)) {
-                Some(other) => self.push_kept(item, other)?,
-                None => self.push_removed(item)?,
+                Some(other) => self.push_kept(item, other),
+                None => self.push_removed(item),
             }
         }
-        Ok(())
     }
 
     /// Tells the items that the old package lacks.
-    fn push_added(&mut self, items: &[Item], places: &Places) -> Result<(), AllocError> {
+    fn push_added(&mut self, items: &[Item], places: &Places) {
         for item in items {
-            if places.get(item.name.as_str()).is_none() {
-                let text = &mut self.changes.text;
-                writeln!(
-                    text,
-                    "{}: added, {}",
-                    item.name.as_str(),
-                    item.words.as_str()
-                )?;
+            let (name, is) = (item.name.as_str(), item.words.as_str());
+            if places.get(name).is_none() {
+                self.text.push_all(&[name, ": added, ", is, "\n"]);
             }
         }
-        Ok(())
+    }
+
+    /// What changed.
+    fn finish(self) -> Result<Changes, AllocError> {
+        let (functions, lost) = (self.functions, self.lost);
+        match self.text.finish() {
+            Ok(text) => Ok(Changes {
+                text,
+                functions,
+                lost,
+            }),
+            Err(error) => Err(error),
+        }
     }
 }
 
@@ -192,19 +192,16 @@ impl Comparison<'_> {
 pub fn changes_of(alloc: Global, old: Side<'_>, new: Side<'_>) -> Result<Changes, AllocError> {
     let keyed = keyed_by(old.table, new.table);
     let versions = Versions::of(alloc, keyed, old, new)?;
-    let items = Items::of(alloc, old.table, versions.old_rows.as_slice())?;
-    let others = Items::of(alloc, new.table, versions.new_rows.as_slice())?;
+    let items = items_of(alloc, old.table, versions.old_rows.as_slice())?;
+    let others = items_of(alloc, new.table, versions.new_rows.as_slice())?;
+    let (items, others) = (items.as_slice(), others.as_slice());
     let mut comparison = Comparison {
-        alloc,
         versions: &versions,
-        changes: Changes {
-            text: String::new(alloc),
-            functions: 0,
-            lost: 0,
-        },
+        text: TextBuilder::new(alloc),
+        functions: 0,
+        lost: 0,
     };
-    let (items, others) = (items.list.as_slice(), others.list.as_slice());
-    comparison.push_old(items, others, &places_of(alloc, others, keyed)?)?;
-    comparison.push_added(others, &places_of(alloc, items, keyed)?)?;
-    Ok(comparison.changes)
+    comparison.push_old(items, others, &places_of(alloc, others, keyed)?);
+    comparison.push_added(others, &places_of(alloc, items, keyed)?);
+    comparison.finish()
 }

@@ -5,9 +5,10 @@ use crate::words::{function_words, type_words};
 use atoms::Label;
 use std::alloc::{AllocError, Global};
 use tables::{
-    Definition, Direction, FunctionId, Interface, PackageId, Resolve, TypeId, WorldItem,
+    Definition, Direction, FunctionId, InterfaceId, PackageId, Resolve, TypeId, WorldItem,
     WorldItemKind,
 };
+use text_builder::TextBuilder;
 
 /// What crosses of an item.
 #[derive(Clone, Copy, PartialEq, Eq)]
@@ -34,12 +35,14 @@ pub struct Item {
 
 /// The items of the last package of a table.
 #[derive(Drop)]
-pub struct Items<'a> {
+struct Items<'a> {
     alloc: Global,
-    pub table: &'a Resolve,
+    table: &'a Resolve,
     /// The shapes of the rows.
     rows: &'a [RowShape],
-    pub list: Vec<Item>,
+    list: Vec<Item>,
+    /// No text. It keeps whether an allocation was refused.
+    refusals: TextBuilder,
 }
 
 fn direction_word(direction: Direction) -> &'static str {
@@ -50,21 +53,10 @@ fn direction_word(direction: Direction) -> &'static str {
 }
 
 impl<'a> Items<'a> {
-    /// The items of the last package of a table with these rows.
-    pub fn of(
-        alloc: Global,
-        table: &'a Resolve,
-        rows: &'a [RowShape],
-    ) -> Result<Items<'a>, AllocError> {
-        let mut items = Items {
-            alloc,
-            table,
-            rows,
-            list: Vec::new(alloc),
-        };
-        items.push_interfaces()?;
-        items.push_worlds()?;
-        Ok(items)
+    fn push(&mut self, item: Item) {
+        if self.list.push(item).is_err() {
+            self.refusals.refuse();
+        }
     }
 
     /// Whether a package is the last one.
@@ -73,108 +65,139 @@ impl<'a> Items<'a> {
     }
 
     /// The full name of an interface or a world, without its version.
-    fn plain_name(&self, package: PackageId, label: &Label) -> Result<String, AllocError> {
+    fn plain_name(&mut self, package: PackageId, label: &Label) -> String {
         let label = label.as_str();
-        match self.table.packages.as_slice().get(package.0 as usize) {
-            Some(package) => {
-                let (namespace, name) = (package.namespace.as_str(), package.name.as_str());
-                Ok(format!(in self.alloc; "{namespace}:{name}/{label}")?)
-            }
-            None => String::from_str(self.alloc, label),
-        }
+        self.refusals.kept(
+            match self.table.packages.as_slice().get(package.0 as usize) {
+                Some(package) => {
+                    let (namespace, name) = (package.namespace.as_str(), package.name.as_str());
+                    [namespace, ":", name, "/", label].concat(self.alloc)
+                }
+                None => String::from_str(self.alloc, label),
+            },
+        )
     }
 
-    fn push_interfaces(&mut self) -> Result<(), AllocError> {
+    fn push_interfaces(&mut self) {
         for interface in self.table.interfaces.as_slice() {
             if self.is_own(interface.package) {
-                self.push_interface(interface)?;
+                let owner = self.plain_name(interface.package, &interface.name);
+                self.push_types(owner.as_str(), interface.uses.as_slice());
+                self.push_types(owner.as_str(), interface.types.as_slice());
+                self.push_functions(owner.as_str(), interface.functions.as_slice());
             }
         }
-        Ok(())
     }
 
-    fn push_interface(&mut self, interface: &Interface) -> Result<(), AllocError> {
-        let owner = self.plain_name(interface.package, &interface.name)?;
-        for id in interface.uses.as_slice() {
-            self.push_type(owner.as_str(), *id)?;
+    fn push_types(&mut self, owner: &str, ids: &[TypeId]) {
+        for id in ids {
+            self.push_type(owner, *id);
         }
-        for id in interface.types.as_slice() {
-            self.push_type(owner.as_str(), *id)?;
-        }
-        for id in interface.functions.as_slice() {
-            self.push_function(owner.as_str(), *id)?;
-        }
-        Ok(())
     }
 
-    fn push_type(&mut self, owner: &str, id: TypeId) -> Result<(), AllocError> {
+    fn push_functions(&mut self, owner: &str, ids: &[FunctionId]) {
+        for id in ids {
+            self.push_function(owner, *id);
+        }
+    }
+
+    fn push_type(&mut self, owner: &str, id: TypeId) {
         let place = id.0 as usize;
         let found = self.table.definitions.as_slice().get(place);
         let (Some(Definition::Type(definition)), Some(shape)) = (found, self.rows.get(place)) else {
-            return Ok(());
+            return;
         };
         let label = match &definition.name {
             Some(name) => name.name.as_str(),
             None => "",
         };
-        self.list.push(Item {
-            name: format!(in self.alloc; "{owner} {label}")?,
-            words: type_words(self.alloc, self.table, &definition.kind)?,
+        let words = type_words(self.alloc, self.table, &definition.kind);
+        let item = Item {
+            name: self.refusals.kept([owner, " ", label].concat(self.alloc)),
+            words: self.refusals.kept(words),
             crossing: Crossing::Type(shape.number),
             function: None,
-        })?;
-        Ok(())
+        };
+        self.push(item);
     }
 
-    fn push_function(&mut self, owner: &str, id: FunctionId) -> Result<(), AllocError> {
+    fn push_function(&mut self, owner: &str, id: FunctionId) {
         let place = id.0 as usize;
         let found = self.table.definitions.as_slice().get(place);
         let (Some(Definition::Function(function)), Some(shape)) = (found, self.rows.get(place))
         else {
-            return Ok(());
+            return;
         };
         let label = function.name.as_str();
-        self.list.push(Item {
-            name: format!(in self.alloc; "{owner} {label}")?,
-            words: function_words(self.alloc, self.table, function)?,
+        let words = function_words(self.alloc, self.table, function);
+        let item = Item {
+            name: self.refusals.kept([owner, " ", label].concat(self.alloc)),
+            words: self.refusals.kept(words),
             crossing: Crossing::Function(*shape),
             function: Some(id),
-        })?;
-        Ok(())
+        };
+        self.push(item);
     }
 
-    fn push_worlds(&mut self) -> Result<(), AllocError> {
+    fn push_worlds(&mut self) {
         for world in self.table.worlds.as_slice() {
             if self.is_own(world.package) {
-                let owner = self.plain_name(world.package, &world.name)?;
-                for item in world.items.as_slice() {
-                    self.push_world_item(owner.as_str(), *item)?;
-                }
+                let owner = self.plain_name(world.package, &world.name);
+                self.push_world_items(owner.as_str(), world.items.as_slice());
             }
         }
-        Ok(())
     }
 
-    fn push_world_item(&mut self, world: &str, item: WorldItem) -> Result<(), AllocError> {
-        let direction = direction_word(item.direction);
-        match item.kind {
-            WorldItemKind::Function(id) => {
-                let owner = format!(in self.alloc; "{world} {direction}")?;
-                self.push_function(owner.as_str(), id)
-            }
-            WorldItemKind::Interface(id) => {
-                let Some(interface) = self.table.interfaces.as_slice().get(id.0 as usize) else {
-                    return Ok(());
-                };
-                let name = self.plain_name(interface.package, &interface.name)?;
-                self.list.push(Item {
-                    name: format!(in self.alloc; "{world} {direction} {name}")?,
-                    words: String::from_str(self.alloc, "interface")?,
-                    crossing: Crossing::Nothing,
-                    function: None,
-                })?;
-                Ok(())
+    fn push_world_items(&mut self, world: &str, items: &[WorldItem]) {
+        for item in items {
+            let direction = direction_word(item.direction);
+            let owner = self
+                .refusals
+                .kept(format!(in self.alloc; "{world} {direction}"));
+            match item.kind {
+                WorldItemKind::Function(id) => self.push_function(owner.as_str(), id),
+                WorldItemKind::Interface(id) => self.push_world_interface(owner.as_str(), id),
             }
         }
+    }
+
+    /// Adds an interface of a world, which this text names with its direction.
+    fn push_world_interface(&mut self, owner: &str, id: InterfaceId) {
+        let Some(interface) = self.table.interfaces.as_slice().get(id.0 as usize) else {
+            return;
+        };
+        let name = self.plain_name(interface.package, &interface.name);
+        let words = [owner, " ", name.as_str()];
+        let item = Item {
+            name: self.refusals.kept(words.concat(self.alloc)),
+            words: self
+                .refusals
+                .kept(String::from_str(self.alloc, "interface")),
+            crossing: Crossing::Nothing,
+            function: None,
+        };
+        self.push(item);
+    }
+}
+
+/// The items of the last package of a table with these rows.
+pub fn items_of(
+    alloc: Global,
+    table: &Resolve,
+    rows: &[RowShape],
+) -> Result<Vec<Item>, AllocError> {
+    let mut items = Items {
+        alloc,
+        table,
+        rows,
+        list: Vec::new(alloc),
+        refusals: TextBuilder::new(alloc),
+    };
+    items.push_interfaces();
+    items.push_worlds();
+    let (list, refusals) = (items.list, items.refusals);
+    match refusals.finish() {
+        Ok(_) => Ok(list),
+        Err(error) => Err(error),
     }
 }

@@ -3,15 +3,15 @@
 use atoms::Label;
 use layout_picture::type_text;
 use std::alloc::{AllocError, Global};
-use std::fmt::Write;
 use tables::{Case, Field, Function, Parameter, Resolve, TypeDefKind, ValType};
+use text_builder::TextBuilder;
 
 /// A text about types of a table.
 #[derive(Drop)]
-pub struct Words<'a> {
+struct Words<'a> {
     alloc: Global,
     table: &'a Resolve,
-    text: String,
+    text: TextBuilder,
 }
 
 /// What stands before the member of this index.
@@ -20,79 +20,76 @@ fn comma(index: usize) -> &'static str {
 }
 
 impl<'a> Words<'a> {
-    fn new(alloc: Global, table: &'a Resolve, text: &str) -> Result<Words<'a>, AllocError> {
-        Ok(Words {
+    fn new(alloc: Global, table: &'a Resolve) -> Words<'a> {
+        Words {
             alloc,
             table,
-            text: String::from_str(alloc, text)?,
-        })
+            text: TextBuilder::new(alloc),
+        }
     }
 
-    fn push_type(&mut self, ty: ValType) -> Result<(), AllocError> {
-        let words = type_text(self.alloc, self.table, ty)?;
-        self.text.push_str(words.as_str())
+    fn push_type(&mut self, ty: ValType) {
+        self.text.push_made(type_text(self.alloc, self.table, ty));
     }
 
-    fn push_fields(&mut self, fields: &[Field]) -> Result<(), AllocError> {
+    fn push_fields(&mut self, fields: &[Field]) {
         for (index, field) in fields.iter().enumerate() {
-            write!(self.text, "{}{}: ", comma(index), field.name.as_str())?;
-            self.push_type(field.ty)?;
+            self.text.push(comma(index));
+            self.text.push_all(&[field.name.as_str(), ": "]);
+            self.push_type(field.ty);
         }
-        Ok(())
     }
 
-    fn push_parameters(&mut self, parameters: &[Parameter]) -> Result<(), AllocError> {
+    fn push_parameters(&mut self, parameters: &[Parameter]) {
         for (index, parameter) in parameters.iter().enumerate() {
-            write!(self.text, "{}{}: ", comma(index), parameter.name.as_str())?;
-            self.push_type(parameter.ty)?;
+            self.text.push(comma(index));
+            self.text.push_all(&[parameter.name.as_str(), ": "]);
+            self.push_type(parameter.ty);
         }
-        Ok(())
     }
 
-    fn push_cases(&mut self, cases: &[Case]) -> Result<(), AllocError> {
+    fn push_cases(&mut self, cases: &[Case]) {
         for (index, case) in cases.iter().enumerate() {
-            write!(self.text, "{}{}", comma(index), case.name.as_str())?;
+            self.text.push(comma(index));
+            self.text.push(case.name.as_str());
             if let Some(ty) = case.ty {
-                self.text.push('(')?;
-                self.push_type(ty)?;
-                self.text.push(')')?;
+                self.text.push("(");
+                self.push_type(ty);
+                self.text.push(")");
             }
         }
-        Ok(())
     }
 
-    fn push_labels(&mut self, labels: &[Label]) -> Result<(), AllocError> {
+    fn push_labels(&mut self, labels: &[Label]) {
         for (index, label) in labels.iter().enumerate() {
-            write!(self.text, "{}{}", comma(index), label.as_str())?;
+            self.text.push(comma(index));
+            self.text.push(label.as_str());
         }
-        Ok(())
     }
 
-    fn push_payload(&mut self, ty: Option<ValType>) -> Result<(), AllocError> {
+    fn push_payload(&mut self, ty: Option<ValType>) {
         match ty {
             Some(ty) => self.push_type(ty),
-            None => self.text.push('_'),
+            None => self.text.push("_"),
         }
     }
 
-    fn push_payloads(&mut self, types: &[Option<ValType>]) -> Result<(), AllocError> {
+    fn push_payloads(&mut self, types: &[Option<ValType>]) {
         for (index, ty) in types.iter().enumerate() {
-            self.text.push_str(comma(index))?;
-            self.push_payload(*ty)?;
+            self.text.push(comma(index));
+            self.push_payload(*ty);
         }
-        Ok(())
     }
 
-    fn push_elements(&mut self, types: &[ValType]) -> Result<(), AllocError> {
+    fn push_elements(&mut self, types: &[ValType]) {
         for (index, ty) in types.iter().enumerate() {
-            self.text.push_str(comma(index))?;
-            self.push_type(*ty)?;
+            self.text.push(comma(index));
+            self.push_type(*ty);
         }
-        Ok(())
     }
 
     /// Appends what stands between the brackets of a type.
-    fn push_members(&mut self, kind: &TypeDefKind) -> Result<(), AllocError> {
+    fn push_members(&mut self, kind: &TypeDefKind) {
         match kind {
             TypeDefKind::Use(target) => self.push_type(ValType::Id(*target)),
             TypeDefKind::Alias(ty) | TypeDefKind::List(ty) | TypeDefKind::Option(ty) => {
@@ -132,10 +129,11 @@ pub fn type_words(
     kind: &TypeDefKind,
 ) -> Result<String, AllocError> {
     let (front, back) = brackets(kind);
-    let mut words = Words::new(alloc, table, front)?;
-    words.push_members(kind)?;
-    words.text.push_str(back)?;
-    Ok(words.text)
+    let mut words = Words::new(alloc, table);
+    words.text.push(front);
+    words.push_members(kind);
+    words.text.push(back);
+    words.text.finish()
 }
 
 /// What a function is, as `func(count: u32) -> u32`.
@@ -144,12 +142,13 @@ pub fn function_words(
     table: &Resolve,
     function: &Function,
 ) -> Result<String, AllocError> {
-    let mut words = Words::new(alloc, table, "func(")?;
-    words.push_parameters(function.params.as_slice())?;
-    words.text.push(')')?;
+    let mut words = Words::new(alloc, table);
+    words.text.push("func(");
+    words.push_parameters(function.params.as_slice());
+    words.text.push(")");
     if let Some(ty) = function.result {
-        words.text.push_str(" -> ")?;
-        words.push_type(ty)?;
+        words.text.push(" -> ");
+        words.push_type(ty);
     }
-    Ok(words.text)
+    words.text.finish()
 }

@@ -1,114 +1,107 @@
 //! Packages, interfaces and worlds.
 
-use crate::words::{push_comma, push_word};
+use crate::words::{comma, push_word};
 use atoms::Label;
-use std::alloc::{AllocError, Global};
-use std::fmt::Write;
+use std::alloc::Global;
 use tables::{
     Direction, FunctionId, Interface, PackageId, PackageName, Resolve, TypeId, World, WorldItem,
     WorldItemKind,
 };
+use text_builder::TextBuilder;
 
 /// Appends the names of packages.
-pub fn push_packages(text: &mut String, packages: &[PackageName]) -> Result<(), AllocError> {
+pub fn push_packages(alloc: Global, text: &mut TextBuilder, packages: &[PackageName]) {
     for (place, package) in packages.iter().enumerate() {
-        push_comma(text, place)?;
-        write!(text, "\"{package}\"")?;
+        text.push_all(&[comma(place), "\""]);
+        text.push_made(package.to_string(alloc));
+        text.push("\"");
     }
-    Ok(())
+}
+
+/// Appends the full name of an interface or a world of a package.
+fn push_full_name(alloc: Global, text: &mut TextBuilder, package: &PackageName, name: &Label) {
+    match package.full_name(alloc, name) {
+        Ok(name) => push_word(text, name.as_str()),
+        Err(_) => text.refuse(),
+    }
 }
 
 /// Appends the full name of an interface or a world, and the number of its package.
-fn push_name(
-    alloc: Global,
-    text: &mut String,
-    resolve: &Resolve,
-    owner: (PackageId, &Label),
-) -> Result<(), AllocError> {
+fn push_name(alloc: Global, text: &mut TextBuilder, resolve: &Resolve, owner: (PackageId, &Label)) {
     let (id, name) = owner;
-    text.push_str("{\"name\":")?;
+    text.push("{\"name\":");
     match resolve.packages.as_slice().get(id.0 as usize) {
-        Some(package) => push_word(text, package.full_name(alloc, name)?.as_str())?,
-        None => push_word(text, name.as_str())?,
+        Some(package) => push_full_name(alloc, text, package, name),
+        None => push_word(text, name.as_str()),
     }
-    write!(text, ",\"package\":{}", id.0)?;
-    Ok(())
+    text.push(",\"package\":");
+    text.push_number(id.0 as usize);
 }
 
 /// Appends the rows of types.
-fn push_types(text: &mut String, name: &str, ids: &[TypeId]) -> Result<(), AllocError> {
-    write!(text, ",\"{name}\":[")?;
+fn push_types(text: &mut TextBuilder, name: &str, ids: &[TypeId]) {
+    text.push_all(&[",\"", name, "\":["]);
     for (place, id) in ids.iter().enumerate() {
-        push_comma(text, place)?;
-        write!(text, "{}", id.0)?;
+        text.push(comma(place));
+        text.push_number(id.0 as usize);
     }
-    text.push(']')
+    text.push("]");
 }
 
 /// Appends the rows of functions.
-fn push_functions(text: &mut String, ids: &[FunctionId]) -> Result<(), AllocError> {
-    text.push_str(",\"functions\":[")?;
+fn push_functions(text: &mut TextBuilder, ids: &[FunctionId]) {
+    text.push(",\"functions\":[");
     for (place, id) in ids.iter().enumerate() {
-        push_comma(text, place)?;
-        write!(text, "{}", id.0)?;
+        text.push(comma(place));
+        text.push_number(id.0 as usize);
     }
-    text.push(']')
+    text.push("]");
 }
 
 /// Appends interfaces, each with the rows of its used names, its types and its functions.
 pub fn push_interfaces(
     alloc: Global,
-    text: &mut String,
+    text: &mut TextBuilder,
     resolve: &Resolve,
     interfaces: &[Interface],
-) -> Result<(), AllocError> {
+) {
     for (place, interface) in interfaces.iter().enumerate() {
-        push_comma(text, place)?;
-        push_name(alloc, text, resolve, (interface.package, &interface.name))?;
-        push_types(text, "uses", interface.uses.as_slice())?;
-        push_types(text, "types", interface.types.as_slice())?;
-        push_functions(text, interface.functions.as_slice())?;
-        text.push('}')?;
+        text.push(comma(place));
+        push_name(alloc, text, resolve, (interface.package, &interface.name));
+        push_types(text, "uses", interface.uses.as_slice());
+        push_types(text, "types", interface.types.as_slice());
+        push_functions(text, interface.functions.as_slice());
+        text.push("}");
     }
-    Ok(())
 }
 
 /// Appends what a world imports, or what it exports: interfaces by their numbers, and functions by their rows.
-fn push_items(
-    text: &mut String,
-    name: &str,
-    items: &[WorldItem],
-    direction: Direction,
-) -> Result<(), AllocError> {
-    write!(text, ",\"{name}\":[")?;
-    let mut comma = "";
+fn push_items(text: &mut TextBuilder, name: &str, items: &[WorldItem], direction: Direction) {
+    text.push_all(&[",\"", name, "\":["]);
+    let mut mark = "";
     for item in items {
         if item.direction == direction {
-            text.push_str(comma)?;
-            match item.kind {
-                WorldItemKind::Interface(id) => write!(text, "{{\"interface\":{}}}", id.0)?,
-                WorldItemKind::Function(id) => write!(text, "{{\"function\":{}}}", id.0)?,
-            }
-            comma = ",";
+            let (word, number) = match item.kind {
+                WorldItemKind::Interface(id) => ("interface", id.0),
+                WorldItemKind::Function(id) => ("function", id.0),
+            };
+            text.push_all(&[mark, "{\"", word, "\":"]);
+            text.push_number(number as usize);
+            text.push("}");
+            mark = ",";
         }
     }
-    text.push(']')
+    text.push("]");
 }
 
 /// Appends worlds.
-pub fn push_worlds(
-    alloc: Global,
-    text: &mut String,
-    resolve: &Resolve,
-    worlds: &[World],
-) -> Result<(), AllocError> {
+pub fn push_worlds(alloc: Global, text: &mut TextBuilder, resolve: &Resolve, worlds: &[World]) {
     for (place, world) in worlds.iter().enumerate() {
         let items = world.items.as_slice();
-        push_comma(text, place)?;
-        push_name(alloc, text, resolve, (world.package, &world.name))?;
-        push_items(text, "imports", items, Direction::Import)?;
-        push_items(text, "exports", items, Direction::Export)?;
-        text.push('}')?;
+        text.push(comma(place));
+        push_name(alloc, text, resolve, (world.package, &world.name));
+        push_items(text, "imports", items, Direction::Import);
+        push_items(text, "exports", items, Direction::Export);
+        text.push("}");
     }
-    Ok(())
 }

@@ -2,35 +2,26 @@
 
 use canonical_abi::CoreKind;
 use layout::Kinds;
-use std::alloc::AllocError;
-use std::fmt::Write;
 use tables::ValType;
+use text_builder::TextBuilder;
 
-/// Appends the comma before an item of a list, where it is not the first.
-pub fn push_comma(text: &mut String, place: usize) -> Result<(), AllocError> {
-    if place > 0 {
-        text.push(',')?;
-    }
-    Ok(())
+/// The comma before an item of a list, where it is not the first.
+pub fn comma(place: usize) -> &'static str {
+    if place > 0 { "," } else { "" }
 }
 
 /// Appends a word in quotes.
-pub fn push_word(text: &mut String, word: &str) -> Result<(), AllocError> {
-    text.push('"')?;
-    text.push_str(word)?;
-    text.push('"')
+pub fn push_word(text: &mut TextBuilder, word: &str) {
+    text.push_all(&["\"", word, "\""]);
 }
 
 /// Appends a type: its word, or the number of its row. `null` if there is none.
-pub fn push_type(text: &mut String, ty: Option<ValType>) -> Result<(), AllocError> {
+pub fn push_type(text: &mut TextBuilder, ty: Option<ValType>) {
     match ty {
-        None => text.push_str("null"),
+        None => text.push("null"),
         Some(ValType::Primitive(primitive)) => push_word(text, primitive.keyword()),
         Some(ValType::String) => push_word(text, "string"),
-        Some(ValType::Id(id)) => {
-            write!(text, "{}", id.0)?;
-            Ok(())
-        }
+        Some(ValType::Id(id)) => text.push_number(id.0 as usize),
     }
 }
 
@@ -42,19 +33,18 @@ fn kind_word(kind: CoreKind) -> &'static str {
 }
 
 /// Appends a list of core kinds.
-pub fn push_kinds(text: &mut String, kinds: &[CoreKind]) -> Result<(), AllocError> {
-    text.push('[')?;
+pub fn push_kinds(text: &mut TextBuilder, kinds: &[CoreKind]) {
+    text.push("[");
     for (place, kind) in kinds.iter().enumerate() {
-        push_comma(text, place)?;
-        push_word(text, kind_word(*kind))?;
+        text.push_all(&[comma(place), "\"", kind_word(*kind), "\""]);
     }
-    text.push(']')
+    text.push("]");
 }
 
 /// Appends flat kinds. `null` if they are more than 16.
-pub fn push_flat(text: &mut String, kinds: &Kinds) -> Result<(), AllocError> {
+pub fn push_flat(text: &mut TextBuilder, kinds: &Kinds) {
     match kinds {
         Kinds::Flat(kinds) => push_kinds(text, kinds.as_slice()),
-        Kinds::Spilled => text.push_str("null"),
+        Kinds::Spilled => text.push("null"),
     }
 }

@@ -6,6 +6,7 @@ use layout::{Layouts, Shape};
 use layout_picture::{TypeLayout, member_name, type_text};
 use std::alloc::{AllocError, Global};
 use tables::{Resolve, ValType};
+use text_builder::TextBuilder;
 
 /// The most blocks that are told.
 const MOST_BLOCKS: usize = 64;
@@ -28,8 +29,10 @@ pub struct Requests<'a> {
     layouts: &'a Layouts,
     /// The values that are still to be looked at, the last first.
     parts: Vec<Part>,
-    /// A line of each block.
-    lines: Vec<String>,
+    /// A line of each block: the name of the value, its type, and its size.
+    pub lines: Vec<String>,
+    /// No text. It keeps whether an allocation was refused.
+    pub refusals: TextBuilder,
     ghost laid_out: { layouts.now ≡ layouts_of resolve.now },
 }
 
@@ -58,22 +61,28 @@ impl<'a> Requests<'a> {
             layouts,
             parts: Vec::new(alloc),
             lines: Vec::new(alloc),
+            refusals: TextBuilder::new(alloc),
         }
     }
 
     /// Leaves a value to be looked at.
-    fn push_part(&mut self, path: String, ty: ValType) -> Result<(), AllocError> {
-        self.parts.push(Part { path, ty })?;
-        Ok(())
+    fn push_part(&mut self, path: Result<String, AllocError>, ty: ValType) {
+        let path = self.refusals.kept(path);
+        if self.parts.push(Part { path, ty }).is_err() {
+            self.refusals.refuse();
+        }
+    }
+
+    /// Tells a block.
+    fn push_line(&mut self, line: Result<String, AllocError>) {
+        let line = self.refusals.kept(line);
+        if self.lines.push(line).is_err() {
+            self.refusals.refuse();
+        }
     }
 
     /// Leaves the members of a value to be looked at: fields, or payloads.
-    fn push_members(
-        &mut self,
-        layout: &TypeLayout<'_>,
-        path: &str,
-        count: usize,
-    ) -> Result<(), AllocError> {
+    fn push_members(&mut self, layout: &TypeLayout<'_>, path: &str, count: usize) {
         let is_record = matches!(layout.shape(), Shape::Record(_));
         for index in (0..count).rev() {
             let part = if is_record {
@@ -82,70 +91,60 @@ impl<'a> Requests<'a> {
                 layout.payload(index)
             };
             if let Some(part) = part {
-                let path = member_path(self.alloc, path, layout, index)?;
-                self.push_part(path, part.layout.ty)?;
+                let path = member_path(self.alloc, path, layout, index);
+                self.push_part(path, part.layout.ty);
             }
         }
-        Ok(())
     }
 
     /// Tells the block of a list, and leaves an element to be looked at.
-    fn push_list(&mut self, path: &str, ty: ValType, element: ValType) -> Result<(), AllocError> {
+    fn push_list(&mut self, path: &str, ty: ValType, element: ValType) {
         let alloc = self.alloc;
         let Some(layout) = TypeLayout::new(self.resolve, self.layouts, element) else {
-            return Ok(());
+            return;
         };
-        let text = type_text(alloc, self.resolve, ty)?;
+        let text = self.refusals.kept(type_text(alloc, self.resolve, ty));
+        let text = text.as_str();
         let (size, align) = (layout.size(), layout.align());
-        let line = format!(in alloc;
-            "{path}: {}, size {size} for each element, align {align}",
-            text.as_str()
-        )?;
-        self.lines.push(line)?;
-        self.push_part(format!(in alloc; "{path}[]")?, element)
+        let line = format!(in alloc; "{path}: {text}, size {size} for each element, align {align}");
+        self.push_line(line);
+        self.push_part([path, "[]"].concat(alloc), element);
     }
 
     /// Tells the block of a value, if it needs one, and leaves what is below it to be looked at.
-    fn take(&mut self, part: Part) -> Result<(), AllocError> {
-        let alloc = self.alloc;
+    fn take(&mut self, part: &Part) {
         let Some(layout) = TypeLayout::new(self.resolve, self.layouts, part.ty) else {
-            return Ok(());
+            return;
         };
         let path = part.path.as_str();
         match layout.shape() {
             Shape::Record(count) | Shape::Variant(count) => self.push_members(&layout, path, count),
             Shape::List(element) => self.push_list(path, part.ty, element),
             Shape::String => {
-                let line = format!(in alloc; "{path}: string, size 1 for each byte, align 1")?;
-                self.lines.push(line)?;
-                Ok(())
+                let words = [path, ": string, size 1 for each byte, align 1"];
+                self.push_line(words.concat(self.alloc));
             }
-            Shape::Primitive(_) | Shape::Flags(_) => Ok(()),
+            Shape::Primitive(_) | Shape::Flags(_) => {}
         }
     }
 
     /// Looks at all that is left to be looked at. Ends with a line `..` if that is too much.
-    fn take_all(&mut self) -> Result<(), AllocError> {
+    fn take_all(&mut self) {
         for _ in 0..MOST_TYPES {
             if self.lines.len() >= MOST_BLOCKS {
                 break;
             }
             let Some(part) = self.parts.pop() else {
-                return Ok(());
+                return;
             };
-            self.take(part)?;
+            self.take(&part);
         }
-        let line = String::from_str(self.alloc, "..")?;
-        self.lines.push(line)?;
-        Ok(())
+        self.push_line(String::from_str(self.alloc, ".."));
     }
 
-    /// A line of each block that a value of a type needs: for the value of this name, its type, and its size. The name
-    /// of a function's parameters is empty.
-    pub fn lines_of(mut self, path: &str, ty: ValType) -> Result<Vec<String>, AllocError> {
-        let path = String::from_str(self.alloc, path)?;
-        self.push_part(path, ty)?;
-        self.take_all()?;
-        Ok(self.lines)
+    /// Looks at a value of this name, and at what is below it. The name of a function's parameters is empty.
+    pub fn look_at(&mut self, path: &str, ty: ValType) {
+        self.push_part(String::from_str(self.alloc, path), ty);
+        self.take_all();
     }
 }

@@ -3,7 +3,7 @@
 use crate::escaping::push_escaped;
 use crate::style::{Fill, Ink, STYLE};
 use std::alloc::{AllocError, Global};
-use std::fmt::Write;
+use text_builder::TextBuilder;
 
 /// The pixels that a character of a text has room in. It takes some less.
 pub const CHARACTER: u32 = 8;
@@ -31,7 +31,7 @@ pub struct Area {
 #[derive(Drop)]
 pub struct Drawing {
     alloc: Global,
-    content: String,
+    content: TextBuilder,
     /// Where what is drawn ends on the right.
     right: u32,
     /// Where it ends below.
@@ -44,30 +44,13 @@ pub fn text_width(text: &str) -> u32 {
     characters.saturating_mul(CHARACTER)
 }
 
-/// A part of a document.
-#[derive(Clone, Copy)]
-enum Piece<'a> {
-    Text(&'a str),
-    Number(u32),
-    /// A text that XML may have to write in another way.
-    Escaped(&'a str),
-}
-
-/// Appends a part of a document.
-fn push_piece(out: &mut String, piece: &Piece<'_>) -> Result<(), AllocError> {
-    match piece {
-        Piece::Text(text) => out.push_str(text),
-        Piece::Number(number) => write!(out, "{number}"),
-        Piece::Escaped(text) => push_escaped(out, text),
-    }
-}
-
-/// Appends parts of a document.
-fn push_pieces(out: &mut String, pieces: &[Piece<'_>]) -> Result<(), AllocError> {
-    for piece in pieces {
-        push_piece(out, piece)?;
-    }
-    Ok(())
+/// Appends two attributes of an element, whose values are numbers.
+fn push_attributes(text: &mut TextBuilder, names: (&str, &str), numbers: (u32, u32)) {
+    text.push_all(&[" ", names.0, "=\""]);
+    text.push_number(numbers.0 as usize);
+    text.push_all(&["\" ", names.1, "=\""]);
+    text.push_number(numbers.1 as usize);
+    text.push("\"");
 }
 
 impl Drawing {
@@ -75,10 +58,20 @@ impl Drawing {
     pub fn new(alloc: Global) -> Drawing {
         Drawing {
             alloc,
-            content: String::new(alloc),
+            content: TextBuilder::new(alloc),
             right: 0,
             bottom: 0,
         }
+    }
+
+    /// Notes that an allocation was refused.
+    pub fn refuse(&mut self) {
+        self.content.refuse();
+    }
+
+    /// A text that was made, or an empty one if an allocation was refused for it.
+    pub fn kept(&mut self, made: Result<String, AllocError>) -> String {
+        self.content.kept(made)
     }
 
     /// Grows the picture to have a place.
@@ -88,129 +81,95 @@ impl Drawing {
     }
 
     /// Adds a text whose anchor is at a place on its line.
-    fn push_text<'a>(
-        &mut self,
-        at: Point,
-        ink: Ink,
-        anchor: &'a str,
-        text: &'a str,
-    ) -> Result<(), AllocError> {
-        let pieces = [
-            Piece::Text("<text class=\""),
-            Piece::Text(ink.class()),
-            Piece::Text("\" x=\""),
-            Piece::Number(at.x),
-            Piece::Text("\" y=\""),
-            Piece::Number(at.y),
-            Piece::Text("\""),
-            Piece::Text(anchor),
-            Piece::Text(">"),
-            Piece::Escaped(text),
-            Piece::Text("</text>\n"),
-        ];
-        push_pieces(&mut self.content, &pieces)
+    fn push_text(&mut self, at: Point, ink: Ink, anchor: &str, text: &str) {
+        let content = &mut self.content;
+        content.push_all(&["<text class=\"", ink.class(), "\""]);
+        push_attributes(content, ("x", "y"), (at.x, at.y));
+        content.push_all(&[anchor, ">"]);
+        push_escaped(content, text);
+        content.push("</text>\n");
     }
 
     /// Adds a text that begins at a place on its line. Blanks beside each other are drawn as one.
-    pub fn text(&mut self, at: Point, ink: Ink, text: &str) -> Result<(), AllocError> {
+    pub fn text(&mut self, at: Point, ink: Ink, text: &str) {
         let width = match ink {
             Ink::Heading => text_width(text).saturating_mul(9) / 8,
             _ => text_width(text),
         };
         self.reach(at.x.saturating_add(width), at.y);
-        self.push_text(at, ink, "", text)
+        self.push_text(at, ink, "", text);
     }
 
     /// Adds a text that ends at a place on its line.
-    pub fn text_before(&mut self, at: Point, ink: Ink, text: &str) -> Result<(), AllocError> {
+    pub fn text_before(&mut self, at: Point, ink: Ink, text: &str) {
         self.reach(at.x, at.y);
-        self.push_text(at, ink, " text-anchor=\"end\"", text)
+        self.push_text(at, ink, " text-anchor=\"end\"", text);
     }
 
     /// Adds a text whose middle is at a place on its line.
-    pub fn text_around(&mut self, at: Point, ink: Ink, text: &str) -> Result<(), AllocError> {
+    pub fn text_around(&mut self, at: Point, ink: Ink, text: &str) {
         self.reach(at.x.saturating_add(text_width(text) / 2), at.y);
-        self.push_text(at, ink, " text-anchor=\"middle\"", text)
+        self.push_text(at, ink, " text-anchor=\"middle\"", text);
     }
 
     /// Adds a rectangle, with a text that is shown where a pointer is on it.
-    pub fn rectangle(&mut self, area: Area, fill: Fill, about: &str) -> Result<(), AllocError> {
-        let pieces = [
-            Piece::Text("<rect class=\""),
-            Piece::Text(fill.class()),
-            Piece::Text("\" x=\""),
-            Piece::Number(area.left),
-            Piece::Text("\" y=\""),
-            Piece::Number(area.top),
-            Piece::Text("\" width=\""),
-            Piece::Number(area.width),
-            Piece::Text("\" height=\""),
-            Piece::Number(area.height),
-            Piece::Text("\"><title>"),
-            Piece::Escaped(about),
-            Piece::Text("</title></rect>\n"),
-        ];
-        push_pieces(&mut self.content, &pieces)?;
+    pub fn rectangle(&mut self, area: Area, fill: Fill, about: &str) {
+        let content = &mut self.content;
+        content.push_all(&["<rect class=\"", fill.class(), "\""]);
+        push_attributes(content, ("x", "y"), (area.left, area.top));
+        push_attributes(content, ("width", "height"), (area.width, area.height));
+        content.push("><title>");
+        push_escaped(content, about);
+        content.push("</title></rect>\n");
         self.reach(
             area.left.saturating_add(area.width),
             area.top.saturating_add(area.height),
         );
-        Ok(())
     }
 
     /// Adds a place to a line, after a mark.
-    fn push_point(&mut self, mark: &str, at: Point) -> Result<(), AllocError> {
+    fn push_point(&mut self, mark: &str, at: Point) {
         self.reach(at.x, at.y);
-        let pieces = [
-            Piece::Text(mark),
-            Piece::Number(at.x),
-            Piece::Text(" "),
-            Piece::Number(at.y),
-        ];
-        push_pieces(&mut self.content, &pieces)
+        self.content.push(mark);
+        self.content.push_number(at.x as usize);
+        self.content.push(" ");
+        self.content.push_number(at.y as usize);
     }
 
     /// Adds a line through some places, with a head at the last.
-    pub fn arrow(&mut self, points: &[Point]) -> Result<(), AllocError> {
-        self.content.push_str("<path class=\"arrow\" d=\"")?;
+    pub fn arrow(&mut self, points: &[Point]) {
+        self.content.push("<path class=\"arrow\" d=\"");
         for (index, point) in points.iter().enumerate() {
-            self.push_point(if index == 0 { "M" } else { "L" }, *point)?;
+            self.push_point(if index == 0 { "M" } else { "L" }, *point);
         }
-        self.content.push_str("\" marker-end=\"url(#head)\"/>\n")
+        self.content.push("\" marker-end=\"url(#head)\"/>\n");
     }
 
-    /// Appends the picture as a document, with a title.
-    fn push_document<'a>(&'a self, title: &'a str, out: &mut String) -> Result<(), AllocError> {
+    /// Appends what is before the shapes in a document with a title.
+    fn push_head(&self, title: &str, out: &mut TextBuilder) {
         let width = self.right.saturating_add(MARGIN);
         let height = self.bottom.saturating_add(MARGIN);
-        let pieces = [
-            Piece::Text("<svg xmlns=\"http://www.w3.org/2000/svg\" width=\""),
-            Piece::Number(width),
-            Piece::Text("\" height=\""),
-            Piece::Number(height),
-            Piece::Text("\" viewBox=\"0 0 "),
-            Piece::Number(width),
-            Piece::Text(" "),
-            Piece::Number(height),
-            Piece::Text("\" role=\"img\">\n<title>"),
-            Piece::Escaped(title),
-            Piece::Text("</title>\n"),
-            Piece::Text(STYLE),
-            Piece::Text("<rect class=\"page\" width=\""),
-            Piece::Number(width),
-            Piece::Text("\" height=\""),
-            Piece::Number(height),
-            Piece::Text("\"/>\n"),
-            Piece::Text(self.content.as_str()),
-            Piece::Text("</svg>\n"),
-        ];
-        push_pieces(out, &pieces)
+        out.push("<svg xmlns=\"http://www.w3.org/2000/svg\"");
+        push_attributes(out, ("width", "height"), (width, height));
+        out.push(" viewBox=\"0 0 ");
+        out.push_number(width as usize);
+        out.push(" ");
+        out.push_number(height as usize);
+        out.push("\" role=\"img\">\n<title>");
+        push_escaped(out, title);
+        out.push("</title>\n");
+        out.push(STYLE);
+        out.push("<rect class=\"page\"");
+        push_attributes(out, ("width", "height"), (width, height));
+        out.push("/>\n");
     }
 
     /// The picture as a document, with a title.
     pub fn finish(self, title: &str) -> Result<String, AllocError> {
-        let mut document = String::new(self.alloc);
-        self.push_document(title, &mut document)?;
-        Ok(document)
+        let mut document = TextBuilder::new(self.alloc);
+        self.push_head(title, &mut document);
+        document.append(self.content);
+        document.push("</svg>\n");
+        document.finish()
     }
 }

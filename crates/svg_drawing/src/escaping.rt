@@ -1,6 +1,6 @@
 //! Texts in XML.
 
-use std::alloc::AllocError;
+use text_builder::TextBuilder;
 
 /// Whether a document of XML may have a character.
 fn is_allowed(character: char) -> bool {
@@ -12,20 +12,19 @@ fn is_allowed(character: char) -> bool {
 }
 
 /// Appends a character, or what XML writes for it. One that it may not have is `U+FFFD`.
-fn push_character(out: &mut String, character: char) -> Result<(), AllocError> {
+fn push_character(out: &mut TextBuilder, character: char) {
     match character {
-        '<' => out.push_str("&lt;"),
-        '>' => out.push_str("&gt;"),
-        '&' => out.push_str("&amp;"),
-        _ if is_allowed(character) => out.push(character),
-        _ => out.push('\u{fffd}'),
+        '<' => out.push("&lt;"),
+        '>' => out.push("&gt;"),
+        '&' => out.push("&amp;"),
+        _ if is_allowed(character) => out.push_char(character),
+        _ => out.push_char('\u{fffd}'),
     }
 }
 
 /// Appends a text with what XML writes for some characters.
-pub fn push_escaped(out: &mut String, text: &str) -> Result<(), AllocError> {
+pub fn push_escaped(out: &mut TextBuilder, text: &str) {
     for character in text.chars() {
-        push_character(out, character)?;
+        push_character(out, character);
     }
-    Ok(())
 }

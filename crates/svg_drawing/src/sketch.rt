@@ -68,50 +68,50 @@ impl Sketch {
     }
 
     /// Adds a text on the next line, so many pixels from the left.
-    fn push_words(&mut self, x: u32, ink: Ink, text: &str) -> Result<(), AllocError> {
+    fn push_words(&mut self, x: u32, ink: Ink, text: &str) {
         let y = self.bottom.saturating_add(16);
-        self.drawing.text(Point { x, y }, ink, text)?;
+        self.drawing.text(Point { x, y }, ink, text);
         self.bottom = self.bottom.saturating_add(LINE);
-        Ok(())
     }
 
     /// Adds a line of text at a level from the left.
-    pub fn push_text(&mut self, level: Level, text: &str) -> Result<(), AllocError> {
+    pub fn push_text(&mut self, level: Level, text: &str) {
         let x = match level {
             Level::Outer => 12,
             Level::Inner => WORDS,
             Level::Bytes => LEFT,
         };
-        self.push_words(x, Ink::Plain, text)
+        self.push_words(x, Ink::Plain, text);
     }
 
     /// Adds the heading of a part.
-    pub fn push_heading(&mut self, text: &str) -> Result<(), AllocError> {
+    pub fn push_heading(&mut self, text: &str) {
         self.bottom = self.bottom.saturating_add(10);
-        self.push_words(12, Ink::Heading, text)
+        self.push_words(12, Ink::Heading, text);
     }
 
     /// Adds values beside each other, and notes where each of them is.
-    fn push_row(&mut self, values: &[String], starts: &mut Vec<Start>) -> Result<(), AllocError> {
+    fn push_row(&mut self, values: &[String], starts: &mut Vec<Start>) {
         self.right = LEFT;
         for value in values {
-            starts.push(self.push_value(value.as_str())?)?;
+            if starts.push(self.push_value(value.as_str())).is_err() {
+                self.drawing.refuse();
+            }
         }
         self.bottom = self.bottom.saturating_add(LINE).saturating_add(18);
-        Ok(())
     }
 
     /// Adds values after a word for them. Returns where each of them is.
-    pub fn push_values(&mut self, word: &str, values: &[String]) -> Result<Vec<Start>, AllocError> {
+    pub fn push_values(&mut self, word: &str, values: &[String]) -> Vec<Start> {
         let y = self.bottom.saturating_add(16);
-        self.drawing.text(Point { x: 52, y }, Ink::Plain, word)?;
+        self.drawing.text(Point { x: 52, y }, Ink::Plain, word);
         let mut starts = Vec::new(self.alloc);
-        self.push_row(values, &mut starts)?;
-        Ok(starts)
+        self.push_row(values, &mut starts);
+        starts
     }
 
     /// Adds a value. Returns where it is.
-    fn push_value(&mut self, text: &str) -> Result<Start, AllocError> {
+    fn push_value(&mut self, text: &str) -> Start {
         let width = text_width(text).saturating_add(12);
         if self.right.saturating_add(width) > RIGHT {
             self.right = LEFT;
@@ -123,18 +123,18 @@ impl Sketch {
             width,
             height: LINE,
         };
-        self.drawing.rectangle(area, Fill::Blank, text)?;
+        self.drawing.rectangle(area, Fill::Blank, text);
         let middle = self.right.saturating_add(width / 2);
         let at = Point {
             x: middle,
             y: self.bottom.saturating_add(16),
         };
-        self.drawing.text_around(at, Ink::Plain, text)?;
+        self.drawing.text_around(at, Ink::Plain, text);
         self.right = self.right.saturating_add(width);
-        Ok(Start::Value(Point {
+        Start::Value(Point {
             x: middle,
             y: self.bottom.saturating_add(LINE),
-        }))
+        })
     }
 
     /// Where the last line is.
@@ -143,7 +143,7 @@ impl Sketch {
     }
 
     /// Adds an arrow to a place at the words of a block.
-    fn push_arrow(&mut self, start: Start, y: u32) -> Result<(), AllocError> {
+    fn push_arrow(&mut self, start: Start, y: u32) {
         let place = self.arrows % ARROWS;
         self.arrows = self.arrows.saturating_add(1);
         let x = ARROWS.saturating_sub(place).saturating_mul(7);
@@ -156,7 +156,7 @@ impl Sketch {
                     y: from,
                 };
                 let second = Point { x, y: from };
-                self.drawing.arrow(&[first, second, turn, end])
+                self.drawing.arrow(&[first, second, turn, end]);
             }
             Start::Value(first) => {
                 let below = first
@@ -168,63 +168,57 @@ impl Sketch {
                     y: below,
                 };
                 let third = Point { x, y: below };
-                self.drawing.arrow(&[first, second, third, turn, end])
+                self.drawing.arrow(&[first, second, third, turn, end]);
             }
         }
     }
 
     /// Adds the heading of a block, and an arrow to it.
-    pub fn push_block(&mut self, heading: &str, start: Option<Start>) -> Result<(), AllocError> {
+    pub fn push_block(&mut self, heading: &str, start: Option<Start>) {
         self.bottom = self.bottom.saturating_add(6);
         if let Some(start) = start {
-            self.push_arrow(start, self.bottom.saturating_add(12))?;
+            self.push_arrow(start, self.bottom.saturating_add(12));
         }
-        self.push_words(WORDS, Ink::Bold, heading)
+        self.push_words(WORDS, Ink::Bold, heading);
     }
 
     /// Adds the box of a byte.
-    fn push_byte(&mut self, left: u32, byte: u8, fill: Fill) -> Result<(), AllocError> {
+    fn push_byte(&mut self, left: u32, byte: u8, fill: Fill) {
         let area = Area {
             left,
             top: self.bottom,
             width: BYTE,
             height: LINE,
         };
-        self.drawing.rectangle(area, fill, "")?;
+        self.drawing.rectangle(area, fill, "");
         let at = Point {
             x: left.saturating_add(BYTE / 2),
             y: self.bottom.saturating_add(16),
         };
-        let text = format!(in self.alloc; "{byte:02x}")?;
-        self.drawing.text_around(at, Ink::Plain, text.as_str())
+        let text = self.drawing.kept(format!(in self.alloc; "{byte:02x}"));
+        self.drawing.text_around(at, Ink::Plain, text.as_str());
     }
 
     /// Adds an address before a line of bytes.
-    fn push_address(&mut self, address: u32) -> Result<(), AllocError> {
+    fn push_address(&mut self, address: u32) {
         let at = Point {
             x: LEFT - 6,
             y: self.bottom.saturating_add(16),
         };
-        let text = format!(in self.alloc; "{address}")?;
-        self.drawing.text_before(at, Ink::Dim, text.as_str())
+        let text = self.drawing.kept(format!(in self.alloc; "{address}"));
+        self.drawing.text_before(at, Ink::Dim, text.as_str());
     }
 
     /// Adds a line of bytes: the address of the first, and what they are.
-    pub fn push_bytes(
-        &mut self,
-        at: u32,
-        bytes: &[u8],
-        fill: Fill,
-        note: &str,
-    ) -> Result<(), AllocError> {
-        self.push_address(at)?;
+    pub fn push_bytes(&mut self, at: u32, bytes: &[u8], fill: Fill, note: &str) {
+        self.push_address(at);
         let mut left = LEFT;
         for byte in bytes {
-            self.push_byte(left, *byte, fill)?;
+            self.push_byte(left, *byte, fill);
             left = left.saturating_add(BYTE);
         }
         let x = left.max(LEFT + 8 * BYTE).saturating_add(10);
-        self.push_words(x, Ink::Plain, note)
+        self.push_words(x, Ink::Plain, note);
     }
 
     /// The page as a document with a title.

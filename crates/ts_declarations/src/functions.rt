@@ -4,76 +4,77 @@ use crate::labels::{parameter_name, push_key};
 use crate::pages::Page;
 use crate::spellings::Meaning;
 use std::alloc::AllocError;
-use std::fmt::Write;
 use tables::{Definition, Function, FunctionId, Parameter};
+use text_builder::TextBuilder;
 
 impl<'a> Page<'a> {
     /// A function as WIT spells it.
     fn signature(&self, function: &Function) -> Result<String, AllocError> {
-        let mut text = String::from_str(self.alloc, "func(")?;
+        let mut text = TextBuilder::new(self.alloc);
+        text.push("func(");
         for (index, parameter) in function.params.as_slice().iter().enumerate() {
-            text.push_str(if index == 0 { "" } else { ", " })?;
+            let before = if index == 0 { "" } else { ", " };
             let wit = self.spellings.wit(Some(parameter.ty));
-            write!(text, "{}: {wit}", parameter.name.as_str())?;
+            text.push_all(&[before, parameter.name.as_str(), ": ", wit]);
         }
-        match function.result {
-            Some(ty) => write!(text, ") -> {}", self.spellings.wit(Some(ty)))?,
-            None => text.push(')')?,
+        text.push(")");
+        if let Some(ty) = function.result {
+            text.push_all(&[" -> ", self.spellings.wit(Some(ty))]);
         }
-        Ok(text)
+        text.finish()
     }
 
     /// Writes the comment of a function of an interface, or of one that a world imports or exports.
-    fn put_signature(&mut self, function: &Function, side: &str) -> Result<(), AllocError> {
-        let signature = self.signature(function)?;
-        let name = format!(in self.alloc; "{side}{}", function.name.as_str())?;
-        self.put_comment("    ", name.as_str(), signature.as_str())?;
-        self.text.push('\n')
+    fn put_signature(&mut self, function: &Function, side: &str) {
+        let signature = self.signature(function);
+        let signature = self.text.kept(signature);
+        let words = [side, function.name.as_str()];
+        let name = self.text.kept(words.concat(self.alloc));
+        self.put_comment("    ", name.as_str(), signature.as_str());
+        self.text.push("\n");
     }
 
     /// Writes a parameter. A list of numbers may be a typed array.
-    fn put_parameter(&mut self, parameter: &Parameter) -> Result<(), AllocError> {
-        let name = parameter_name(self.alloc, parameter.name.as_str())?;
+    fn put_parameter(&mut self, parameter: &Parameter) {
+        let name = parameter_name(self.alloc, parameter.name.as_str());
+        self.text.push_made(name);
         let text = self.spellings.text(parameter.ty);
-        write!(self.text, "{}: {text}", name.as_str())?;
+        self.text.push_all(&[": ", text]);
         if let Meaning::Numbers(array) = self.spellings.meaning(parameter.ty) {
-            write!(self.text, " | {array}")?;
+            self.text.push_all(&[" | ", array]);
         }
-        Ok(())
     }
 
-    fn put_parameters(&mut self, parameters: &[Parameter]) -> Result<(), AllocError> {
+    fn put_parameters(&mut self, parameters: &[Parameter]) {
         for (index, parameter) in parameters.iter().enumerate() {
-            self.text.push_str(if index == 0 { "" } else { ", " })?;
-            self.put_parameter(parameter)?;
+            self.text.push(if index == 0 { "" } else { ", " });
+            self.put_parameter(parameter);
         }
-        Ok(())
     }
 
     /// Writes a function of an interface, or of one that a world imports or exports: the word for this is before it.
-    pub fn put_function(&mut self, id: FunctionId, side: &str) -> Result<(), AllocError> {
+    pub fn put_function(&mut self, id: FunctionId, side: &str) {
         let resolve = self.resolve;
         let found = resolve.definitions.as_slice().get(id.0 as usize);
         let Some(Definition::Function(function)) = found else {
-            return Ok(());
+            return;
         };
-        self.put_signature(function, side)?;
-        self.text.push_str("    ")?;
-        push_key(&mut self.text, function.name.as_str())?;
-        self.text.push_str(": (")?;
-        self.put_parameters(function.params.as_slice())?;
-        match function.result {
-            Some(ty) => writeln!(self.text, ") => {};", self.spellings.text(ty))?,
-            None => self.text.push_str(") => void;\n")?,
-        }
-        Ok(())
+        self.put_signature(function, side);
+        self.text.push("    ");
+        push_key(&mut self.text, function.name.as_str());
+        self.text.push(": (");
+        self.put_parameters(function.params.as_slice());
+        let result = match function.result {
+            Some(ty) => self.spellings.text(ty),
+            None => "void",
+        };
+        self.text.push_all(&[") => ", result, ";\n"]);
     }
 
     /// Writes the functions of an interface.
-    pub fn put_functions(&mut self, ids: &[FunctionId]) -> Result<(), AllocError> {
+    pub fn put_functions(&mut self, ids: &[FunctionId]) {
         for id in ids {
-            self.put_function(*id, "")?;
+            self.put_function(*id, "");
         }
-        Ok(())
     }
 }

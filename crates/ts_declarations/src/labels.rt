@@ -1,7 +1,7 @@
 //! Labels as names in TypeScript.
 
 use std::alloc::{AllocError, Global};
-use std::fmt::Write;
+use text_builder::TextBuilder;
 
 /// What a parameter can't be called.
 static RESERVED: &str = "\
@@ -23,56 +23,53 @@ fn is_among(words: &str, word: &str) -> bool {
 }
 
 /// Appends a word with a capital, and all else in lower case.
-fn push_capital(name: &mut String, word: &str) -> Result<(), AllocError> {
+fn push_capital(name: &mut TextBuilder, word: &str) {
     for (index, character) in word.chars().enumerate() {
         if index == 0 {
-            name.push(character.to_ascii_uppercase())?;
+            name.push_char(character.to_ascii_uppercase());
         } else {
-            name.push(character.to_ascii_lowercase())?;
+            name.push_char(character.to_ascii_lowercase());
         }
     }
-    Ok(())
 }
 
 /// Appends the words of a label, each with a capital.
-pub fn push_capitals(name: &mut String, label: &str) -> Result<(), AllocError> {
+pub fn push_capitals(name: &mut TextBuilder, label: &str) {
     for word in label.split('-') {
-        push_capital(name, word)?;
+        push_capital(name, word);
     }
-    Ok(())
 }
 
 /// A label as the name of a type of an interface. One that the namespace gives another meaning ends in `_`.
 pub fn type_name(alloc: Global, label: &str) -> Result<String, AllocError> {
-    let mut name = String::new(alloc);
-    push_capitals(&mut name, label)?;
+    let mut name = TextBuilder::new(alloc);
+    push_capitals(&mut name, label);
     if is_among(TAKEN, name.as_str()) {
-        name.push('_')?;
+        name.push("_");
     }
-    Ok(name)
+    name.finish()
 }
 
 /// A label as the name of a parameter. One that is a word of TypeScript ends in `_`.
 pub fn parameter_name(alloc: Global, label: &str) -> Result<String, AllocError> {
-    let mut name = String::new(alloc);
+    let mut name = TextBuilder::new(alloc);
     for (index, word) in label.split('-').enumerate() {
         if index == 0 {
-            name.push_str(word.to_ascii_lowercase(alloc)?.as_str())?;
+            name.push_made(word.to_ascii_lowercase(alloc));
         } else {
-            push_capital(&mut name, word)?;
+            push_capital(&mut name, word);
         }
     }
     if is_among(RESERVED, name.as_str()) {
-        name.push('_')?;
+        name.push("_");
     }
-    Ok(name)
+    name.finish()
 }
 
 /// Appends a label as the key of an object: in quotes if it has more than one word.
-pub fn push_key(text: &mut String, label: &str) -> Result<(), AllocError> {
+pub fn push_key(text: &mut TextBuilder, label: &str) {
     match label.split_once('-') {
-        Some(_) => write!(text, "\"{label}\"")?,
-        None => text.push_str(label)?,
+        Some(_) => text.push_all(&["\"", label, "\""]),
+        None => text.push(label),
     }
-    Ok(())
 }

@@ -4,8 +4,8 @@ use crate::labels::push_capitals;
 use atoms::{KeyedState, Label, NameKey};
 use indexmap::IndexMap;
 use std::alloc::{AllocError, Global};
-use std::fmt::Write;
 use tables::{PackageId, PackageName, Resolve};
+use text_builder::TextBuilder;
 
 /// The names of the namespaces of a table.
 #[derive(Drop)]
@@ -60,34 +60,30 @@ fn has_other_version(packages: &[PackageName], package: &PackageName) -> bool {
 }
 
 /// Appends a version to a name: its letters and digits, and `_` for all else.
-fn push_version(name: &mut String, version: &str) -> Result<(), AllocError> {
-    name.push('_')?;
+fn push_version(name: &mut TextBuilder, version: &str) {
+    name.push("_");
     for character in version.chars() {
-        if character.is_ascii_alphanumeric() {
-            name.push(character)?;
-        } else {
-            name.push('_')?;
-        }
+        let is_kept = character.is_ascii_alphanumeric();
+        name.push_char(if is_kept { character } else { '_' });
     }
-    Ok(())
 }
 
 impl<'a> Wanted<'a> {
     /// The name that is wanted for an interface or a world: the words of its full name, with the version if another
     /// package differs in nothing else.
     fn name_of(&self, id: PackageId, label: &Label) -> Result<String, AllocError> {
-        let mut name = String::new(self.alloc);
+        let mut name = TextBuilder::new(self.alloc);
         if let Some(package) = self.packages.get(id.0 as usize) {
-            push_capitals(&mut name, package.namespace.as_str())?;
-            push_capitals(&mut name, package.name.as_str())?;
-            push_capitals(&mut name, label.as_str())?;
+            push_capitals(&mut name, package.namespace.as_str());
+            push_capitals(&mut name, package.name.as_str());
+            push_capitals(&mut name, label.as_str());
             if let Some(version) = &package.version
                 && has_other_version(self.packages, package)
             {
-                push_version(&mut name, version.as_str())?;
+                push_version(&mut name, version.as_str());
             }
         }
-        Ok(name)
+        name.finish()
     }
 
     /// The name of a namespace that no other has: the one that is wanted, or that with a number after it.

@@ -4,10 +4,10 @@ use crate::namespaces::Namespaces;
 use crate::spellings::Spellings;
 use atoms::Label;
 use std::alloc::{AllocError, Global};
-use std::fmt::Write;
 use tables::{
     Direction, Interface, InterfaceId, PackageId, Resolve, World, WorldItem, WorldItemKind,
 };
+use text_builder::TextBuilder;
 use wit_comments::{Block, Comments};
 
 /// The declarations so far.
@@ -15,12 +15,28 @@ use wit_comments::{Block, Comments};
 pub struct Page<'a> {
     pub alloc: Global,
     pub resolve: &'a Resolve,
-    pub text: String,
+    pub text: TextBuilder,
     pub spellings: Spellings,
     pub namespaces: Namespaces,
     pub comments: &'a Comments,
     /// The full name of the interface or the world that is written.
     pub scope: String,
+}
+
+/// The full name of an interface or a world of a package.
+fn full_name_of(
+    alloc: Global,
+    resolve: &Resolve,
+    id: PackageId,
+    label: &Label,
+) -> Result<String, AllocError> {
+    match resolve.packages.as_slice().get(id.0 as usize) {
+        Some(package) => {
+            let name = package.full_name(alloc, label)?;
+            String::from_str(alloc, name.as_str())
+        }
+        None => Ok(String::new(alloc)),
+    }
 }
 
 impl<'a> Page<'a> {
@@ -32,7 +48,7 @@ impl<'a> Page<'a> {
         Ok(Page {
             alloc,
             resolve,
-            text: String::new(alloc),
+            text: TextBuilder::new(alloc),
             spellings: Spellings::of(alloc, resolve)?,
             namespaces: Namespaces::of(alloc, resolve)?,
             comments,
@@ -41,118 +57,114 @@ impl<'a> Page<'a> {
     }
 
     /// Writes the comment of what a name of the interface or the world has, and what it is.
-    pub fn put_comment(&mut self, indent: &str, name: &str, last: &str) -> Result<(), AllocError> {
+    pub fn put_comment(&mut self, indent: &str, name: &str, last: &str) {
         let blank = if name.is_empty() { "" } else { " " };
-        let key = format!(in self.alloc; "{}{blank}{name}", self.scope.as_str())?;
+        let words = [self.scope.as_str(), blank, name];
+        let key = self.text.kept(words.concat(self.alloc));
         let block = Block {
             open: "/**",
             indent,
             lines: self.comments.of(key.as_str()),
             last,
         };
-        block.push(&mut self.text)
+        block.push(&mut self.text);
     }
 
     /// The full name of an interface or a world of a package.
-    fn full_name(&self, id: PackageId, label: &Label) -> Result<String, AllocError> {
-        let alloc = self.alloc;
-        match self.resolve.packages.as_slice().get(id.0 as usize) {
-            Some(package) => {
-                let name = package.full_name(alloc, label)?;
-                String::from_str(alloc, name.as_str())
-            }
-            None => Ok(String::new(alloc)),
-        }
+    fn full_name(&mut self, id: PackageId, label: &Label) -> String {
+        let name = full_name_of(self.alloc, self.resolve, id, label);
+        self.text.kept(name)
     }
 
     /// The full name of an interface.
-    pub fn interface_name(&self, id: InterfaceId) -> Result<String, AllocError> {
-        match self.resolve.interfaces.as_slice().get(id.0 as usize) {
+    pub fn interface_name(&mut self, id: InterfaceId) -> String {
+        let resolve = self.resolve;
+        match resolve.interfaces.as_slice().get(id.0 as usize) {
             Some(interface) => self.full_name(interface.package, &interface.name),
-            None => Ok(String::new(self.alloc)),
+            None => String::new(self.alloc),
         }
+    }
+
+    /// Writes the comment of the interface or the world of this full name.
+    fn put_scope(&mut self, word: &str, full_name: String) {
+        self.scope = full_name;
+        let words = [word, " ", self.scope.as_str()];
+        let last = self.text.kept(words.concat(self.alloc));
+        self.text.push("\n");
+        self.put_comment("", "", last.as_str());
     }
 
     /// Writes the interface of this number.
-    fn put_interface(&mut self, place: usize, interface: &Interface) -> Result<(), AllocError> {
-        self.scope = self.full_name(interface.package, &interface.name)?;
-        let last = format!(in self.alloc; "interface {}", self.scope.as_str())?;
-        self.text.push('\n')?;
-        self.put_comment("", "", last.as_str())?;
-        self.text.push('\n')?;
+    fn put_interface(&mut self, place: usize, interface: &Interface) {
+        let full_name = self.full_name(interface.package, &interface.name);
+        self.put_scope("interface", full_name);
         let namespace = self.namespaces.interface(place);
-        writeln!(self.text, "export namespace {namespace} {{")?;
-        self.put_types(interface.uses.as_slice())?;
-        self.put_types(interface.types.as_slice())?;
-        self.text.push_str("  export interface Functions {\n")?;
-        self.put_functions(interface.functions.as_slice())?;
-        self.text.push_str("  }\n}\n")
+        self.text
+            .push_all(&["\nexport namespace ", namespace, " {\n"]);
+        self.put_types(interface.uses.as_slice());
+        self.put_types(interface.types.as_slice());
+        self.text.push("  export interface Functions {\n");
+        self.put_functions(interface.functions.as_slice());
+        self.text.push("  }\n}\n");
     }
 
-    fn put_interfaces(&mut self, interfaces: &[Interface]) -> Result<(), AllocError> {
+    fn put_interfaces(&mut self, interfaces: &[Interface]) {
         for (place, interface) in interfaces.iter().enumerate() {
-            self.put_interface(place, interface)?;
+            self.put_interface(place, interface);
         }
-        Ok(())
     }
 
     /// Writes an item of a world.
-    fn put_item(&mut self, kind: WorldItemKind, side: &str) -> Result<(), AllocError> {
+    fn put_item(&mut self, kind: WorldItemKind, side: &str) {
         match kind {
             WorldItemKind::Function(id) => self.put_function(id, side),
             WorldItemKind::Interface(id) => {
-                let full_name = self.interface_name(id)?;
+                let full_name = self.interface_name(id);
                 let namespace = self.namespaces.interface(id.0 as usize);
-                writeln!(
-                    self.text,
-                    "    \"{}\": {namespace}.Functions;",
-                    full_name.as_str()
-                )?;
-                Ok(())
+                let words = [
+                    "    \"",
+                    full_name.as_str(),
+                    "\": ",
+                    namespace,
+                    ".Functions;\n",
+                ];
+                self.text.push_all(&words);
             }
         }
     }
 
     /// Writes what a world imports or exports.
-    fn put_items(
-        &mut self,
-        name: &str,
-        direction: Direction,
-        items: &[WorldItem],
-    ) -> Result<(), AllocError> {
-        writeln!(self.text, "  export interface {name} {{")?;
+    fn put_items(&mut self, name: &str, direction: Direction, items: &[WorldItem]) {
+        self.text.push_all(&["  export interface ", name, " {\n"]);
         let side = match direction {
             Direction::Import => "import ",
             Direction::Export => "export ",
         };
         for item in items {
             if item.direction == direction {
-                self.put_item(item.kind, side)?;
+                self.put_item(item.kind, side);
             }
         }
-        self.text.push_str("  }\n")
+        self.text.push("  }\n");
     }
 
     /// Writes the world of this number.
-    fn put_world(&mut self, place: usize, world: &World) -> Result<(), AllocError> {
-        self.scope = self.full_name(world.package, &world.name)?;
-        let last = format!(in self.alloc; "world {}", self.scope.as_str())?;
-        self.text.push('\n')?;
-        self.put_comment("", "", last.as_str())?;
-        self.text.push('\n')?;
+    fn put_world(&mut self, place: usize, world: &World) {
+        let full_name = self.full_name(world.package, &world.name);
+        self.put_scope("world", full_name);
         let namespace = self.namespaces.world(place);
-        writeln!(self.text, "export namespace {namespace} {{")?;
-        self.put_items("Imports", Direction::Import, world.items.as_slice())?;
-        self.text.push('\n')?;
-        self.put_items("Exports", Direction::Export, world.items.as_slice())?;
-        self.text.push_str("}\n")
+        self.text
+            .push_all(&["\nexport namespace ", namespace, " {\n"]);
+        self.put_items("Imports", Direction::Import, world.items.as_slice());
+        self.text.push("\n");
+        self.put_items("Exports", Direction::Export, world.items.as_slice());
+        self.text.push("}\n");
     }
 
-    fn put_worlds(&mut self, worlds: &[World]) -> Result<(), AllocError> {
+    fn put_worlds(&mut self, worlds: &[World]) {
         for (place, world) in worlds.iter().enumerate() {
-            self.put_world(place, world)?;
+            self.put_world(place, world);
         }
-        Ok(())
     }
 }
 
@@ -165,12 +177,11 @@ pub fn declarations_of<'a>(
 ) -> Result<String, AllocError> {
     let mut page = Page::new(alloc, resolve, comments)?;
     if let Some(main) = resolve.packages.as_slice().last() {
-        writeln!(
-            page.text,
-            "/* {main} for hosts in TypeScript, by wit-explain bind ts. Do not edit. */"
-        )?;
+        page.text.push("/* ");
+        page.text.push_made(main.to_string(alloc));
+        page.text.push(" for hosts in TypeScript, by wit-explain bind ts. Do not edit. */\n");
     }
-    page.put_interfaces(resolve.interfaces.as_slice())?;
-    page.put_worlds(resolve.worlds.as_slice())?;
-    Ok(page.text)
+    page.put_interfaces(resolve.interfaces.as_slice());
+    page.put_worlds(resolve.worlds.as_slice());
+    page.text.finish()
 }

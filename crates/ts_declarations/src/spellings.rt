@@ -2,8 +2,8 @@
 
 use crate::labels::{push_key, type_name};
 use std::alloc::{AllocError, Global};
-use std::fmt::Write;
 use tables::{Definition, Primitive, Resolve, TypeDefKind, ValType};
+use text_builder::TextBuilder;
 
 /// What matters of a type to those that are made of it. Other names of a type mean the same.
 #[derive(Clone, Copy)]
@@ -104,12 +104,16 @@ impl Spellings {
 
     /// A type without a name.
     pub fn unnamed(&self, kind: &TypeDefKind) -> Result<Spelling, AllocError> {
-        let mut row = self.blank();
-        row.meaning = self.meaning_of_kind(kind);
-        row.is_union = matches!(kind, TypeDefKind::Option(_) | TypeDefKind::Result(_, _));
-        self.push_unnamed(&mut row.text, kind)?;
-        self.push_wit(&mut row.wit, kind)?;
-        Ok(row)
+        let mut text = TextBuilder::new(self.alloc);
+        self.push_unnamed(&mut text, kind);
+        let mut wit = TextBuilder::new(self.alloc);
+        self.push_wit(&mut wit, kind);
+        Ok(Spelling {
+            text: text.finish()?,
+            wit: wit.finish()?,
+            is_union: matches!(kind, TypeDefKind::Option(_) | TypeDefKind::Result(_, _)),
+            meaning: self.meaning_of_kind(kind),
+        })
     }
 
     fn row(&self, ty: ValType) -> Option<&Spelling> {
@@ -169,86 +173,79 @@ impl Spellings {
         }
     }
 
-    fn push_list(&self, text: &mut String, element: ValType) -> Result<(), AllocError> {
+    fn push_list(&self, text: &mut TextBuilder, element: ValType) {
         let spelled = self.text(element);
         match self.row(element) {
-            Some(row) if row.is_union => write!(text, "({spelled})[]")?,
-            _ => write!(text, "{spelled}[]")?,
+            Some(row) if row.is_union => text.push_all(&["(", spelled, ")[]"]),
+            _ => text.push_all(&[spelled, "[]"]),
         }
-        Ok(())
     }
 
-    fn push_option(&self, text: &mut String, payload: ValType) -> Result<(), AllocError> {
+    fn push_option(&self, text: &mut TextBuilder, payload: ValType) {
         let spelled = self.text(payload);
         match self.meaning(payload) {
-            Meaning::Option => write!(text, "\"none\" | {{ some: {spelled} }}")?,
-            _ => write!(text, "{spelled} | undefined")?,
+            Meaning::Option => text.push_all(&["\"none\" | { some: ", spelled, " }"]),
+            _ => text.push_all(&[spelled, " | undefined"]),
         }
-        Ok(())
     }
 
     /// Appends a case: its label, or an object with its payload under this key.
-    fn push_case(
-        &self,
-        text: &mut String,
-        label: &str,
-        payload: Option<ValType>,
-    ) -> Result<(), AllocError> {
+    fn push_case(&self, text: &mut TextBuilder, label: &str, payload: Option<ValType>) {
         match payload {
-            None => write!(text, "\"{label}\"")?,
+            None => text.push_all(&["\"", label, "\""]),
             Some(ty) => {
-                text.push_str("{ ")?;
-                push_key(text, label)?;
-                write!(text, ": {} }}", self.text(ty))?;
+                text.push("{ ");
+                push_key(text, label);
+                text.push_all(&[": ", self.text(ty), " }"]);
             }
         }
-        Ok(())
     }
 
-    fn push_tuple(&self, text: &mut String, types: &[ValType]) -> Result<(), AllocError> {
-        text.push('[')?;
+    fn push_tuple(&self, text: &mut TextBuilder, types: &[ValType]) {
+        text.push("[");
         for (index, ty) in types.iter().enumerate() {
-            text.push_str(if index == 0 { "" } else { ", " })?;
-            text.push_str(self.text(*ty))?;
+            text.push(if index == 0 { "" } else { ", " });
+            text.push(self.text(*ty));
         }
-        text.push(']')
+        text.push("]");
     }
 
-    fn push_unnamed(&self, text: &mut String, kind: &TypeDefKind) -> Result<(), AllocError> {
+    fn push_unnamed(&self, text: &mut TextBuilder, kind: &TypeDefKind) {
         match kind {
             TypeDefKind::List(element) => self.push_list(text, *element),
             TypeDefKind::Option(payload) => self.push_option(text, *payload),
             TypeDefKind::Tuple(types) => self.push_tuple(text, types.as_slice()),
             TypeDefKind::Result(ok, error) => {
-                self.push_case(text, "ok", *ok)?;
-                text.push_str(" | ")?;
-                self.push_case(text, "error", *error)
+                self.push_case(text, "ok", *ok);
+                text.push(" | ");
+                self.push_case(text, "error", *error);
             }
-            _ => Ok(()),
-        }
-    }
-
-    fn push_wit_tuple(&self, wit: &mut String, types: &[ValType]) -> Result<(), AllocError> {
-        wit.push_str("tuple<")?;
-        for (index, ty) in types.iter().enumerate() {
-            wit.push_str(if index == 0 { "" } else { ", " })?;
-            wit.push_str(self.wit(Some(*ty)))?;
-        }
-        wit.push('>')
-    }
-
-    fn push_wit(&self, wit: &mut String, kind: &TypeDefKind) -> Result<(), AllocError> {
-        match kind {
-            TypeDefKind::List(element) => write!(wit, "list<{}>", self.wit(Some(*element)))?,
-            TypeDefKind::Option(payload) => write!(wit, "option<{}>", self.wit(Some(*payload)))?,
-            TypeDefKind::Result(None, None) => wit.push_str("result")?,
-            TypeDefKind::Result(ok, None) => write!(wit, "result<{}>", self.wit(*ok))?,
-            TypeDefKind::Result(ok, error) => {
-                write!(wit, "result<{}, {}>", self.wit(*ok), self.wit(*error))?
-            }
-            TypeDefKind::Tuple(types) => self.push_wit_tuple(wit, types.as_slice())?,
             _ => {}
         }
-        Ok(())
+    }
+
+    fn push_wit_tuple(&self, wit: &mut TextBuilder, types: &[ValType]) {
+        wit.push("tuple<");
+        for (index, ty) in types.iter().enumerate() {
+            wit.push(if index == 0 { "" } else { ", " });
+            wit.push(self.wit(Some(*ty)));
+        }
+        wit.push(">");
+    }
+
+    fn push_wit(&self, wit: &mut TextBuilder, kind: &TypeDefKind) {
+        match kind {
+            TypeDefKind::List(element) => wit.push_all(&["list<", self.wit(Some(*element)), ">"]),
+            TypeDefKind::Option(payload) => {
+                wit.push_all(&["option<", self.wit(Some(*payload)), ">"])
+            }
+            TypeDefKind::Result(None, None) => wit.push("result"),
+            TypeDefKind::Result(ok, None) => wit.push_all(&["result<", self.wit(*ok), ">"]),
+            TypeDefKind::Result(ok, error) => {
+                wit.push_all(&["result<", self.wit(*ok), ", ", self.wit(*error), ">"])
+            }
+            TypeDefKind::Tuple(types) => self.push_wit_tuple(wit, types.as_slice()),
+            _ => {}
+        }
     }
 }

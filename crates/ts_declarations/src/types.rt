@@ -3,175 +3,165 @@
 use crate::labels::push_key;
 use crate::pages::Page;
 use atoms::Label;
-use std::alloc::AllocError;
-use std::fmt::Write;
 use tables::{Case, Definition, Field, TypeDefKind, TypeId, TypeName, ValType};
 use wit_comments::Block;
 
 impl<'a> Page<'a> {
     /// Writes the comment of a type, and what comes before its name.
-    fn put_heading(&mut self, word: &str, label: &str, keyword: &str) -> Result<(), AllocError> {
-        let last = format!(in self.alloc; "{word} {label}")?;
-        self.put_comment("  ", label, last.as_str())?;
-        write!(self.text, "\n  export {keyword} ")?;
-        Ok(())
+    fn put_heading(&mut self, word: &str, label: &str, keyword: &str) {
+        let last = self.text.kept([word, " ", label].concat(self.alloc));
+        self.put_comment("  ", label, last.as_str());
+        self.text.push_all(&["\n  export ", keyword, " "]);
     }
 
     /// The lines of the comment of a member of a type.
-    fn comment_of(&self, label: &str, member: &str) -> Result<&'a [String], AllocError> {
-        let key = format!(in self.alloc; "{} {label} {member}", self.scope.as_str())?;
-        Ok(self.comments.of(key.as_str()))
+    fn comment_of(&mut self, label: &str, member: &str) -> &'a [String] {
+        let words = [self.scope.as_str(), " ", label, " ", member];
+        let key = self.text.kept(words.concat(self.alloc));
+        self.comments.of(key.as_str())
     }
 
     /// Begins the line of a case or a label, below its comment if it has one.
-    fn begin_member(&mut self, label: &str, member: &str) -> Result<(), AllocError> {
-        if let Some((last, lines)) = self.comment_of(label, member)?.split_last() {
+    fn begin_member(&mut self, label: &str, member: &str) {
+        if let Some((last, lines)) = self.comment_of(label, member).split_last() {
             let block = Block {
                 open: "/**",
                 indent: "    ",
                 lines,
                 last: last.as_str(),
             };
-            self.text.push('\n')?;
-            block.push(&mut self.text)?;
+            self.text.push("\n");
+            block.push(&mut self.text);
         }
-        self.text.push_str("\n    | ")
+        self.text.push("\n    | ");
     }
 
     /// Writes a field: its comment with its type in WIT, its key and its type.
-    fn put_field(&mut self, label: &str, field: &Field) -> Result<(), AllocError> {
-        let lines = self.comment_of(label, field.name.as_str())?;
+    fn put_field(&mut self, label: &str, field: &Field) {
+        let lines = self.comment_of(label, field.name.as_str());
         let block = Block {
             open: "/**",
             indent: "    ",
             lines,
             last: self.spellings.wit(Some(field.ty)),
         };
-        block.push(&mut self.text)?;
-        let before = if lines.is_empty() { " " } else { "\n    " };
-        self.text.push_str(before)?;
-        push_key(&mut self.text, field.name.as_str())?;
-        writeln!(self.text, ": {};", self.spellings.text(field.ty))?;
-        Ok(())
+        block.push(&mut self.text);
+        self.text
+            .push(if lines.is_empty() { " " } else { "\n    " });
+        push_key(&mut self.text, field.name.as_str());
+        let text = self.spellings.text(field.ty);
+        self.text.push_all(&[": ", text, ";\n"]);
     }
 
     /// Writes a member of an object: its type in WIT as a comment, its key and its type.
-    fn put_member(&mut self, label: &str, ty: ValType) -> Result<(), AllocError> {
-        write!(self.text, "/** {} */ ", self.spellings.wit(Some(ty)))?;
-        push_key(&mut self.text, label)?;
-        write!(self.text, ": {}", self.spellings.text(ty))?;
-        Ok(())
+    fn put_member(&mut self, label: &str, ty: ValType) {
+        let wit = self.spellings.wit(Some(ty));
+        self.text.push_all(&["/** ", wit, " */ "]);
+        push_key(&mut self.text, label);
+        let text = self.spellings.text(ty);
+        self.text.push_all(&[": ", text]);
     }
 
-    fn put_record(&mut self, label: &str, id: TypeId, fields: &[Field]) -> Result<(), AllocError> {
-        self.put_heading("record", label, "interface")?;
-        writeln!(self.text, "{} {{", self.spellings.text(ValType::Id(id)))?;
+    fn put_record(&mut self, label: &str, id: TypeId, fields: &[Field]) {
+        self.put_heading("record", label, "interface");
+        let name = self.spellings.text(ValType::Id(id));
+        self.text.push_all(&[name, " {\n"]);
         for field in fields {
-            self.put_field(label, field)?;
+            self.put_field(label, field);
         }
-        self.text.push_str("  }\n")
+        self.text.push("  }\n");
     }
 
-    fn put_case(&mut self, label: &str, case: &Case) -> Result<(), AllocError> {
+    fn put_case(&mut self, label: &str, case: &Case) {
         let name = case.name.as_str();
-        self.begin_member(label, name)?;
+        self.begin_member(label, name);
         match case.ty {
-            None => write!(self.text, "\"{name}\"")?,
+            None => self.text.push_all(&["\"", name, "\""]),
             Some(ty) => {
-                self.text.push_str("{ ")?;
-                self.put_member(name, ty)?;
-                self.text.push_str(" }")?;
+                self.text.push("{ ");
+                self.put_member(name, ty);
+                self.text.push(" }");
             }
         }
-        Ok(())
     }
 
-    fn put_variant(&mut self, label: &str, id: TypeId, cases: &[Case]) -> Result<(), AllocError> {
-        self.put_heading("variant", label, "type")?;
-        write!(self.text, "{} =", self.spellings.text(ValType::Id(id)))?;
+    fn put_variant(&mut self, label: &str, id: TypeId, cases: &[Case]) {
+        self.put_heading("variant", label, "type");
+        let name = self.spellings.text(ValType::Id(id));
+        self.text.push_all(&[name, " ="]);
         for case in cases {
-            self.put_case(label, case)?;
+            self.put_case(label, case);
         }
-        self.text.push_str(";\n")
+        self.text.push(";\n");
     }
 
     /// Writes the labels of a type.
-    fn put_labels(&mut self, name: &str, labels: &[Label]) -> Result<(), AllocError> {
+    fn put_labels(&mut self, name: &str, labels: &[Label]) {
         for label in labels {
-            self.begin_member(name, label.as_str())?;
-            write!(self.text, "\"{}\"", label.as_str())?;
+            self.begin_member(name, label.as_str());
+            self.text.push_all(&["\"", label.as_str(), "\""]);
         }
-        Ok(())
     }
 
-    fn put_enum(&mut self, label: &str, id: TypeId, labels: &[Label]) -> Result<(), AllocError> {
-        self.put_heading("enum", label, "type")?;
-        write!(self.text, "{} =", self.spellings.text(ValType::Id(id)))?;
-        self.put_labels(label, labels)?;
-        self.text.push_str(";\n")
+    fn put_enum(&mut self, label: &str, id: TypeId, labels: &[Label]) {
+        self.put_heading("enum", label, "type");
+        let name = self.spellings.text(ValType::Id(id));
+        self.text.push_all(&[name, " ="]);
+        self.put_labels(label, labels);
+        self.text.push(";\n");
     }
 
     /// Writes flags, which are the labels that are set.
-    fn put_flags(&mut self, label: &str, id: TypeId, labels: &[Label]) -> Result<(), AllocError> {
-        let last = format!(in self.alloc; "flags {label}: those that are set, in this order")?;
-        self.put_comment("  ", label, last.as_str())?;
+    fn put_flags(&mut self, label: &str, id: TypeId, labels: &[Label]) {
+        let words = ["flags ", label, ": those that are set, in this order"];
+        let last = self.text.kept(words.concat(self.alloc));
+        self.put_comment("  ", label, last.as_str());
         let name = self.spellings.text(ValType::Id(id));
-        write!(self.text, "\n  export type {name} = (")?;
-        self.put_labels(label, labels)?;
-        self.text.push_str("\n  )[];\n")
+        self.text.push_all(&["\n  export type ", name, " = ("]);
+        self.put_labels(label, labels);
+        self.text.push("\n  )[];\n");
     }
 
     /// Writes another name of a type that TypeScript and WIT spell so.
-    fn put_alias(
-        &mut self,
-        label: &str,
-        id: TypeId,
-        text: &str,
-        wit: &str,
-    ) -> Result<(), AllocError> {
-        let last = format!(in self.alloc; "type {label} = {wit}")?;
-        self.put_comment("  ", label, last.as_str())?;
+    fn put_alias(&mut self, label: &str, id: TypeId, text: &str, wit: &str) {
+        let words = ["type ", label, " = ", wit];
+        let last = self.text.kept(words.concat(self.alloc));
+        self.put_comment("  ", label, last.as_str());
         let name = self.spellings.text(ValType::Id(id));
-        writeln!(self.text, "\n  export type {name} = {text};")?;
-        Ok(())
+        self.text
+            .push_all(&["\n  export type ", name, " = ", text, ";\n"]);
     }
 
-    fn put_type_alias(
-        &mut self,
-        label: &str,
-        id: TypeId,
-        target: ValType,
-    ) -> Result<(), AllocError> {
+    fn put_type_alias(&mut self, label: &str, id: TypeId, target: ValType) {
         let alloc = self.alloc;
-        let text = String::from_str(alloc, self.spellings.text(target))?;
-        let wit = String::from_str(alloc, self.spellings.wit(Some(target)))?;
-        self.put_alias(label, id, text.as_str(), wit.as_str())
+        let text = String::from_str(alloc, self.spellings.text(target));
+        let text = self.text.kept(text);
+        let wit = String::from_str(alloc, self.spellings.wit(Some(target)));
+        let wit = self.text.kept(wit);
+        self.put_alias(label, id, text.as_str(), wit.as_str());
     }
 
     /// Writes another name of a type without a name.
-    fn put_unnamed(
-        &mut self,
-        label: &str,
-        id: TypeId,
-        kind: &TypeDefKind,
-    ) -> Result<(), AllocError> {
-        let row = self.spellings.unnamed(kind)?;
-        self.put_alias(label, id, row.text.as_str(), row.wit.as_str())
+    fn put_unnamed(&mut self, label: &str, id: TypeId, kind: &TypeDefKind) {
+        match self.spellings.unnamed(kind) {
+            Ok(row) => self.put_alias(label, id, row.text.as_str(), row.wit.as_str()),
+            Err(_) => self.text.refuse(),
+        }
     }
 
     /// Writes a used name.
-    fn put_use(&mut self, label: &str, id: TypeId, target: TypeId) -> Result<(), AllocError> {
+    fn put_use(&mut self, label: &str, id: TypeId, target: TypeId) {
         let Some((_, used)) = self.named(target) else {
-            return Ok(());
+            return;
         };
-        let full_name = self.interface_name(used.interface)?;
+        let full_name = self.interface_name(used.interface);
         let (full_name, other) = (full_name.as_str(), used.name.as_str());
-        writeln!(self.text, "  /** type {label} = {full_name} {other} */")?;
+        let comment = ["  /** type ", label, " = ", full_name, " ", other, " */\n"];
+        self.text.push_all(&comment);
         let name = self.spellings.text(ValType::Id(id));
         let namespace = self.namespaces.interface(used.interface.0 as usize);
         let text = self.spellings.text(ValType::Id(target));
-        writeln!(self.text, "  export type {name} = {namespace}.{text};")?;
-        Ok(())
+        self.text.push_all(&["  export type ", name, " = ", namespace, ".", text, ";\n"]);
     }
 
     /// The type of a row, if it has a name.
@@ -184,7 +174,7 @@ impl<'a> Page<'a> {
         Some((&definition.kind, name))
     }
 
-    fn put_type(&mut self, label: &str, id: TypeId, kind: &TypeDefKind) -> Result<(), AllocError> {
+    fn put_type(&mut self, label: &str, id: TypeId, kind: &TypeDefKind) {
         match kind {
             TypeDefKind::Use(target) => self.put_use(label, id, *target),
             TypeDefKind::Alias(target) => self.put_type_alias(label, id, *target),
@@ -197,13 +187,12 @@ impl<'a> Page<'a> {
     }
 
     /// Writes these types, with an empty line after each.
-    pub fn put_types(&mut self, ids: &[TypeId]) -> Result<(), AllocError> {
+    pub fn put_types(&mut self, ids: &[TypeId]) {
         for id in ids {
             if let Some((kind, name)) = self.named(*id) {
-                self.put_type(name.name.as_str(), *id, kind)?;
-                self.text.push('\n')?;
+                self.put_type(name.name.as_str(), *id, kind);
+                self.text.push("\n");
             }
         }
-        Ok(())
     }
 }

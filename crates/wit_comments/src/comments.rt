@@ -4,7 +4,7 @@ use crate::items::{Item, items_of};
 use crate::lines::lines_of;
 use std::alloc::{AllocError, Global};
 use std::collections::BTreeMap;
-use std::fmt::Write;
+use text_builder::TextBuilder;
 use wit_places::{Lexed, PackageRef};
 use wit_text::Keyword;
 
@@ -26,36 +26,34 @@ fn side_word(side: Option<Keyword>) -> &'static str {
 }
 
 /// Appends the words that name an interface or a world of a package, or the package.
-fn push_scope(key: &mut String, package: PackageRef<'_>, scope: &str) -> Result<(), AllocError> {
-    let (namespace, name) = (package.namespace, package.name);
-    write!(key, "{namespace}:{name}")?;
+fn push_scope(key: &mut TextBuilder, package: PackageRef<'_>, scope: &str) {
+    key.push_all(&[package.namespace, ":", package.name]);
     if !scope.is_empty() {
-        write!(key, "/{scope}")?;
+        key.push_all(&["/", scope]);
     }
     if let Some(version) = package.version {
-        write!(key, "@{version}")?;
+        key.push_all(&["@", version]);
     }
-    Ok(())
 }
 
 /// Appends the words that name what an interface or a world has.
-fn push_item(key: &mut String, item: &Item<'_>) -> Result<(), AllocError> {
-    let (name, member) = (item.name, item.member);
-    if !name.is_empty() {
-        write!(key, " {}{name}", side_word(item.side))?;
+fn push_item(key: &mut TextBuilder, item: &Item<'_>) {
+    if !item.name.is_empty() {
+        key.push(" ");
+        key.push(side_word(item.side));
+        key.push(item.name);
     }
-    if !member.is_empty() {
-        write!(key, " {member}")?;
+    if !item.member.is_empty() {
+        key.push_all(&[" ", item.member]);
     }
-    Ok(())
 }
 
 /// The words that name an item of a package.
 fn key_of(alloc: Global, package: PackageRef<'_>, item: &Item<'_>) -> Result<String, AllocError> {
-    let mut key = String::new(alloc);
-    push_scope(&mut key, package, item.scope)?;
-    push_item(&mut key, item)?;
-    Ok(key)
+    let mut key = TextBuilder::new(alloc);
+    push_scope(&mut key, package, item.scope);
+    push_item(&mut key, item);
+    key.finish()
 }
 
 /// Where the text between the token before and a token is.
@@ -112,12 +110,6 @@ impl Comments {
         Ok(())
     }
 
-    /// The lines of the comment of an item of a package.
-    fn of_item(&self, package: PackageRef<'_>, item: &Item<'_>) -> Result<&[String], AllocError> {
-        let key = key_of(self.alloc, package, item)?;
-        Ok(self.of(key.as_str()))
-    }
-
     /// The lines of the comment of an item, without the marks of comments. It is named as `namespace:name` or
     /// `namespace:name/interface`, with the version, then the name of what this has, then that of its member.
     pub fn of(&self, key: &str) -> &[String] {
@@ -138,48 +130,39 @@ fn indent_at(text: &str, place: usize) -> &str {
 }
 
 /// Writes lines as comments of WIT.
-fn push_lines(out: &mut String, indent: &str, lines: &[String]) -> Result<(), AllocError> {
+fn push_lines(text: &mut TextBuilder, indent: &str, lines: &[String]) {
     for line in lines {
         let line = line.as_str();
         let blank = if line.is_empty() { "" } else { " " };
-        write!(out, "{indent}///{blank}{line}\n")?;
+        text.push_all(&[indent, "///", blank, line, "\n"]);
     }
-    Ok(())
 }
 
-/// Writes a text with comments, each in lines before its item.
-fn push_commented(
-    out: &mut String,
-    lexed: &Lexed<'_>,
-    package: PackageRef<'_>,
-    comments: &Comments,
-    items: &[Item<'_>],
-) -> Result<(), AllocError> {
-    let text = lexed.text;
-    let mut done = 0;
-    for item in items {
-        let lines = comments.of_item(package, item)?;
-        let first = lexed.span_at(item.first).map_or(0, |span| span.start);
-        let indent = indent_at(text, first);
-        let line = first.saturating_sub(indent.len());
-        if !lines.is_empty() {
-            out.push_str(text.get(done..line).unwrap_or(""))?;
-            push_lines(out, indent, lines)?;
-            done = line;
+impl Comments {
+    /// Writes a text with these comments, each in lines before its item.
+    fn push_around(
+        &self,
+        text: &mut TextBuilder,
+        lexed: &Lexed<'_>,
+        package: PackageRef<'_>,
+        items: &[Item<'_>],
+    ) {
+        let plain = lexed.text;
+        let mut done = 0;
+        for item in items {
+            let key = text.kept(key_of(self.alloc, package, item));
+            let lines = self.of(key.as_str());
+            let first = lexed.span_at(item.first).map_or(0, |span| span.start);
+            let indent = indent_at(plain, first);
+            let line = first.saturating_sub(indent.len());
+            if !lines.is_empty() {
+                text.push(plain.get(done..line).unwrap_or(""));
+                push_lines(text, indent, lines);
+                done = line;
+            }
         }
+        text.push(plain.get(done..).unwrap_or(""));
     }
-    out.push_str(text.get(done..).unwrap_or(""))
-}
-
-/// Writes a text with comments.
-fn push_with_comments(
-    out: &mut String,
-    lexed: &Lexed<'_>,
-    package: PackageRef<'_>,
-    comments: &Comments,
-) -> Result<(), AllocError> {
-    let items = items_of(comments.alloc, lexed)?;
-    push_commented(out, lexed, package, comments, items.as_slice())
 }
 
 /// A canonical text of a package with its comments, each in lines before its item.
@@ -190,18 +173,18 @@ pub fn with_comments(
     comments: &Comments,
 ) -> Result<String, AllocError> {
     let lexed = Lexed::new(alloc, "", text);
-    let mut out = String::new(alloc);
-    push_with_comments(&mut out, &lexed, package, comments)?;
-    Ok(out)
+    let items = items_of(alloc, &lexed)?;
+    let mut commented = TextBuilder::new(alloc);
+    comments.push_around(&mut commented, &lexed, package, items.as_slice());
+    commented.finish()
 }
 
 /// Writes a line of a comment that must not end it.
-fn push_inside(out: &mut String, line: &str) -> Result<(), AllocError> {
+fn push_inside(text: &mut TextBuilder, line: &str) {
     for (index, part) in line.split("*/").enumerate() {
-        out.push_str(if index == 0 { "" } else { "* /" })?;
-        out.push_str(part)?;
+        text.push(if index == 0 { "" } else { "* /" });
+        text.push(part);
     }
-    Ok(())
 }
 
 /// A comment of C or TypeScript.
@@ -219,24 +202,25 @@ pub struct Block<'a> {
 
 impl Block<'_> {
     /// Writes a line of the package's text.
-    fn push_line(&self, out: &mut String, line: &str) -> Result<(), AllocError> {
+    fn push_line(&self, text: &mut TextBuilder, line: &str) {
         let blank = if line.is_empty() { "" } else { " " };
-        write!(out, "\n{} *{blank}", self.indent)?;
-        push_inside(out, line)
+        text.push_all(&["\n", self.indent, " *", blank]);
+        push_inside(text, line);
     }
 
     /// Writes the lines, then what the item is. It ends with the comment's last mark.
-    pub fn push(&self, out: &mut String) -> Result<(), AllocError> {
-        let (open, indent, last) = (self.open, self.indent, self.last);
-        write!(out, "{indent}{open}")?;
+    pub fn push(&self, text: &mut TextBuilder) {
+        let (indent, last) = (self.indent, self.last);
+        text.push_all(&[indent, self.open]);
         if self.lines.is_empty() {
-            write!(out, " {last} */")?;
-            return Ok(());
+            text.push_all(&[" ", last, " */"]);
+            return;
         }
         for line in self.lines {
-            self.push_line(out, line.as_str())?;
+            self.push_line(text, line.as_str());
         }
-        write!(out, "\n{indent} *\n{indent} * {last}\n{indent} */")?;
-        Ok(())
+        text.push_all(&[
+            "\n", indent, " *\n", indent, " * ", last, "\n", indent, " */",
+        ]);
     }
 }

@@ -1,6 +1,7 @@
 //! The items of a text, and the text without one of them. Comments are no part of an item's code.
 
 use std::alloc::{AllocError, Global};
+use text_builder::TextBuilder;
 use wit_text::Span;
 
 /// Where a byte of a text stands.
@@ -271,13 +272,13 @@ pub struct Skipped {
 
 /// The text with blanks at a span. Lines stay as they are.
 fn blanked(alloc: Global, text: &str, span: Span) -> Result<String, AllocError> {
-    let mut left = String::new(alloc);
-    left.push_str(text.get(..span.start).unwrap_or(""))?;
+    let mut left = TextBuilder::new(alloc);
+    left.push(text.get(..span.start).unwrap_or(""));
     for byte in text.get(span.start..span.end).unwrap_or("").as_bytes() {
-        left.push(if *byte == b'\n' { '\n' } else { ' ' })?;
+        left.push_char(if *byte == b'\n' { '\n' } else { ' ' });
     }
-    left.push_str(text.get(span.end..).unwrap_or(""))?;
-    Ok(left)
+    left.push(text.get(span.end..).unwrap_or(""));
+    left.finish()
 }
 
 /// A text without the item at a place: a member of an interface or a world, or the whole of one. None if it is the line

@@ -1,8 +1,8 @@
 //! A line of a text, with carets under a part of it.
 
 use crate::paint::{Paint, Part};
-use std::alloc::{AllocError, Global};
-use std::fmt::Write;
+use std::alloc::Global;
+use text_builder::TextBuilder;
 use unicode_width::UnicodeWidthChar;
 use wit_hints::source_lines::{Place, place_at};
 use wit_places::Lexed;
@@ -14,32 +14,29 @@ fn columns(character: char) -> usize {
 }
 
 /// Appends a text of one line as it can be shown: control characters other than tabs are replaced.
-fn push_shown(out: &mut String, text: &str) -> Result<(), AllocError> {
+fn push_shown(out: &mut TextBuilder, text: &str) {
     for character in text.chars() {
         let is_shown = character == '\t' || !character.is_control();
-        out.push(if is_shown { character } else { '\u{FFFD}' })?;
+        out.push_char(if is_shown { character } else { '\u{FFFD}' });
     }
-    Ok(())
 }
 
 /// Appends a character so many times.
-fn push_times(out: &mut String, character: char, count: usize) -> Result<(), AllocError> {
+fn push_times(out: &mut TextBuilder, character: char, count: usize) {
     for _ in 0..count {
-        out.push(character)?;
+        out.push_char(character);
     }
-    Ok(())
 }
 
 /// Appends blanks as wide as a text. A tab stays a tab.
-fn push_blanks(out: &mut String, text: &str) -> Result<(), AllocError> {
+fn push_blanks(out: &mut TextBuilder, text: &str) {
     for character in text.chars() {
         if character == '\t' {
-            out.push('\t')?;
+            out.push("\t");
         } else {
-            push_times(out, ' ', columns(character))?;
+            push_times(out, ' ', columns(character));
         }
     }
-    Ok(())
 }
 
 /// How many columns the carets under a text take: at least one.
@@ -58,13 +55,11 @@ fn covered(behind: &str, span: Span) -> &str {
 }
 
 /// Appends what stands before a line or its carets: a text, and a bar.
-fn push_gutter(out: &mut String, paint: Paint, text: &str) -> Result<(), AllocError> {
-    paint.begin(out, Part::Gutter)?;
-    out.push(' ')?;
-    out.push_str(text)?;
-    out.push_str(" |")?;
-    paint.end(out)?;
-    out.push(' ')
+fn push_gutter(out: &mut TextBuilder, paint: Paint, text: &str) {
+    paint.begin(out, Part::Gutter);
+    out.push_all(&[" ", text, " |"]);
+    paint.end(out);
+    out.push(" ");
 }
 
 /// A fault as it is shown: of which file, where, what it is, and what to do about it.
@@ -78,32 +73,20 @@ pub struct Fault<'a> {
 }
 
 /// Appends the line of a place, which has this number.
-fn push_source(
-    out: &mut String,
-    paint: Paint,
-    place: &Place<'_>,
-    number: &str,
-) -> Result<(), AllocError> {
-    push_gutter(out, paint, number)?;
-    push_shown(out, place.before)?;
-    push_shown(out, behind(place))?;
-    out.push('\n')
+fn push_source(out: &mut TextBuilder, paint: Paint, place: &Place<'_>, number: &str) {
+    push_gutter(out, paint, number);
+    push_shown(out, place.before);
+    push_shown(out, behind(place));
+    out.push("\n");
 }
 
-/// Appends carets under what the span covers, with blanks in place of the number of the line.
-fn push_carets(
-    out: &mut String,
-    paint: Paint,
-    place: &Place<'_>,
-    span: Span,
-    blanks: &str,
-) -> Result<(), AllocError> {
-    push_gutter(out, paint, blanks)?;
-    push_blanks(out, place.before)?;
-    paint.begin(out, Part::Carets)?;
-    push_times(out, '^', carets(covered(behind(place), span)))?;
-    paint.end(out)?;
-    out.push('\n')
+/// Appends carets under what the span covers.
+fn push_carets(out: &mut TextBuilder, paint: Paint, place: &Place<'_>, span: Span) {
+    push_blanks(out, place.before);
+    paint.begin(out, Part::Carets);
+    push_times(out, '^', carets(covered(behind(place), span)));
+    paint.end(out);
+    out.push("\n");
 }
 
 /// What a line has from a place on.
@@ -114,18 +97,9 @@ fn behind<'a>(place: &Place<'a>) -> &'a str {
 /// As many blanks as the number of a line has digits at most.
 static BLANKS: &str = "                    ";
 
-/// Appends the line of a place, and carets under what the span covers.
-fn push_line(
-    alloc: Global,
-    out: &mut String,
-    paint: Paint,
-    place: &Place<'_>,
-    span: Span,
-) -> Result<(), AllocError> {
-    let number = place.line.to_string(alloc)?;
-    push_source(out, paint, place, number.as_str())?;
-    let blanks = BLANKS.get(..number.len()).unwrap_or(BLANKS);
-    push_carets(out, paint, place, span, blanks)
+/// As many blanks as a number has digits.
+fn blanks(number: &str) -> &'static str {
+    BLANKS.get(..number.len()).unwrap_or(BLANKS)
 }
 
 /// Where a span begins in a text.
@@ -135,48 +109,42 @@ fn found(text: &str, span: Option<Span>) -> Option<(Span, Place<'_>)> {
 }
 
 /// Appends the path of a file, and the place if there is one.
-fn push_place(out: &mut String, path: &str, place: Option<&Place<'_>>) -> Result<(), AllocError> {
-    match place {
-        Some(place) => write!(out, "{path}:{}:{}:", place.line, place.column)?,
-        None => write!(out, "{path}:")?,
+fn push_place(out: &mut TextBuilder, path: &str, place: Option<&Place<'_>>) {
+    out.push_all(&[path, ":"]);
+    if let Some(place) = place {
+        out.push_number(place.line);
+        out.push(":");
+        out.push_number(place.column);
+        out.push(":");
     }
-    Ok(())
 }
 
 /// Appends the line that says what a fault is.
-fn push_head(
-    out: &mut String,
-    paint: Paint,
-    fault: &Fault<'_>,
-    place: Option<&Place<'_>>,
-) -> Result<(), AllocError> {
-    paint.begin(out, Part::Place)?;
-    push_place(out, fault.lexed.path, place)?;
-    paint.end(out)?;
-    out.push(' ')?;
-    paint.push(out, Part::Words, fault.words)?;
-    out.push('\n')
+fn push_head(out: &mut TextBuilder, paint: Paint, fault: &Fault<'_>, place: Option<&Place<'_>>) {
+    paint.begin(out, Part::Place);
+    push_place(out, fault.lexed.path, place);
+    paint.end(out);
+    out.push(" ");
+    paint.push(out, Part::Words, fault.words);
+    out.push("\n");
 }
 
 /// Appends `file:line:column: words`, the line with carets under the span, and the hint. Without a place in the text,
 /// no line.
-pub fn push_fault(
-    alloc: Global,
-    out: &mut String,
-    paint: Paint,
-    fault: &Fault<'_>,
-) -> Result<(), AllocError> {
+pub fn push_fault(out: &mut TextBuilder, alloc: Global, paint: Paint, fault: &Fault<'_>) {
     match found(fault.lexed.text, fault.span) {
         Some((span, place)) => {
-            push_head(out, paint, fault, Some(&place))?;
-            push_line(alloc, out, paint, &place, span)?;
+            push_head(out, paint, fault, Some(&place));
+            let number = out.kept(place.line.to_string(alloc));
+            push_source(out, paint, &place, number.as_str());
+            push_gutter(out, paint, blanks(number.as_str()));
+            push_carets(out, paint, &place, span);
         }
-        None => push_head(out, paint, fault, None)?,
+        None => push_head(out, paint, fault, None),
     }
     if !fault.hint.is_empty() {
-        out.push_str("   = ")?;
-        paint.push(out, Part::Hint, fault.hint)?;
-        out.push('\n')?;
+        out.push("   = ");
+        paint.push(out, Part::Hint, fault.hint);
+        out.push("\n");
     }
-    Ok(())
 }

@@ -2,10 +2,11 @@
 
 use crate::cause::Cause;
 use crate::places::{Found, declared_twice, long_flags, place_of};
-use crate::unknown::of_unknown;
+use crate::unknown::{of_unknown, push_package};
 use layout::LayoutError;
 use std::alloc::{AllocError, Global};
 use tables::{PackageName, ResolveError};
+use text_builder::TextBuilder;
 use wit_hints::{MORE_MEMORY, hint_of_duplicate, hint_of_text};
 use wit_places::{Declarations, Lexed, PackageRef, chain_of, ring_of_interfaces};
 use wit_text::Span;
@@ -24,16 +25,22 @@ pub struct Around<'a> {
     pub known: &'a [Known<'a>],
 }
 
+/// Where a fault of names is, and what is around it.
+#[derive(Clone, Copy)]
+pub struct Setting<'a> {
+    pub alloc: Global,
+    pub found: Found<'a>,
+    pub around: Around<'a>,
+}
+
 /// What to do about two declarations of a name, which may be in two files.
-fn of_duplicate<'a>(
-    alloc: Global,
-    lexed: &Lexed<'_>,
-    files: &'a [Lexed<'a>],
-    name: &str,
-) -> Result<String, AllocError> {
-    match declared_twice(alloc, files, name)? {
-        Some(twice) => format!(in alloc; "rename one: `{}` has this name too", twice.first.path),
-        None => hint_of_duplicate(alloc, lexed, name),
+fn of_duplicate(text: &mut TextBuilder, setting: Setting<'_>, name: &str) {
+    match declared_twice(setting.alloc, setting.around.files, name) {
+        Ok(Some(twice)) => {
+            text.push_all(&["rename one: `", twice.first.path, "` has this name too"]);
+        }
+        Ok(None) => hint_of_duplicate(text, setting.found.lexed, name),
+        Err(_) => text.refuse(),
     }
 }
 
@@ -48,121 +55,131 @@ fn like<'a>(known: &[Known<'a>], name: PackageRef<'_>) -> Option<PackageRef<'a>>
 }
 
 /// What to do about a package that is not there: which one of the same name is.
-fn of_package(
-    alloc: Global,
-    known: &[Known<'_>],
-    name: &PackageName,
-) -> Result<String, AllocError> {
+fn of_package(text: &mut TextBuilder, known: &[Known<'_>], name: &PackageName) {
     let wanted = PackageRef::of_tables(name);
     match like(known, wanted) {
         Some(package) if package.is(wanted) => {
-            format!(in alloc; "this is the package of the file: leave out `{name}/`")
+            text.push("this is the package of the file: leave out `");
+            push_package(text, wanted);
+            text.push("/`");
         }
-        Some(package) => { format!(in alloc; "package `{name}` is not here; there is `{package}`") }
+        Some(package) => {
+            text.push("package `");
+            push_package(text, wanted);
+            text.push("` is not here; there is `");
+            push_package(text, package);
+            text.push("`");
+        }
         None => {
-            format!(in alloc;
-                "give the file of package `{name}` too, or put it into the folder `deps`"
-            )
+            text.push("give the file of package `");
+            push_package(text, wanted);
+            text.push("` too, or put it into the folder `deps`");
         }
     }
 }
 
 /// What to do about these interfaces, each of which uses the next one.
-fn of_users(alloc: Global, ring: &[&str]) -> Result<String, AllocError> {
+fn of_users(text: &mut TextBuilder, alloc: Global, ring: &[&str]) {
     if ring.is_empty() {
-        return String::from_str(alloc, "interfaces or types name each other in a ring");
+        return text.push("interfaces or types name each other in a ring");
     }
-    let chain = chain_of(alloc, ring)?;
-    let chain = chain.as_str();
-    format!(in alloc; "interfaces use each other, {chain}: move what both use into one of its own")
+    text.push("interfaces use each other, ");
+    text.push_made(chain_of(alloc, ring));
+    text.push(": move what both use into one of its own");
 }
 
 /// What to do about interfaces that use each other.
-fn of_interfaces(alloc: Global, files: &[Lexed<'_>]) -> Result<String, AllocError> {
-    let ring = ring_of_interfaces(alloc, files)?;
-    of_users(alloc, ring.as_slice())
-}
-
-/// What to do about several types that are each declared as the next one.
-fn of_chain(alloc: Global, ring: &[&str]) -> Result<String, AllocError> {
-    let chain = chain_of(alloc, ring)?;
-    let chain = chain.as_str();
-    format!(in alloc; "types name each other, {chain}: give one of them a type")
+fn of_interfaces(text: &mut TextBuilder, setting: Setting<'_>) {
+    match ring_of_interfaces(setting.alloc, setting.around.files) {
+        Ok(ring) => of_users(text, setting.alloc, ring.as_slice()),
+        Err(_) => text.refuse(),
+    }
 }
 
 /// What to do about types that are each declared as the next one.
-fn of_aliases(alloc: Global, ring: &[&str]) -> Result<String, AllocError> {
+fn of_aliases(text: &mut TextBuilder, alloc: Global, ring: &[&str]) {
     match ring {
-        [name] => format!(in alloc; "`{name}` names itself: give it a type"),
+        [name] => text.push_all(&["`", *name, "` names itself: give it a type"]),
         [first, second] => {
-            format!(in alloc; "`{first}` and `{second}` name each other: give one of them a type")
+            text.push_all(&["`", *first, "` and `", *second, "` name each other"]);
+            text.push(": give one of them a type");
         }
-        _ => of_chain(alloc, ring),
+        _ => {
+            text.push("types name each other, ");
+            text.push_made(chain_of(alloc, ring));
+            text.push(": give one of them a type");
+        }
     }
 }
 
 /// What to do about a type that contains itself, at the place of its name.
 fn of_type(
-    alloc: Global,
-    lexed: &Lexed<'_>,
+    text: &mut TextBuilder,
+    setting: Setting<'_>,
     declarations: &Declarations<'_>,
     span: Span,
-) -> Result<String, AllocError> {
-    let aliases = declarations.ring_of_aliases(alloc, lexed, span)?;
-    if !aliases.is_empty() {
-        return of_aliases(alloc, aliases.as_slice());
+) {
+    let lexed = setting.found.lexed;
+    match declarations.ring_of_aliases(setting.alloc, lexed, span) {
+        Ok(aliases) if !aliases.is_empty() => of_aliases(text, setting.alloc, aliases.as_slice()),
+        Ok(_) => {
+            text.push("a value has no pointers: keep the nodes in a `list<");
+            text.push_all(&[lexed.at(span), ">` and name them by `u32`"]);
+        }
+        Err(_) => text.refuse(),
     }
-    let name = lexed.at(span);
-    format!(in alloc;
-        "a value has no pointers: keep the nodes in a `list<{name}>` and name them by `u32`"
-    )
+}
+
+/// What to do about types of these declarations that contain themselves, or interfaces that use each other.
+fn of_ring(text: &mut TextBuilder, setting: Setting<'_>, declarations: &Declarations<'_>) {
+    match declarations.ring(setting.alloc, setting.found.lexed) {
+        Ok(Some(span)) => of_type(text, setting, declarations, span),
+        Ok(None) => of_interfaces(text, setting),
+        Err(_) => text.refuse(),
+    }
 }
 
 /// What to do about types that contain themselves, or interfaces that use each other.
-fn of_cycle(alloc: Global, lexed: &Lexed<'_>, files: &[Lexed<'_>]) -> Result<String, AllocError> {
-    let declarations = Declarations::of(alloc, lexed)?;
-    match declarations.ring(alloc, lexed)? {
-        Some(span) => of_type(alloc, lexed, &declarations, span),
-        None => of_interfaces(alloc, files),
+fn of_cycle(text: &mut TextBuilder, setting: Setting<'_>) {
+    match Declarations::of(setting.alloc, setting.found.lexed) {
+        Ok(declarations) => of_ring(text, setting, &declarations),
+        Err(_) => text.refuse(),
     }
 }
 
 /// What to do about a package that has too much: of flags, too many labels.
-fn of_limit(alloc: Global, lexed: &Lexed<'_>) -> Result<String, AllocError> {
-    let Some(flags) = long_flags(alloc, lexed)? else {
-        return String::from_str(alloc, "split the package");
-    };
-    let (name, labels) = (lexed.at(flags.span), flags.labels);
-    format!(in alloc;
-        "flags have at most 32 labels, `{name}` has {labels}: use two sets, or a list of an enum"
-    )
+fn of_limit(text: &mut TextBuilder, alloc: Global, lexed: &Lexed<'_>) {
+    match long_flags(alloc, lexed) {
+        Ok(Some(flags)) => {
+            text.push_all(&[
+                "flags have at most 32 labels, `",
+                lexed.at(flags.span),
+                "` has ",
+            ]);
+            text.push_number(flags.labels);
+            text.push(": use two sets, or a list of an enum");
+        }
+        Ok(None) => text.push("split the package"),
+        Err(_) => text.refuse(),
+    }
 }
 
 /// What to do about a fault of names, or of the whole package.
-fn of_names(
-    alloc: Global,
-    found: Found<'_>,
-    around: Around<'_>,
-    error: &ResolveError,
-) -> Result<String, AllocError> {
-    let lexed = found.lexed;
-    let hint = match error {
-        ResolveError::Unknown(label) => {
-            return of_unknown(alloc, found, around, label.as_str());
+fn of_names(text: &mut TextBuilder, setting: Setting<'_>, error: &ResolveError) {
+    match error {
+        ResolveError::Unknown(label) => of_unknown(text, setting, label.as_str()),
+        ResolveError::NoPackage(name) => of_package(text, setting.around.known, name),
+        ResolveError::Duplicate(name) => of_duplicate(text, setting, name.as_str()),
+        ResolveError::Cycle => of_cycle(text, setting),
+        ResolveError::EmptyPackage => text.push("add an interface or a world"),
+        ResolveError::NotThisShape => {}
+        ResolveError::Limit => of_limit(text, setting.alloc, setting.found.lexed),
+        ResolveError::SamePackage(_) => {
+            text.push("put the files of this package into one folder");
         }
-        ResolveError::NoPackage(name) => return of_package(alloc, around.known, name),
-        ResolveError::Duplicate(name) => {
-            return of_duplicate(alloc, lexed, around.files, name.as_str());
-        }
-        ResolveError::Cycle => return of_cycle(alloc, lexed, around.files),
-        ResolveError::EmptyPackage => "add an interface or a world",
-        ResolveError::NotThisShape => "",
-        ResolveError::Limit => return of_limit(alloc, lexed),
-        ResolveError::SamePackage(_) => "put the files of this package into one folder",
-        ResolveError::SetLimit => "leave out packages that are not used",
-        ResolveError::NoMemory => MORE_MEMORY,
-    };
-    String::from_str(alloc, hint)
+        ResolveError::SetLimit => text.push("leave out packages that are not used"),
+        ResolveError::NoMemory => text.push(MORE_MEMORY),
+    }
 }
 
 /// What to do about a fault that a file shows at a place. No text if there is nothing to say.
@@ -172,16 +189,22 @@ pub fn hint_of(
     around: Around<'_>,
     cause: &Cause,
 ) -> Result<String, AllocError> {
-    let hint = match cause {
-        Cause::Text(error) => return hint_of_text(alloc, found.lexed, error),
-        Cause::Resolve(error) => return of_names(alloc, found, around, error),
-        Cause::Layout(LayoutError::TooLarge, _) => "use a list",
-        Cause::Layout(LayoutError::TooDeep, _) => "nest less",
-        Cause::Layout(LayoutError::NoMemory, _) => MORE_MEMORY,
-        Cause::NotUtf8(_) => "save the file as UTF-8",
-        Cause::Read(_) => "",
+    let mut text = TextBuilder::new(alloc);
+    let setting = Setting {
+        alloc,
+        found,
+        around,
     };
-    String::from_str(alloc, hint)
+    match cause {
+        Cause::Text(error) => hint_of_text(&mut text, alloc, found.lexed, error),
+        Cause::Resolve(error) => of_names(&mut text, setting, error),
+        Cause::Layout(LayoutError::TooLarge, _) => text.push("use a list"),
+        Cause::Layout(LayoutError::TooDeep, _) => text.push("nest less"),
+        Cause::Layout(LayoutError::NoMemory, _) => text.push(MORE_MEMORY),
+        Cause::NotUtf8(_) => text.push("save the file as UTF-8"),
+        Cause::Read(_) => {}
+    }
+    text.finish()
 }
 
 /// A fault of a package as it is told: where, what it is, and what to do about it.

@@ -1,47 +1,52 @@
 //! Faults as JSON, for editors.
 
 use crate::drawing::Fault;
-use std::alloc::AllocError;
-use std::fmt::Write;
+use std::alloc::Global;
+use text_builder::TextBuilder;
 use wit_hints::source_lines::place_at;
 use wit_text::Span;
 
 /// Appends a character of a JSON string.
-fn push_character(out: &mut String, character: char) -> Result<(), AllocError> {
-    let escape = match character {
-        '"' => "\\\"",
-        '\\' => "\\\\",
-        '\n' => "\\n",
-        '\r' => "\\r",
-        '\t' => "\\t",
+fn push_character(out: &mut TextBuilder, alloc: Global, character: char) {
+    match character {
+        '"' => out.push("\\\""),
+        '\\' => out.push("\\\\"),
+        '\n' => out.push("\\n"),
+        '\r' => out.push("\\r"),
+        '\t' => out.push("\\t"),
         control if control < ' ' => {
-            write!(out, "\\u{:04x}", control as u32)?;
-            return Ok(());
+            let code = control as u32;
+            out.push_made(format!(in alloc; "\\u{code:04x}"));
         }
-        _ => return out.push(character),
-    };
-    out.push_str(escape)
+        _ => out.push_char(character),
+    }
 }
 
 /// Appends a text as a JSON string.
-fn push_string(out: &mut String, text: &str) -> Result<(), AllocError> {
-    out.push('"')?;
+fn push_string(out: &mut TextBuilder, alloc: Global, text: &str) {
+    out.push("\"");
     for character in text.chars() {
-        push_character(out, character)?;
+        push_character(out, alloc, character);
     }
-    out.push('"')
+    out.push("\"");
+}
+
+/// Appends a member that is a number, and a comma.
+fn push_number(out: &mut TextBuilder, name: &str, number: usize) {
+    out.push_all(&["\"", name, "\":"]);
+    out.push_number(number);
+    out.push(",");
 }
 
 /// Appends where a span begins and ends, if the text has these places.
-fn push_span(out: &mut String, text: &str, span: Span) -> Result<(), AllocError> {
+fn push_span(out: &mut TextBuilder, text: &str, span: Span) {
     let (Some(start), Some(end)) = (place_at(text, span.start), place_at(text, span.end)) else {
-        return Ok(());
+        return;
     };
-    let (line, column) = (start.line, start.column);
-    write!(out, "\"line\":{line},\"column\":{column},")?;
-    let (line, column) = (end.line, end.column);
-    write!(out, "\"endLine\":{line},\"endColumn\":{column},")?;
-    Ok(())
+    push_number(out, "line", start.line);
+    push_number(out, "column", start.column);
+    push_number(out, "endLine", end.line);
+    push_number(out, "endColumn", end.column);
 }
 
 /// The number of an error's words, `error NUMBER ..`.
@@ -52,21 +57,21 @@ fn number_of(words: &str) -> Option<&str> {
 
 /// Appends a fault as an object: its file, its place if it has one, its number if it has one, its words, and its hint
 /// if there is one.
-pub fn push_object(out: &mut String, fault: &Fault<'_>) -> Result<(), AllocError> {
-    out.push_str("{\"file\":")?;
-    push_string(out, fault.lexed.path)?;
-    out.push(',')?;
+pub fn push_object(out: &mut TextBuilder, alloc: Global, fault: &Fault<'_>) {
+    out.push("{\"file\":");
+    push_string(out, alloc, fault.lexed.path);
+    out.push(",");
     if let Some(span) = fault.span {
-        push_span(out, fault.lexed.text, span)?;
+        push_span(out, fault.lexed.text, span);
     }
     if let Some(number) = number_of(fault.words) {
-        write!(out, "\"error\":{number},")?;
+        out.push_all(&["\"error\":", number, ","]);
     }
-    out.push_str("\"message\":")?;
-    push_string(out, fault.words)?;
+    out.push("\"message\":");
+    push_string(out, alloc, fault.words);
     if !fault.hint.is_empty() {
-        out.push_str(",\"hint\":")?;
-        push_string(out, fault.hint)?;
+        out.push(",\"hint\":");
+        push_string(out, alloc, fault.hint);
     }
-    out.push('}')
+    out.push("}");
 }

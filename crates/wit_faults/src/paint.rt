@@ -1,6 +1,6 @@
 //! Colors of a terminal.
 
-use std::alloc::AllocError;
+use text_builder::TextBuilder;
 
 /// What a part of a shown fault is. Each has a color of its own.
 #[derive(Clone, Copy)]
@@ -21,30 +21,28 @@ pub enum Paint {
 
 impl Paint {
     /// Appends what begins a part.
-    pub fn begin(self, out: &mut String, part: Part) -> Result<(), AllocError> {
-        if matches!(self, Paint::Plain) {
-            return Ok(());
+    pub fn begin(self, out: &mut TextBuilder, part: Part) {
+        if matches!(self, Paint::Colored) {
+            out.push(match part {
+                Part::Place => "\u{1B}[1m",
+                Part::Words | Part::Carets => "\u{1B}[1;31m",
+                Part::Gutter => "\u{1B}[34m",
+                Part::Hint => "\u{1B}[36m",
+            });
         }
-        out.push_str(match part {
-            Part::Place => "\u{1B}[1m",
-            Part::Words | Part::Carets => "\u{1B}[1;31m",
-            Part::Gutter => "\u{1B}[34m",
-            Part::Hint => "\u{1B}[36m",
-        })
     }
 
     /// Appends what ends a part.
-    pub fn end(self, out: &mut String) -> Result<(), AllocError> {
-        match self {
-            Paint::Plain => Ok(()),
-            Paint::Colored => out.push_str("\u{1B}[0m"),
+    pub fn end(self, out: &mut TextBuilder) {
+        if matches!(self, Paint::Colored) {
+            out.push("\u{1B}[0m");
         }
     }
 
     /// Appends a part.
-    pub fn push(self, out: &mut String, part: Part, text: &str) -> Result<(), AllocError> {
-        self.begin(out, part)?;
-        out.push_str(text)?;
-        self.end(out)
+    pub fn push(self, out: &mut TextBuilder, part: Part, text: &str) {
+        self.begin(out, part);
+        out.push(text);
+        self.end(out);
     }
 }

@@ -1,16 +1,23 @@
 //! What to do about a name that stands for nothing.
 
-use crate::hints::{Around, Known};
+use crate::hints::{Around, Known, Setting};
 use crate::places::Found;
 use near_names::nearest;
 use std::alloc::{AllocError, Global};
-use std::fmt::Write;
+use text_builder::TextBuilder;
 use wit_hints::hint_of_unknown;
 use wit_places::{Declarations, Lexed, PackageRef};
 use wit_text::{Keyword, Punctuation};
 
 /// The most interfaces of another package that a hint names.
 const MAX_NAMED: usize = 5;
+
+/// An interface of another package.
+#[derive(Clone, Copy)]
+struct Used<'a> {
+    package: PackageRef<'a>,
+    interface: &'a str,
+}
 
 /// What a name has to stand for.
 #[derive(Clone, Copy)]
@@ -20,8 +27,8 @@ enum Kind<'a> {
     Interface,
     /// One of another package.
     InterfaceOf(PackageRef<'a>),
-    /// A type of this interface of another package.
-    TypeOf(PackageRef<'a>, &'a str),
+    /// A type of an interface of another package.
+    TypeOf(Used<'a>),
 }
 
 /// The package of the path that ends in a token.
@@ -55,12 +62,13 @@ fn list_owner(lexed: &Lexed<'_>, index: usize) -> Option<usize> {
 /// What a name has to stand for that is among those of a `use` of an interface of another package.
 fn used_of<'a>(lexed: &Lexed<'a>, index: usize) -> Option<Kind<'a>> {
     let owner = list_owner(lexed, index)?;
-    let interface = match lexed.name_at(owner) {
+    let index = match lexed.name_at(owner) {
         Some(_) => owner,
         None => owner.checked_sub(1)?,
     };
-    let package = package_before(lexed, interface)?;
-    Some(Kind::TypeOf(package, lexed.name_at(interface)?))
+    let package = package_before(lexed, index)?;
+    let interface = lexed.name_at(index)?;
+    Some(Kind::TypeOf(Used { package, interface }))
 }
 
 /// What the name at a place has to stand for.
@@ -147,21 +155,46 @@ fn nearest_of<'a>(
     nearest_interface(alloc, names.as_slice(), word)
 }
 
-/// What to do about a name that is no interface of its own package.
-fn of_interface(alloc: Global, around: Around<'_>, word: &str) -> Result<String, AllocError> {
-    if let Some(name) = nearest_of(alloc, around.files, word)? {
-        return format!(in alloc; "no interface `{word}` in this package; did you mean `{name}`?");
+/// Appends the name of a package, with the version if it has one.
+pub fn push_package(text: &mut TextBuilder, package: PackageRef<'_>) {
+    text.push_all(&[package.namespace, ":", package.name]);
+    if let Some(version) = package.version {
+        text.push_all(&["@", version]);
     }
+}
+
+/// What to do about a name that none of its own package's interfaces has, nor one that is near.
+fn of_far_interface(text: &mut TextBuilder, around: Around<'_>, word: &str) {
+    text.push_all(&["no interface `", word, "` in "]);
     if let Some(own) = package_of(around.files)
         && let Some(other) = other_version(around, own)
     {
-        return format!(in alloc;
-            "no interface `{word}` in package `{own}`: if it is of `{other}`, give both one version"
-        );
+        text.push("package `");
+        push_package(text, own);
+        text.push("`: if it is of `");
+        push_package(text, other);
+        text.push("`, give both one version");
+    } else {
+        text.push("this package: declare it, or write `namespace:name/");
+        text.push_all(&[word, "` if another package has it"]);
     }
-    format!(in alloc;
-        "no interface `{word}` in this package: declare it, or write `namespace:name/{word}` if another package has it"
-    )
+}
+
+/// What to do about a name that is no interface of its own package.
+fn of_interface(text: &mut TextBuilder, setting: Setting<'_>, word: &str) {
+    match nearest_of(setting.alloc, setting.around.files, word) {
+        Ok(Some(name)) => {
+            text.push_all(&[
+                "no interface `",
+                word,
+                "` in this package; did you mean `",
+                name,
+                "`?",
+            ]);
+        }
+        Ok(None) => of_far_interface(text, setting.around, word),
+        Err(_) => text.refuse(),
+    }
 }
 
 /// The files of a package among those that are known.
@@ -199,79 +232,71 @@ fn types_of<'a>(
     Ok(names)
 }
 
-/// What to do about a name that is none of these types of an interface of another package.
-fn of_types(
-    alloc: Global,
-    types: &[&str],
-    interface: &str,
-    word: &str,
-) -> Result<String, AllocError> {
+/// Appends names with commas between them: the first ones, if they are many.
+fn push_listed(text: &mut TextBuilder, names: &[&str]) {
+    for (place, name) in names.iter().take(MAX_NAMED).enumerate() {
+        let before = if place == 0 { "" } else { ", " };
+        text.push_all(&[before, "`", *name, "`"]);
+    }
+    if names.len() > MAX_NAMED {
+        text.push(", ..");
+    }
+}
+
+/// Appends which of these names is near, or which there are.
+fn push_near(text: &mut TextBuilder, near: Result<Option<&str>, AllocError>, names: &[&str]) {
+    match near {
+        Ok(Some(name)) => text.push_all(&["did you mean `", name, "`?"]),
+        Ok(None) => {
+            text.push("it has ");
+            push_listed(text, names);
+        }
+        Err(_) => text.refuse(),
+    }
+}
+
+/// What to do about a name that is none of these types of an interface.
+fn of_types(text: &mut TextBuilder, alloc: Global, types: &[&str], word: &str) {
     if types.is_empty() {
-        return format!(in alloc; "interface `{interface}` declares no type");
+        return text.push(" declares no type");
     }
-    if let Some(name) = nearest(alloc, word, types)? {
-        return format!(in alloc;
-            "interface `{interface}` has no type `{word}`; did you mean `{name}`?"
-        );
-    }
-    let listed = listed(alloc, types)?;
-    let listed = listed.as_str();
-    format!(in alloc; "interface `{interface}` has no type `{word}`; it has {listed}")
+    text.push_all(&[" has no type `", word, "`; "]);
+    push_near(text, nearest(alloc, word, types), types);
 }
 
 /// What to do about a name that is no type of an interface of another package.
-fn of_used_type(
-    alloc: Global,
-    files: &[Lexed<'_>],
-    interface: &str,
-    word: &str,
-) -> Result<String, AllocError> {
-    let types = types_of(alloc, files, interface)?;
-    of_types(alloc, types.as_slice(), interface, word)
+fn of_used_type(text: &mut TextBuilder, setting: Setting<'_>, used: Used<'_>, word: &str) {
+    let files = files_of(setting.around.known, used.package);
+    text.push_all(&["interface `", used.interface, "`"]);
+    match types_of(setting.alloc, files, used.interface) {
+        Ok(types) => of_types(text, setting.alloc, types.as_slice(), word),
+        Err(_) => text.refuse(),
+    }
 }
 
-/// Names with commas between them: the first ones, if they are many.
-fn listed(alloc: Global, names: &[&str]) -> Result<String, AllocError> {
-    let mut text = String::new(alloc);
-    for (place, name) in names.iter().take(MAX_NAMED).enumerate() {
-        let before = if place == 0 { "" } else { ", " };
-        write!(text, "{before}`{name}`")?;
-    }
-    if names.len() > MAX_NAMED {
-        text.push_str(", ..")?;
-    }
-    Ok(text)
-}
-
-/// What to do about a name that is none of these interfaces of another package.
-fn of_interfaces(
-    alloc: Global,
-    interfaces: &[&str],
-    package: PackageRef<'_>,
-    word: &str,
-) -> Result<String, AllocError> {
+/// What to do about a name that is none of these interfaces of a package.
+fn of_interfaces(text: &mut TextBuilder, alloc: Global, interfaces: &[&str], word: &str) {
     if interfaces.is_empty() {
-        return format!(in alloc; "package `{package}` has no interface");
+        return text.push(" has no interface");
     }
-    if let Some(name) = nearest_interface(alloc, interfaces, word)? {
-        return format!(in alloc;
-            "package `{package}` has no interface `{word}`; did you mean `{name}`?"
-        );
-    }
-    let listed = listed(alloc, interfaces)?;
-    let listed = listed.as_str();
-    format!(in alloc; "package `{package}` has no interface `{word}`; it has {listed}")
+    text.push_all(&[" has no interface `", word, "`; "]);
+    push_near(text, nearest_interface(alloc, interfaces, word), interfaces);
 }
 
 /// What to do about a name that is no interface of another package.
 fn of_other_interface(
-    alloc: Global,
-    known: &[Known<'_>],
+    text: &mut TextBuilder,
+    setting: Setting<'_>,
     package: PackageRef<'_>,
     word: &str,
-) -> Result<String, AllocError> {
-    let interfaces = interfaces_of(alloc, files_of(known, package))?;
-    of_interfaces(alloc, interfaces.as_slice(), package, word)
+) {
+    text.push("package `");
+    push_package(text, package);
+    text.push("`");
+    match interfaces_of(setting.alloc, files_of(setting.around.known, package)) {
+        Ok(interfaces) => of_interfaces(text, setting.alloc, interfaces.as_slice(), word),
+        Err(_) => text.refuse(),
+    }
 }
 
 /// The first interface of a package that declares a type of this name.
@@ -290,35 +315,28 @@ fn interface_with<'a>(
 }
 
 /// What to do about a name that is no type.
-fn of_type(
-    alloc: Global,
-    lexed: &Lexed<'_>,
-    files: &[Lexed<'_>],
-    word: &str,
-) -> Result<String, AllocError> {
-    match interface_with(alloc, files, word)? {
-        Some(interface) => {
-            format!(in alloc; "write `use {interface}.{{{word}}};` in this interface")
+fn of_type(text: &mut TextBuilder, setting: Setting<'_>, word: &str) {
+    match interface_with(setting.alloc, setting.around.files, word) {
+        Ok(Some(interface)) => {
+            text.push_all(&[
+                "write `use ",
+                interface,
+                ".{",
+                word,
+                "};` in this interface",
+            ]);
         }
-        None => hint_of_unknown(alloc, lexed, word),
+        Ok(None) => hint_of_unknown(text, setting.alloc, setting.found.lexed, word),
+        Err(_) => text.refuse(),
     }
 }
 
 /// What to do about a name that stands for nothing.
-pub fn of_unknown(
-    alloc: Global,
-    found: Found<'_>,
-    around: Around<'_>,
-    word: &str,
-) -> Result<String, AllocError> {
-    match kind_of(found) {
-        Some(Kind::Interface) => of_interface(alloc, around, word),
-        Some(Kind::InterfaceOf(package)) => {
-            of_other_interface(alloc, around.known, package, word)
-        }
-        Some(Kind::TypeOf(package, interface)) => {
-            of_used_type(alloc, files_of(around.known, package), interface, word)
-        }
-        Some(Kind::Type) | None => of_type(alloc, found.lexed, around.files, word),
+pub fn of_unknown(text: &mut TextBuilder, setting: Setting<'_>, word: &str) {
+    match kind_of(setting.found) {
+        Some(Kind::Interface) => of_interface(text, setting, word),
+        Some(Kind::InterfaceOf(package)) => of_other_interface(text, setting, package, word),
+        Some(Kind::TypeOf(used)) => of_used_type(text, setting, used, word),
+        Some(Kind::Type) | None => of_type(text, setting, word),
     }
 }

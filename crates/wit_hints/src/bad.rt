@@ -3,9 +3,9 @@
 use crate::features::NO_FLOATS;
 use crate::scopes::line_of_taken;
 use crate::types::may_have_next;
-use crate::words::{with_name, with_two};
 use near_names::{hint_of_character, holder_for, is_float, kebab, rule_of_names, type_for};
-use std::alloc::{AllocError, Global};
+use std::alloc::Global;
+use text_builder::TextBuilder;
 use wit_places::{Lexed, Spot, Within, keyword_at, mark_at, word_at};
 use wit_text::{Keyword, Punctuation, Span};
 
@@ -35,19 +35,20 @@ fn type_beside<'a>(lexed: &Lexed<'a>, span: Span, is_after: bool) -> &'a str {
 }
 
 /// What to do about a `[`.
-fn of_bracket(alloc: Global, lexed: &Lexed<'_>, span: Span) -> Result<String, AllocError> {
+fn of_bracket(text: &mut TextBuilder, lexed: &Lexed<'_>, span: Span) {
     let name = type_beside(lexed, span, false);
     if matches!(name, "list" | "option" | "result" | "tuple") {
-        return with_two(alloc, "write `#<..>` instead of `#[..]`", name, name);
+        text.push_all(&["write `", name, "<..>` instead of `", name, "[..]`"]);
+    } else {
+        text.push_all(&["a list is written `list<", name, ">`"]);
     }
-    with_name(alloc, "a list is written `list<#>`", name)
 }
 
 /// What to do about a `?`.
-fn of_question(alloc: Global, lexed: &Lexed<'_>, span: Span) -> Result<String, AllocError> {
+fn of_question(text: &mut TextBuilder, lexed: &Lexed<'_>, span: Span) {
     let behind = lexed.text.get(span.end..).unwrap_or("");
     let name = type_beside(lexed, span, behind.starts_with(":"));
-    with_name(alloc, "what may be missing is written `option<#>`", name)
+    text.push_all(&["what may be missing is written `option<", name, ">`"]);
 }
 
 /// What to do about a `*`: of a `use`, or of a pointer.
@@ -90,63 +91,74 @@ fn of_quote(lexed: &Lexed<'_>) -> &'static str {
 }
 
 /// What to do about a character that begins no token.
-fn of_character(
-    alloc: Global,
-    lexed: &Lexed<'_>,
-    span: Span,
-    word: &str,
-) -> Result<String, AllocError> {
-    let hint = match word {
-        "[" => return of_bracket(alloc, lexed, span),
-        "?" => return of_question(alloc, lexed, span),
-        "*" => of_star(lexed),
-        "|" => of_bar(lexed, span),
-        "&" => "WIT has no references: leave it out",
-        "\"" | "'" => of_quote(lexed),
-        "#" => "a comment begins with `//`",
-        "\u{feff}" => "leave out this byte-order mark",
+fn of_character(text: &mut TextBuilder, alloc: Global, lexed: &Lexed<'_>, span: Span) {
+    let word = lexed.at(span);
+    match word {
+        "[" => of_bracket(text, lexed, span),
+        "?" => of_question(text, lexed, span),
+        "*" => text.push(of_star(lexed)),
+        "|" => text.push(of_bar(lexed, span)),
+        "&" => text.push("WIT has no references: leave it out"),
+        "\"" | "'" => text.push(of_quote(lexed)),
+        "#" => text.push("a comment begins with `//`"),
+        "\u{feff}" => text.push("leave out this byte-order mark"),
         _ => match word.chars().next() {
-            Some(character) if !character.is_ascii() => return hint_of_character(alloc, character),
-            _ => "WIT has no such character here",
+            Some(character) if !character.is_ascii() => {
+                text.push_made(hint_of_character(alloc, character));
+            }
+            _ => text.push("WIT has no such character here"),
         },
-    };
-    String::from_str(alloc, hint)
+    }
 }
 
 /// What to do about a word that is no name, where a type has to come: by default it is written otherwise.
-fn of_type(alloc: Global, lexed: &Lexed<'_>, span: Span, name: &str) -> Result<String, AllocError> {
+fn of_type(text: &mut TextBuilder, lexed: &Lexed<'_>, span: Span, name: &str) {
     let word = lexed.at(span);
     let behind = lexed.text.get(span.end..).unwrap_or("");
     if behind.starts_with("<")
         && let Some(holder) = holder_for(name)
     {
-        return with_two(alloc, "write `#` instead of `#<..>`", holder, word);
+        text.push("write `");
+        text.push(holder);
+        text.push_all(&["` instead of `", word, "<..>`"]);
+    } else if is_float(name) {
+        text.push(NO_FLOATS);
+    } else if let Some(other) = type_for(name) {
+        text.push_all(&["no `", word, "` here; WIT has `"]);
+        text.push(other);
+        text.push("`");
+    } else {
+        text.push(rule_of_names(word));
+        text.push_all(&[": write `", name, "`"]);
     }
-    if is_float(name) {
-        return String::from_str(alloc, NO_FLOATS);
-    }
-    if let Some(other) = type_for(name) {
-        return with_two(alloc, "no `#` here; WIT has `#`", word, other);
-    }
-    let rule = rule_of_names(word);
-    with_two(alloc, "#: write `#`", rule, name)
+}
+
+/// A word that is no name, and the name that it may be changed to.
+#[derive(Clone, Copy)]
+pub struct Renamed<'a> {
+    pub lexed: &'a Lexed<'a>,
+    pub span: Span,
+    pub name: &'a str,
+}
+
+/// Whether a word is a keyword.
+fn is_keyword(alloc: Global, word: &str) -> bool {
+    let lexed = Lexed::new(alloc, "", word);
+    keyword_at(&lexed, 0).is_some()
 }
 
 /// What to do about a word that is no name, where a name has to come.
-pub fn of_name(
-    alloc: Global,
-    lexed: &Lexed<'_>,
-    span: Span,
-    name: &str,
-) -> Result<String, AllocError> {
-    let rule = rule_of_names(lexed.at(span));
-    if let Some(line) = line_of_taken(alloc, lexed, span, name)? {
-        return format!(in alloc; "{rule}; `{name}` is taken in line {line}");
-    }
-    let alone = Lexed::new(alloc, "", name);
-    match keyword_at(&alone, 0) {
-        Some(_) => with_two(alloc, "#: write `%#`", rule, name),
-        None => with_two(alloc, "#: write `#`", rule, name),
+pub fn of_name(text: &mut TextBuilder, alloc: Global, word: Renamed<'_>) {
+    let name = word.name;
+    text.push(rule_of_names(word.lexed.at(word.span)));
+    match line_of_taken(alloc, word.lexed, word.span, name) {
+        Ok(Some(line)) => {
+            text.push_all(&["; `", name, "` is taken in line "]);
+            text.push_number(line);
+        }
+        Ok(None) if is_keyword(alloc, name) => text.push_all(&[": write `%", name, "`"]),
+        Ok(None) => text.push_all(&[": write `", name, "`"]),
+        Err(_) => text.refuse(),
     }
 }
 
@@ -158,22 +170,24 @@ fn ends_before_type(lexed: &Lexed<'_>) -> bool {
     )
 }
 
+/// What to do about a word that is no name, of which this may be one.
+fn of_word(text: &mut TextBuilder, alloc: Global, word: Renamed<'_>) {
+    if word.name.is_empty() || word.name == word.lexed.at(word.span) {
+        text.push("a name is words joined by `-`, each from a letter on");
+    } else if ends_before_type(word.lexed) {
+        of_type(text, word.lexed, word.span, word.name);
+    } else {
+        of_name(text, alloc, word);
+    }
+}
+
 /// What to do about a bad character or word.
-pub fn of_bad(alloc: Global, lexed: &Lexed<'_>, span: Span) -> Result<String, AllocError> {
+pub fn of_bad(text: &mut TextBuilder, alloc: Global, lexed: &Lexed<'_>, span: Span) {
     let word = lexed.at(span);
     if word.len() < 2 || !word.is_ascii() {
-        return of_character(alloc, lexed, span, word);
+        return of_character(text, alloc, lexed, span);
     }
-    let name = kebab(alloc, word)?;
+    let name = text.kept(kebab(alloc, word));
     let name = name.as_str();
-    if name.is_empty() || name == word {
-        return String::from_str(
-            alloc,
-            "a name is words joined by `-`, each from a letter on",
-        );
-    }
-    if ends_before_type(lexed) {
-        return of_type(alloc, lexed, span, name);
-    }
-    of_name(alloc, lexed, span, name)
+    of_word(text, alloc, Renamed { lexed, span, name });
 }

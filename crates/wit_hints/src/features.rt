@@ -1,55 +1,42 @@
 //! What to write in place of what is valid and not read.
 
 use crate::types::of_too_many;
-use crate::words::{with_name, with_two};
-use std::alloc::{AllocError, Global};
+use text_builder::TextBuilder;
 use wit_places::{Spot, word_at};
 use wit_text::{Feature, TokenKind};
 
 /// What to do about a float.
 pub static NO_FLOATS: &str = "give another type: floats are not read here";
 
+/// What a hint begins with that says what to write in place of what is valid.
+static IN_PLACE: &str = "valid WIT, but not read here: for a check, ";
+
 /// A float, which has as many bytes as a whole number.
-fn of_float(alloc: Global, spot: &Spot<'_>) -> Result<String, AllocError> {
-    let word = spot.word();
+fn of_float(text: &mut TextBuilder, word: &str) {
     let number = if word == "f32" { "u32" } else { "u64" };
-    with_two(
-        alloc,
-        "valid WIT, but not read here: for a check, write `#` instead of `#`",
-        number,
-        word,
-    )
+    text.push_all(&[IN_PLACE, "write `", number, "` instead of `", word, "`"]);
 }
 
 /// The handle of a resource, or its declaration.
-fn of_resource(alloc: Global, spot: &Spot<'_>) -> Result<String, AllocError> {
+fn of_resource(text: &mut TextBuilder, spot: &Spot<'_>) {
     let word = spot.word();
     let next = spot.index.saturating_add(1);
     if word == "resource" {
         let name = word_at(spot.lexed, next);
-        return with_name(
-            alloc,
-            "valid WIT, but not read here: for a check, write `type # = u32;` in its place",
-            name,
-        );
+        text.push_all(&[IN_PLACE, "write `type ", name, " = u32;` in its place"]);
+    } else {
+        let name = word_at(spot.lexed, next.saturating_add(1));
+        text.push_all(&[IN_PLACE, "write `u32` instead of `", word, "<", name, ">`"]);
     }
-    let name = word_at(spot.lexed, next.saturating_add(1));
-    with_two(
-        alloc,
-        "valid WIT, but not read here: for a check, write `u32` instead of `#<#>`",
-        word,
-        name,
-    )
 }
 
 /// A list of several types, or one of fixed length.
-fn of_list(alloc: Global, spot: &Spot<'_>) -> Result<String, AllocError> {
+fn of_list(text: &mut TextBuilder, spot: &Spot<'_>) {
     match spot.lexed.tokens.get(spot.index.saturating_add(1)) {
-        Some(token) if token.kind == TokenKind::Integer => String::from_str(
-            alloc,
-            "valid WIT, but not read here: for a check, leave out the length",
-        ),
-        _ => of_too_many(alloc, spot),
+        Some(token) if token.kind == TokenKind::Integer => {
+            text.push_all(&[IN_PLACE, "leave out the length"]);
+        }
+        _ => of_too_many(text, spot),
     }
 }
 
@@ -81,15 +68,12 @@ fn in_place(feature: Feature) -> &'static str {
 }
 
 /// What to write in place of a feature that is not read.
-pub fn of_feature(alloc: Global, spot: &Spot<'_>, feature: Feature) -> Result<String, AllocError> {
+pub fn of_feature(text: &mut TextBuilder, spot: &Spot<'_>, feature: Feature) {
     match feature {
-        Feature::Float => of_float(alloc, spot),
-        Feature::Resource => of_resource(alloc, spot),
-        Feature::FixedLengthList => of_list(alloc, spot),
-        Feature::NamedResults => String::from_str(alloc, of_results(spot)),
-        _ => {
-            let words = in_place(feature);
-            with_name(alloc, "valid WIT, but not read here: for a check, #", words)
-        }
+        Feature::Float => of_float(text, spot.word()),
+        Feature::Resource => of_resource(text, spot),
+        Feature::FixedLengthList => of_list(text, spot),
+        Feature::NamedResults => text.push(of_results(spot)),
+        _ => text.push_all(&[IN_PLACE, in_place(feature)]),
     }
 }

@@ -3,9 +3,9 @@
 use crate::earlier::earlier_line;
 use crate::types::{begins_type, of_bare, of_error_type, of_too_many, precedes_type};
 use crate::versions::{of_at, of_version};
-use crate::words::{with_name, with_two};
 use near_names::{begins_function, declaration, did_you_mean, holder_for, is_constant};
-use std::alloc::{AllocError, Global};
+use std::alloc::Global;
+use text_builder::TextBuilder;
 use wit_places::{Spot, Within, keyword_at, mark_at, word_at};
 use wit_text::{Keyword, Punctuation};
 
@@ -88,7 +88,7 @@ fn for_other(within: Within, mark: Punctuation, found: Punctuation) -> &'static 
 }
 
 /// What to do about a `<`: after the name of a type, or of what is declared.
-fn of_less(alloc: Global, spot: &Spot<'_>, mark: Punctuation) -> Result<String, AllocError> {
+fn of_less(text: &mut TextBuilder, spot: &Spot<'_>, mark: Punctuation) {
     if matches!(
         mark,
         Punctuation::OpenBrace
@@ -96,26 +96,27 @@ fn of_less(alloc: Global, spot: &Spot<'_>, mark: Punctuation) -> Result<String, 
             | Punctuation::Equals
             | Punctuation::Colon
     ) {
-        return String::from_str(
-            alloc,
-            "WIT has no type parameters: leave out `<` and what comes up to the `>`",
-        );
+        return text.push("WIT has no type parameters: leave out `<` and what comes up to the `>`");
     }
     let word = spot.word_before();
     match holder_for(word) {
-        Some(holder) => with_two(alloc, "write `#` instead of `#<..>`", holder, word),
+        Some(holder) => {
+            text.push("write `");
+            text.push(holder);
+            text.push_all(&["` instead of `", word, "<..>`"]);
+        }
         None => {
-            with_name(
-                alloc,
-                "`#` holds no types: `list`, `option`, `result`, `tuple` do",
+            text.push_all(&[
+                "`",
                 word,
-            )
+                "` holds no types: `list`, `option`, `result`, `tuple` do",
+            ]);
         }
     }
 }
 
 /// What to do about a constant, at its name or its type.
-fn of_constant(alloc: Global, spot: &Spot<'_>) -> Result<String, AllocError> {
+fn of_constant(text: &mut TextBuilder, spot: &Spot<'_>) {
     let name = spot.lexed.name_at(spot.index).unwrap_or("NAME");
     let next = spot.index.saturating_add(1);
     let is_typed = mark_at(spot.lexed, next) == Some(Punctuation::Colon)
@@ -125,82 +126,91 @@ fn of_constant(alloc: Global, spot: &Spot<'_>) -> Result<String, AllocError> {
     } else {
         ".."
     };
-    with_two(
-        alloc,
-        "WIT has no constants: return it from a function, `#: func() -> #`",
+    text.push_all(&[
+        "WIT has no constants: return it from a function, `",
         name,
-        ty,
-    )
+        ": func() -> ",
+    ]);
+    text.push_all(&[ty, "`"]);
+}
+
+/// How a function is written.
+fn push_function(text: &mut TextBuilder, name: &str) {
+    text.push_all(&["a function is written `", name, ": func(..)`"]);
+}
+
+/// What to do about two words that begin an item of an interface, by what comes after. No text if it tells nothing.
+fn of_strange_word(text: &mut TextBuilder, alloc: Global, spot: &Spot<'_>) {
+    let name = spot.word_before();
+    let next = spot.index.saturating_add(1);
+    match (mark_at(spot.lexed, next), spot.lexed.name_at(next)) {
+        (Some(Punctuation::OpenBrace), _) => {
+            let words = ["record", "variant", "enum", "flags", "resource"];
+            text.push_made(did_you_mean(alloc, name, &words));
+        }
+        (Some(Punctuation::Equals), _) => text.push_made(did_you_mean(alloc, name, &["type"])),
+        (Some(Punctuation::Dot), _) => text.push_made(did_you_mean(alloc, name, &["use"])),
+        (Some(Punctuation::Colon), _) => text.push_all(&["leave out `", name, "`"]),
+        (None, Some(function)) if begins_function(spot.word()) => push_function(text, function),
+        _ => {}
+    }
 }
 
 /// What to do about two words that begin an item of an interface.
-fn of_two_words(alloc: Global, spot: &Spot<'_>) -> Result<String, AllocError> {
-    let (name, word) = (spot.word_before(), spot.word());
-    let next = spot.index.saturating_add(1);
+fn of_two_words(text: &mut TextBuilder, alloc: Global, spot: &Spot<'_>) {
+    let name = spot.word_before();
     if begins_function(name) {
-        return with_name(alloc, "a function is written `#: func(..)`", word);
-    }
-    if let Some(keyword) = declaration(name) {
-        return with_two(alloc, "write `#` instead of `#`", keyword, name);
-    }
-    if is_constant(name) {
-        return of_constant(alloc, spot);
-    }
-    match (mark_at(spot.lexed, next), spot.lexed.name_at(next)) {
-        (Some(Punctuation::OpenBrace), _) => {
-            did_you_mean(
-                alloc,
-                name,
-                &["record", "variant", "enum", "flags", "resource"],
-            )
-        }
-        (Some(Punctuation::Equals), _) => did_you_mean(alloc, name, &["type"]),
-        (Some(Punctuation::Dot), _) => did_you_mean(alloc, name, &["use"]),
-        (Some(Punctuation::Colon), _) => with_name(alloc, "leave out `#`", name),
-        (None, Some(function)) if begins_function(word) => {
-            with_name(alloc, "a function is written `#: func(..)`", function)
-        }
-        _ => Ok(String::new(alloc)),
+        push_function(text, spot.word());
+    } else if let Some(keyword) = declaration(name) {
+        text.push("write `");
+        text.push(keyword);
+        text.push_all(&["` instead of `", name, "`"]);
+    } else if is_constant(name) {
+        of_constant(text, spot);
+    } else {
+        of_strange_word(text, alloc, spot);
     }
 }
 
 /// What to do after a name of an interface that no `:` comes after.
-fn of_item(alloc: Global, spot: &Spot<'_>) -> Result<String, AllocError> {
+fn of_item(text: &mut TextBuilder, alloc: Global, spot: &Spot<'_>) {
     let name = spot.word_before();
     let next = keyword_at(spot.lexed, spot.index.saturating_add(1));
     match spot.mark() {
-        None => of_two_words(alloc, spot),
+        None => of_two_words(text, alloc, spot),
         Some(Punctuation::Equals) if next == Some(Keyword::Func) => {
-            String::from_str(alloc, "write `:` instead of `=`")
+            text.push("write `:` instead of `=`");
         }
-        Some(Punctuation::Equals) => with_name(alloc, "write `type` before `#`", name),
+        Some(Punctuation::Equals) => text.push_all(&["write `type` before `", name, "`"]),
         Some(Punctuation::OpenBrace) => {
-            with_name(
-                alloc,
-                "write `record`, `variant`, `enum` or `flags` before `#`",
+            text.push_all(&[
+                "write `record`, `variant`, `enum` or `flags` before `",
                 name,
-            )
+                "`",
+            ]);
         }
-        Some(_) => with_name(alloc, "a function is written `#: func(..)`", name),
+        Some(_) => push_function(text, name),
     }
 }
 
 /// What to do after a name of a field or a parameter that no `:` comes after.
-fn of_member(alloc: Global, spot: &Spot<'_>, member: &str) -> Result<String, AllocError> {
+fn of_member(text: &mut TextBuilder, spot: &Spot<'_>, member: &str) {
     let name = spot.word_before();
     match spot.mark() {
-        Some(Punctuation::Equals) => String::from_str(alloc, "write `:` instead of `=`"),
-        Some(_) => { with_two(alloc, "a # is `name: type`: only `#` is here", member, name) }
-        None if spot.lexed.is_named(spot.index) => with_name(alloc, "leave out `#`", name),
-        None if spot.lexed.name_at(spot.index).is_some() => {
-            with_name(alloc, "a # is `name: type`", member)
+        Some(Punctuation::Equals) => text.push("write `:` instead of `=`"),
+        Some(_) => {
+            text.push_all(&["a ", member, " is `name: type`: only `", name, "` is here"]);
         }
-        None => Ok(String::new(alloc)),
+        None if spot.lexed.is_named(spot.index) => text.push_all(&["leave out `", name, "`"]),
+        None if spot.lexed.name_at(spot.index).is_some() => {
+            text.push_all(&["a ", member, " is `name: type`"]);
+        }
+        None => {}
     }
 }
 
 /// What to do after the namespace of a package that no `:` comes after.
-fn of_package(alloc: Global, spot: &Spot<'_>) -> Result<String, AllocError> {
+fn of_package(text: &mut TextBuilder, spot: &Spot<'_>) {
     let namespace = spot.word_before();
     let name = match spot.mark() {
         Some(Punctuation::Slash | Punctuation::Dot) => {
@@ -209,55 +219,64 @@ fn of_package(alloc: Global, spot: &Spot<'_>) -> Result<String, AllocError> {
         _ => spot.lexed.name_at(spot.index),
     };
     let name = name.unwrap_or("NAME");
-    with_two(
-        alloc,
-        "a package is `namespace:name`: write `#:#`",
+    text.push_all(&[
+        "a package is `namespace:name`: write `",
         namespace,
+        ":",
         name,
-    )
+        "`",
+    ]);
 }
 
 /// What to do after a name that no `:` comes after. No text if this alone is missing.
-fn of_colon(alloc: Global, spot: &Spot<'_>) -> Result<String, AllocError> {
+fn of_colon(text: &mut TextBuilder, alloc: Global, spot: &Spot<'_>) {
     let name = spot.word_before();
     let keyword = keyword_at(spot.lexed, spot.before.saturating_sub(1));
     match (spot.within, keyword) {
-        (Within::File, _) => of_package(alloc, spot),
+        (Within::File, _) => of_package(text, spot),
         (Within::Interface | Within::World, _) if spot.mark() == Some(Punctuation::Slash) => {
-            String::from_str(alloc, "a path is written `namespace:name/interface`")
+            text.push("a path is written `namespace:name/interface`");
         }
         (Within::World, _) if spot.mark() == Some(Punctuation::Dot) => {
-            String::from_str(alloc, "a path is written `namespace:name/interface`")
+            text.push("a path is written `namespace:name/interface`");
         }
         (Within::Interface | Within::World, _) if spot.is_version() => {
-            of_version(alloc, spot, Punctuation::Colon)
+            of_version(text, spot, Punctuation::Colon);
         }
         (_, Some(Keyword::Use)) if spot.mark() == Some(Punctuation::OpenBrace) => {
-            String::from_str(alloc, "write `.` before it")
+            text.push("write `.` before it");
         }
         (_, Some(Keyword::Use)) => {
-            with_name(alloc, "say which types are used: `use #.{name};`", name)
+            text.push_all(&["say which types are used: `use ", name, ".{name};`"]);
         }
-        (Within::Record, _) => of_member(alloc, spot, "field"),
-        (Within::Parameters, _) => of_member(alloc, spot, "parameter"),
-        (Within::Interface, _) => of_item(alloc, spot),
+        (Within::Record, _) => of_member(text, spot, "field"),
+        (Within::Parameters, _) => of_member(text, spot, "parameter"),
+        (Within::Interface, _) => of_item(text, alloc, spot),
         (Within::World, _) if spot.mark() == Some(Punctuation::OpenParenthesis) => {
-            of_item(alloc, spot)
+            of_item(text, alloc, spot);
         }
-        _ => Ok(String::new(alloc)),
+        _ => {}
     }
 }
 
 /// What to do about a mark between a used name and another name. No text if it tells nothing.
-fn of_renamed(alloc: Global, spot: &Spot<'_>) -> Result<String, AllocError> {
+fn of_renamed(text: &mut TextBuilder, spot: &Spot<'_>) {
     let (before, mark) = (spot.word_before(), spot.word());
     let next = spot.index.saturating_add(1);
     match (spot.mark(), spot.lexed.name_at(next)) {
         (Some(Punctuation::Colon | Punctuation::Equals | Punctuation::Arrow), Some(name)) => {
-            format!(in alloc; "write `as` instead of `{mark}`: `{before} as {name}`")
+            text.push_all(&[
+                "write `as` instead of `",
+                mark,
+                "`: `",
+                before,
+                " as ",
+                name,
+                "`",
+            ]);
         }
-        (Some(found), _) => String::from_str(alloc, for_comma(spot.within, found)),
-        _ => Ok(String::new(alloc)),
+        (Some(found), _) => text.push(for_comma(spot.within, found)),
+        _ => {}
     }
 }
 
@@ -275,49 +294,48 @@ fn is_function(spot: &Spot<'_>) -> bool {
 }
 
 /// What the token tells that is found in place of a `,` or a `;`. No text if the mark alone is missing.
-fn of_end(alloc: Global, spot: &Spot<'_>, mark: Punctuation) -> Result<String, AllocError> {
+fn of_end(text: &mut TextBuilder, alloc: Global, spot: &Spot<'_>, mark: Punctuation) {
     match (mark, spot.within, spot.mark()) {
-        (Punctuation::Comma, Within::Use, _) => of_renamed(alloc, spot),
+        (Punctuation::Comma, Within::Use, _) => of_renamed(text, spot),
         (Punctuation::Comma, _, _) if is_function(spot) => {
-            with_name(alloc, "is a `}` missing before `#`?", spot.word_before())
+            text.push_all(&["is a `}` missing before `", spot.word_before(), "`?"]);
         }
         (Punctuation::Comma, Within::Angles, Some(Punctuation::Semicolon)) if precedes_type(spot) =>
-            { String::from_str(alloc, "write `,` instead of `;`") }
-        (Punctuation::Semicolon, _, None) => of_error_type(alloc, spot),
-        (Punctuation::Semicolon, Within::File, Some(Punctuation::At)) => of_at(alloc, spot),
-        (_, _, Some(found)) => String::from_str(alloc, for_other(spot.within, mark, found)),
-        _ => Ok(String::new(alloc)),
+            {
+                text.push("write `,` instead of `;`");
+            }
+        (Punctuation::Semicolon, _, None) => of_error_type(text, spot),
+        (Punctuation::Semicolon, Within::File, Some(Punctuation::At)) => of_at(text, alloc, spot),
+        (_, _, Some(found)) => text.push(for_other(spot.within, mark, found)),
+        _ => {}
     }
 }
 
 /// What the token tells that is found in place of a mark. No text if the mark alone is missing.
-fn of_found(alloc: Global, spot: &Spot<'_>, mark: Punctuation) -> Result<String, AllocError> {
+fn of_found(text: &mut TextBuilder, alloc: Global, spot: &Spot<'_>, mark: Punctuation) {
     let (word, before) = (spot.word(), spot.word_before());
     match (mark, spot.mark()) {
-        (_, Some(Punctuation::Less)) => of_less(alloc, spot, mark),
-        (Punctuation::Colon, _) => of_colon(alloc, spot),
-        (Punctuation::Comma | Punctuation::Semicolon, _) => of_end(alloc, spot, mark),
-        (Punctuation::Greater, Some(Punctuation::Comma)) => of_too_many(alloc, spot),
-        (_, None) if spot.is_version() => of_version(alloc, spot, mark),
+        (_, Some(Punctuation::Less)) => of_less(text, spot, mark),
+        (Punctuation::Colon, _) => of_colon(text, alloc, spot),
+        (Punctuation::Comma | Punctuation::Semicolon, _) => of_end(text, alloc, spot, mark),
+        (Punctuation::Greater, Some(Punctuation::Comma)) => of_too_many(text, spot),
+        (_, None) if spot.is_version() => of_version(text, spot, mark),
         (Punctuation::OpenParenthesis, Some(found))
             if found != Punctuation::CloseParenthesis && before == "func" => {
-            String::from_str(
-                alloc,
-                "write `func()`: a function has parentheses also without parameters",
-            )
+            text.push("write `func()`: a function has parentheses also without parameters");
         }
         (Punctuation::Less, found)
-            if found != Some(Punctuation::OpenParenthesis) && before != "result" => of_bare(
-            alloc, spot,
-        ),
+            if found != Some(Punctuation::OpenParenthesis) && before != "result" => {
+            text.push(of_bare(before));
+        }
         (Punctuation::Slash, Some(Punctuation::OpenParenthesis)) => {
-            with_name(alloc, "write `func` instead of `#`", before)
+            text.push_all(&["write `func` instead of `", before, "`"]);
         }
         (Punctuation::OpenBrace, None) if before == "." => {
-            with_name(alloc, "used names are in braces: write `{#}`", word)
+            text.push_all(&["used names are in braces: write `{", word, "}`"]);
         }
-        (_, Some(found)) => String::from_str(alloc, for_other(spot.within, mark, found)),
-        _ => Ok(String::new(alloc)),
+        (_, Some(found)) => text.push(for_other(spot.within, mark, found)),
+        _ => {}
     }
 }
 
@@ -420,21 +438,31 @@ fn missing(spot: &Spot<'_>, mark: Punctuation) -> Punctuation {
     }
 }
 
-/// What to do if this mark has to come. If what is found in its place tells nothing, where to write it, if the text can
-/// go on then: after the token before, if this is in an earlier line.
-pub fn of_mark(alloc: Global, spot: &Spot<'_>, mark: Punctuation) -> Result<String, AllocError> {
-    if !are_parameters_over(spot, mark) {
-        let found = of_found(alloc, spot, mark)?;
-        if !found.is_empty() {
-            return Ok(found);
-        }
-    }
-    let (mark, word) = (missing(spot, mark), spot.word_before());
+/// Where to write a mark that is missing, if the text can go on then: after the token before, if this is in an earlier
+/// line.
+fn of_missing(text: &mut TextBuilder, alloc: Global, spot: &Spot<'_>, mark: Punctuation) {
+    let mark = missing(spot, mark);
     if !may_go_on(spot, mark) {
-        return Ok(String::new(alloc));
+        return;
     }
+    text.push("write `");
+    text.push_made(mark.to_string(alloc));
     match earlier_line(spot) {
-        Some(line) => format!(in alloc; "write `{mark}` after `{word}`, in line {line}"),
-        None => format!(in alloc; "write `{mark}` before it"),
+        Some(line) => {
+            text.push_all(&["` after `", spot.word_before(), "`, in line "]);
+            text.push_number(line);
+        }
+        None => text.push("` before it"),
+    }
+}
+
+/// What to do if this mark has to come. If what is found in its place tells nothing, where to write it.
+pub fn of_mark(text: &mut TextBuilder, alloc: Global, spot: &Spot<'_>, mark: Punctuation) {
+    let before = text.as_str().len();
+    if !are_parameters_over(spot, mark) {
+        of_found(text, alloc, spot, mark);
+    }
+    if text.as_str().len() == before {
+        of_missing(text, alloc, spot, mark);
     }
 }

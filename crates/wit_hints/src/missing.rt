@@ -1,9 +1,10 @@
 //! What to do if a type, a name or a keyword has to come.
 
 use crate::types::{begins_type, is_type};
-use crate::words::{with_name, with_two};
-use near_names::{begins_function, declaration, nearest};
-use std::alloc::{AllocError, Global};
+use crate::words::near;
+use near_names::{begins_function, declaration};
+use std::alloc::Global;
+use text_builder::TextBuilder;
 use wit_places::{Spot, Within, keyword_at, mark_at, opener, word_at};
 use wit_text::{Keyword, Punctuation, TokenKind};
 
@@ -19,50 +20,42 @@ fn wants_type(spot: &Spot<'_>) -> bool {
 }
 
 /// What to do about a keyword that begins no type.
-fn of_no_type(alloc: Global, spot: &Spot<'_>, keyword: Keyword) -> Result<String, AllocError> {
+fn of_no_type(text: &mut TextBuilder, spot: &Spot<'_>, keyword: Keyword) {
     let word = spot.word();
+    text.push("a type has to come here");
     match (keyword, spot.within) {
-        (Keyword::Func, Within::Record) => String::from_str(
-            alloc,
-            "a type has to come here; is a `}` missing before the function?",
-        ),
+        (Keyword::Func, Within::Record) => text.push("; is a `}` missing before the function?"),
         (Keyword::Record | Keyword::Variant | Keyword::Enum | Keyword::Flags, _) => {
-            with_name(
-                alloc,
-                "a type has to come here: declare the #, and write its name",
-                word,
-            )
+            text.push_all(&[": declare the ", word, ", and write its name"]);
         }
-        _ => with_name(alloc, "a type has to come here, and `#` begins none", word),
+        _ => text.push_all(&[", and `", word, "` begins none"]),
+    }
+}
+
+/// What to do about a mark in place of a type.
+fn of_no_word(text: &mut TextBuilder, spot: &Spot<'_>, mark: Punctuation) {
+    let next = mark_at(spot.lexed, spot.index.saturating_add(1));
+    match mark {
+        Punctuation::OpenParenthesis if next == Some(Punctuation::CloseParenthesis) => {
+            text.push("write `_` instead of `()`");
+        }
+        Punctuation::OpenParenthesis => text.push("a tuple is written `tuple<..>`"),
+        Punctuation::OpenBrace => text.push("declare a record, and write its name"),
+        Punctuation::Comma if word_at(spot.lexed, spot.before.saturating_sub(1)) == "result" => {
+            text.push("write `_` for no value: `result<_, ..>`");
+        }
+        _ => text.push_all(&["a type is missing after `", spot.word_before(), "`"]),
     }
 }
 
 /// What to do if a type has to come.
-fn of_type(alloc: Global, spot: &Spot<'_>) -> Result<String, AllocError> {
-    if let Some(keyword) = keyword_at(spot.lexed, spot.index) {
-        return of_no_type(alloc, spot, keyword);
-    }
-    let next = mark_at(spot.lexed, spot.index.saturating_add(1));
-    match (spot.mark(), next) {
-        (Some(Punctuation::OpenParenthesis), Some(Punctuation::CloseParenthesis)) => {
-            String::from_str(alloc, "write `_` instead of `()`")
+fn of_type(text: &mut TextBuilder, spot: &Spot<'_>) {
+    match (keyword_at(spot.lexed, spot.index), spot.mark()) {
+        (Some(keyword), _) => of_no_type(text, spot, keyword),
+        (None, Some(mark)) => of_no_word(text, spot, mark),
+        (None, None) => {
+            text.push_all(&["a type has to come here, and `", spot.word(), "` is none"]);
         }
-        (Some(Punctuation::OpenParenthesis), _) => {
-            String::from_str(alloc, "a tuple is written `tuple<..>`")
-        }
-        (Some(Punctuation::OpenBrace), _) => {
-            String::from_str(alloc, "declare a record, and write its name")
-        }
-        (Some(Punctuation::Comma), _)
-            if word_at(spot.lexed, spot.before.saturating_sub(1)) == "result" => {
-            String::from_str(alloc, "write `_` for no value: `result<_, ..>`")
-        }
-        (Some(_), _) => with_name(alloc, "a type is missing after `#`", spot.word_before()),
-        (None, _) => with_name(
-            alloc,
-            "a type has to come here, and `#` is none",
-            spot.word(),
-        ),
     }
 }
 
@@ -93,241 +86,221 @@ fn is_item_at(spot: &Spot<'_>, index: usize) -> bool {
 }
 
 /// What to do about a keyword in place of a name: by default it can be escaped.
-fn of_keyword(alloc: Global, spot: &Spot<'_>, keyword: Keyword) -> Result<String, AllocError> {
+fn of_keyword(text: &mut TextBuilder, spot: &Spot<'_>, keyword: Keyword) {
     let next = spot.index.saturating_add(1);
     let is_named = mark_at(spot.lexed, next) == Some(Punctuation::Colon);
     let word = spot.word();
     match (keyword, spot.within) {
         (Keyword::Static | Keyword::Async | Keyword::Import | Keyword::Export, Within::Interface)
-            if is_item_at(spot, next) => { with_name(alloc, "leave out `#`", word) }
+            if is_item_at(spot, next) => {
+            text.push_all(&["leave out `", word, "`"]);
+        }
         (Keyword::Func, Within::Interface | Within::World) if !is_named => {
-            String::from_str(alloc, "a function is written `name: func(..)`")
+            text.push("a function is written `name: func(..)`");
         }
         (Keyword::Import | Keyword::Export, Within::Interface) if !is_named => {
-            with_name(
-                alloc,
-                "`#` is for worlds: in an interface, write `use`",
-                word,
-            )
+            text.push_all(&["`", word, "` is for worlds: in an interface, write `use`"]);
         }
         (Keyword::Interface | Keyword::World, Within::Interface) if !is_named => {
             let open = opener(spot.lexed, spot.index).unwrap_or(0);
             let name = word_at(spot.lexed, open.saturating_sub(1));
-            with_two(
-                alloc,
-                "close `#` with `}` before it: no # is in an interface",
-                name,
-                word,
-            )
+            text.push_all(&["close `", name, "` with `}` before it: no ", word]);
+            text.push(" is in an interface");
         }
         (Keyword::Interface, Within::World) => {
-            String::from_str(alloc, "leave it out: write the name of the interface alone")
+            text.push("leave it out: write the name of the interface alone");
         }
         (_, Within::Parameters | Within::Record) if is_type(keyword) && !is_named => {
-            let thing = thing(spot.within);
-            with_two(
-                alloc,
-                "# is `name: type`: write a name and `:` before `#`",
-                thing,
-                word,
-            )
+            text.push(thing(spot.within));
+            text.push_all(&[" is `name: type`: write a name and `:` before `", word, "`"]);
         }
         (_, Within::Interface) if is_type(keyword) && !is_named => {
-            with_name(alloc, "a function is written `name: func(..) -> #`", word)
+            text.push_all(&["a function is written `name: func(..) -> ", word, "`"]);
         }
-        _ => with_two(alloc, "`#` is a keyword: write `%#`", word, word),
+        _ => text.push_all(&["`", word, "` is a keyword: write `%", word, "`"]),
     }
 }
 
 /// What to do about a `::`, at the second colon: in a `use`, or in a path.
-fn of_colons(alloc: Global, spot: &Spot<'_>) -> Result<String, AllocError> {
+fn of_colons(text: &mut TextBuilder, spot: &Spot<'_>) {
     let first = spot.before.saturating_sub(1);
     let next = spot.index.saturating_add(1);
     let is_use = keyword_at(spot.lexed, first.saturating_sub(1)) == Some(Keyword::Use);
     let interface = word_at(spot.lexed, first);
     match (mark_at(spot.lexed, next), spot.lexed.name_at(next)) {
         (Some(Punctuation::OpenBrace), _) if is_use => {
-            with_name(alloc, "write `.` instead of `::`: `use #.{..};`", interface)
+            text.push_all(&["write `.` instead of `::`: `use ", interface, ".{..};`"]);
         }
         (None, Some(name))
             if is_use
                 && mark_at(spot.lexed, next.saturating_add(1)) == Some(Punctuation::Semicolon) => {
-            with_two(alloc, "a use is written `use #.{#};`", interface, name)
+            text.push_all(&["a use is written `use ", interface, ".{", name, "};`"]);
         }
-        _ => String::from_str(alloc, "a path is written `namespace:name/interface`"),
+        _ => text.push("a path is written `namespace:name/interface`"),
     }
 }
 
 /// What to do about a number in place of a name: it may be the front of a word.
-fn of_number(alloc: Global, spot: &Spot<'_>) -> Result<String, AllocError> {
-    let number = spot.word();
+fn of_number(text: &mut TextBuilder, spot: &Spot<'_>) {
     let next = spot.index.saturating_add(1);
-    match (spot.lexed.span_at(next), spot.lexed.name_at(next)) {
-        (Some(span), Some(name)) if span.start == spot.span.end => {
-            with_two(
-                alloc,
-                "a name begins with a letter: write `##`",
-                name,
-                number,
-            )
-        }
-        _ => String::from_str(alloc, "a name begins with a letter"),
+    text.push("a name begins with a letter");
+    if let (Some(span), Some(name)) = (spot.lexed.span_at(next), spot.lexed.name_at(next))
+        && span.start == spot.span.end
+    {
+        text.push_all(&[": write `", name, spot.word(), "`"]);
     }
 }
 
 /// What to do if a name has to come, and a mark or nothing does.
-fn of_no_name(alloc: Global, spot: &Spot<'_>) -> Result<String, AllocError> {
+fn of_no_name(text: &mut TextBuilder, spot: &Spot<'_>) {
     let (before, word) = (spot.word_before(), spot.word());
     let thing = thing(spot.within);
     match (mark_at(spot.lexed, spot.before), spot.mark()) {
-        (Some(Punctuation::Colon), Some(Punctuation::Colon)) => of_colons(alloc, spot),
+        (Some(Punctuation::Colon), Some(Punctuation::Colon)) => of_colons(text, spot),
         (None, Some(Punctuation::OpenBrace)) if before == "use" => {
-            String::from_str(alloc, "a use is written `use interface.{name};`")
+            text.push("a use is written `use interface.{name};`");
         }
         (None | Some(Punctuation::Colon | Punctuation::Slash), _) => {
-            with_name(alloc, "a name is missing after `#`", before)
+            text.push_all(&["a name is missing after `", before, "`"]);
         }
         (Some(Punctuation::Comma), Some(Punctuation::CloseParenthesis)) => {
-            String::from_str(alloc, "leave out the `,` before it")
+            text.push("leave out the `,` before it");
         }
         (_, Some(Punctuation::CloseBrace)) => {
-            with_name(alloc, "# has to come here: there is at least one", thing)
+            text.push_all(&[thing, " has to come here: there is at least one"]);
         }
         (_, Some(Punctuation::Semicolon | Punctuation::Comma)) => {
-            with_two(alloc, "# has to come here: leave out the `#`", thing, word)
+            text.push(thing);
+            text.push_all(&[" has to come here: leave out the `", word, "`"]);
         }
-        _ => with_name(alloc, "# has to come here", thing),
+        _ => text.push_all(&[thing, " has to come here"]),
+    }
+}
+
+/// Whether a token is a number.
+fn is_number(spot: &Spot<'_>) -> bool {
+    match spot.lexed.tokens.get(spot.index) {
+        Some(token) => token.kind == TokenKind::Integer,
+        None => false,
     }
 }
 
 /// What to do if a type or a name has to come.
-pub fn of_identifier(alloc: Global, spot: &Spot<'_>) -> Result<String, AllocError> {
+pub fn of_identifier(text: &mut TextBuilder, spot: &Spot<'_>) {
     if wants_type(spot) {
-        return of_type(alloc, spot);
+        of_type(text, spot);
+    } else if let Some(keyword) = keyword_at(spot.lexed, spot.index) {
+        of_keyword(text, spot, keyword);
+    } else if spot.lexed.name_at(spot.index).is_some() {
+        text.push("the name of a package is in lower case");
+    } else if is_number(spot) {
+        of_number(text, spot);
+    } else {
+        of_no_name(text, spot);
     }
-    if let Some(keyword) = keyword_at(spot.lexed, spot.index) {
-        return of_keyword(alloc, spot, keyword);
+}
+
+/// What to do about a word in place of `func`, before parentheses.
+fn of_no_func(text: &mut TextBuilder, alloc: Global, word: &str) {
+    match near(text, alloc, word, &["func"]) {
+        Some(name) => text.push_all(&["did you mean `", name, "`?"]),
+        None => text.push_all(&["write `func` instead of `", word, "`"]),
     }
-    if spot.lexed.name_at(spot.index).is_some() {
-        return String::from_str(alloc, "the name of a package is in lower case");
-    }
-    if let Some(token) = spot.lexed.tokens.get(spot.index)
-        && token.kind == TokenKind::Integer
-    {
-        return of_number(alloc, spot);
-    }
-    of_no_name(alloc, spot)
 }
 
 /// What to do if `func` has to come.
-fn of_func(alloc: Global, spot: &Spot<'_>) -> Result<String, AllocError> {
+fn of_func(text: &mut TextBuilder, alloc: Global, spot: &Spot<'_>) {
     let word = spot.word();
-    if begins_function(word) {
-        return with_name(alloc, "write `func` instead of `#`", word);
-    }
     let next = spot.index.saturating_add(1);
     match (spot.mark(), mark_at(spot.lexed, next)) {
-        (Some(Punctuation::OpenParenthesis), _) => String::from_str(
-            alloc,
-            "write `func` before it",
-        ),
-        (None, Some(Punctuation::OpenParenthesis)) => {
-            match nearest(alloc, word, &["func"])? {
-                Some(name) => with_name(alloc, "did you mean `#`?", name),
-                None => with_name(alloc, "write `func` instead of `#`", word),
-            }
-        }
+        _ if begins_function(word) => text.push_all(&["write `func` instead of `", word, "`"]),
+        (Some(Punctuation::OpenParenthesis), _) => text.push("write `func` before it"),
+        (None, Some(Punctuation::OpenParenthesis)) => of_no_func(text, alloc, word),
         (None, Some(Punctuation::Semicolon)) if begins_type(spot) => {
-            with_name(
-                alloc,
-                "an interface has no fields: write `func() -> #`, or a record",
-                word,
-            )
+            text.push_all(&["an interface has no fields: write `func() -> ", word]);
+            text.push("`, or a record");
         }
         (None, Some(Punctuation::Less)) if begins_type(spot) => {
-            String::from_str(
-                alloc,
-                "an interface has no fields: write `func() ->` before the type, or a record",
-            )
+            text.push("an interface has no fields: write `func() ->` before the type, or a record");
         }
         (None, _) if keyword_at(spot.lexed, next) == Some(Keyword::Func) => {
-            with_name(alloc, "leave out `#`", word)
+            text.push_all(&["leave out `", word, "`"]);
         }
-        _ => String::from_str(alloc, "a function is written `name: func(..)`"),
+        _ => text.push("a function is written `name: func(..)`"),
     }
 }
 
+/// The words that begin what an interface has.
+static OF_INTERFACES: [&str; 6] = ["record", "variant", "enum", "flags", "type", "use"];
+
 /// Whether a word of a file begins what an interface has.
-fn is_of_interface(alloc: Global, spot: &Spot<'_>) -> Result<bool, AllocError> {
+fn is_of_interface(text: &mut TextBuilder, alloc: Global, spot: &Spot<'_>) -> bool {
     let word = spot.word();
-    let near = nearest(
-        alloc,
-        word,
-        &["record", "variant", "enum", "flags", "type", "use"],
-    )?;
-    Ok(
-        near.is_some()
-            || spot.lexed.is_named(spot.index)
-            || begins_function(word)
-            || declaration(word).is_some(),
-    )
+    near(text, alloc, word, &OF_INTERFACES).is_some()
+        || spot.lexed.is_named(spot.index)
+        || begins_function(word)
+        || declaration(word).is_some()
 }
 
 /// What to do about a word where an interface or a world has to come.
-fn of_file_word(alloc: Global, spot: &Spot<'_>) -> Result<String, AllocError> {
+fn of_file_word(text: &mut TextBuilder, alloc: Global, spot: &Spot<'_>) {
     let word = spot.word();
-    if let Some(name) = nearest(alloc, word, &["interface", "world"])? {
-        return with_name(alloc, "did you mean `#`?", name);
+    if let Some(name) = near(text, alloc, word, &["interface", "world"]) {
+        text.push_all(&["did you mean `", name, "`?"]);
+    } else if declaration(word) == Some("interface") {
+        text.push_all(&["write `interface` instead of `", word, "`"]);
+    } else if is_of_interface(text, alloc, spot) {
+        text.push("put it into an interface: `interface NAME { .. }`");
+    } else {
+        text.push("an interface or a world has to come here");
     }
-    if declaration(word) == Some("interface") {
-        return with_name(alloc, "write `interface` instead of `#`", word);
-    }
-    if is_of_interface(alloc, spot)? {
-        return String::from_str(alloc, "put it into an interface: `interface NAME { .. }`");
-    }
-    String::from_str(alloc, "an interface or a world has to come here")
 }
 
 /// What to do if an interface or a world has to come.
-fn of_file(alloc: Global, spot: &Spot<'_>) -> Result<String, AllocError> {
-    let word = spot.word();
+fn of_file(text: &mut TextBuilder, alloc: Global, spot: &Spot<'_>) {
     let next = keyword_at(spot.lexed, spot.index.saturating_add(1));
-    let hint = match (spot.mark(), keyword_at(spot.lexed, spot.index)) {
-        (Some(Punctuation::CloseBrace), _) => "leave it out: all braces are closed before it",
-        (Some(Punctuation::Semicolon), _) => "leave it out: no `;` comes here",
-        (Some(_), _) => "an interface or a world has to come here",
+    match (spot.mark(), keyword_at(spot.lexed, spot.index)) {
+        (Some(Punctuation::CloseBrace), _) => {
+            text.push("leave it out: all braces are closed before it");
+        }
+        (Some(Punctuation::Semicolon), _) => text.push("leave it out: no `;` comes here"),
+        (Some(_), _) => text.push("an interface or a world has to come here"),
         (None, _) if matches!(next, Some(Keyword::Interface | Keyword::World)) => {
-            return with_name(alloc, "leave out `#`", word);
+            text.push_all(&["leave out `", spot.word(), "`"]);
         }
         (None, Some(Keyword::Import | Keyword::Export | Keyword::Include)) => {
-            "put it into a world: `world NAME { .. }`"
+            text.push("put it into a world: `world NAME { .. }`");
         }
-        (None, Some(_)) => "put it into an interface: `interface NAME { .. }`",
-        (None, None) => return of_file_word(alloc, spot),
-    };
-    String::from_str(alloc, hint)
+        (None, Some(_)) => text.push("put it into an interface: `interface NAME { .. }`"),
+        (None, None) => of_file_word(text, alloc, spot),
+    }
 }
 
-/// What to do if a keyword has to come.
-pub fn of_missing_keyword(
-    alloc: Global,
-    spot: &Spot<'_>,
-    keyword: Keyword,
-) -> Result<String, AllocError> {
-    let near: &[&str] = match keyword {
-        Keyword::Func => return of_func(alloc, spot),
-        Keyword::Interface => return of_file(alloc, spot),
-        Keyword::Package => &["package"],
-        _ => &["import", "export", "include", "use", "type"],
-    };
-    if let Some(name) = nearest(alloc, spot.word(), near)? {
-        return with_name(alloc, "did you mean `#`?", name);
-    }
-    let hint = match keyword {
+/// What to do if a keyword has to come that none of the words is near to which may come.
+fn of_no_keyword(spot: &Spot<'_>, keyword: Keyword) -> &'static str {
+    match keyword {
         Keyword::Package =>
             "begin the file with `package NAMESPACE:NAME;`, or give it with files of one package",
         _ if spot.mark() == Some(Punctuation::Semicolon) => "leave it out: no `;` comes here",
         _ => "a world has imports and exports: write `import` or `export`",
+    }
+}
+
+/// What to do if a keyword has to come.
+pub fn of_missing_keyword(
+    text: &mut TextBuilder,
+    alloc: Global,
+    spot: &Spot<'_>,
+    keyword: Keyword,
+) {
+    let words: &[&str] = match keyword {
+        Keyword::Func => return of_func(text, alloc, spot),
+        Keyword::Interface => return of_file(text, alloc, spot),
+        Keyword::Package => &["package"],
+        _ => &["import", "export", "include", "use", "type"],
     };
-    String::from_str(alloc, hint)
+    match near(text, alloc, spot.word(), words) {
+        Some(name) => text.push_all(&["did you mean `", name, "`?"]),
+        None => text.push(of_no_keyword(spot, keyword)),
+    }
 }

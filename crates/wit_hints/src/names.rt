@@ -3,9 +3,9 @@
 use crate::features::NO_FLOATS;
 use crate::scopes::{Twins, find_twins};
 use crate::source_lines::place_at;
-use crate::words::{with_name, with_two};
 use near_names::{is_float, is_nothing, nearest, type_for};
 use std::alloc::{AllocError, Global};
+use text_builder::TextBuilder;
 use wit_places::{Declarations, Lexed, names_of_types};
 
 /// The words that are types.
@@ -27,83 +27,94 @@ fn nearest_type<'a>(
     nearest(alloc, word, names.as_slice())
 }
 
-/// What to do about a type of another language.
-fn of_other_type(alloc: Global, word: &str) -> Result<String, AllocError> {
+/// What to do about a name that is no type of another language.
+fn of_other_name(text: &mut TextBuilder, alloc: Global, lexed: &Lexed<'_>, word: &str) {
+    match nearest_type(alloc, lexed, word) {
+        Ok(Some(name)) => text.push_all(&["no `", word, "` here; did you mean `", name, "`?"]),
+        Ok(None) => {
+            text.push_all(&[
+                "declare `",
+                word,
+                "`, or `use` it from the interface that has it",
+            ]);
+        }
+        Err(_) => text.refuse(),
+    }
+}
+
+/// What to do about a name that no interface of its text declares. It may be a type of another language.
+fn of_undeclared(text: &mut TextBuilder, alloc: Global, lexed: &Lexed<'_>, word: &str) {
     if is_float(word) {
-        return String::from_str(alloc, NO_FLOATS);
-    }
-    if is_nothing(word) {
-        return with_two(
-            alloc,
-            "no `#` here: leave out `-> #`, or write `_` in a result",
+        text.push(NO_FLOATS);
+    } else if is_nothing(word) {
+        text.push_all(&[
+            "no `",
             word,
+            "` here: leave out `-> ",
             word,
-        );
-    }
-    match type_for(word) {
-        Some(name) => with_two(alloc, "no `#` here; WIT has `#`", word, name),
-        None => Ok(String::new(alloc)),
+            "`, or write `_` in a result",
+        ]);
+    } else if let Some(name) = type_for(word) {
+        text.push_all(&["no `", word, "` here; WIT has `"]);
+        text.push(name);
+        text.push("`");
+    } else {
+        of_other_name(text, alloc, lexed, word);
     }
 }
 
 /// What to do about a name that stands for nothing.
-pub fn hint_of_unknown(alloc: Global, lexed: &Lexed<'_>, word: &str) -> Result<String, AllocError> {
-    if let Some(interface) = Declarations::of(alloc, lexed)?.interface_with(word) {
-        return with_two(
-            alloc,
-            "write `use #.{#};` in this interface",
-            interface,
-            word,
-        );
-    }
-    let other = of_other_type(alloc, word)?;
-    if !other.is_empty() {
-        return Ok(other);
-    }
-    match nearest_type(alloc, lexed, word)? {
-        Some(name) => with_two(alloc, "no `#` here; did you mean `#`?", word, name),
-        None => with_name(
-            alloc,
-            "declare `#`, or `use` it from the interface that has it",
-            word,
-        ),
+pub fn hint_of_unknown(text: &mut TextBuilder, alloc: Global, lexed: &Lexed<'_>, word: &str) {
+    match Declarations::of(alloc, lexed) {
+        Ok(declarations) => match declarations.interface_with(word) {
+            Some(interface) => {
+                text.push_all(&[
+                    "write `use ",
+                    interface,
+                    ".{",
+                    word,
+                    "};` in this interface",
+                ]);
+            }
+            None => of_undeclared(text, alloc, lexed, word),
+        },
+        Err(_) => text.refuse(),
     }
 }
 
 /// Where a name is: in which line, or in which column of the line of another one.
-fn line_or_column(alloc: Global, lexed: &Lexed<'_>, twins: &Twins) -> Result<String, AllocError> {
+fn push_place(text: &mut TextBuilder, lexed: &Lexed<'_>, twins: &Twins) {
     let first = place_at(lexed.text, twins.first.start);
     match (first, place_at(lexed.text, twins.second.start)) {
         (Some(first), Some(second)) if first.line == second.line => {
-            format!(in alloc; "column {}", first.column)
+            text.push("column ");
+            text.push_number(first.column);
         }
-        (Some(first), _) => format!(in alloc; "line {}", first.line),
-        (None, _) => Ok(String::new(alloc)),
+        (Some(first), _) => {
+            text.push("line ");
+            text.push_number(first.line);
+        }
+        (None, _) => {}
     }
 }
 
 /// What to do about a name that its scope has before. It may be the full name of an interface.
-pub fn hint_of_duplicate(
-    alloc: Global,
-    lexed: &Lexed<'_>,
-    name: &str,
-) -> Result<String, AllocError> {
+pub fn hint_of_duplicate(text: &mut TextBuilder, lexed: &Lexed<'_>, name: &str) {
     let Some(twins) = find_twins(lexed, name) else {
-        return String::from_str(alloc, "leave out one of the two");
+        return text.push("leave out one of the two");
     };
-    let place = line_or_column(alloc, lexed, &twins)?;
-    let place = place.as_str();
     let (first, second) = (lexed.at(twins.first), lexed.at(twins.second));
     if name.rsplit_once('/').is_some() {
-        return with_name(alloc, "leave out one: the first is in #", place);
+        text.push("leave out one: the first is in ");
+        push_place(text, lexed, &twins);
+    } else if first.strip_prefix("%").unwrap_or(first)
+        == second.strip_prefix("%").unwrap_or(second)
+    {
+        text.push("rename one: the first is in ");
+        push_place(text, lexed, &twins);
+    } else {
+        text.push_all(&["rename one: `", first, "` in "]);
+        push_place(text, lexed, &twins);
+        text.push(" differs in the case of letters alone");
     }
-    if first.strip_prefix("%").unwrap_or(first) == second.strip_prefix("%").unwrap_or(second) {
-        return with_name(alloc, "rename one: the first is in #", place);
-    }
-    with_two(
-        alloc,
-        "rename one: `#` in # differs in the case of letters alone",
-        first,
-        place,
-    )
 }

@@ -1,13 +1,14 @@
 //! What to do about a fault that is found as a text is read.
 
-use crate::bad::{of_bad, of_name};
+use crate::bad::{Renamed, of_bad, of_name};
 use crate::earlier::earlier_line;
 use crate::features::of_feature;
 use crate::marks::of_mark;
 use crate::missing::{of_identifier, of_missing_keyword};
 use crate::versions::of_at;
 use near_names::kebab;
-use std::alloc::{AllocError, Global};
+use std::alloc::Global;
+use text_builder::TextBuilder;
 use wit_places::{Lexed, Spot, Within, keyword_at};
 use wit_text::{Expected, Keyword, Punctuation, Span, TextError};
 
@@ -42,17 +43,21 @@ fn underscore_at(lexed: &Lexed<'_>, span: Span) -> Option<Span> {
     (next.start == span.end && lexed.is_underscore(next)).then_some(next)
 }
 
+/// What to do about a `_` in a word: it is written otherwise.
+fn of_joined(text: &mut TextBuilder, alloc: Global, lexed: &Lexed<'_>, span: Span) {
+    let name = text.kept(kebab(alloc, lexed.at(span)));
+    let name = name.as_str();
+    of_name(text, alloc, Renamed { lexed, span, name });
+}
+
 /// What to do about a `_` that is not allowed where it is: it is in a name, or in a result.
-fn of_underscore(alloc: Global, spot: &Spot<'_>) -> Result<String, AllocError> {
+fn of_underscore(text: &mut TextBuilder, alloc: Global, spot: &Spot<'_>) {
     if matches!(spot.within, Within::Angles) && spot.word_before() == "," {
-        return String::from_str(alloc, "leave out the `_` and the `,` before it");
+        return text.push("leave out the `_` and the `,` before it");
     }
     match word_around(spot) {
-        Some(word) if word.end > spot.span.end => {
-            let name = kebab(alloc, spot.lexed.at(word))?;
-            of_name(alloc, spot.lexed, word, name.as_str())
-        }
-        _ => String::from_str(alloc, "names are joined by `-`, not by `_`"),
+        Some(word) if word.end > spot.span.end => of_joined(text, alloc, spot.lexed, word),
+        _ => text.push("names are joined by `-`, not by `_`"),
     }
 }
 
@@ -62,55 +67,45 @@ fn begins_comment(spot: &Spot<'_>) -> bool {
 }
 
 /// What to do if another token has to come.
-fn of_expected(alloc: Global, spot: &Spot<'_>, expected: Expected) -> Result<String, AllocError> {
+fn of_expected(text: &mut TextBuilder, alloc: Global, spot: &Spot<'_>, expected: Expected) {
     let is_end = spot.span.start >= spot.lexed.text.len() && !matches!(spot.within, Within::File);
     match expected {
         Expected::Punctuation(Punctuation::Semicolon) => {
-            of_mark(alloc, spot, Punctuation::Semicolon)
+            of_mark(text, alloc, spot, Punctuation::Semicolon);
         }
         Expected::Identifier | Expected::Keyword(_) if begins_comment(spot) => {
-            String::from_str(alloc, "a comment begins with `//`")
+            text.push("a comment begins with `//`");
         }
-        _ if is_end => String::from_str(alloc, "the file ends here; is a `}` missing?"),
-        Expected::Punctuation(mark) => of_mark(alloc, spot, mark),
-        Expected::Keyword(Keyword::As) => of_mark(alloc, spot, Punctuation::Comma),
-        Expected::Keyword(keyword) => of_missing_keyword(alloc, spot, keyword),
-        Expected::Identifier => of_identifier(alloc, spot),
-        Expected::Version => of_at(alloc, spot),
+        _ if is_end => text.push("the file ends here; is a `}` missing?"),
+        Expected::Punctuation(mark) => of_mark(text, alloc, spot, mark),
+        Expected::Keyword(Keyword::As) => of_mark(text, alloc, spot, Punctuation::Comma),
+        Expected::Keyword(keyword) => of_missing_keyword(text, alloc, spot, keyword),
+        Expected::Identifier => of_identifier(text, spot),
+        Expected::Version => of_at(text, alloc, spot),
     }
 }
 
 /// What to do if another token has to come than the one at a place.
-fn of_unexpected(
-    alloc: Global,
-    lexed: &Lexed<'_>,
-    expected: Expected,
-    span: Span,
-) -> Result<String, AllocError> {
-    match underscore_at(lexed, span) {
-        Some(underscore) => of_underscore(alloc, &Spot::of(lexed, underscore)),
-        None => of_expected(alloc, &Spot::of(lexed, span), expected),
+fn of_unexpected(text: &mut TextBuilder, alloc: Global, spot: &Spot<'_>, expected: Expected) {
+    match underscore_at(spot.lexed, spot.span) {
+        Some(underscore) => of_underscore(text, alloc, &Spot::of(spot.lexed, underscore)),
+        None => of_expected(text, alloc, spot, expected),
     }
 }
 
-/// What to do about a fault of a text.
-pub fn hint_of_text(
-    alloc: Global,
-    lexed: &Lexed<'_>,
-    error: &TextError,
-) -> Result<String, AllocError> {
-    let hint = match error {
-        TextError::BadChar(span) => return of_bad(alloc, lexed, *span),
+/// Appends what to do about a fault of a text.
+pub fn hint_of_text(text: &mut TextBuilder, alloc: Global, lexed: &Lexed<'_>, error: &TextError) {
+    match error {
+        TextError::BadChar(span) => of_bad(text, alloc, lexed, *span),
         TextError::Expected(expected, span) => {
-            return of_unexpected(alloc, lexed, *expected, *span);
+            of_unexpected(text, alloc, &Spot::of(lexed, *span), *expected);
         }
         TextError::Unsupported(feature, span) => {
-            return of_feature(alloc, &Spot::of(lexed, *span), *feature);
+            of_feature(text, &Spot::of(lexed, *span), *feature);
         }
-        TextError::OpenComment(_) => "close it with `*/`; comments nest",
-        TextError::Depth(_) => "give a part of the type a name",
-        TextError::NoMemory => MORE_MEMORY,
-        TextError::Limit => "split the package",
-    };
-    String::from_str(alloc, hint)
+        TextError::OpenComment(_) => text.push("close it with `*/`; comments nest"),
+        TextError::Depth(_) => text.push("give a part of the type a name"),
+        TextError::NoMemory => text.push(MORE_MEMORY),
+        TextError::Limit => text.push("split the package"),
+    }
 }

@@ -1,7 +1,6 @@
 //! What to do about types in `<` and `>`: too many of them, or none.
 
-use crate::words::{with_name, with_two};
-use std::alloc::{AllocError, Global};
+use text_builder::TextBuilder;
 use wit_places::{Lexed, Spot, commas_between, keyword_at, mark_at, opener, word_at};
 use wit_text::{Keyword, Punctuation};
 
@@ -57,28 +56,28 @@ pub fn may_have_next(lexed: &Lexed<'_>, index: usize) -> bool {
 }
 
 /// What to do about a `,` after the last type that a list, an option or a result may have.
-pub fn of_too_many(alloc: Global, spot: &Spot<'_>) -> Result<String, AllocError> {
+pub fn of_too_many(text: &mut TextBuilder, spot: &Spot<'_>) {
     let open = opener(spot.lexed, spot.index).unwrap_or(0);
     let word = word_at(spot.lexed, open.saturating_sub(1));
     let rule = match word {
         "list" => "a list has one type",
         "option" => "an option has one type",
         "result" => "a result has at most two types, its value and its error",
-        _ => return Ok(String::new(alloc)),
+        _ => return,
     };
+    text.push(rule);
     let next = spot.index.saturating_add(1);
     if may_have_next(spot.lexed, open) || spot.lexed.is_named(next) {
-        let before = spot.word_before();
-        return with_two(alloc, "#; is a `>` missing after `#`?", rule, before);
+        text.push_all(&["; is a `>` missing after `", spot.word_before(), "`?"]);
+    } else if word == "result" {
+        text.push(": put more into a `tuple`");
+    } else {
+        text.push_all(&[": for two write `", word, "<tuple<..>>`"]);
     }
-    if word == "result" {
-        return with_name(alloc, "#: put more into a `tuple`", rule);
-    }
-    with_two(alloc, "#: for two write `#<tuple<..>>`", rule, word)
 }
 
 /// What to do about a type after a result that has none for its error. No text if it is something else.
-pub fn of_error_type(alloc: Global, spot: &Spot<'_>) -> Result<String, AllocError> {
+pub fn of_error_type(text: &mut TextBuilder, spot: &Spot<'_>) {
     let open = opener(spot.lexed, spot.before).unwrap_or(0);
     let name = open.saturating_sub(1);
     let next = mark_at(spot.lexed, spot.index.saturating_add(1));
@@ -88,23 +87,26 @@ pub fn of_error_type(alloc: Global, spot: &Spot<'_>) -> Result<String, AllocErro
         && begins_type(spot);
     let (Some(first), Some(last)) = (spot.lexed.span_at(name), spot.lexed.span_at(spot.before))
     else {
-        return Ok(String::new(alloc));
+        return;
     };
     let front = spot.lexed.text.get(first.start..last.start).unwrap_or(",");
-    if !is_error || front.contains(',') {
-        return Ok(String::new(alloc));
+    if is_error && !front.contains(',') {
+        text.push_all(&[
+            "a result with an error is `",
+            front,
+            ", ",
+            spot.word(),
+            ">`",
+        ]);
     }
-    let word = spot.word();
-    with_two(alloc, "a result with an error is `#, #>`", front, word)
 }
 
 /// What to do about a word that holds types, without them. No text if it is no such word.
-pub fn of_bare(alloc: Global, spot: &Spot<'_>) -> Result<String, AllocError> {
-    let rule = match spot.word_before() {
+pub fn of_bare(word: &str) -> &'static str {
+    match word {
         "list" => "a list has a type: write `list<..>`",
         "option" => "an option has a type: write `option<..>`",
         "tuple" => "a tuple has types: write `tuple<..>`",
         _ => "",
-    };
-    String::from_str(alloc, rule)
+    }
 }

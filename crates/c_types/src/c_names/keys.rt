@@ -2,7 +2,7 @@
 
 use sha2::{Digest, Sha256};
 use std::alloc::{AllocError, Global};
-use std::fmt::Write;
+use text_builder::TextBuilder;
 
 /// The most letters of the key of a type without a name.
 const MAX_KEY: usize = 120;
@@ -16,10 +16,11 @@ pub fn short_key(alloc: Global, word: &str, key: String) -> Result<String, Alloc
         return Ok(key);
     }
     let digest = Sha256::digest(key.as_bytes());
-    let mut short = format!(in alloc; "{word}_x")?;
+    let mut short = TextBuilder::new(alloc);
+    short.push_all(&[word, "_x"]);
     for index in 0..TOLD {
         let byte = digest[index];
-        write!(short, "{byte:02x}")?;
+        short.push_made(format!(in alloc; "{byte:02x}"));
     }
-    Ok(short)
+    short.finish()
 }

@@ -1,10 +1,11 @@
 //! Names without what the names of their package begin with.
 
 use crate::c_names::names::Names;
-use crate::c_names::words::{is_reserved, push_words};
+use crate::c_names::words::is_reserved;
 use atoms::KeyedState;
 use indexmap::IndexSet;
 use std::alloc::{AllocError, Global};
+use text_builder::TextBuilder;
 
 /// What a name in C is of.
 #[derive(Clone, Copy)]
@@ -43,37 +44,36 @@ fn is_foreign(name: &str) -> bool {
 
 /// A name without its first letters.
 fn without_first(alloc: Global, name: &str, count: usize) -> Result<String, AllocError> {
-    let mut rest = String::new(alloc);
+    let mut rest = TextBuilder::new(alloc);
     for character in name.chars().skip(count) {
-        rest.push(character)?;
+        rest.push_char(character);
     }
-    Ok(rest)
+    rest.finish()
 }
 
 /// A name of a type without a name, of which the parts lose what the names of their package begin with.
 fn without_each(alloc: Global, name: &str, front: &str) -> Result<String, AllocError> {
-    let (mut made, mut rest) = (String::new(alloc), name);
+    let (mut made, mut rest) = (TextBuilder::new(alloc), name);
     for _ in 0..name.len() {
         let Some((before, after)) = rest.split_once(front) else {
             break;
         };
-        made.push_str(before)?;
+        made.push(before);
         rest = after;
     }
-    made.push_str(rest)?;
-    Ok(made)
+    made.push(rest);
+    made.finish()
 }
 
 /// Writes the line that defines a short name.
-fn push_line(text: &mut String, name: &ShortName) -> Result<(), AllocError> {
+fn push_line(text: &mut TextBuilder, name: &ShortName) {
     let (full, short) = (name.full.as_str(), name.short.as_str());
     match name.kind {
-        NameKind::Type => push_words(text, &["typedef ", full, " ", short, ";\n"]),
-        NameKind::Function => push_words(
-            text,
-            &["#define ", short, "(...) ", full, "(__VA_ARGS__)\n"],
-        ),
-        NameKind::Constant => push_words(text, &["#define ", short, " ", full, "\n"]),
+        NameKind::Type => text.push_all(&["typedef ", full, " ", short, ";\n"]),
+        NameKind::Function => {
+            text.push_all(&["#define ", short, "(...) ", full, "(__VA_ARGS__)\n"])
+        }
+        NameKind::Constant => text.push_all(&["#define ", short, " ", full, "\n"]),
     }
 }
 
@@ -127,13 +127,12 @@ impl ShortNames {
     }
 
     /// Writes the lines that define the short names that nothing else has.
-    pub fn push_lines(&self, text: &mut String, names: &Names) -> Result<(), AllocError> {
+    pub fn push_lines(&self, text: &mut TextBuilder, names: &Names) {
         for name in &self.list {
             let short = name.short.as_str();
             if !self.repeated.contains(short) && !names.has(short) {
-                push_line(text, name)?;
+                push_line(text, name);
             }
         }
-        Ok(())
     }
 }

@@ -1,6 +1,7 @@
 //! Labels as names in C.
 
 use std::alloc::{AllocError, Global};
+use text_builder::TextBuilder;
 
 /// What a field can't be called: words of C and C++, and macros of their standard headers. Labels are written in lower
 /// case.
@@ -15,14 +16,6 @@ struct switch synchronized template this thread_local throw true try typedef typ
 union unix unsigned using virtual void volatile wchar_t while xor xor_eq
 ";
 
-/// Appends words.
-pub fn push_words(text: &mut String, words: &[&str]) -> Result<(), AllocError> {
-    for word in words {
-        text.push_str(word)?;
-    }
-    Ok(())
-}
-
 pub(crate) fn is_reserved(word: &str) -> bool {
     for reserved in RESERVED.split_whitespace() {
         if reserved == word {
@@ -32,24 +25,30 @@ pub(crate) fn is_reserved(word: &str) -> bool {
     false
 }
 
-/// A label or a version as a part of a name: its letters in lower case and its digits, and `_` for all else.
-pub fn c_word(alloc: Global, label: &str) -> Result<String, AllocError> {
-    let mut word = String::new(alloc);
+/// Appends a label or a version as a part of a name.
+fn push_word(text: &mut TextBuilder, label: &str) {
     for character in label.chars() {
-        word.push(if character.is_ascii_alphanumeric() {
+        text.push_char(if character.is_ascii_alphanumeric() {
             character.to_ascii_lowercase()
         } else {
             '_'
-        })?;
+        });
     }
-    Ok(word)
+}
+
+/// A label or a version as a part of a name: its letters in lower case and its digits, and `_` for all else.
+pub fn c_word(alloc: Global, label: &str) -> Result<String, AllocError> {
+    let mut word = TextBuilder::new(alloc);
+    push_word(&mut word, label);
+    word.finish()
 }
 
 /// A label as the name of a field. One that is a word of C or C++, or a macro of their headers, ends in `_`.
 pub fn c_label(alloc: Global, label: &str) -> Result<String, AllocError> {
-    let mut word = c_word(alloc, label)?;
+    let mut word = TextBuilder::new(alloc);
+    push_word(&mut word, label);
     if is_reserved(word.as_str()) {
-        word.push('_')?;
+        word.push_char('_');
     }
-    Ok(word)
+    word.finish()
 }

@@ -3,9 +3,7 @@
 use crate::decoded_packages::docs::check_docs;
 use crate::decoded_packages::form::FormWriter;
 use crate::decoded_packages::packages::{Found, PackageText, Packages};
-use crate::decoded_packages::writer::{
-    Writer, instance_at, interface_name, is_same_package, push_label, push_path,
-};
+use crate::decoded_packages::writer::{Writer, instance_at, interface_name, is_same_package};
 use atoms::FullName;
 use component_decoding::{
     DecodeError, Exported, Extern, Fault, Feature, InstanceId, Scope, ScopeId, Structure, What,
@@ -85,12 +83,12 @@ impl<'a> Exports<'a> {
     /// A text of a scope that begins.
     fn writer(&self, scope: &Scope, place: usize) -> Writer<'a> {
         Writer {
-            alloc: self.alloc,
             structure: self.structure,
             scope: scope.number,
             place,
             text: String::new(self.alloc),
             room: self.room.min(MAX_TEXT),
+            fault: None,
         }
     }
 
@@ -110,6 +108,7 @@ impl<'a> Exports<'a> {
             return Ok(None);
         };
         let form = FormWriter {
+            alloc: self.alloc,
             writer: self.writer(scope, item.place),
             direction: item.direction,
             name,
@@ -154,20 +153,20 @@ impl<'a> Exports<'a> {
         writer: &mut Writer<'_>,
     ) -> Result<(), DecodeError> {
         writer.place = item.place;
-        writer.put(word_of(item.direction))?;
+        writer.put(word_of(item.direction));
+        writer.done()?;
         match &item.what {
             What::Instance(id) => {
                 if let Some(name) = self.read_interface(holder, item, *id)? {
-                    let mut path = String::new(self.alloc);
-                    push_path(&mut path, own, name)?;
-                    writer.put(path.as_str())?;
+                    writer.put_path(own, name);
                 }
-                writer.put(";\n")
+                writer.put(";\n");
             }
             What::Function { name, ty } => writer.put_function(name, *ty),
-            What::Type(_) => Err(writer.fault(Fault::Outside(Feature::TypeOfWorld))),
-            What::Component { .. } => Err(writer.fault(Fault::WrongSort)),
+            What::Type(_) => writer.refuse(Fault::Outside(Feature::TypeOfWorld)),
+            What::Component { .. } => writer.refuse(Fault::WrongSort),
         }
+        writer.done()
     }
 
     /// Reads a world.
@@ -181,15 +180,15 @@ impl<'a> Exports<'a> {
             scope,
             is_world: true,
         };
-        let mut head = String::from_str(self.alloc, "world ")?;
-        push_label(&mut head, &name.name)?;
         let mut writer = self.writer(scope, place);
-        writer.put(head.as_str())?;
-        writer.put(" {\n")?;
+        writer.put("world ");
+        writer.put_label(&name.name);
+        writer.put(" {\n");
         for item in &scope.externs {
             self.put_item(holder, name, item, &mut writer)?;
         }
-        writer.put("}\n")?;
+        writer.put("}\n");
+        writer.done()?;
         self.room = self.room.saturating_sub(writer.text.len());
         self.packages.add_world(name, writer.text)
     }

@@ -1,11 +1,12 @@
 //! The packages that interfaces and worlds are of.
 
 use crate::decoded_packages::form::Form;
-use crate::decoded_packages::writer::push_label;
+use crate::decoded_packages::writer::is_marked;
 use atoms::{FullName, Label};
 use component_decoding::{DecodeError, Fault};
 use std::alloc::{AllocError, Global};
 use std::collections::BTreeMap;
+use text_builder::TextBuilder;
 
 /// An interface.
 #[derive(Drop)]
@@ -65,17 +66,22 @@ pub struct Packages {
     interfaces: BTreeMap<String, Place>,
 }
 
+/// Appends a label, with `%` before one that is spelled as a keyword.
+fn push_label(text: &mut TextBuilder, label: &Label) {
+    text.push(if is_marked(label) { "%" } else { "" });
+    text.push(label.as_str());
+}
+
 /// The name of the package in a full name.
 fn package_name(alloc: Global, name: &FullName) -> Result<String, AllocError> {
-    let mut text = String::new(alloc);
-    push_label(&mut text, &name.namespace)?;
-    text.push(':')?;
-    push_label(&mut text, &name.package)?;
+    let mut text = TextBuilder::new(alloc);
+    push_label(&mut text, &name.namespace);
+    text.push(":");
+    push_label(&mut text, &name.package);
     if let Some(version) = &name.version {
-        text.push('@')?;
-        text.push_str(version.as_str())?;
+        text.push_all(&["@", version.as_str()]);
     }
-    Ok(text)
+    text.finish()
 }
 
 /// An interface that is found first.
@@ -111,15 +117,14 @@ impl Interface {
         }
     }
 
-    fn push_to(&self, text: &mut String) -> Result<(), AllocError> {
-        text.push_str("interface ")?;
-        push_label(text, &self.name)?;
-        text.push_str(" {\n")?;
-        text.push_str(self.types.as_str())?;
+    fn push_to(&self, text: &mut TextBuilder) {
+        text.push("interface ");
+        push_label(text, &self.name);
+        text.push_all(&[" {\n", self.types.as_str()]);
         if let Some(functions) = &self.functions {
-            text.push_str(functions.as_str())?;
+            text.push(functions.as_str());
         }
-        text.push_str("}\n")
+        text.push("}\n");
     }
 }
 
@@ -133,16 +138,15 @@ impl Package {
     }
 
     fn text(&self, alloc: Global) -> Result<String, AllocError> {
-        let mut text = String::from_str(alloc, "package ")?;
-        text.push_str(self.name.as_str())?;
-        text.push_str(";\n")?;
+        let mut text = TextBuilder::new(alloc);
+        text.push_all(&["package ", self.name.as_str(), ";\n"]);
         for interface in &self.interfaces {
-            interface.push_to(&mut text)?;
+            interface.push_to(&mut text);
         }
         for world in &self.worlds {
-            text.push_str(world.as_str())?;
+            text.push(world.as_str());
         }
-        Ok(text)
+        text.finish()
     }
 }
 
