@@ -70,8 +70,8 @@ def by_rows(given):
     """Cuts the texts of the call vectors and of examples/ after each byte, and their binaries, of which each byte is
     changed to all values.
 
-    The answers have to be as crates/row_inputs/src/row_sets/changes.rt says, and the program has to make a binary of the texts
-    that the rows open.
+    The answers have to be as crates/row_inputs/src/row_sets/changes.rt says, and the program has to make a binary of
+    the texts that the rows open.
     """
     begun, asked, failed = time.monotonic(), list(rows_of(given.program)), 0
     with concurrent.futures.ThreadPoolExecutor(2) as pool:

@@ -1,9 +1,10 @@
 //! The types of an interface.
 
 use crate::header::{Header, push_declaration};
+use crate::structs::push_extent;
 use atoms::Label;
 use c_types::c_names::{NameKind, c_label, c_word};
-use c_types::{Form, Part, Row, tag_bits};
+use c_types::{Form, Part, Row, Types, tag_bits};
 use std::alloc::{AllocError, Global};
 use tables::{Case, Field, TypeDefKind, TypeId, ValType};
 use text_builder::TextBuilder;
@@ -50,6 +51,41 @@ fn add_part(text: &mut TextBuilder, parts: &mut Vec<Part>, part: Part) {
     }
 }
 
+/// Writes another name of a type, with the assertion of its size and its alignment.
+fn push_typedef(text: &mut TextBuilder, types: &Types<'_>, name: &str, target: ValType) {
+    push_declaration(text, "typedef ", types.c(target), name);
+    push_extent(text, &types.laid, name, target);
+}
+
+/// Writes the numbers of cases.
+fn push_constants(text: &mut TextBuilder, parts: &[Part]) {
+    text.push("enum {\n");
+    for (index, part) in parts.iter().enumerate() {
+        text.push_all(&["    ", part.constant.as_str(), " = "]);
+        text.push_number(index);
+        text.push(",\n");
+    }
+    text.push("};\n");
+}
+
+/// Writes the bits of flags of so many bits.
+fn push_bits(text: &mut TextBuilder, parts: &[Part], bits: u32) {
+    for (index, part) in parts.iter().enumerate() {
+        text.push_all(&["#define ", part.constant.as_str(), " ((uint"]);
+        text.push_number(bits as usize);
+        text.push("_t)(UINT32_C(1) << ");
+        text.push_number(index);
+        text.push("))\n");
+    }
+}
+
+/// Writes a type of this name that is a number of so many bits.
+fn push_number(text: &mut TextBuilder, c: &str, bits: u32) {
+    text.push("typedef uint");
+    text.push_number(bits as usize);
+    text.push_all(&["_t ", c, ";\n"]);
+}
+
 impl<'a> Header<'a> {
     /// Takes the name of a type.
     fn take_type(&mut self, entry: &Entry<'_>) -> String {
@@ -68,9 +104,7 @@ impl<'a> Header<'a> {
     fn put_alias(&mut self, entry: &Entry<'_>, target: ValType, comment: &str) {
         let name = self.take_type(entry);
         self.put_keyed(entry, comment);
-        let (name, c) = (name.as_str(), self.types.c(target));
-        push_declaration(&mut self.text, "typedef ", c, name);
-        self.put_extent(name, target);
+        push_typedef(&mut self.text, &self.types, name.as_str(), target);
         let spelling = self.text.kept(String::from_str(self.alloc, entry.label));
         self.types.set_end(entry.id, target, spelling);
     }
@@ -195,29 +229,16 @@ impl<'a> Header<'a> {
         parts
     }
 
-    /// Writes the numbers of cases.
-    fn put_constants(&mut self, parts: &[Part]) {
-        self.text.push("enum {\n");
-        for (index, part) in parts.iter().enumerate() {
-            self.text.push_all(&["    ", part.constant.as_str(), " = "]);
-            self.text.push_number(index);
-            self.text.push(",\n");
-        }
-        self.text.push("};\n");
-    }
-
     fn put_variant(&mut self, entry: &Entry<'_>, cases: &[Case]) {
         let c = self.put_heading("variant", entry);
         let parts = self.case_parts(c.as_str(), cases);
-        self.put_constants(parts.as_slice());
+        push_constants(&mut self.text, parts.as_slice());
         self.put_parts(entry, c, Form::Variant, parts);
     }
 
     /// Writes a type that is a number of so many bits.
     fn put_number(&mut self, entry: &Entry<'_>, c: String, bits: u32) {
-        self.text.push("typedef uint");
-        self.text.push_number(bits as usize);
-        self.text.push_all(&["_t ", c.as_str(), ";\n"]);
+        push_number(&mut self.text, c.as_str(), bits);
         let row = self.named_row(entry, c, Form::Number, Vec::new(self.alloc));
         self.types.set(entry.id, row);
     }
@@ -225,27 +246,15 @@ impl<'a> Header<'a> {
     fn put_enum(&mut self, entry: &Entry<'_>, labels: &[Label]) {
         let c = self.put_heading("enum", entry);
         let parts = self.label_parts(c.as_str(), labels);
-        self.put_constants(parts.as_slice());
+        push_constants(&mut self.text, parts.as_slice());
         self.put_number(entry, c, tag_bits(labels.len()));
-    }
-
-    /// Writes the bits of flags of so many bits.
-    fn put_bits(&mut self, parts: &[Part], bits: u32) {
-        for (index, part) in parts.iter().enumerate() {
-            self.text
-                .push_all(&["#define ", part.constant.as_str(), " ((uint"]);
-            self.text.push_number(bits as usize);
-            self.text.push("_t)(UINT32_C(1) << ");
-            self.text.push_number(index);
-            self.text.push("))\n");
-        }
     }
 
     fn put_flags(&mut self, entry: &Entry<'_>, labels: &[Label]) {
         let c = self.put_heading("flags", entry);
         let bits = flag_bits(labels.len());
         let parts = self.label_parts(c.as_str(), labels);
-        self.put_bits(parts.as_slice(), bits);
+        push_bits(&mut self.text, parts.as_slice(), bits);
         self.put_number(entry, c, bits);
     }
 

@@ -29,6 +29,21 @@ pub(crate) fn push_declaration(text: &mut TextBuilder, front: &str, c: &str, nam
     text.push_all(&[front, c, " ", name, ";\n"]);
 }
 
+/// Writes a text that takes effect once, which a name guards.
+fn push_guarded(text: &mut TextBuilder, guard: &str, own: &str) {
+    text.push_all(&[
+        "#ifndef ",
+        guard,
+        "\n#define ",
+        guard,
+        "\n",
+        own,
+        "#endif /* ",
+        guard,
+        " */\n",
+    ]);
+}
+
 /// The header so far.
 #[derive(Drop)]
 pub struct Header<'a> {
@@ -126,17 +141,6 @@ impl<'a> Header<'a> {
     /// Writes a text that takes effect once, though several headers have it. It is guarded by this name in upper case.
     pub fn put_guarded(&mut self, name: &str, text: &str) {
         let guard = self.take_upper(name);
-        let guard = guard.as_str();
-        self.text.push_all(&[
-            "#ifndef ",
-            guard,
-            "\n#define ",
-            guard,
-            "\n",
-            text,
-            "#endif /* ",
-            guard,
-            " */\n",
-        ]);
+        push_guarded(&mut self.text, guard.as_str(), text);
     }
 }

@@ -2,19 +2,26 @@
 
 use crate::declarations::Entry;
 use crate::header::Header;
+use crate::structs::push_extent;
 use c_types::c_names::NameKind;
 use c_types::{Form, Inner, Part, Row, first_inner, inner_of, made_of};
 use tables::{TypeDefKind, TypeId, ValType};
+use text_builder::TextBuilder;
+
+/// Writes the type of a list.
+fn push_list(text: &mut TextBuilder, c: &str) {
+    text.push_all(&[
+        "typedef struct {\n    uint32_t address;\n    uint32_t length;\n} ",
+        c,
+        ";\n",
+    ]);
+}
 
 impl<'a> Header<'a> {
     /// Writes a list.
     fn put_list(&mut self, ty: ValType, c: &str, inner: &Inner) {
-        self.text.push_all(&[
-            "typedef struct {\n    uint32_t address;\n    uint32_t length;\n} ",
-            c,
-            ";\n",
-        ]);
-        self.put_extent(c, ty);
+        push_list(&mut self.text, c);
+        push_extent(&mut self.text, &self.types.laid, c, ty);
         self.put_access(c);
         if let [Some(element)] = inner.parts.as_slice() {
             self.put_elements_of(c, *element);
