@@ -182,12 +182,17 @@ fn call_of<'a>(header: &mut Header<'_>, stem: &str, called: Called<'a>) -> Call<
     }
 }
 
+/// Writes a number as a constant of this name.
+fn push_define(text: &mut TextBuilder, name: &str, number: usize) {
+    text.push_all(&["#define ", name, " "]);
+    text.push_number(number);
+    text.push("\n");
+}
+
 /// Writes a number as a constant, whose name consists of these words.
 fn put_number(header: &mut Header<'_>, words: &[&str], number: u32) {
     let name = take_constant(header, words);
-    header.text.push_all(&["#define ", name.as_str(), " "]);
-    header.text.push_number(number as usize);
-    header.text.push("\n");
+    push_define(&mut header.text, name.as_str(), number as usize);
 }
 
 /// Writes the size and the alignment of a block for a value of a type, under names that begin so.
@@ -201,9 +206,7 @@ fn put_block(header: &mut Header<'_>, stem: &str, word: &str, ty: ValType) {
 fn put_numbers(header: &mut Header<'_>, stem: &str, call: &Call<'_>) {
     let (called, count) = (&call.called, call.names.count.as_str());
     let flats = called.passing.lowered.params.len();
-    header.text.push_all(&["#define ", count, " "]);
-    header.text.push_number(flats);
-    header.text.push("\n");
+    push_define(&mut header.text, count, flats);
     if called.passing.is_spilled {
         put_block(header, stem, "_parameters", called.ty);
     }

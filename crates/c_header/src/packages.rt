@@ -108,12 +108,18 @@ fn put_interfaces(header: &mut Header<'_>, place: usize, prefix: &str, package: 
     }
 }
 
+/// Writes the name of a package between two texts.
+fn push_named(text: &mut TextBuilder, before: &str, name: Result<String, AllocError>, after: &str) {
+    text.push(before);
+    text.push_made(name);
+    text.push(after);
+}
+
 /// Writes the text of a package.
 fn put_text(header: &mut Header<'_>, prefix: &str, package: &PackageName, text: &str) {
     let constant = take_if(header, false, NameKind::Constant, &[prefix, "_text"]);
-    header.text.push("\n/* The package ");
-    header.text.push_made(package.to_string(header.alloc));
-    header.text.push(". */\n");
+    let name = package.to_string(header.alloc);
+    push_named(&mut header.text, "\n/* The package ", name, ". */\n");
     let before = header.begin();
     push_constant(&mut header.text, constant.as_str(), text);
     let own = header.end(before);
@@ -165,9 +171,8 @@ fn put_header(
     guard: &str,
 ) {
     let (stems, texts) = packages;
-    header.text.push("/* ");
-    header.text.push_made(main.to_string(header.alloc));
-    header.text.push(" for C and C++ hosts of witcall, by wit-explain bind c. Do not edit. */\n");
+    let name = main.to_string(header.alloc);
+    push_named(&mut header.text, "/* ", name, MADE_FOR_HOSTS);
     push_guard(&mut header.text, guard);
     header.text.push(COMMON);
     put_packages(header, stems, texts);
@@ -203,6 +208,9 @@ pub fn header_of(
     }
     header.text.finish()
 }
+
+static MADE_FOR_HOSTS: &str =
+    " for C and C++ hosts of witcall, by wit-explain bind c. Do not edit. */\n";
 
 static SHORT_NAMES: &str = "
 /* Short names: without the package's, if nothing else has them. Define WIT_SHORT_NAMES to have them. */

@@ -104,10 +104,10 @@ pub fn put_heading(
     let (alloc, full_name) = (header.alloc, place.scope.full_name.as_str());
     let signature = signature_of(alloc, &header.types, function);
     let signature = header.text.kept(signature);
-    let last = [full_name, " ", signature.as_str()].concat(alloc);
+    let last = format!(in alloc; "{full_name} {}", signature.as_str());
     let last = header.text.kept(last);
     let (before, name) = (word_before(place, direction), function.name.as_str());
-    let key = [full_name, " ", before, name].concat(alloc);
+    let key = format!(in alloc; "{full_name} {before}{name}");
     let key = header.text.kept(key);
     header.put_comment(key.as_str(), last.as_str());
 }

@@ -43,7 +43,8 @@ fn push_head(text: &mut TextBuilder, place: &Place, call: &GuestCall<'_>) {
     let (front, name) = (place.front.as_str(), call.called.function.name.as_str());
     let returned = returned_type(call.called.passing.returned);
     push_export_name(text, "", front, name);
-    text.push_all(&[returned, " ", call.core.as_str(), "("]);
+    text.push(returned);
+    text.push_all(&[" ", call.core.as_str(), "("]);
     push_core_parameters(text, call);
     text.push(") {\n");
 }
@@ -114,7 +115,8 @@ fn push_value_call(text: &mut TextBuilder, call: &GuestCall<'_>) {
         "in_"
     };
     for (index, part) in call.parameters.parts.iter().enumerate() {
-        text.push_all(&[comma(index), front, part.label.as_str()]);
+        text.push_all(&[comma(index), front]);
+        text.push(part.label.as_str());
     }
     text.push(");\n");
 }

@@ -28,7 +28,8 @@ fn push_core(text: &mut TextBuilder, place: &Place, call: &GuestCall<'_>) {
     let (module, name) = (place.module.as_str(), call.called.function.name.as_str());
     text.push_all(&["__attribute__((import_module(\"", module, "\"), "]);
     text.push_all(&["import_name(\"", name, "\")))\n"]);
-    text.push_all(&[returned_type(call.one()), " ", call.core.as_str(), "("]);
+    text.push(returned_type(call.one()));
+    text.push_all(&[" ", call.core.as_str(), "("]);
     push_core_types(text, call.called.passing.lowered.params.as_slice());
     text.push(");\n");
 }

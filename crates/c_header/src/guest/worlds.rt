@@ -175,14 +175,17 @@ pub fn guest_header_of<'a>(
         includer: Includer::Guest,
         comments: texts.comments,
     };
+    let stems = stems_of(alloc, laid.resolve.packages.as_slice())?;
+    let needed = needs_of(alloc, &laid, world)?;
+    let mut header = Header::new(alloc, laid, keyed_by(texts.canonical), purpose)?;
+    let place = place_of_world(&mut header, stems.as_slice(), world);
     let mut guest = Guest {
-        stems: stems_of(alloc, laid.resolve.packages.as_slice())?,
-        needed: needs_of(alloc, &laid, world)?,
-        header: Header::new(alloc, laid, keyed_by(texts.canonical), purpose)?,
+        header,
         world,
+        stems,
+        needed,
         bodies: TextBuilder::new(alloc),
     };
-    let place = place_of_world(&mut guest.header, guest.stems.as_slice(), world);
     if let Some(place) = place {
         guest.put_header(&place);
     }
