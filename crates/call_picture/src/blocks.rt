@@ -49,7 +49,9 @@ impl<'a> Viewer<'a> {
         heading.push_number(request.size as usize);
         heading.push(", align ");
         heading.push_number(request.align as usize);
-        heading.push_all(&[", ", purpose(block.content), block.path.as_str()]);
+        heading.push(", ");
+        heading.push(purpose(block.content));
+        heading.push(block.path.as_str());
         let heading = self.page.kept(heading.finish());
         let is_drawn = request.size > 0 && request.at.is_some();
         let start = if is_drawn { block.start } else { None };
@@ -105,7 +107,8 @@ impl<'a> Viewer<'a> {
     /// Leaves the blocks with which values begin to be shown.
     fn push_first(&mut self, way: &Way<'a>) {
         self.next.clear();
-        let path = self.page.kept(String::from_str(self.page.alloc, way.path));
+        let path = String::from_str(self.page.alloc, way.path);
+        let path = self.page.kept(path);
         if way.has_block {
             self.push_next(Block {
                 content: way.content,

@@ -129,7 +129,8 @@ impl<'a> Viewer<'a> {
         let fill = self.next_fill();
         let mut start = at;
         for chunk in bytes.chunks(LINE) {
-            let note = self.page.kept(characters_of(self.page.alloc, chunk));
+            let note = characters_of(self.page.alloc, chunk);
+            let note = self.page.kept(note);
             self.page.push_bytes(start, chunk, fill, note.as_str());
             start = start.saturating_add(16);
         }
@@ -173,9 +174,8 @@ impl<'a> Viewer<'a> {
 
     /// The name of a field or a payload of a value of this name.
     fn path_of(&mut self, layout: &TypeLayout<'a>, path: &str, index: usize) -> String {
-        let name = member_name(layout, index);
-        self.page
-            .kept(member_path(self.page.alloc, path, name, index))
+        let path = member_path(self.page.alloc, path, member_name(layout, index), index);
+        self.page.kept(path)
     }
 
     /// Leaves the payload of a case to be shown, with the padding around it.

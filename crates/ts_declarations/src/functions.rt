@@ -38,8 +38,8 @@ impl<'a> Page<'a> {
     fn put_parameter(&mut self, parameter: &Parameter) {
         let name = parameter_name(self.alloc, parameter.name.as_str());
         self.text.push_made(name);
-        let text = self.spellings.text(parameter.ty);
-        self.text.push_all(&[": ", text]);
+        self.text.push(": ");
+        self.text.push(self.spellings.text(parameter.ty));
         if let Meaning::Numbers(array) = self.spellings.meaning(parameter.ty) {
             self.text.push_all(&[" | ", array]);
         }
@@ -64,11 +64,12 @@ impl<'a> Page<'a> {
         push_key(&mut self.text, function.name.as_str());
         self.text.push(": (");
         self.put_parameters(function.params.as_slice());
-        let result = match function.result {
-            Some(ty) => self.spellings.text(ty),
-            None => "void",
-        };
-        self.text.push_all(&[") => ", result, ";\n"]);
+        self.text.push(") => ");
+        match function.result {
+            Some(ty) => self.text.push(self.spellings.text(ty)),
+            None => self.text.push("void"),
+        }
+        self.text.push(";\n");
     }
 
     /// Writes the functions of an interface.

@@ -59,8 +59,8 @@ impl<'a> Page<'a> {
     /// Writes the comment of what a name of the interface or the world has, and what it is.
     pub fn put_comment(&mut self, indent: &str, name: &str, last: &str) {
         let blank = if name.is_empty() { "" } else { " " };
-        let words = [self.scope.as_str(), blank, name];
-        let key = self.text.kept(words.concat(self.alloc));
+        let key = format!(in self.alloc; "{}{blank}{name}", self.scope.as_str());
+        let key = self.text.kept(key);
         let block = Block {
             open: "/**",
             indent,
@@ -85,22 +85,22 @@ impl<'a> Page<'a> {
         }
     }
 
-    /// Writes the comment of the interface or the world of this full name.
+    /// Writes the comment of the interface or the world of this full name, and begins its namespace.
     fn put_scope(&mut self, word: &str, full_name: String) {
+        let last = format!(in self.alloc; "{word} {}", full_name.as_str());
+        let last = self.text.kept(last);
         self.scope = full_name;
-        let words = [word, " ", self.scope.as_str()];
-        let last = self.text.kept(words.concat(self.alloc));
         self.text.push("\n");
         self.put_comment("", "", last.as_str());
+        self.text.push("\nexport namespace ");
     }
 
     /// Writes the interface of this number.
     fn put_interface(&mut self, place: usize, interface: &Interface) {
         let full_name = self.full_name(interface.package, &interface.name);
         self.put_scope("interface", full_name);
-        let namespace = self.namespaces.interface(place);
-        self.text
-            .push_all(&["\nexport namespace ", namespace, " {\n"]);
+        self.text.push(self.namespaces.interface(place));
+        self.text.push(" {\n");
         self.put_types(interface.uses.as_slice());
         self.put_types(interface.types.as_slice());
         self.text.push("  export interface Functions {\n");
@@ -120,15 +120,9 @@ impl<'a> Page<'a> {
             WorldItemKind::Function(id) => self.put_function(id, side),
             WorldItemKind::Interface(id) => {
                 let full_name = self.interface_name(id);
-                let namespace = self.namespaces.interface(id.0 as usize);
-                let words = [
-                    "    \"",
-                    full_name.as_str(),
-                    "\": ",
-                    namespace,
-                    ".Functions;\n",
-                ];
-                self.text.push_all(&words);
+                self.text.push_all(&["    \"", full_name.as_str(), "\": "]);
+                self.text.push(self.namespaces.interface(id.0 as usize));
+                self.text.push(".Functions;\n");
             }
         }
     }
@@ -152,9 +146,8 @@ impl<'a> Page<'a> {
     fn put_world(&mut self, place: usize, world: &World) {
         let full_name = self.full_name(world.package, &world.name);
         self.put_scope("world", full_name);
-        let namespace = self.namespaces.world(place);
-        self.text
-            .push_all(&["\nexport namespace ", namespace, " {\n"]);
+        self.text.push(self.namespaces.world(place));
+        self.text.push(" {\n");
         self.put_items("Imports", Direction::Import, world.items.as_slice());
         self.text.push("\n");
         self.put_items("Exports", Direction::Export, world.items.as_slice());

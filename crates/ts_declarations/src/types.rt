@@ -14,10 +14,17 @@ impl<'a> Page<'a> {
         self.text.push_all(&["\n  export ", keyword, " "]);
     }
 
+    /// Writes the name of a type between two texts.
+    fn put_name(&mut self, before: &str, id: TypeId, after: &str) {
+        self.text.push(before);
+        self.text.push(self.spellings.text(ValType::Id(id)));
+        self.text.push(after);
+    }
+
     /// The lines of the comment of a member of a type.
     fn comment_of(&mut self, label: &str, member: &str) -> &'a [String] {
-        let words = [self.scope.as_str(), " ", label, " ", member];
-        let key = self.text.kept(words.concat(self.alloc));
+        let key = format!(in self.alloc; "{} {label} {member}", self.scope.as_str());
+        let key = self.text.kept(key);
         self.comments.of(key.as_str())
     }
 
@@ -36,36 +43,42 @@ impl<'a> Page<'a> {
         self.text.push("\n    | ");
     }
 
-    /// Writes a field: its comment with its type in WIT, its key and its type.
-    fn put_field(&mut self, label: &str, field: &Field) {
-        let lines = self.comment_of(label, field.name.as_str());
+    /// Writes the comment of a field of this type, which has these lines.
+    fn put_field_comment(&mut self, lines: &[String], ty: ValType) {
         let block = Block {
             open: "/**",
             indent: "    ",
             lines,
-            last: self.spellings.wit(Some(field.ty)),
+            last: self.spellings.wit(Some(ty)),
         };
         block.push(&mut self.text);
+    }
+
+    /// Writes a field: its comment with its type in WIT, its key and its type.
+    fn put_field(&mut self, label: &str, field: &Field) {
+        let lines = self.comment_of(label, field.name.as_str());
+        self.put_field_comment(lines, field.ty);
         self.text
             .push(if lines.is_empty() { " " } else { "\n    " });
         push_key(&mut self.text, field.name.as_str());
-        let text = self.spellings.text(field.ty);
-        self.text.push_all(&[": ", text, ";\n"]);
+        self.text.push(": ");
+        self.text.push(self.spellings.text(field.ty));
+        self.text.push(";\n");
     }
 
     /// Writes a member of an object: its type in WIT as a comment, its key and its type.
     fn put_member(&mut self, label: &str, ty: ValType) {
-        let wit = self.spellings.wit(Some(ty));
-        self.text.push_all(&["/** ", wit, " */ "]);
+        self.text.push("/** ");
+        self.text.push(self.spellings.wit(Some(ty)));
+        self.text.push(" */ ");
         push_key(&mut self.text, label);
-        let text = self.spellings.text(ty);
-        self.text.push_all(&[": ", text]);
+        self.text.push(": ");
+        self.text.push(self.spellings.text(ty));
     }
 
     fn put_record(&mut self, label: &str, id: TypeId, fields: &[Field]) {
         self.put_heading("record", label, "interface");
-        let name = self.spellings.text(ValType::Id(id));
-        self.text.push_all(&[name, " {\n"]);
+        self.put_name("", id, " {\n");
         for field in fields {
             self.put_field(label, field);
         }
@@ -87,8 +100,7 @@ impl<'a> Page<'a> {
 
     fn put_variant(&mut self, label: &str, id: TypeId, cases: &[Case]) {
         self.put_heading("variant", label, "type");
-        let name = self.spellings.text(ValType::Id(id));
-        self.text.push_all(&[name, " ="]);
+        self.put_name("", id, " =");
         for case in cases {
             self.put_case(label, case);
         }
@@ -105,8 +117,7 @@ impl<'a> Page<'a> {
 
     fn put_enum(&mut self, label: &str, id: TypeId, labels: &[Label]) {
         self.put_heading("enum", label, "type");
-        let name = self.spellings.text(ValType::Id(id));
-        self.text.push_all(&[name, " ="]);
+        self.put_name("", id, " =");
         self.put_labels(label, labels);
         self.text.push(";\n");
     }
@@ -116,20 +127,18 @@ impl<'a> Page<'a> {
         let words = ["flags ", label, ": those that are set, in this order"];
         let last = self.text.kept(words.concat(self.alloc));
         self.put_comment("  ", label, last.as_str());
-        let name = self.spellings.text(ValType::Id(id));
-        self.text.push_all(&["\n  export type ", name, " = ("]);
+        self.put_name("\n  export type ", id, " = (");
         self.put_labels(label, labels);
         self.text.push("\n  )[];\n");
     }
 
     /// Writes another name of a type that TypeScript and WIT spell so.
     fn put_alias(&mut self, label: &str, id: TypeId, text: &str, wit: &str) {
-        let words = ["type ", label, " = ", wit];
-        let last = self.text.kept(words.concat(self.alloc));
+        let last = format!(in self.alloc; "type {label} = {wit}");
+        let last = self.text.kept(last);
         self.put_comment("  ", label, last.as_str());
-        let name = self.spellings.text(ValType::Id(id));
-        self.text
-            .push_all(&["\n  export type ", name, " = ", text, ";\n"]);
+        self.put_name("\n  export type ", id, " = ");
+        self.text.push_all(&[text, ";\n"]);
     }
 
     fn put_type_alias(&mut self, label: &str, id: TypeId, target: ValType) {
@@ -155,13 +164,13 @@ impl<'a> Page<'a> {
             return;
         };
         let full_name = self.interface_name(used.interface);
-        let (full_name, other) = (full_name.as_str(), used.name.as_str());
-        let comment = ["  /** type ", label, " = ", full_name, " ", other, " */\n"];
-        self.text.push_all(&comment);
-        let name = self.spellings.text(ValType::Id(id));
-        let namespace = self.namespaces.interface(used.interface.0 as usize);
-        let text = self.spellings.text(ValType::Id(target));
-        self.text.push_all(&["  export type ", name, " = ", namespace, ".", text, ";\n"]);
+        self.text.push_all(&["  /** type ", label, " = "]);
+        self.text.push(full_name.as_str());
+        self.text.push_all(&[" ", used.name.as_str(), " */\n"]);
+        self.put_name("  export type ", id, " = ");
+        let place = used.interface.0 as usize;
+        self.text.push(self.namespaces.interface(place));
+        self.put_name(".", target, ";\n");
     }
 
     /// The type of a row, if it has a name.
