@@ -1,7 +1,7 @@
 //! The rows of functions.
 
 use crate::members::{Row, push_extent, push_parameters};
-use crate::words::{push_kinds, push_type, push_word};
+use crate::words::{push_kinds, push_number, push_type, push_word};
 use layout::CoreSignature;
 use tables::{Function, FunctionId, Owner, ValType};
 use text_builder::TextBuilder;
@@ -10,12 +10,10 @@ use text_builder::TextBuilder;
 fn push_name(text: &mut TextBuilder, function: &Function) {
     text.push("{\"kind\":\"function\",\"name\":");
     push_word(text, function.name.as_str());
-    let (word, number) = match function.owner {
-        Owner::Interface(id) => ("interface", id.0),
-        Owner::World(id) => ("world", id.0),
-    };
-    text.push_all(&[",\"owner\":{\"", word, "\":"]);
-    text.push_number(number as usize);
+    match function.owner {
+        Owner::Interface(id) => push_number(text, ",\"owner\":{\"interface\":", id.0),
+        Owner::World(id) => push_number(text, ",\"owner\":{\"world\":", id.0),
+    }
     text.push("}");
 }
 

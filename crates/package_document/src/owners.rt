@@ -1,6 +1,6 @@
 //! Packages, interfaces and worlds.
 
-use crate::words::{comma, push_word};
+use crate::words::{comma, push_number, push_word};
 use atoms::Label;
 use std::alloc::Global;
 use tables::{
@@ -75,19 +75,23 @@ pub fn push_interfaces(
     }
 }
 
-/// Appends what a world imports, or what it exports: interfaces by their numbers, and functions by their rows.
+/// Appends what an item of a world is: an interface by its number, or a function by its row.
+fn push_item(text: &mut TextBuilder, kind: WorldItemKind) {
+    match kind {
+        WorldItemKind::Interface(id) => push_number(text, "{\"interface\":", id.0),
+        WorldItemKind::Function(id) => push_number(text, "{\"function\":", id.0),
+    }
+    text.push("}");
+}
+
+/// Appends what a world imports, or what it exports.
 fn push_items(text: &mut TextBuilder, name: &str, items: &[WorldItem], direction: Direction) {
     text.push_all(&[",\"", name, "\":["]);
     let mut mark = "";
     for item in items {
         if item.direction == direction {
-            let (word, number) = match item.kind {
-                WorldItemKind::Interface(id) => ("interface", id.0),
-                WorldItemKind::Function(id) => ("function", id.0),
-            };
-            text.push_all(&[mark, "{\"", word, "\":"]);
-            text.push_number(number as usize);
-            text.push("}");
+            text.push(mark);
+            push_item(text, item.kind);
             mark = ",";
         }
     }

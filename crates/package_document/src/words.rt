@@ -15,6 +15,12 @@ pub fn push_word(text: &mut TextBuilder, word: &str) {
     text.push_all(&["\"", word, "\""]);
 }
 
+/// Appends a number after what it is of.
+pub fn push_number(text: &mut TextBuilder, what: &str, number: u32) {
+    text.push(what);
+    text.push_number(number as usize);
+}
+
 /// Appends a type: its word, or the number of its row. `null` if there is none.
 pub fn push_type(text: &mut TextBuilder, ty: Option<ValType>) {
     match ty {
