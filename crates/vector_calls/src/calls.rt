@@ -4,17 +4,18 @@ ghost use Rattle.std.specs.Prelude.{◌≡◌};
 ghost use Rattle.layout.specs.Layout.{AreWithin};
 ghost use Rattle.tables.specs.Closed.{IsFunction};
 
-use crate::functions::{NO_FUNCTION, fault_told};
+use crate::functions::{NO_FUNCTION, push_fault};
 use crate::vector_sides::{
-    Acting, Logged, all_given, body, field, first_given, flats, flats_told, guest, list, object_of,
+    Acting, Logged, body, field, flats, guest, list, push_all_given, push_first_given, push_flats,
     push_memories, text,
 };
 use adapter::Link;
 use canonical_abi::{Fault, Flat};
 use lift_lower::{FlatResults, Types};
 use serde_json::Value;
-use std::alloc::Global;
+use std::alloc::{AllocError, Global};
 use tables::FunctionId;
+use text_builder::TextBuilder;
 
 /// The caller, the callee and the body of a row.
 #[derive(Drop)]
@@ -45,14 +46,6 @@ struct Ended {
     first: Result<FlatResults, Fault>,
     nodes: (u64, u64),
     other: Option<Result<FlatResults, Fault>>,
-}
-
-/// What is told of how the calls ended.
-#[derive(Drop)]
-struct Told {
-    outcome: String,
-    nodes: (u64, u64),
-    next: Option<String>,
 }
 
 /// The calls of a row, and the sides between which they are made.
@@ -142,49 +135,25 @@ fn called(types: &Types<'_>, asked: &Asked<'_>, sides: &mut Sides) -> Option<End
     })
 }
 
-/// How a call ended. Words are those of the program's lines.
-fn outcome_told(alloc: Global, ended: &Result<FlatResults, Fault>) -> anyhow::Result<String> {
+/// Writes how a call ended. Words are those of the program's lines.
+fn push_outcome(text: &mut TextBuilder, ended: &Result<FlatResults, Fault>) {
     match ended {
         Ok(flats) => {
-            let flats = flats_told(alloc, flats.as_slice())?;
-            Ok(format!(in alloc; "{{\"ok\":{flats}}}")?)
+            text.push("{\"ok\":");
+            push_flats(text, flats.as_slice());
+            text.push("}");
         }
-        Err(fault) => fault_told(alloc, *fault),
+        Err(fault) => push_fault(text, *fault),
     }
 }
 
-/// What is told of how the calls ended.
-fn ended_told(alloc: Global, ended: &Ended) -> anyhow::Result<Told> {
-    Ok(Told {
-        outcome: outcome_told(alloc, &ended.first)?,
-        nodes: ended.nodes,
-        next: match &ended.other {
-            Some(other) => Some(outcome_told(alloc, other)?),
-            None => None,
-        },
-    })
-}
-
-/// What the bodies of the calls were given, as members.
-fn given_told(alloc: Global, told: &Told, body: &Acting) -> anyhow::Result<String> {
-    match &told.next {
-        Some(_) => all_given(alloc, body),
-        None => first_given(alloc, body),
-    }
-}
-
-/// Adds how the first call ended, what the bodies were given, and the nodes of both ways.
-fn push_told(
-    alloc: Global,
-    members: &mut Vec<String>,
-    told: &Told,
-    body: &Acting,
-) -> anyhow::Result<()> {
-    let (there, back) = told.nodes;
-    members.push(format!(in alloc; "\"outcome\":{}", told.outcome.as_str())?)?;
-    members.push(given_told(alloc, told, body)?)?;
-    members.push(format!(in alloc; "\"nodes\":[{there},{back}]")?)?;
-    Ok(())
+/// Writes the nodes of both ways, as a member.
+fn push_nodes(text: &mut TextBuilder, nodes: (u64, u64)) {
+    text.push(",\"nodes\":[");
+    text.push_number(nodes.0 as usize);
+    text.push(",");
+    text.push_number(nodes.1 as usize);
+    text.push("],");
 }
 
 impl<'a> Calls<'a> {
@@ -198,40 +167,55 @@ impl<'a> Calls<'a> {
     }
 
     /// Makes the calls, and tells what they did.
-    pub fn told(&mut self, alloc: Global, types: &Types<'_>) -> anyhow::Result<String>
+    pub fn told(&mut self, alloc: Global, types: &Types<'_>) -> Result<String, AllocError>
         requires { ∥ AreWithin «types».now ∥₁ }
     {
+        let mut text = TextBuilder::new(alloc);
         match called(types, &self.asked, &mut self.sides) {
-            Some(ended) => self.done_told(alloc, &ended_told(alloc, &ended)?),
-            None => self.refused(alloc, NO_FUNCTION),
+            Some(ended) => self.push_ended(&mut text, &ended),
+            None => self.push_refused(&mut text, NO_FUNCTION),
         }
+        text.finish()
     }
 
     /// What is told if no call is made, for this reason.
-    pub fn refused(&self, alloc: Global, reason: &str) -> anyhow::Result<String> {
-        let told = Told {
-            outcome: format!(in alloc; "{{\"refused\":\"{reason}\"}}")?,
-            nodes: (0, 0),
-            next: None,
-        };
-        self.done_told(alloc, &told)
+    pub fn refused(&self, alloc: Global, reason: &str) -> Result<String, AllocError> {
+        let mut text = TextBuilder::new(alloc);
+        self.push_refused(&mut text, reason);
+        text.finish()
     }
 
-    /// What the calls did.
-    fn done_told(&self, alloc: Global, told: &Told) -> anyhow::Result<String> {
-        let sides = &self.sides;
-        let mut members = Vec::new(alloc);
-        push_told(alloc, &mut members, told, &sides.body)?;
-        push_memories(
-            alloc,
-            &mut members,
-            &sides.caller,
-            &sides.callee,
-            self.are_cut,
-        )?;
-        if let Some(next) = &told.next {
-            members.push(format!(in alloc; "\"next\":{}", next.as_str())?)?;
+    /// Writes that no call was made, for this reason.
+    fn push_refused(&self, text: &mut TextBuilder, reason: &str) {
+        text.push_all(&["{\"outcome\":{\"refused\":\"", reason, "\"},"]);
+        push_first_given(text, &self.sides.body);
+        push_nodes(text, (0, 0));
+        self.push_memories(text);
+        text.push("}");
+    }
+
+    /// Writes what the calls did.
+    fn push_ended(&self, text: &mut TextBuilder, ended: &Ended) {
+        text.push("{\"outcome\":");
+        push_outcome(text, &ended.first);
+        text.push(",");
+        if ended.other.is_some() {
+            push_all_given(text, &self.sides.body);
+        } else {
+            push_first_given(text, &self.sides.body);
         }
-        Ok(object_of(alloc, members.as_slice())?)
+        push_nodes(text, ended.nodes);
+        self.push_memories(text);
+        if let Some(other) = &ended.other {
+            text.push(",\"next\":");
+            push_outcome(text, other);
+        }
+        text.push("}");
+    }
+
+    /// Writes what both memories hold, and what their allocators were asked for.
+    fn push_memories(&self, text: &mut TextBuilder) {
+        let sides = &self.sides;
+        push_memories(text, &sides.caller, &sides.callee, self.are_cut);
     }
 }

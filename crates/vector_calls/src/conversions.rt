@@ -7,14 +7,15 @@ ghost use Rattle.tables.specs.Standard.{IsTypeOf};
 ghost use Rattle.value_json.specs.Apart.{HasApartLabels};
 ghost use Rattle.values.specs.Members.{fields_of_types};
 
-use crate::functions::{fault_told, parameter_of_row};
-use crate::vector_sides::{Logged, answer_told, field, flats, flats_told, guest, list};
+use crate::functions::{parameter_of_row, push_fault};
+use crate::vector_sides::{Logged, answer_told, field, flats, guest, list, push_flats};
 use canonical_abi::{Fault, Flat};
 use lift_lower::{Flats, Types, Val, has_type, lift, lower};
 use serde_json::Value;
 use std::alloc::Global;
 use std::slice;
 use tables::ValType;
+use text_builder::TextBuilder;
 use value_json::{JsonError, json_of_value, value_of_json};
 
 /// The type of the first parameter of the row's function, which is small.
@@ -81,13 +82,13 @@ fn lowered(
     Ok(lower(resolve, layouts, &[ty], slice::from_ref(&value), guest))
 }
 
-/// What is told of the values that core values denote, which have to be one of this type.
-fn values_told(
-    alloc: Global,
+/// Writes the values that core values denote, which have to be one of this type.
+fn push_values(
+    text: &mut TextBuilder,
     types: &Types<'_>,
     ty: ValType,
     values: &[Val],
-) -> anyhow::Result<String>
+) -> anyhow::Result<()>
     requires known { IsTypeOf «types».now ty }
     requires labels { HasApartLabels «types».now }
 {
@@ -97,46 +98,51 @@ fn values_told(
     if !has_type(types.resolve(), types.layouts(), ty, value) {
         return Err(anyhow::anyhow!("no value of its type"));
     }
-    let json = json_of_value(alloc, types.resolve(), ty, value)?;
-    let told = json.to_string(alloc)?;
-    Ok(format!(in alloc; "{{\"lifted\":{told}}}")?)
+    let json = json_of_value(text.alloc(), types.resolve(), ty, value)?;
+    text.push("{\"lifted\":");
+    text.push_made(json.to_string(text.alloc()));
+    text.push("}");
+    Ok(())
 }
 
-/// What is told of core values that are lifted.
-fn lifted_told(
-    alloc: Global,
+/// Writes what core values are lifted to.
+fn push_lifted(
+    text: &mut TextBuilder,
     row: &Value,
     types: &Types<'_>,
     guest: &Logged,
-) -> anyhow::Result<String>
+) -> anyhow::Result<()>
     requires { HasApartLabels «types».now }
 {
     let ty = type_of(types, row)?;
-    match lifted(alloc, row, types, ty, guest)? {
-        Err(fault) => fault_told(alloc, fault),
-        Ok(values) => values_told(alloc, types, ty, values.as_slice()),
+    match lifted(text.alloc(), row, types, ty, guest)? {
+        Err(fault) => push_fault(text, fault),
+        Ok(values) => push_values(text, types, ty, values.as_slice())?,
     }
+    Ok(())
 }
 
-/// What is told of a value that is lowered.
-fn lowered_told(
-    alloc: Global,
+/// Writes what a value is lowered to.
+fn push_lowered(
+    text: &mut TextBuilder,
     json: &Value,
     row: &Value,
     types: &Types<'_>,
     guest: &mut Logged,
-) -> anyhow::Result<String>
+) -> anyhow::Result<()>
     requires { HasApartLabels «types».now }
 {
     let ty = type_of(types, row)?;
-    let value = value_of(alloc, types, ty, json)?;
+    let value = value_of(text.alloc(), types, ty, json)?;
     match lowered(types, ty, value, guest)? {
-        Ok(flats) => Ok(format!(in alloc;
-            "{{\"lowered\":{}}}",
-            flats_told(alloc, flats.as_slice())?
-        )?),
-        Err(fault) => fault_told(alloc, fault),
+        Ok(flats) => {
+            text.push("{\"lowered\":");
+            push_flats(text, flats.as_slice());
+            text.push("}");
+        }
+        Err(fault) => push_fault(text, fault),
     }
+    Ok(())
 }
 
 /// What is told of a value that is converted over the caller's memory.
@@ -148,10 +154,12 @@ fn converted(
 ) -> anyhow::Result<String>
     requires { HasApartLabels «types».now }
 {
+    let mut text = TextBuilder::new(alloc);
     match field(row, "lower") {
-        None => lifted_told(alloc, row, types, caller),
-        Some(json) => lowered_told(alloc, json, row, types, caller),
+        None => push_lifted(&mut text, row, types, caller)?,
+        Some(json) => push_lowered(&mut text, json, row, types, caller)?,
     }
+    Ok(text.finish()?)
 }
 
 /// What is told of a row that lifts or lowers, and of the memories.
@@ -161,5 +169,5 @@ pub fn conversion_told(alloc: Global, row: &Value, types: &Types<'_>) -> anyhow:
     let mut caller = guest(alloc, row, 0)?;
     let callee = guest(alloc, row, 1)?;
     let told = converted(alloc, row, types, &mut caller)?;
-    answer_told(alloc, told.as_str(), &caller, &callee)
+    Ok(answer_told(alloc, told.as_str(), &caller, &callee)?)
 }

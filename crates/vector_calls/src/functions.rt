@@ -6,8 +6,8 @@ ghost use Rattle.tables.specs.Closed.{IsFunction};
 use crate::vector_sides::text;
 use canonical_abi::Fault;
 use serde_json::Value;
-use std::alloc::Global;
 use tables::{FunctionId, Resolve, ValType};
+use text_builder::TextBuilder;
 
 /// What is told of a function that is not there, as `witcall` says it.
 pub(crate) const NO_FUNCTION: &str = "error 63 no function";
@@ -38,10 +38,14 @@ pub(crate) fn parameter_of_row(resolve: &Resolve, row: &Value) -> anyhow::Result
     parameter(resolve, f)
 }
 
-/// Why something ended.
-pub fn fault_told(alloc: Global, fault: Fault) -> anyhow::Result<String> {
+/// Writes why something ended.
+pub fn push_fault(text: &mut TextBuilder, fault: Fault) {
     match fault {
-        Fault::NoMemory => Err(anyhow::anyhow!("no memory")),
-        Fault::Trap(trap) => Ok(format!(in alloc; "{{\"trap\":\"{trap}\"}}")?),
+        Fault::NoMemory => text.refuse(),
+        Fault::Trap(trap) => {
+            text.push("{\"trap\":\"");
+            text.push_made(trap.to_string(text.alloc()));
+            text.push("\"}");
+        }
     }
 }

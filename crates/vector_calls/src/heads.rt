@@ -6,7 +6,7 @@ ghost use Rattle.lift_lower.specs.Heads.{IsHeadOf, head_flats};
 ghost use Rattle.tables.specs.Closed.{closed_type};
 ghost use Rattle.values.specs.Types.{IsInside};
 
-use crate::functions::{fault_told, parameter_of_row};
+use crate::functions::{parameter_of_row, push_fault};
 use crate::vector_sides::{Logged, answer_told, field, flats, guest, list, number};
 use canonical_abi::{Fault, Flat, Guest, Step, Trap, TrapKind};
 use layout::Shape;
@@ -14,6 +14,7 @@ use lift_lower::{Head, Types, head_at, head_of, put_head};
 use serde_json::Value;
 use std::alloc::{AllocError, Global};
 use tables::ValType;
+use text_builder::TextBuilder;
 use values::Scalar;
 use values::bytes::test_block;
 
@@ -114,17 +115,32 @@ fn scalar_told(alloc: Global, scalar: Scalar) -> Result<String, AllocError> {
     }
 }
 
-/// A head as JSON.
-fn head_told(alloc: Global, head: Head) -> Result<String, AllocError> {
+/// Writes a head as JSON.
+fn push_head(text: &mut TextBuilder, head: Head) {
     match head {
         Head::Scalar(scalar) => {
-            let told = scalar_told(alloc, scalar)?;
-            format!(in alloc; "{{\"scalar\":{told}}}")
+            text.push("{\"scalar\":");
+            text.push_made(scalar_told(text.alloc(), scalar));
+            text.push("}");
         }
-        Head::Block(at, count) => format!(in alloc; "{{\"block\":[{at},{count}]}}"),
-        Head::Case(number) => format!(in alloc; "{{\"case\":{number}}}"),
-        Head::Flags(bits) => format!(in alloc; "{{\"flags\":{bits}}}"),
-        Head::Nothing => String::from_str(alloc, "\"nothing\""),
+        Head::Block(at, count) => {
+            text.push("{\"block\":[");
+            text.push_number(at as usize);
+            text.push(",");
+            text.push_number(count as usize);
+            text.push("]}");
+        }
+        Head::Case(number) => {
+            text.push("{\"case\":");
+            text.push_number(number as usize);
+            text.push("}");
+        }
+        Head::Flags(bits) => {
+            text.push("{\"flags\":");
+            text.push_number(bits as usize);
+            text.push("}");
+        }
+        Head::Nothing => text.push("\"nothing\""),
     }
 }
 
@@ -149,44 +165,53 @@ fn asked_head(
     Ok((ty, head))
 }
 
-/// What is told of the head that a row asks for, which is written at an address of the other memory if the row has one.
+/// The head that a row asks for, which is written at an address of the other memory if the row has one. Or why there is
+/// none.
 fn head_asked(
     alloc: Global,
     row: &Value,
     types: &Types<'_>,
     (source, target): (&Logged, &mut Logged),
-) -> anyhow::Result<String> {
+) -> anyhow::Result<Result<Head, Trap>> {
     let (ty, head) = asked_head(alloc, row, types, source)?;
     let head = match head {
         Ok(head) => head,
-        Err(kind) => return fault_told(
-            alloc,
-            Fault::Trap(Trap {
-                kind,
-                step: Step::Take,
-            }),
-        ),
+        Err(kind) => return Ok(Err(Trap {
+            kind,
+            step: Step::Take,
+        })),
     };
     if let Some(at) = field(row, "put_at") {
         let at = number(Some(at))?;
         if let Err(kind) = put(types, ty, head, (target, at)) {
-            return fault_told(
-                alloc,
-                Fault::Trap(Trap {
-                    kind,
-                    step: Step::Place,
-                }),
-            );
+            return Ok(Err(Trap {
+                kind,
+                step: Step::Place,
+            }));
         }
     }
-    let told = head_told(alloc, head)?;
-    Ok(format!(in alloc; "{{\"head\":{told}}}")?)
+    Ok(Ok(head))
+}
+
+/// What is told of a head that was asked for.
+fn head_told(alloc: Global, asked: Result<Head, Trap>) -> Result<String, AllocError> {
+    let mut text = TextBuilder::new(alloc);
+    match asked {
+        Ok(head) => {
+            text.push("{\"head\":");
+            push_head(&mut text, head);
+            text.push("}");
+        }
+        Err(trap) => push_fault(&mut text, Fault::Trap(trap)),
+    }
+    text.finish()
 }
 
 /// What is told of a row that asks for a head, and of the memories.
 pub fn head_row_told(alloc: Global, row: &Value, types: &Types<'_>) -> anyhow::Result<String> {
     let caller = guest(alloc, row, 0)?;
     let mut callee = guest(alloc, row, 1)?;
-    let told = head_asked(alloc, row, types, (&caller, &mut callee))?;
-    answer_told(alloc, told.as_str(), &caller, &callee)
+    let asked = head_asked(alloc, row, types, (&caller, &mut callee))?;
+    let told = head_told(alloc, asked)?;
+    Ok(answer_told(alloc, told.as_str(), &caller, &callee)?)
 }

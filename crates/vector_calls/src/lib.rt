@@ -14,5 +14,5 @@ pub mod vector_sides;
 
 pub use calls::Calls;
 pub use conversions::conversion_told;
-pub use functions::{fault_told, function, parameter};
+pub use functions::{function, parameter, push_fault};
 pub use heads::head_row_told;

@@ -3,36 +3,49 @@
 use adapter::Request;
 use canonical_abi::Fault;
 use host_calls::CallError;
-use std::alloc::{AllocError, Global};
-use vector_calls::vector_sides::list_of;
+use text_builder::TextBuilder;
+use vector_calls::vector_sides::comma;
 
-/// Why nothing was done, as a member.
-pub(crate) fn error_told(alloc: Global, error: CallError) -> anyhow::Result<String> {
-    match error {
+/// Writes why nothing was done, as a member.
+pub(crate) fn push_error(text: &mut TextBuilder, error: CallError) {
+    let key = match error {
         CallError::NoMemory | CallError::Fault(Fault::NoMemory) => {
-            Err(anyhow::anyhow!("no memory"))
+            text.refuse();
+            return;
         }
-        CallError::Fault(_) => Ok(format!(in alloc; "\"trap\":\"{error}\"")?),
-        _ => Ok(format!(in alloc; "\"refused\":\"{error}\"")?),
-    }
+        CallError::Fault(_) => "trap",
+        _ => "refused",
+    };
+    text.push_all(&["\"", key, "\":\""]);
+    text.push_made(error.to_string(text.alloc()));
+    text.push("\"");
 }
 
-/// Requests, an alignment and a size each.
-fn requests_told(alloc: Global, requests: &[Request]) -> Result<String, AllocError> {
-    let mut parts = Vec::new(alloc);
-    for Request { align, size } in requests {
-        parts.push(format!(in alloc; "[{align},{size}]")?)?;
-    }
-    list_of(alloc, parts.as_slice())
+/// Writes a request, an alignment and a size.
+fn push_request(text: &mut TextBuilder, request: &Request) {
+    text.push("[");
+    text.push_number(request.align as usize);
+    text.push(",");
+    text.push_number(request.size as usize);
+    text.push("]");
 }
 
-/// What is told of the blocks that values ask for.
-pub fn asks_told(alloc: Global, asked: &Result<Vec<Request>, CallError>) -> anyhow::Result<String> {
+/// Writes requests.
+fn push_requests(text: &mut TextBuilder, requests: &[Request]) {
+    text.push("\"asks\":[");
+    for (index, request) in requests.iter().enumerate() {
+        text.push(comma(index));
+        push_request(text, request);
+    }
+    text.push("]");
+}
+
+/// Writes the blocks that values ask for.
+pub fn push_asks(text: &mut TextBuilder, asked: &Result<Vec<Request>, CallError>) {
+    text.push("{");
     match asked {
-        Ok(requests) => {
-            let told = requests_told(alloc, requests.as_slice())?;
-            Ok(format!(in alloc; "{{\"asks\":{told}}}")?)
-        }
-        Err(error) => Ok(format!(in alloc; "{{{}}}", error_told(alloc, *error)?)?),
+        Ok(requests) => push_requests(text, requests.as_slice()),
+        Err(error) => push_error(text, *error),
     }
+    text.push("}");
 }

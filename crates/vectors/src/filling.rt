@@ -1,12 +1,13 @@
 //! What arguments are put into, and what is told of it.
 
-use crate::asking::error_told;
+use crate::asking::push_error;
 use canonical_abi::Flat;
 use host_calls::{CallError, MAX_VALUES, Value};
 use memory::Block;
 use serde_json::Value as Json;
-use std::alloc::Global;
-use vector_calls::vector_sides::{flats_told, list, number};
+use std::alloc::{AllocError, Global};
+use text_builder::TextBuilder;
+use vector_calls::vector_sides::{list, number, push_flats};
 
 /// What a place for a core value has before one is put there.
 const UNSET: Value = Value {
@@ -82,28 +83,34 @@ fn length_of(bytes: &[u8]) -> usize {
     length
 }
 
-/// The bytes up to the last that is not 0, in hexadecimal digits.
-fn memory_told(alloc: Global, memory: &[u8]) -> anyhow::Result<String> {
+/// Writes the bytes up to the last that is not 0, in hexadecimal digits.
+fn push_memory(text: &mut TextBuilder, memory: &[u8]) {
     let front = memory.get(..length_of(memory)).unwrap_or(&[]);
-    Ok(hex::encode(alloc, front)?)
+    text.push_made(hex::encode(text.alloc(), front));
 }
 
-/// The core values up to the last that was put.
-fn handed_told(alloc: Global, handed: &[Value]) -> anyhow::Result<String> {
+/// The core values that places have.
+fn flats_of(alloc: Global, handed: &[Value]) -> Result<Vec<Flat>, AllocError> {
     let mut flats = Vec::new(alloc);
     for value in handed {
         flats.push(value.flat())?;
     }
-    let flats = flats.as_slice();
-    let front = flats.get(..count_of(flats)).unwrap_or(&[]);
-    Ok(flats_told(alloc, front)?)
+    Ok(flats)
 }
 
-/// How many core values were put, or why none were, as a member.
-fn done_told(alloc: Global, done: &Result<usize, CallError>) -> anyhow::Result<String> {
+/// Writes the core values up to the last that was put.
+fn push_handed(text: &mut TextBuilder, flats: &[Flat]) {
+    push_flats(text, flats.get(..count_of(flats)).unwrap_or(&[]));
+}
+
+/// Writes how many core values were put, or why none were, as a member.
+fn push_done(text: &mut TextBuilder, done: &Result<usize, CallError>) {
     match done {
-        Ok(count) => Ok(format!(in alloc; "\"filled\":{count}")?),
-        Err(error) => error_told(alloc, *error),
+        Ok(count) => {
+            text.push("\"filled\":");
+            text.push_number(*count);
+        }
+        Err(error) => push_error(text, *error),
     }
 }
 
@@ -117,11 +124,17 @@ impl Filling {
         })
     }
 
-    /// What is told of a call that was given these.
-    pub fn told(&self, alloc: Global, done: &Result<usize, CallError>) -> anyhow::Result<String> {
-        let done = done_told(alloc, done)?;
-        let handed = handed_told(alloc, self.handed.as_slice())?;
-        let memory = memory_told(alloc, self.memory.as_slice())?;
-        Ok(format!(in alloc; "{{{done},\"handed\":{handed},\"memory\":\"{memory}\"}}")?)
+    /// Writes what is told of a call that was given these.
+    pub fn push(&self, text: &mut TextBuilder, done: &Result<usize, CallError>) {
+        text.push("{");
+        push_done(text, done);
+        text.push(",\"handed\":");
+        match flats_of(text.alloc(), self.handed.as_slice()) {
+            Ok(flats) => push_handed(text, flats.as_slice()),
+            Err(_) => text.refuse(),
+        }
+        text.push(",\"memory\":\"");
+        push_memory(text, self.memory.as_slice());
+        text.push("\"}");
     }
 }

@@ -8,7 +8,7 @@ ghost use Rattle.tables.specs.Closed.{IsFunction, function_type};
 ghost use Rattle.value_json.specs.Apart.{HasApartLabels};
 ghost use Rattle.values.specs.Val.{value_of};
 
-use crate::asking::{asks_told, error_told};
+use crate::asking::{push_asks, push_error};
 use crate::filling::Filling;
 use adapter::{Request, parameter_types, result_type};
 use host_calls::{CallError, Half, Value};
@@ -17,6 +17,7 @@ use lift_lower::{Types, Val, has_type};
 use serde_json::Value as Json;
 use std::alloc::Global;
 use tables::FunctionId;
+use text_builder::TextBuilder;
 use value_json::{JsonError, json_of_value, values_of_json};
 use vector_calls::vector_sides::{flats, list, text};
 
@@ -102,11 +103,11 @@ impl Host<'_> {
         }
     }
 
-    fn asks(&self, json: &Json) -> anyhow::Result<String>
+    fn push_asks(&self, text: &mut TextBuilder, json: &Json)
         requires { HasApartLabels self.now.types.now }
     {
         let asked = self.asked(json);
-        asks_told(self.alloc, &asked)
+        push_asks(text, &asked);
     }
 
     /// The blocks that a result asks for.
@@ -120,11 +121,11 @@ impl Host<'_> {
         }
     }
 
-    fn answer_asks(&self, json: &Json) -> anyhow::Result<String>
+    fn push_answer_asks(&self, text: &mut TextBuilder, json: &Json)
         requires { HasApartLabels self.now.types.now }
     {
         let asked = self.asked_by_result(json);
-        asks_told(self.alloc, &asked)
+        push_asks(text, &asked);
     }
 
     /// Puts arguments into the blocks of a step.
@@ -146,41 +147,59 @@ impl Host<'_> {
         )
     }
 
-    fn fills(&self, words: &[Json]) -> anyhow::Result<String>
+    fn push_fills(&self, text: &mut TextBuilder, words: &[Json]) -> anyhow::Result<()>
         requires { HasApartLabels self.now.types.now }
     {
         let mut filling = Filling::of(self.alloc, words, self.memory)?;
         let done = self.fill(json_of(words)?, &mut filling);
-        filling.told(self.alloc, &done)
+        filling.push(text, &done);
+        Ok(())
     }
 
-    /// The text of a value of the result.
-    fn value_told(&self, value: &Val) -> anyhow::Result<String>
+    /// Writes a value of the result.
+    fn push_value(&self, text: &mut TextBuilder, value: &Val) -> anyhow::Result<()>
         requires { HasApartLabels self.now.types.now }
     {
         let resolve = self.types.resolve();
         match result_type(resolve, self.func) {
             Some(ty) if has_type(resolve, self.types.layouts(), ty, value) => {
                 let json = json_of_value(self.alloc, resolve, ty, value)?;
-                Ok(format!(in self.alloc; "{{\"read\":{}}}", json.to_string(self.alloc)?)?)
+                text.push("{\"read\":");
+                text.push_made(json.to_string(self.alloc));
+                text.push("}");
+                Ok(())
             }
             _ => Err(anyhow::anyhow!("no value of its type")),
         }
     }
 
-    /// What is told of the values that an answer says.
-    fn result_told(&self, read: &Result<Option<Val>, CallError>) -> anyhow::Result<String>
+    /// Writes the values that an answer says.
+    fn push_result(
+        &self,
+        text: &mut TextBuilder,
+        read: &Result<Option<Val>, CallError>,
+    ) -> anyhow::Result<()>
         requires { HasApartLabels self.now.types.now }
     {
         match read {
-            Ok(Some(value)) => self.value_told(value),
-            Ok(None) => Ok(String::from_str(self.alloc, "\"nothing\"")?),
-            Err(error) => Ok(format!(in self.alloc; "{{{}}}", error_told(self.alloc, *error)?)?),
+            Ok(Some(value)) => self.push_value(text, value)?,
+            Ok(None) => text.push("\"nothing\""),
+            Err(error) => {
+                text.push("{");
+                push_error(text, *error);
+                text.push("}");
+            }
         }
+        Ok(())
     }
 
-    /// What is told of the core values of an answer, which are read over this memory up to the limit of a step.
-    fn read_told(&self, words: &[Json], memory: &mut [u8]) -> anyhow::Result<String>
+    /// Writes what the core values of an answer say, which are read over this memory up to the limit of a step.
+    fn push_read(
+        &self,
+        text: &mut TextBuilder,
+        words: &[Json],
+        memory: &mut [u8],
+    ) -> anyhow::Result<()>
         requires { HasApartLabels self.now.types.now }
     {
         let answer = answer_of(self.alloc, words)?;
@@ -191,30 +210,31 @@ impl Host<'_> {
             limit: limit_of(words),
         };
         let read = reading.result(answer.as_slice(), memory);
-        self.result_told(&read)
+        self.push_result(text, &read)
     }
 
-    fn reads(&self, words: &[Json]) -> anyhow::Result<String>
+    fn push_reads(&self, text: &mut TextBuilder, words: &[Json]) -> anyhow::Result<()>
         requires { HasApartLabels self.now.types.now }
     {
         let mut memory = self.memory.to_vec(self.alloc)?;
-        let told = self.read_told(words, memory.as_mut_slice())?;
+        self.push_read(text, words, memory.as_mut_slice())?;
         if memory.as_slice() != self.memory {
             return Err(anyhow::anyhow!("the memory was written to"));
         }
-        Ok(told)
+        Ok(())
     }
 
-    /// What is told of a step.
-    pub fn told(&self, words: &[Json]) -> anyhow::Result<String>
+    /// Writes what is told of a step.
+    pub fn push(&self, told: &mut TextBuilder, words: &[Json]) -> anyhow::Result<()>
         requires { HasApartLabels self.now.types.now }
     {
         match text(words.first())? {
-            "asks" => self.asks(json_of(words)?),
-            "fills" => self.fills(words),
-            "answer asks" => self.answer_asks(json_of(words)?),
-            "reads" => self.reads(words),
-            word => Err(anyhow::anyhow!("no step: {word}")),
+            "asks" => self.push_asks(told, json_of(words)?),
+            "fills" => self.push_fills(told, words)?,
+            "answer asks" => self.push_answer_asks(told, json_of(words)?),
+            "reads" => self.push_reads(told, words)?,
+            word => return Err(anyhow::anyhow!("no step: {word}")),
         }
+        Ok(())
     }
 }

@@ -3,27 +3,30 @@
 ghost use Rattle.tables.specs.Closed.{IsFunction};
 ghost use Rattle.value_json.specs.Apart.{HasApartLabels};
 
-use crate::{Filling, Host, asks_told, opened};
+use crate::{Filling, Host, opened, push_asks};
 use canonical_abi::Guest;
 use package_values::Called;
 use serde_json::Value;
-use std::alloc::{AllocError, Global};
+use std::alloc::Global;
+use text_builder::TextBuilder;
 use vector_calls::function;
-use vector_calls::vector_sides::{guest, list, list_of, text};
+use vector_calls::vector_sides::{comma, guest, list, text};
 use witcall::Package;
 use witcall::laws::has_labels_apart;
 
-/// What is told of a step that is taken by a text of JSON.
-fn text_told(
+/// Writes what is told of a step that is taken by a text of JSON.
+fn push_by_text(
+    told: &mut TextBuilder,
     called: &Called<'_>,
     words: &[Value],
     given: &str,
     memory: &[u8],
-) -> anyhow::Result<String>
+) -> anyhow::Result<()>
     requires { IsFunction called.now.«package».now.resolve called.now.func }
 {
     if text(words.first())? == "asks" {
-        return asks_told(called.alloc, &called.requests(given));
+        push_asks(told, &called.requests(given));
+        return Ok(());
     }
     let mut filling = Filling::of(called.alloc, words, memory)?;
     let done = called.fill(
@@ -32,61 +35,105 @@ fn text_told(
         filling.memory.as_mut_slice(),
         filling.handed.as_mut_slice(),
     );
-    filling.told(called.alloc, &done)
+    filling.push(told, &done);
+    Ok(())
 }
 
-/// What is told of a step by two calls: once if it is the same.
-fn both_told(alloc: Global, one: &str, other: &str) -> Result<String, AllocError> {
+/// Writes what is told of a step by two calls: once if it is the same.
+fn push_both(told: &mut TextBuilder, one: &str, other: &str) {
     if one == other {
-        return String::from_str(alloc, one);
+        told.push(one);
+    } else {
+        told.push_all(&["[", one, ",", other, "]"]);
     }
-    format!(in alloc; "[{one},{other}]")
 }
 
-/// What is told of a step whose arguments are taken as values, and as their text.
-fn values_told(
+/// What is told of a step whose arguments are taken as their text.
+fn text_told(
+    called: &Called<'_>,
+    words: &[Value],
+    given: &str,
+    memory: &[u8],
+) -> anyhow::Result<String>
+    requires { IsFunction called.now.«package».now.resolve called.now.func }
+{
+    let mut told = TextBuilder::new(called.alloc);
+    push_by_text(&mut told, called, words, given, memory)?;
+    Ok(told.finish()?)
+}
+
+/// What is told of a step whose arguments are taken as values.
+fn own_told(host: &Host<'_>, words: &[Value]) -> anyhow::Result<String>
+    requires { HasApartLabels host.now.types.now }
+{
+    let mut told = TextBuilder::new(host.alloc);
+    host.push(&mut told, words)?;
+    Ok(told.finish()?)
+}
+
+/// Writes what is told of a step whose arguments are taken as values, and as their text.
+fn push_values(
+    told: &mut TextBuilder,
     called: &Called<'_>,
     host: &Host<'_>,
     words: &[Value],
-    json: &Value,
-) -> anyhow::Result<String>
+    given: &str,
+) -> anyhow::Result<()>
     requires function { IsFunction called.now.«package».now.resolve called.now.func }
     requires labels { HasApartLabels host.now.types.now }
 {
-    let given = json.to_string(called.alloc)?;
-    let told = text_told(called, words, given.as_str(), host.memory)?;
-    let own = host.told(words)?;
-    Ok(both_told(called.alloc, own.as_str(), told.as_str())?)
+    let own = own_told(host, words)?;
+    let other = text_told(called, words, given, host.memory)?;
+    push_both(told, own.as_str(), other.as_str());
+    Ok(())
 }
 
-/// What is told of a step. Arguments that are no text are taken as values, and as their text.
-fn step_told(called: &Called<'_>, host: &Host<'_>, words: &[Value]) -> anyhow::Result<String>
+/// Writes what is told of a step. Arguments that are no text are taken as values, and as their text.
+fn push_step(
+    told: &mut TextBuilder,
+    called: &Called<'_>,
+    host: &Host<'_>,
+    words: &[Value],
+) -> anyhow::Result<()>
     requires function { IsFunction called.now.«package».now.resolve called.now.func }
     requires labels { HasApartLabels host.now.types.now }
 {
     match (text(words.first())?, words.get(1)) {
         ("asks" | "fills", Some(Value::String(given))) => {
-            text_told(called, words, given.as_str(), host.memory)
+            push_by_text(told, called, words, given.as_str(), host.memory)
         }
-        ("asks" | "fills", Some(json)) => values_told(called, host, words, json),
-        _ => host.told(words),
+        ("asks" | "fills", Some(json)) => {
+            let given = told.kept(json.to_string(called.alloc));
+            push_values(told, called, host, words, given.as_str())
+        }
+        _ => host.push(told, words),
     }
 }
 
-/// What is told of these steps of a row.
-fn parts_told(called: &Called<'_>, host: &Host<'_>, steps: &[Value]) -> anyhow::Result<String>
+/// Writes what is told of these steps of a row.
+fn push_steps(
+    told: &mut TextBuilder,
+    called: &Called<'_>,
+    host: &Host<'_>,
+    steps: &[Value],
+) -> anyhow::Result<()>
     requires function { IsFunction called.now.«package».now.resolve called.now.func }
     requires labels { HasApartLabels host.now.types.now }
 {
-    let mut parts = Vec::new(called.alloc);
-    for step in steps {
-        parts.push(step_told(called, host, list(Some(step)))?)?;
+    for (index, step) in steps.iter().enumerate() {
+        told.push(comma(index));
+        push_step(told, called, host, list(Some(step)))?;
     }
-    Ok(list_of(called.alloc, parts.as_slice())?)
+    Ok(())
 }
 
-/// What is told of the steps of a row over a memory.
-fn steps_told(called: &Called<'_>, row: &Value, memory: &[u8]) -> anyhow::Result<String>
+/// Writes what is told of the steps of a row over a memory.
+fn push_row(
+    told: &mut TextBuilder,
+    called: &Called<'_>,
+    row: &Value,
+    memory: &[u8],
+) -> anyhow::Result<()>
     requires { IsFunction called.now.«package».now.resolve called.now.func }
 {
     let types = called.package.types();
@@ -97,11 +144,16 @@ fn steps_told(called: &Called<'_>, row: &Value, memory: &[u8]) -> anyhow::Result
         func: called.func,
         memory,
     };
-    parts_told(called, &host, list(row.get("host")))
+    push_steps(told, called, &host, list(row.get("host")))
 }
 
-/// What is told of the steps of a row, of a package.
-fn package_told(alloc: Global, row: &Value, package: &Package) -> anyhow::Result<String> {
+/// Writes what is told of the steps of a row, of a package.
+fn push_package(
+    told: &mut TextBuilder,
+    alloc: Global,
+    row: &Value,
+    package: &Package,
+) -> anyhow::Result<()> {
     let interface = text(row.get("iface"))?;
     let func = function(package.resolve(), interface, text(row.get("func"))?)?;
     let called = Called {
@@ -110,12 +162,15 @@ fn package_told(alloc: Global, row: &Value, package: &Package) -> anyhow::Result
         func,
     };
     let memory = guest(alloc, row, 1)?;
-    steps_told(&called, row, memory.bytes())
+    push_row(told, &called, row, memory.bytes())
 }
 
 /// What is told of the steps of a row.
 pub fn told_of(alloc: Global, row: &Value) -> anyhow::Result<String> {
     let package = opened(alloc, row)?;
-    let told = package_told(alloc, row, &package)?;
-    Ok(format!(in alloc; "{{\"answers\":{told}}}")?)
+    let mut told = TextBuilder::new(alloc);
+    told.push("{\"answers\":[");
+    push_package(&mut told, alloc, row, &package)?;
+    told.push("]}");
+    Ok(told.finish()?)
 }

@@ -26,13 +26,13 @@ pub(crate) fn opened(alloc: Global, row: &Value) -> anyhow::Result<Package> {
 /// What is told of calls of a package that is refused.
 fn refused_told(alloc: Global, calls: &Calls<'_>, error: &OpenError) -> anyhow::Result<String> {
     let line = error.to_string(alloc)?;
-    calls.refused(alloc, line.as_str())
+    Ok(calls.refused(alloc, line.as_str())?)
 }
 
 /// What is told of calls of the package that these bytes are.
 fn made_told(alloc: Global, calls: &mut Calls<'_>, bytes: &[u8]) -> anyhow::Result<String> {
     match open(alloc, bytes) {
-        Ok(package) => calls.told(alloc, &package.types()),
+        Ok(package) => Ok(calls.told(alloc, &package.types())?),
         Err(error) => refused_told(alloc, calls, &error),
     }
 }
@@ -96,6 +96,6 @@ fn main(rt: HostRuntime) -> anyhow::Result<()> {
     Ok(())
 }
 
-pub use asking::asks_told;
+pub use asking::push_asks;
 pub use filling::Filling;
 pub use host::Host;

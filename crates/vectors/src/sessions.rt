@@ -12,11 +12,12 @@ use lift_lower::Val;
 use serde_json::Value;
 use std::alloc::Global;
 use tables::{FunctionId, ValType};
+use text_builder::TextBuilder;
 use vector_calls::vector_sides::{
-    Logged, body, field, guest, list, list_of, number, object_of, push_memories, text,
+    Logged, body, comma, field, guest, list, number, push_memories, text,
 };
-use vector_calls::{fault_told, function, parameter};
-use witcall::{Answer, Package, Session, Step, from_json, takes_steps, to_json};
+use vector_calls::{function, parameter, push_fault};
+use witcall::{Answer, Held, Package, Session, Step, from_json, takes_steps, to_json};
 
 /// The value of a type that a row says.
 fn value_of(alloc: Global, package: &Package, ty: ValType, json: &Value) -> anyhow::Result<Val> {
@@ -27,17 +28,21 @@ fn value_of(alloc: Global, package: &Package, ty: ValType, json: &Value) -> anyh
     Ok(from_json(alloc, package, ty, text.as_str())?)
 }
 
-/// The text of a value.
-fn value_told(
-    alloc: Global,
+/// Writes a value as an object with this key.
+fn push_value(
+    text: &mut TextBuilder,
+    key: &str,
     package: &Package,
     ty: ValType,
     value: &Val,
-) -> anyhow::Result<String> {
+) -> anyhow::Result<()> {
     if !package.is_type(ty) || !package.is_of(ty, value) {
         return Err(anyhow::anyhow!("no value of its type"));
     }
-    Ok(to_json(alloc, package, ty, value)?)
+    text.push_all(&["{\"", key, "\":"]);
+    text.push_made(to_json(text.alloc(), package, ty, value));
+    text.push("}");
+    Ok(())
 }
 
 /// The arguments of a function.
@@ -120,91 +125,107 @@ fn steps_of(
     Ok(steps)
 }
 
-/// What a call of a function answered.
-fn called_told(
-    alloc: Global,
+/// Writes what a call of a function answered.
+fn push_called(
+    text: &mut TextBuilder,
     package: &Package,
     step: &Step,
     called: &Result<Option<Val>, Fault>,
-) -> anyhow::Result<String> {
+) -> anyhow::Result<()> {
     match (step, called) {
-        (_, Err(fault)) => fault_told(alloc, *fault),
+        (_, Err(fault)) => push_fault(text, *fault),
         (Step::Call(f, _), Ok(Some(value))) if package.is_function(*f) => {
             let Some(ty) = package.resolve().signature(*f).result else {
                 return Err(anyhow::anyhow!("an answer of a function without result"));
             };
-            let told = value_told(alloc, package, ty, value)?;
-            Ok(format!(in alloc; "{{\"answered\":{told}}}")?)
+            push_value(text, "answered", package, ty, value)?;
         }
-        _ => Ok(String::from_str(alloc, "\"done\"")?),
+        _ => text.push("\"done\""),
     }
+    Ok(())
 }
 
-/// What was read of what a step placed.
-fn read_told(
-    alloc: Global,
+/// Writes what was read of what a step placed.
+fn push_read(
+    text: &mut TextBuilder,
     package: &Package,
     placed: Option<&Answer>,
     read: &Result<Val, Fault>,
-) -> anyhow::Result<String> {
+) -> anyhow::Result<()> {
     match (placed, read) {
-        (_, Err(fault)) => fault_told(alloc, *fault),
+        (_, Err(fault)) => push_fault(text, *fault),
         (Some(Answer::Placed(Ok(held))), Ok(value)) => {
-            let told = value_told(alloc, package, held.ty, value)?;
-            Ok(format!(in alloc; "{{\"read\":{told}}}")?)
+            push_value(text, "read", package, held.ty, value)?;
         }
-        _ => Err(anyhow::anyhow!("read where nothing was placed")),
+        _ => return Err(anyhow::anyhow!("read where nothing was placed")),
+    }
+    Ok(())
+}
+
+/// Writes what placing a value answered.
+fn push_placed(text: &mut TextBuilder, placed: &Result<Held, Fault>) {
+    match placed {
+        Ok(held) => {
+            text.push("{\"placed\":");
+            text.push_number(held.at as usize);
+            text.push("}");
+        }
+        Err(fault) => push_fault(text, *fault),
     }
 }
 
-/// What a step answered, among the answers of its list.
-fn answer_told(
-    alloc: Global,
+/// Writes what a step answered, among the answers of its list.
+fn push_answer(
+    text: &mut TextBuilder,
     package: &Package,
     step: &Step,
     answer: &Answer,
     answers: &[Answer],
-) -> anyhow::Result<String> {
-    Ok(match (step, answer) {
-        (_, Answer::Called(called)) => called_told(alloc, package, step, called)?,
+) -> anyhow::Result<()> {
+    match (step, answer) {
+        (_, Answer::Called(called)) => push_called(text, package, step, called)?,
         (Step::Read(number), Answer::Read(read)) => {
-            read_told(alloc, package, answers.get(*number), read)?
+            push_read(text, package, answers.get(*number), read)?;
         }
-        (_, Answer::Placed(Err(fault))) => fault_told(alloc, *fault)?,
-        (_, Answer::Placed(Ok(held))) => format!(in alloc; "{{\"placed\":{}}}", held.at)?,
-        (_, Answer::Released(Ok(()))) => String::from_str(alloc, "\"released\"")?,
-        (_, Answer::Released(Err(_))) => String::from_str(alloc, "\"not released\"")?,
-        _ => String::from_str(alloc, "\"missing\"")?,
-    })
-}
-
-/// What the steps of a list answered.
-fn answers_told(
-    alloc: Global,
-    package: &Package,
-    steps: &[Step],
-    answers: &[Answer],
-) -> anyhow::Result<String> {
-    let mut parts = Vec::new(alloc);
-    for (step, answer) in steps.iter().zip(answers) {
-        parts.push(answer_told(alloc, package, step, answer, answers)?)?;
+        (_, Answer::Placed(placed)) => push_placed(text, placed),
+        (_, Answer::Released(Ok(()))) => text.push("\"released\""),
+        (_, Answer::Released(Err(_))) => text.push("\"not released\""),
+        _ => text.push("\"missing\""),
     }
-    Ok(list_of(alloc, parts.as_slice())?)
+    Ok(())
 }
 
-/// What the steps of a list answered, as a member of this key.
-fn member_told(
-    alloc: Global,
+/// Writes what the steps of a list answered, as a member of this key.
+fn push_answers(
+    text: &mut TextBuilder,
     key: &str,
     package: &Package,
     steps: &[Step],
     answers: &[Answer],
-) -> anyhow::Result<String> {
-    let told = answers_told(alloc, package, steps, answers)?;
-    Ok(format!(in alloc; "\"{key}\":{told}")?)
+) -> anyhow::Result<()> {
+    text.push_all(&["\"", key, "\":["]);
+    for (index, (step, answer)) in steps.iter().zip(answers).enumerate() {
+        text.push(comma(index));
+        push_answer(text, package, step, answer, answers)?;
+    }
+    text.push("],");
+    Ok(())
 }
 
-/// What the steps answered, and again behind so many answers, and what both memories then hold.
+/// Writes what the steps answered, and again behind so many answers.
+fn push_taken(
+    text: &mut TextBuilder,
+    package: &Package,
+    steps: &[Step],
+    answers: &[Answer],
+) -> anyhow::Result<()> {
+    let (front, behind) = answers.split_at(steps.len().min(answers.len()));
+    text.push("{");
+    push_answers(text, "answers", package, steps, front)?;
+    push_answers(text, "then", package, steps, behind)
+}
+
+/// What the steps answered, and what both memories then hold.
 fn taken_told(
     alloc: Global,
     package: &Package,
@@ -212,12 +233,11 @@ fn taken_told(
     answers: &[Answer],
     (caller, callee): (&Logged, &Logged),
 ) -> anyhow::Result<String> {
-    let (front, behind) = answers.split_at(steps.len().min(answers.len()));
-    let mut members = Vec::new(alloc);
-    members.push(member_told(alloc, "answers", package, steps, front)?)?;
-    members.push(member_told(alloc, "then", package, steps, behind)?)?;
-    push_memories(alloc, &mut members, caller, callee, true)?;
-    Ok(object_of(alloc, members.as_slice())?)
+    let mut text = TextBuilder::new(alloc);
+    push_taken(&mut text, package, steps, answers)?;
+    push_memories(&mut text, caller, callee, true);
+    text.push("}");
+    Ok(text.finish()?)
 }
 
 /// A session over the memories and the body of a row.

@@ -5,109 +5,78 @@ use crate::vector_sides::logged::{Logged, Request};
 use canonical_abi::{Flat, Guest};
 use lift_lower::Flats;
 use std::alloc::{AllocError, Global};
+use text_builder::TextBuilder;
 
-/// A list of what is told already.
-pub fn list_of(alloc: Global, parts: &[String]) -> Result<String, AllocError> {
-    format!(in alloc; "[{}]", parts.join(alloc, ",")?)
+/// What stands before an item of a list.
+pub fn comma(index: usize) -> &'static str {
+    if index == 0 { "" } else { "," }
 }
 
-/// Core values, `["i32", n]` or `["i64", n]` each.
-pub fn flats_told(alloc: Global, flats: &[Flat]) -> Result<String, AllocError> {
-    let mut parts = Vec::new(alloc);
-    for flat in flats {
-        parts.push(match flat {
-            Flat::I32(number) => format!(in alloc; "[\"i32\",{number}]")?,
-            Flat::I64(number) => format!(in alloc; "[\"i64\",{number}]")?,
-        })?;
+/// Writes a core value, `["i32", n]` or `["i64", n]`.
+fn push_flat(text: &mut TextBuilder, flat: Flat) {
+    match flat {
+        Flat::I32(number) => {
+            text.push("[\"i32\",");
+            text.push_number(number as usize);
+        }
+        Flat::I64(number) => {
+            text.push("[\"i64\",");
+            text.push_number(number as usize);
+        }
     }
-    list_of(alloc, parts.as_slice())
+    text.push("]");
 }
 
-/// What the first run was given, or null.
-fn first_told(alloc: Global, given: &[Flats]) -> Result<String, AllocError> {
+/// Writes core values.
+pub fn push_flats(text: &mut TextBuilder, flats: &[Flat]) {
+    text.push("[");
+    for (index, flat) in flats.iter().enumerate() {
+        text.push(comma(index));
+        push_flat(text, *flat);
+    }
+    text.push("]");
+}
+
+/// Writes what the first run was given, or null.
+fn push_first(text: &mut TextBuilder, given: &[Flats]) {
     match given.first() {
-        Some(flats) => flats_told(alloc, flats.as_slice()),
-        None => String::from_str(alloc, "null"),
+        Some(flats) => push_flats(text, flats.as_slice()),
+        None => text.push("null"),
     }
 }
 
-/// What each of some runs was given.
-fn runs_told(alloc: Global, given: &[Flats]) -> Result<String, AllocError> {
-    let mut parts = Vec::new(alloc);
-    for flats in given {
-        parts.push(flats_told(alloc, flats.as_slice())?)?;
+/// Writes what each of some runs was given.
+fn push_runs(text: &mut TextBuilder, given: &[Flats]) {
+    text.push("[");
+    for (index, flats) in given.iter().enumerate() {
+        text.push(comma(index));
+        push_flats(text, flats.as_slice());
     }
-    list_of(alloc, parts.as_slice())
+    text.push("]");
 }
 
-/// A request: alignment, size, and the address or null.
-fn request_told(alloc: Global, request: &Request) -> Result<String, AllocError> {
-    let (align, size) = (request.align, request.size);
+/// Writes a request: alignment, size, and the address or null.
+fn push_request(text: &mut TextBuilder, request: &Request) {
+    text.push("[");
+    text.push_number(request.align as usize);
+    text.push(",");
+    text.push_number(request.size as usize);
+    text.push(",");
     match request.at {
-        Some(at) => format!(in alloc; "[{align},{size},{at}]"),
-        None => format!(in alloc; "[{align},{size},null]"),
+        Some(at) => text.push_number(at as usize),
+        None => text.push("null"),
     }
+    text.push("]");
 }
 
-/// Requests in turn.
-fn requests_told(alloc: Global, requests: &[Request]) -> Result<String, AllocError> {
-    let mut parts = Vec::new(alloc);
-    for request in requests {
-        parts.push(request_told(alloc, request)?)?;
+/// Writes requests in turn.
+fn push_requests(text: &mut TextBuilder, requests: &[Request]) {
+    text.push("[");
+    for (index, request) in requests.iter().enumerate() {
+        text.push(comma(index));
+        push_request(text, request);
     }
-    list_of(alloc, parts.as_slice())
-}
-
-/// Members of an object that are told already.
-pub fn object_of(alloc: Global, members: &[String]) -> Result<String, AllocError> {
-    format!(in alloc; "{{{}}}", members.join(alloc, ",")?)
-}
-
-/// The bytes of a memory in hexadecimal digits, as a member.
-fn after_told(alloc: Global, key: &str, guest: &Logged, is_cut: bool) -> anyhow::Result<String> {
-    let mut bytes = guest.bytes();
-    if is_cut {
-        bytes = bytes.get(..front_length(bytes)).unwrap_or(&[]);
-    }
-    let digits = hex::encode(alloc, bytes)?;
-    Ok(format!(in alloc; "\"{key}\":\"{digits}\"")?)
-}
-
-/// The requests to a memory's allocator, as a member.
-fn log_told(alloc: Global, key: &str, guest: &Logged) -> anyhow::Result<String> {
-    match guest.requests() {
-        Some(requests) => Ok(format!(in alloc; "\"{key}\":{}", requests_told(alloc, requests)?)?),
-        None => Err(anyhow::anyhow!("no memory")),
-    }
-}
-
-/// Adds the bytes of both memories, and the requests to their allocators. Of lengths that the row says, the zeros at
-/// the end are left out.
-pub fn push_memories(
-    alloc: Global,
-    members: &mut Vec<String>,
-    caller: &Logged,
-    callee: &Logged,
-    are_cut: bool,
-) -> anyhow::Result<()> {
-    members.push(after_told(alloc, "caller_after", caller, are_cut)?)?;
-    members.push(after_told(alloc, "callee_after", callee, are_cut)?)?;
-    members.push(log_told(alloc, "caller_log", caller)?)?;
-    members.push(log_told(alloc, "callee_log", callee)?)?;
-    Ok(())
-}
-
-/// What is told of a row with one answer, and of the memories.
-pub(crate) fn answer_told(
-    alloc: Global,
-    told: &str,
-    caller: &Logged,
-    callee: &Logged,
-) -> anyhow::Result<String> {
-    let mut members = Vec::new(alloc);
-    members.push(format!(in alloc; "\"answers\":[{told}]")?)?;
-    push_memories(alloc, &mut members, caller, callee, true)?;
-    Ok(object_of(alloc, members.as_slice())?)
+    text.push("]");
 }
 
 /// How many bytes there are up to the last that is not 0.
@@ -121,22 +90,70 @@ fn front_length(bytes: &[u8]) -> usize {
     length
 }
 
-/// What the first run and the first post-return were given.
-pub fn first_given(alloc: Global, body: &Acting) -> anyhow::Result<String> {
-    let Some((runs, posts)) = body.given() else {
-        return Err(anyhow::anyhow!("no memory"));
-    };
-    let run = first_told(alloc, runs)?;
-    let post = first_told(alloc, posts)?;
-    Ok(format!(in alloc; "\"body_got\":{run},\"post_got\":{post}")?)
+/// Writes the bytes of a memory in hexadecimal digits, as a member.
+fn push_after(text: &mut TextBuilder, key: &str, guest: &Logged, is_cut: bool) {
+    let mut bytes = guest.bytes();
+    if is_cut {
+        bytes = bytes.get(..front_length(bytes)).unwrap_or(&[]);
+    }
+    text.push_all(&["\"", key, "\":\""]);
+    text.push_made(hex::encode(text.alloc(), bytes));
+    text.push("\",");
 }
 
-/// What all runs and post-returns were given.
-pub fn all_given(alloc: Global, body: &Acting) -> anyhow::Result<String> {
+/// Writes the requests to a memory's allocator, as a member.
+fn push_log(text: &mut TextBuilder, key: &str, guest: &Logged) {
+    text.push_all(&["\"", key, "\":"]);
+    match guest.requests() {
+        Some(requests) => push_requests(text, requests),
+        None => text.refuse(),
+    }
+}
+
+/// Writes the bytes of both memories, and the requests to their allocators. Of lengths that the row says, the zeros at
+/// the end are left out.
+pub fn push_memories(text: &mut TextBuilder, caller: &Logged, callee: &Logged, are_cut: bool) {
+    push_after(text, "caller_after", caller, are_cut);
+    push_after(text, "callee_after", callee, are_cut);
+    push_log(text, "caller_log", caller);
+    text.push(",");
+    push_log(text, "callee_log", callee);
+}
+
+/// What is told of a row with one answer, and of the memories.
+pub(crate) fn answer_told(
+    alloc: Global,
+    told: &str,
+    caller: &Logged,
+    callee: &Logged,
+) -> Result<String, AllocError> {
+    let mut text = TextBuilder::new(alloc);
+    text.push_all(&["{\"answers\":[", told, "],"]);
+    push_memories(&mut text, caller, callee, true);
+    text.push("}");
+    text.finish()
+}
+
+/// Writes what the first run and the first post-return were given.
+pub fn push_first_given(text: &mut TextBuilder, body: &Acting) {
     let Some((runs, posts)) = body.given() else {
-        return Err(anyhow::anyhow!("no memory"));
+        text.refuse();
+        return;
     };
-    let runs = runs_told(alloc, runs)?;
-    let posts = runs_told(alloc, posts)?;
-    Ok(format!(in alloc; "\"bodies_got\":{runs},\"posts_got\":{posts}")?)
+    text.push("\"body_got\":");
+    push_first(text, runs);
+    text.push(",\"post_got\":");
+    push_first(text, posts);
+}
+
+/// Writes what all runs and post-returns were given.
+pub fn push_all_given(text: &mut TextBuilder, body: &Acting) {
+    let Some((runs, posts)) = body.given() else {
+        text.refuse();
+        return;
+    };
+    text.push("\"bodies_got\":");
+    push_runs(text, runs);
+    text.push(",\"posts_got\":");
+    push_runs(text, posts);
 }
