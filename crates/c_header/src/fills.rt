@@ -4,7 +4,6 @@ use crate::calls::Call;
 use crate::comments::push_comment;
 use c_types::{Laid, Types};
 use canonical_abi::CoreKind;
-use std::alloc::{AllocError, Global};
 use tables::ValType;
 use text_builder::TextBuilder;
 
@@ -49,13 +48,6 @@ fn push_purpose(comment: &mut TextBuilder, laid: &Laid<'_>, call: &Call<'_>) {
     comment.push(".");
 }
 
-/// What the function does that makes core values.
-fn fill_comment(alloc: Global, laid: &Laid<'_>, call: &Call<'_>) -> Result<String, AllocError> {
-    let mut comment = TextBuilder::new(alloc);
-    push_purpose(&mut comment, laid, call);
-    comment.finish()
-}
-
 /// Appends the parameters of the function that makes core values.
 fn push_parameters(text: &mut TextBuilder, call: &Call<'_>) {
     if call.called.passing.is_spilled {
@@ -97,7 +89,9 @@ fn push_body(text: &mut TextBuilder, types: &Types<'_>, call: &Call<'_>) {
 
 /// Writes the function that makes the core values of a call.
 pub fn push_fill(text: &mut TextBuilder, types: &Types<'_>, call: &Call<'_>) {
-    let comment = text.kept(fill_comment(types.alloc, &types.laid, call));
+    let mut comment = TextBuilder::new(types.alloc);
+    push_purpose(&mut comment, &types.laid, call);
+    let comment = text.kept(comment.finish());
     push_comment(text, comment.as_str());
     push_head(text, call);
     push_body(text, types, call);

@@ -30,12 +30,6 @@ pub fn keyed_by(texts: &[String]) -> KeyedState {
     key.state()
 }
 
-/// A prefix, and what a label is in C.
-fn prefixed(alloc: Global, prefix: &str, label: &Label) -> Result<String, AllocError> {
-    let word = c_word(alloc, label.as_str())?;
-    [prefix, "_", word.as_str()].concat(alloc)
-}
-
 /// The full name of an interface or a world of this name.
 fn full_name_of(alloc: Global, package: &PackageName, name: &Label) -> Result<String, AllocError> {
     let full_name = package.full_name(alloc, name)?;
@@ -50,8 +44,10 @@ pub fn scope_of(
     name: &Label,
 ) -> Scope {
     let alloc = header.alloc;
+    let word = header.text.kept(c_word(alloc, name.as_str()));
+    let own = format!(in alloc; "{prefix}_{}", word.as_str());
     Scope {
-        prefix: header.text.kept(prefixed(alloc, prefix, name)),
+        prefix: header.text.kept(own),
         full_name: header.text.kept(full_name_of(alloc, package, name)),
     }
 }
@@ -180,13 +176,6 @@ fn put_header(
     push_guard_end(&mut header.text, guard);
 }
 
-/// Writes a header that is called by this package.
-fn put_main(header: &mut Header<'_>, stems: &[String], texts: &[String], main: &PackageName) {
-    let prefix = header.text.kept(prefix_of(header.alloc, stems, main));
-    let guard = take_guard(header, prefix.as_str());
-    put_header(header, (stems, texts), main, guard.as_str());
-}
-
 /// The header of packages that have these texts, each package after those that it uses. It is called by the
 /// main one, of this number. No text if there is no such package.
 pub fn header_of(
@@ -204,7 +193,9 @@ pub fn header_of(
     let texts = texts.canonical;
     let mut header = Header::new(alloc, laid, keyed_by(texts), purpose)?;
     if let Some(main) = packages.get(main) {
-        put_main(&mut header, stems.as_slice(), texts, main);
+        let prefix = prefix_of(alloc, stems.as_slice(), main)?;
+        let guard = take_guard(&mut header, prefix.as_str());
+        put_header(&mut header, (stems.as_slice(), texts), main, guard.as_str());
     }
     header.text.finish()
 }

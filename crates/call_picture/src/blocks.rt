@@ -82,12 +82,6 @@ impl<'a> Viewer<'a> {
         }
     }
 
-    /// Shows a block that was requested, with its bytes if it has its values.
-    fn show_block(&mut self, block: Block<'a>, request: Request, is_whole: bool) {
-        let place = self.begin_block(&block, request, is_whole);
-        self.show_content(block.content, place, request.size, block.path);
-    }
-
     /// Leaves a block to be shown before those that come next.
     fn push_next(&mut self, block: Block<'a>) {
         if self.next.push(block).is_err() {
@@ -134,7 +128,8 @@ impl<'a> Viewer<'a> {
             let Some(block) = self.next.pop() else {
                 return index;
             };
-            self.show_block(block, *request, way.is_whole);
+            let place = self.begin_block(&block, *request, way.is_whole);
+            self.show_content(block.content, place, request.size, block.path);
             self.move_found();
         }
         requests.len()

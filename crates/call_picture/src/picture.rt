@@ -172,14 +172,6 @@ impl Call<'_> {
         self.draw_blocks(page, side, &Starts { given, area })
     }
 
-    /// The function and its core signatures.
-    fn heading(&self, interface: &str) -> Result<String, AllocError> {
-        let mut sheet = Sheet::new(self.alloc, Form::Boxes);
-        let tables = (self.resolve, self.layouts);
-        draw_function(&mut sheet, tables, interface, self.func);
-        sheet.finish()
-    }
-
     /// Adds how the call ended.
     fn push_outcome(&self, page: &mut Page, outcome: &Result<Option<Val>, Fault>) {
         match outcome {
@@ -202,7 +194,10 @@ impl Call<'_> {
         let (interface, form) = title;
         let (arguments, answer) = values;
         let mut page = Page::new(self.alloc, form);
-        let heading = page.kept(self.heading(interface));
+        let mut sheet = Sheet::new(self.alloc, Form::Boxes);
+        let tables = (self.resolve, self.layouts);
+        draw_function(&mut sheet, tables, interface, self.func);
+        let heading = page.kept(sheet.finish());
         push_heading(&mut page, heading.as_str());
         let page = self.draw_side(page, &Side::caller(course, arguments, answer));
         self.draw_side(page, &Side::callee(course, arguments, answer))
@@ -224,7 +219,10 @@ impl Call<'_> {
         let mut course = Course::new(self.alloc)?;
         let outcome = self.make(&mut course, arguments, answer);
         let mut page = self.page(title, &course, (arguments, answer));
-        push_nodes(&mut page, &course);
+        let (there, back) = (course.nodes_there, course.nodes_back);
+        let nodes = format!(in self.alloc; "nodes: {there} of the arguments, {back} of the result");
+        let nodes = page.kept(nodes);
+        page.add(Level::Outer, nodes.as_str());
         self.push_outcome(&mut page, &outcome);
         match page.finish() {
             Ok(text) => Ok(Picture {
@@ -245,12 +243,4 @@ fn push_heading(page: &mut Page, heading: &str) {
             page.push_line(Level::Inner, line.trim_start());
         }
     }
-}
-
-/// Adds how many nodes were visited.
-fn push_nodes(page: &mut Page, course: &Course) {
-    let (there, back) = (course.nodes_there, course.nodes_back);
-    let line = format!(in page.alloc; "nodes: {there} of the arguments, {back} of the result");
-    let line = page.kept(line);
-    page.add(Level::Outer, line.as_str());
 }

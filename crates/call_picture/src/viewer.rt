@@ -284,20 +284,15 @@ impl<'a> Viewer<'a> {
         Place::Hidden
     }
 
-    /// The size of a type in bytes.
-    fn size(&self, ty: ValType) -> u32 {
-        match self.layout(ty) {
-            Some(layout) => layout.size(),
-            None => 0,
-        }
-    }
-
     /// Leaves the next element of a list to be shown.
     fn show_elements(&mut self, list: Members<'a>) {
         let Some(value) = list.values.get(list.index) else {
             return;
         };
-        let size = self.size(list.ty);
+        let size = match self.layout(list.ty) {
+            Some(layout) => layout.size(),
+            None => 0,
+        };
         let place = self.element_place(&list, size);
         let (ty, index) = (list.ty, list.index);
         let path = format!(in self.page.alloc; "{}[{index}]", list.path.as_str());
@@ -317,22 +312,16 @@ impl<'a> Viewer<'a> {
         }));
     }
 
-    fn show_part(&mut self, part: Part<'a>) {
-        match part {
-            Part::Value(spot) => self.show_value(spot),
-            Part::Fields(fields) => self.show_fields(fields),
-            Part::Elements(elements) => self.show_elements(elements),
-            Part::Padding(at, size) => self.show_padding(at, size),
-        }
-    }
-
     /// Shows what is left to be shown of a block.
     fn show_parts(&mut self) {
         for _ in 0..u64::MAX {
-            let Some(part) = self.parts.pop() else {
-                return;
-            };
-            self.show_part(part);
+            match self.parts.pop() {
+                Some(Part::Value(spot)) => self.show_value(spot),
+                Some(Part::Fields(fields)) => self.show_fields(fields),
+                Some(Part::Elements(elements)) => self.show_elements(elements),
+                Some(Part::Padding(at, size)) => self.show_padding(at, size),
+                None => return,
+            }
         }
     }
 

@@ -111,11 +111,6 @@ impl Lines {
         }
     }
 
-    /// Adds a line without text.
-    fn push_empty(&mut self) {
-        self.push(Line::new(String::new(self.alloc)));
-    }
-
     /// Adds the line of a row. This word is before the line above it.
     fn push_row(&mut self, before: &'static str, row: &Row<'_>) {
         let pieces = row.pieces.as_slice();
@@ -163,11 +158,11 @@ impl Lines {
 
     /// Adds the lines of these lanes, between two empty ones.
     fn push_lanes(&mut self, lanes: &[Lane]) {
-        self.push_empty();
+        self.push(Line::new(String::new(self.alloc)));
         for lane in lanes {
             self.push_lane(lane);
         }
-        self.push_empty();
+        self.push(Line::new(String::new(self.alloc)));
     }
 }
 

@@ -166,17 +166,12 @@ impl Diagram {
         }
     }
 
-    /// The name of a field of a record. One of a tuple goes by its number.
-    fn field_name(&mut self, label: &str, index: usize) -> String {
-        self.refusals.kept(match label {
+    /// Adds a field of a record, with what is told of it. One of a tuple goes by its number.
+    fn push_field(&mut self, part: &Part<'_>, label: &str, index: usize) {
+        let name = self.refusals.kept(match label {
             "" => format!(in self.alloc; "{index}"),
             _ => String::from_str(self.alloc, label),
-        })
-    }
-
-    /// Adds a field of a record, with what is told of it.
-    fn push_field(&mut self, part: &Part<'_>, label: &str, index: usize) {
-        let name = self.field_name(label, index);
+        });
         let cell = self.named_cell(part, name, index);
         self.note_sized(part.offset, cell.text.as_str(), &part.layout);
         self.push_cell(cell);
@@ -266,13 +261,6 @@ impl Diagram {
         self.end_lane();
     }
 
-    /// Adds a lane of one cell, with all bytes of a type that has no members.
-    fn push_simple(&mut self, layout: &TypeLayout<'_>) {
-        let text = type_text(self.alloc, layout.resolve, layout.ty);
-        let text = self.refusals.kept(text);
-        self.push_whole(layout, text.as_str(), text.as_str());
-    }
-
     /// Adds the address or the length of a string or a list, at this offset.
     fn push_half(&mut self, offset: u32, words: (&str, &str, usize)) {
         self.push_words(offset, 4, words);
@@ -303,7 +291,11 @@ impl Diagram {
             }
             Shape::String => self.push_pointer("length in bytes"),
             Shape::List(_) => self.push_pointer("length in elements"),
-            Shape::Primitive(_) => self.push_simple(layout),
+            Shape::Primitive(_) => {
+                let text = type_text(self.alloc, layout.resolve, layout.ty);
+                let text = self.refusals.kept(text);
+                self.push_whole(layout, text.as_str(), text.as_str());
+            }
         }
     }
 }

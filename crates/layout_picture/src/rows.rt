@@ -103,16 +103,6 @@ impl<'a> Rows<'a> {
             left = self.push_piece(cell, left);
         }
     }
-
-    /// Adds the cells of a lane.
-    fn push_cells(&mut self, cells: &'a [Cell]) {
-        for cell in cells {
-            self.push_cell(cell);
-        }
-        if self.column > 0 {
-            self.end_row(0);
-        }
-    }
 }
 
 /// The rows of a lane, each of so many bytes.
@@ -126,7 +116,12 @@ pub fn rows_of<'a>(alloc: Global, lane: &'a Lane, width: u32) -> Result<Vec<Row<
         column: 0,
         is_whole: true,
     };
-    rows.push_cells(lane.cells.as_slice());
+    for cell in lane.cells.as_slice() {
+        rows.push_cell(cell);
+    }
+    if rows.column > 0 {
+        rows.end_row(0);
+    }
     if rows.is_whole {
         Ok(rows.list)
     } else {

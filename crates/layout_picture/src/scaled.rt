@@ -26,14 +26,6 @@ const LEFT: u32 = 72;
 /// How many characters fit into a byte.
 const CHARACTERS: usize = 6;
 
-/// What a cell is filled with.
-fn fill_of(cell: &Cell) -> Fill {
-    match cell.member {
-        Some(member) => Fill::Hue(member),
-        None => Fill::Hatched,
-    }
-}
-
 /// Adds a text before the boxes.
 fn push_margin(drawing: &mut Drawing, y: u32, text: &str) {
     let x = LEFT - 8;
@@ -50,7 +42,11 @@ fn push_offset(alloc: Global, drawing: &mut Drawing, y: u32, offset: u32) {
 fn push_rectangle(alloc: Global, drawing: &mut Drawing, area: Area, cell: &Cell) {
     let (offset, size, text) = (cell.offset, cell.size, cell.text.as_str());
     let about = drawing.kept(format!(in alloc; "{offset}: {text}, size {size}"));
-    drawing.rectangle(area, fill_of(cell), about.as_str());
+    let fill = match cell.member {
+        Some(member) => Fill::Hue(member),
+        None => Fill::Hatched,
+    };
+    drawing.rectangle(area, fill, about.as_str());
 }
 
 /// Adds the words of a piece that begins at a place.
@@ -104,24 +100,18 @@ fn push_row(alloc: Global, drawing: &mut Drawing, top: u32, row: &Row<'_>) -> u3
     push_gap(alloc, drawing, top.saturating_add(HEIGHT), row.skipped)
 }
 
-/// Adds rows. Returns where they end.
-fn push_rows(alloc: Global, drawing: &mut Drawing, top: u32, rows: &[Row<'_>]) -> u32 {
+/// Adds the rows of a lane. Returns where they end.
+fn push_lane(alloc: Global, drawing: &mut Drawing, top: u32, lane: &Lane) -> u32 {
     let mut bottom = top;
-    for row in rows {
-        bottom = push_row(alloc, drawing, bottom, row);
+    match rows_of(alloc, lane, ROW) {
+        Ok(rows) => {
+            for row in &rows {
+                bottom = push_row(alloc, drawing, bottom, row);
+            }
+        }
+        Err(_) => drawing.refuse(),
     }
     bottom
-}
-
-/// Adds a lane. Returns where it ends.
-fn push_lane(alloc: Global, drawing: &mut Drawing, top: u32, lane: &Lane) -> u32 {
-    match rows_of(alloc, lane, ROW) {
-        Ok(rows) => push_rows(alloc, drawing, top, rows.as_slice()),
-        Err(_) => {
-            drawing.refuse();
-            top
-        }
-    }
 }
 
 /// Adds the numbers of the bytes of a row. Returns where they end.
@@ -161,20 +151,15 @@ pub fn push_scaled(
     bottom.saturating_add(4)
 }
 
-/// Adds a line of the list below boxes.
-fn push_note(alloc: Global, drawing: &mut Drawing, top: u32, note: &Note) {
-    let y = top.saturating_add(13);
-    if let Some(offset) = note.offset {
-        push_offset(alloc, drawing, y, offset);
-    }
-    drawing.text(Point { x: LEFT, y }, Ink::Dim, note.text.as_str());
-}
-
 /// Adds the list below boxes. Returns where it ends.
 pub fn push_list(alloc: Global, drawing: &mut Drawing, top: u32, notes: &[Note]) -> u32 {
     let mut bottom = top;
     for note in notes {
-        push_note(alloc, drawing, bottom, note);
+        let y = bottom.saturating_add(13);
+        if let Some(offset) = note.offset {
+            push_offset(alloc, drawing, y, offset);
+        }
+        drawing.text(Point { x: LEFT, y }, Ink::Dim, note.text.as_str());
         bottom = bottom.saturating_add(LINE);
     }
     bottom

@@ -1,7 +1,7 @@
 //! What pictures are drawn on.
 
 use crate::boxes::{push_boxes, push_notes};
-use crate::cells::{Diagram, diagram_of};
+use crate::cells::diagram_of;
 use crate::scaled::{LINE, push_list, push_scaled};
 use crate::type_layout::TypeLayout;
 use std::alloc::{AllocError, Global};
@@ -124,27 +124,22 @@ impl Sheet {
         }
     }
 
-    /// Adds the boxes of a type of this size, and a list of what is in them.
-    fn draw(&mut self, diagram: &Diagram, size: u32) {
-        let notes = diagram.notes.as_slice();
-        match self.form {
-            Form::Boxes => {
-                push_boxes(self.alloc, &mut self.text, diagram, size);
-                push_notes(self.alloc, &mut self.text, notes);
-            }
-            Form::Svg => {
-                let from = (self.bottom, size);
-                let end = push_scaled(self.alloc, &mut self.drawing, from, diagram);
-                self.bottom = push_list(self.alloc, &mut self.drawing, end, notes);
-            }
-        }
-    }
-
     /// Adds the boxes of a type, and a list of what is in them.
     pub fn push_diagram(&mut self, layout: &TypeLayout<'_>) {
         self.is_empty = false;
         let diagram = diagram_of(self.alloc, layout);
-        self.draw(&diagram, layout.size());
+        let (size, notes) = (layout.size(), diagram.notes.as_slice());
+        match self.form {
+            Form::Boxes => {
+                push_boxes(self.alloc, &mut self.text, &diagram, size);
+                push_notes(self.alloc, &mut self.text, notes);
+            }
+            Form::Svg => {
+                let from = (self.bottom, size);
+                let end = push_scaled(self.alloc, &mut self.drawing, from, &diagram);
+                self.bottom = push_list(self.alloc, &mut self.drawing, end, notes);
+            }
+        }
         self.text.append(diagram.refusals);
     }
 
