@@ -5,6 +5,7 @@
 #![tactic(auto)]
 
 ghost use Rattle.std.specs.Prelude.{◌≡◌, List, ℕ, [], IfOk, IfErr, IfSome, Option, Some, None, if◌then◌else◌};
+ghost use Rattle.std.specs.Prelude.{◌++◌, ◌∷◌, ◌==◌, replicate};
 ghost use Rattle.std.specs.Prelude.{string_bytes, flat_map, encode_utf8};
 ghost use Rattle.std.specs.Fmt.{decimal};
 ghost use Rattle.text_builder.specs.Growth.{Grows};
@@ -68,6 +69,16 @@ impl TextBuilder {
         }
     }
 
+    /// Puts an item at the end of a list, or notes that an allocation was refused for it.
+    pub fn add<T: Drop>(&mut self, list: &mut Vec<T>, item: T)
+        ensures added { IfSome self.new (λ _. list.new.items ≡ list.old.items ++ item ∷ []) }
+        ensures same { IfSome self.new (λ _. self.new ≡ self.old) }
+    {
+        if list.push(item).is_err() {
+            self.refuse();
+        }
+    }
+
     /// Appends a text.
     pub fn push(&mut self, part: &str)
         ensures { Grows part.now self.old self.new }
@@ -86,12 +97,39 @@ impl TextBuilder {
         }
     }
 
+    /// Appends a text between two others.
+    pub fn push_around(&mut self, front: &str, part: &str, back: &str)
+        ensures { Grows (front.now ++ part.now ++ back.now) self.old self.new }
+    {
+        self.push(front);
+        self.push(part);
+        self.push(back);
+    }
+
+    /// Appends what parts the items of a list, unless the item at this index is the first.
+    pub fn separate(&mut self, index: usize, separator: &str)
+        ensures { Grows (if index == 0 then [] else separator.now) self.old self.new }
+    {
+        if index > 0 {
+            self.push(separator);
+        }
+    }
+
     /// Appends a character.
     pub fn push_char(&mut self, character: char)
         ensures { Grows (encode_utf8 character) self.old self.new }
     {
         if self.is_whole {
             self.is_whole = self.text.push(character).is_ok();
+        }
+    }
+
+    /// Appends a character so many times.
+    pub fn push_times(&mut self, character: char, count: usize)
+        ensures { Grows (flat_map encode_utf8 (replicate count character)) self.old self.new }
+    {
+        for _time in 0..count {
+            self.push_char(character);
         }
     }
 
