@@ -1,6 +1,7 @@
 //! Answers rows of JSON, one a line, with what they did, one a line: calls over a link, steps of a session, values that
 //! are lifted or lowered, heads, and values in a memory that a host keeps. docs/FORMATS.md has the form. It shows
-//! implementers of other runtimes the answers of calls that carry the promise.
+//! implementers of other runtimes the answers of calls that carry the promise. The files that its words name are rows of
+//! `rows_texts`, and are answered after them.
 #![tactic(auto)]
 
 mod alone;
@@ -10,8 +11,10 @@ mod host;
 mod hosts;
 mod sessions;
 
+use rows_texts::answer_file;
 use serde_json::Value;
 use std::alloc::Global;
+use std::env;
 use vector_calls::vector_sides::package_bytes;
 use vector_calls::{Calls, conversion_told, head_row_told};
 use witcall::laws::has_labels_apart;
@@ -88,10 +91,19 @@ fn answer_of(alloc: Global, line: &str) -> anyhow::Result<String> {
     }
 }
 
-fn main(rt: HostRuntime) -> anyhow::Result<()> {
+/// Answers the rows of standard input.
+fn answer_lines(rt: &HostRuntime) -> anyhow::Result<()> {
     for line in rt.lines(rt.alloc()) {
         let told = answer_of(rt.alloc(), line?.as_str())?;
         println!(rt; "{told}")?;
+    }
+    Ok(())
+}
+
+fn main(rt: HostRuntime) -> anyhow::Result<()> {
+    answer_lines(&rt)?;
+    for path in env::args(&rt)?.skip(1) {
+        answer_file(&rt, rt.alloc(), path.as_str())?;
     }
     Ok(())
 }

@@ -23,15 +23,8 @@ fn answer_text<'a>(rt: &HostRuntime, alloc: Global, text: &'a str) -> anyhow::Re
 }
 
 /// Answers the rows of a file.
-fn answer_all(rt: &HostRuntime, alloc: Global, path: &str) -> anyhow::Result<()> {
+pub fn answer_file(rt: &HostRuntime, alloc: Global, path: &str) -> anyhow::Result<()> {
     let bytes = read(rt, alloc, path)?;
     println!(rt; "# {path}")?;
     answer_text(rt, alloc, std::str::from_utf8(bytes.as_slice())?)
-}
-
-fn main(rt: HostRuntime) -> anyhow::Result<()> {
-    for path in rt.lines(rt.alloc()) {
-        answer_all(&rt, rt.alloc(), path?.as_str())?;
-    }
-    Ok(())
 }
