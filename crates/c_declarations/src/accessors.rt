@@ -33,53 +33,33 @@ impl<'a> Header<'a> {
 }
 
 fn push_load(text: &mut TextBuilder, c: &str, load: &str) {
-    text.push_all(&[
-        "\nstatic inline ",
-        c,
-        " ",
-        load,
-        "(const uint8_t *memory, uint32_t at) {\n    ",
-        c,
-        " value;\n    memcpy(&value, memory + at, sizeof value);\n    return value;\n}\n",
-    ]);
+    text.push_three("\nstatic inline ", c, " ");
+    text.push_three(load, "(const uint8_t *memory, uint32_t at) {\n    ", c);
+    text.push(" value;\n    memcpy(&value, memory + at, sizeof value);\n    return value;\n}\n");
 }
 
 fn push_store(text: &mut TextBuilder, c: &str, store: &str) {
-    text.push_all(&[
+    text.push_three(
         "\nstatic inline void ",
         store,
         "(uint8_t *memory, uint32_t at, ",
-        c,
-        " value) {\n    memcpy(memory + at, &value, sizeof value);\n}\n",
-    ]);
+    );
+    text.push(c);
+    text.push(" value) {\n    memcpy(memory + at, &value, sizeof value);\n}\n");
 }
 
 fn push_get(text: &mut TextBuilder, c: &str, element: &str, get: &str) {
-    text.push_all(&[
-        "\nstatic inline ",
-        element,
-        " ",
-        get,
-        "(const uint8_t *memory, ",
-        c,
-        " list, uint32_t place) {\n    ",
-        element,
-        " value;\n",
-        GET,
-    ]);
+    text.push_three("\nstatic inline ", element, " ");
+    text.push_three(get, "(const uint8_t *memory, ", c);
+    text.push_three(" list, uint32_t place) {\n    ", element, " value;\n");
+    text.push(GET);
 }
 
 fn push_set(text: &mut TextBuilder, c: &str, element: &str, set: &str) {
-    text.push_all(&[
-        "\nstatic inline void ",
-        set,
-        "(uint8_t *memory, ",
-        c,
-        " list, uint32_t place, ",
-        element,
-        " value) {\n",
-        SET,
-    ]);
+    text.push_three("\nstatic inline void ", set, "(uint8_t *memory, ");
+    text.push_three(c, " list, uint32_t place, ", element);
+    text.push(" value) {\n");
+    text.push(SET);
 }
 
 static GET: &str =

@@ -44,13 +44,6 @@ fn flag_bits(labels: usize) -> u32 {
     }
 }
 
-/// Adds a part of a type.
-fn add_part(text: &mut TextBuilder, parts: &mut Vec<Part>, part: Part) {
-    if parts.push(part).is_err() {
-        text.refuse();
-    }
-}
-
 /// Writes another name of a type, with the assertion of its size and its alignment.
 fn push_typedef(text: &mut TextBuilder, types: &Types<'_>, name: &str, target: ValType) {
     push_declaration(text, "typedef ", types.c(target), name);
@@ -61,7 +54,7 @@ fn push_typedef(text: &mut TextBuilder, types: &Types<'_>, name: &str, target: V
 fn push_constants(text: &mut TextBuilder, parts: &[Part]) {
     text.push("enum {\n");
     for (index, part) in parts.iter().enumerate() {
-        text.push_all(&["    ", part.constant.as_str(), " = "]);
+        text.push_three("    ", part.constant.as_str(), " = ");
         text.push_number(index);
         text.push(",\n");
     }
@@ -71,7 +64,7 @@ fn push_constants(text: &mut TextBuilder, parts: &[Part]) {
 /// Writes the bits of flags of so many bits.
 fn push_bits(text: &mut TextBuilder, parts: &[Part], bits: u32) {
     for (index, part) in parts.iter().enumerate() {
-        text.push_all(&["#define ", part.constant.as_str(), " ((uint"]);
+        text.push_three("#define ", part.constant.as_str(), " ((uint");
         text.push_number(bits as usize);
         text.push("_t)(UINT32_C(1) << ");
         text.push_number(index);
@@ -83,7 +76,7 @@ fn push_bits(text: &mut TextBuilder, parts: &[Part], bits: u32) {
 fn push_number(text: &mut TextBuilder, c: &str, bits: u32) {
     text.push("typedef uint");
     text.push_number(bits as usize);
-    text.push_all(&["_t ", c, ";\n"]);
+    text.push_three("_t ", c, ";\n");
 }
 
 impl<'a> Header<'a> {
@@ -135,7 +128,7 @@ impl<'a> Header<'a> {
             .get(interface.package.0 as usize)
         {
             match package.full_name(self.alloc, &interface.name) {
-                Ok(full_name) => text.push_all(&[full_name.as_str(), " ", name.name.as_str()]),
+                Ok(full_name) => text.push_three(full_name.as_str(), " ", name.name.as_str()),
                 Err(_) => text.refuse(),
             }
         }
@@ -145,7 +138,8 @@ impl<'a> Header<'a> {
     fn put_use(&mut self, entry: &Entry<'_>, target: TypeId) {
         let full_name = entry.scope.full_name.as_str();
         let mut comment = TextBuilder::new(self.alloc);
-        comment.push_all(&[full_name, " ", entry.label, ", which is "]);
+        comment.push_three(full_name, " ", entry.label);
+        comment.push(", which is ");
         self.push_path(&mut comment, target);
         let comment = self.text.kept(comment.finish());
         self.put_alias(entry, ValType::Id(target), comment.as_str());
@@ -189,7 +183,7 @@ impl<'a> Header<'a> {
                 ty: Some(field.ty),
                 constant: String::new(self.alloc),
             };
-            add_part(&mut self.text, &mut parts, part);
+            self.text.add(&mut parts, part);
         }
         parts
     }
@@ -215,7 +209,7 @@ impl<'a> Header<'a> {
         let mut parts = Vec::new(self.alloc);
         for case in cases {
             let part = self.case_part(c, case.name.as_str(), case.ty);
-            add_part(&mut self.text, &mut parts, part);
+            self.text.add(&mut parts, part);
         }
         parts
     }
@@ -224,7 +218,7 @@ impl<'a> Header<'a> {
         let mut parts = Vec::new(self.alloc);
         for label in labels {
             let part = self.case_part(c, label.as_str(), None);
-            add_part(&mut self.text, &mut parts, part);
+            self.text.add(&mut parts, part);
         }
         parts
     }

@@ -26,22 +26,16 @@ pub struct Purpose<'a> {
 
 /// Appends what declares a name as one of a type, after a front.
 pub(crate) fn push_declaration(text: &mut TextBuilder, front: &str, c: &str, name: &str) {
-    text.push_all(&[front, c, " ", name, ";\n"]);
+    text.push_three(front, c, " ");
+    text.push(name);
+    text.push(";\n");
 }
 
 /// Writes a text that takes effect once, which a name guards.
 fn push_guarded(text: &mut TextBuilder, guard: &str, own: &str) {
-    text.push_all(&[
-        "#ifndef ",
-        guard,
-        "\n#define ",
-        guard,
-        "\n",
-        own,
-        "#endif /* ",
-        guard,
-        " */\n",
-    ]);
+    text.push_three("#ifndef ", guard, "\n#define ");
+    text.push_three(guard, "\n", own);
+    text.push_three("#endif /* ", guard, " */\n");
 }
 
 /// The header so far.

@@ -23,50 +23,40 @@ impl<'a> Header<'a> {
 
 /// Writes the function that gives the elements of a list.
 fn push_elements(text: &mut TextBuilder, c: &str, element: &str, elements: &str) {
-    text.push_all(&[
-        "\nstatic inline ",
-        element,
-        " *",
-        elements,
-        "(",
-        c,
+    text.push_three("\nstatic inline ", element, " *");
+    text.push_three(elements, "(", c);
+    text.push_three(
         " list) {\n    return (",
         element,
         " *)(uintptr_t)list.address;\n}\n",
-    ]);
+    );
 }
 
 /// Writes the function that makes a list of elements that are there.
 fn push_of(text: &mut TextBuilder, c: &str, element: &str, of: &str) {
-    text.push_all(&[
-        "\nstatic inline ",
-        c,
-        " ",
-        of,
-        "(const ",
-        element,
+    text.push_three("\nstatic inline ", c, " ");
+    text.push_three(of, "(const ", element);
+    text.push_three(
         " *elements, size_t length) {\n    ",
         c,
         " list = {(uint32_t)(uintptr_t)elements, (uint32_t)length};\n    return list;\n}\n",
-    ]);
+    );
 }
 
 /// Writes the head of the function that makes a list in a new block.
 fn push_new_head(text: &mut TextBuilder, c: &str, new: &str) {
-    text.push_all(&["\nstatic inline ", c, " ", new, "(size_t length) {\n"]);
+    text.push_three("\nstatic inline ", c, " ");
+    text.push(new);
+    text.push("(size_t length) {\n");
 }
 
 /// Writes what the function does that makes a list in a new block.
 fn push_new_body(text: &mut TextBuilder, element: &str, of: &str) {
-    text.push_all(&[
+    text.push_three(
         "    void *block = wit_allocate_all(alignof(",
         element,
         "), sizeof(",
-        element,
-        "), length);\n    return ",
-        of,
-        "((const ",
-        element,
-        " *)block, length);\n}\n",
-    ]);
+    );
+    text.push_three(element, "), length);\n    return ", of);
+    text.push_three("((const ", element, " *)block, length);\n}\n");
 }

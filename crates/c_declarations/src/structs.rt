@@ -7,16 +7,18 @@ use text_builder::TextBuilder;
 
 /// Writes the assertion of the size and the alignment of a type.
 pub(crate) fn push_extent(text: &mut TextBuilder, laid: &Laid<'_>, c: &str, ty: ValType) {
-    text.push_all(&["static_assert(sizeof(", c, ") == "]);
+    text.push_three("static_assert(sizeof(", c, ") == ");
     text.push_number(laid.size(ty) as usize);
-    text.push_all(&[" && alignof(", c, ") == "]);
+    text.push_three(" && alignof(", c, ") == ");
     text.push_number(laid.align(ty) as usize);
     text.push(", \"layout\");\n");
 }
 
 fn push_offset(text: &mut TextBuilder, c: &str, label: &str, offset: Option<u32>) {
     if let Some(offset) = offset {
-        text.push_all(&["static_assert(offsetof(", c, ", ", label, ") == "]);
+        text.push_three("static_assert(offsetof(", c, ", ");
+        text.push(label);
+        text.push(") == ");
         text.push_number(offset as usize);
         text.push(", \"layout\");\n");
     }
@@ -66,7 +68,7 @@ fn push_struct(text: &mut TextBuilder, types: &Types<'_>, ty: ValType, row: &Row
     } else {
         push_fields(text, types, "    ", parts);
     }
-    text.push_all(&["} ", c, ";\n"]);
+    text.push_three("} ", c, ";\n");
     push_extent(text, &types.laid, c, ty);
     push_offsets(text, &types.laid, ty, row);
 }

@@ -10,11 +10,11 @@ use text_builder::TextBuilder;
 
 /// Writes the type of a list.
 fn push_list(text: &mut TextBuilder, c: &str) {
-    text.push_all(&[
+    text.push_three(
         "typedef struct {\n    uint32_t address;\n    uint32_t length;\n} ",
         c,
         ";\n",
-    ]);
+    );
 }
 
 impl<'a> Header<'a> {

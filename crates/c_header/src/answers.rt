@@ -16,8 +16,8 @@ fn push_area(text: &mut TextBuilder, types: &Types<'_>, ty: ValType, answer: &st
     comment.push(", and makes the core value that the callee returns.");
     let comment = text.kept(comment.finish());
     push_comment(text, comment.as_str());
-    text.push_all(&[MADE, answer, "(uint8_t *memory, uint32_t area, "]);
-    text.push_all(&[types.c(ty), STORED, RETURNED]);
+    text.push_three(MADE, answer, "(uint8_t *memory, uint32_t area, ");
+    text.push_three(types.c(ty), STORED, RETURNED);
 }
 
 /// Writes the function that makes the one core value of a result.
@@ -30,8 +30,8 @@ fn push_one(text: &mut TextBuilder, types: &Types<'_>, ty: ValType, call: &Call<
         Some(CoreKind::I64) => "I\");\n",
         _ => "i\");\n",
     };
-    text.push_all(&[MADE, call.names.answer.as_str(), "("]);
-    text.push_all(&[types.c(ty), BEGUN, begun]);
+    text.push_three(MADE, call.names.answer.as_str(), "(");
+    text.push_three(types.c(ty), BEGUN, begun);
     types.push_answered(text, ty);
     text.push(RETURNED);
 }

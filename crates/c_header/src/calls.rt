@@ -64,23 +64,26 @@ fn parameter_parts(header: &mut Header<'_>, parameters: &[Parameter]) -> Vec<Par
     let mut parts = Vec::new(header.alloc);
     for parameter in parameters {
         let part = parameter_part(&mut header.text, header.alloc, parameter);
-        if parts.push(part).is_err() {
-            header.text.refuse();
-        }
+        header.text.add(&mut parts, part);
     }
     parts
 }
 
 /// Appends a function as WIT spells it.
 fn push_signature(text: &mut TextBuilder, types: &Types<'_>, function: &Function) {
-    text.push_all(&[function.name.as_str(), ": func("]);
+    text.push(function.name.as_str());
+    text.push(": func(");
     for (index, parameter) in function.params.as_slice().iter().enumerate() {
         let mark = if index == 0 { "" } else { ", " };
         let ty = types.spelling(Some(parameter.ty));
-        text.push_all(&[mark, parameter.name.as_str(), ": ", ty]);
+        text.push_three(mark, parameter.name.as_str(), ": ");
+        text.push(ty);
     }
     match function.result {
-        Some(ty) => text.push_all(&[") -> ", types.spelling(Some(ty))]),
+        Some(ty) => {
+            text.push(") -> ");
+            text.push(types.spelling(Some(ty)));
+        }
         None => text.push(")"),
     }
 }
@@ -112,12 +115,17 @@ pub fn take_constant(header: &mut Header<'_>, words: &[&str]) -> String {
     header.take_constant(name.as_str())
 }
 
+/// Writes a macro that is a string.
+pub fn push_macro(text: &mut TextBuilder, constant: &str, value: &str) {
+    text.push_three("#define ", constant, " \"");
+    text.push(value);
+    text.push("\"\n");
+}
+
 /// Writes the name of a function.
 fn put_name(header: &mut Header<'_>, stem: &str, name: &str) {
     let constant = take_constant(header, &[stem, "_name"]);
-    header
-        .text
-        .push_all(&["#define ", constant.as_str(), " \"", name, "\"\n"]);
+    push_macro(&mut header.text, constant.as_str(), name);
 }
 
 /// Takes a name, which consists of these words. It has a short one if it is written.
@@ -184,7 +192,7 @@ fn call_of<'a>(header: &mut Header<'_>, stem: &str, called: Called<'a>) -> Call<
 
 /// Writes a number as a constant of this name.
 fn push_define(text: &mut TextBuilder, name: &str, number: usize) {
-    text.push_all(&["#define ", name, " "]);
+    text.push_three("#define ", name, " ");
     text.push_number(number);
     text.push("\n");
 }

@@ -8,7 +8,8 @@ pub fn push_comment(text: &mut TextBuilder, comment: &str) {
     let mut width: usize = 2;
     for word in comment.split(' ') {
         let is_full = width.saturating_add(word.len()) > 110;
-        text.push_all(&[if is_full { "\n * " } else { " " }, word]);
+        text.push(if is_full { "\n * " } else { " " });
+        text.push(word);
         width = if is_full { 2 } else { width };
         width = width.saturating_add(word.len()).saturating_add(1);
     }
@@ -20,5 +21,7 @@ pub fn push_comment(text: &mut TextBuilder, comment: &str) {
 pub fn push_reader(text: &mut TextBuilder, c: &str, name: &str, words: [&str; 3]) {
     let [comment, before, after] = words;
     push_comment(text, comment);
-    text.push_all(&["static inline ", c, " ", name, before, c, after]);
+    text.push_three("static inline ", c, " ");
+    text.push_three(name, before, c);
+    text.push(after);
 }

@@ -33,7 +33,7 @@ fn push_purpose(comment: &mut TextBuilder, laid: &Laid<'_>, call: &Call<'_>) {
         comment.push("A call has no core values");
     } else {
         let count = call.names.count.as_str();
-        comment.push_all(&["Makes the ", count, " core values of a call"]);
+        comment.push_three("Makes the ", count, " core values of a call");
     }
     if called.passing.is_spilled {
         let front = ", whose parameters go to at, a block of the caller's of ";
@@ -54,7 +54,7 @@ fn push_parameters(text: &mut TextBuilder, call: &Call<'_>) {
         text.push(", uint8_t *memory, uint32_t at");
     }
     if !call.parameters.parts.is_empty() {
-        text.push_all(&[", const ", call.parameters.c.as_str(), " *parameters"]);
+        text.push_three(", const ", call.parameters.c.as_str(), " *parameters");
     }
     if call.called.passing.has_area() {
         text.push(", uint32_t area");
@@ -64,7 +64,7 @@ fn push_parameters(text: &mut TextBuilder, call: &Call<'_>) {
 /// Writes the head of the function that makes core values.
 fn push_head(text: &mut TextBuilder, call: &Call<'_>) {
     let fill = call.names.fill.as_str();
-    text.push_all(&["static inline void ", fill, "(witcall_value *flats"]);
+    text.push_three("static inline void ", fill, "(witcall_value *flats");
     push_parameters(text, call);
     text.push(") {\n    wit_begin(flats, \"");
     push_kinds(text, call.called.passing.lowered.params.as_slice());

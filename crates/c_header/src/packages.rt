@@ -1,6 +1,6 @@
 //! The packages of a header.
 
-use crate::calls::{put_function, take_constant, take_if};
+use crate::calls::{push_macro, put_function, take_constant, take_if};
 use crate::common::COMMON;
 use crate::prefixes::{prefix_of, stems_of};
 use atoms::{KeyedState, Label, NameKey};
@@ -55,10 +55,11 @@ pub fn scope_of(
 /// Writes the full name of an interface as a constant.
 fn put_full_name(header: &mut Header<'_>, scope: &Scope) {
     let constant = take_constant(header, &[scope.prefix.as_str(), "_interface"]);
-    let full_name = scope.full_name.as_str();
-    header
-        .text
-        .push_all(&["#define ", constant.as_str(), " \"", full_name, "\"\n"]);
+    push_macro(
+        &mut header.text,
+        constant.as_str(),
+        scope.full_name.as_str(),
+    );
 }
 
 /// Writes what an interface has.
@@ -151,12 +152,14 @@ pub fn take_guard(header: &mut Header<'_>, prefix: &str) -> String {
 
 /// Writes where the guard of a header begins.
 pub fn push_guard(text: &mut TextBuilder, guard: &str) {
-    text.push_all(&["#ifndef ", guard, "\n#define ", guard, "\n\n"]);
+    text.push_three("#ifndef ", guard, "\n#define ");
+    text.push(guard);
+    text.push("\n\n");
 }
 
 /// Writes where the guard of a header ends.
 pub fn push_guard_end(text: &mut TextBuilder, guard: &str) {
-    text.push_all(&["\n#endif /* ", guard, " */\n"]);
+    text.push_three("\n#endif /* ", guard, " */\n");
 }
 
 /// Writes a header that is called by this package and has this guard.

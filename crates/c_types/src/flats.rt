@@ -79,13 +79,6 @@ struct Fields<'a> {
     parts: &'a [Part],
 }
 
-/// Leaves a step to be written.
-fn leave(text: &mut TextBuilder, steps: &mut Vec<Step>, step: Step) {
-    if steps.push(step).is_err() {
-        text.refuse();
-    }
-}
-
 /// Turns the steps after so many around.
 fn turn(steps: &mut Vec<Step>, count: usize) {
     if let Some(last) = steps.as_mut_slice().get_mut(count..) {
@@ -96,9 +89,10 @@ fn turn(steps: &mut Vec<Step>, count: usize) {
 /// Writes how a number becomes a core value: what comes before the value in C and after it.
 fn push_made(text: &mut TextBuilder, value: &Value, place: usize, words: (&str, &[&str])) {
     let (before, after) = words;
-    text.push_all(&[value.indent.as_str(), "wit_put(flats, "]);
+    text.push(value.indent.as_str());
+    text.push("wit_put(flats, ");
     text.push_number(place);
-    text.push_all(&[", ", before, value.path.as_str()]);
+    text.push_three(", ", before, value.path.as_str());
     text.push_all(after);
     text.push(");\n");
 }
@@ -106,18 +100,19 @@ fn push_made(text: &mut TextBuilder, value: &Value, place: usize, words: (&str, 
 /// Writes how a number is read out of a core value: what comes before the core value, up to what reads it, and after it.
 fn push_read(text: &mut TextBuilder, value: &Value, place: usize, words: (&[&str], &str)) {
     let (before, after) = words;
-    text.push_all(&[value.indent.as_str(), value.path.as_str()]);
+    text.push(value.indent.as_str());
+    text.push(value.path.as_str());
     text.push_all(before);
     text.push("(&flats[");
     text.push_number(place);
-    text.push_all(&["])", after, ";\n"]);
+    text.push_three("])", after, ";\n");
 }
 
 impl<'a> Types<'a> {
     /// Leaves lines to be written, which consist of these words.
     fn leave_line(&self, text: &mut TextBuilder, steps: &mut Vec<Step>, words: &[&str]) {
         let line = text.kept(words.concat(self.alloc));
-        leave(text, steps, Step::Line(line));
+        text.add(steps, Step::Line(line));
     }
 
     /// Leaves a value of a type to be written, by the number of its first core value, the words that it is in C, and
@@ -136,7 +131,7 @@ impl<'a> Types<'a> {
             place,
             indent: text.kept(indent.concat(self.alloc)),
         };
-        leave(text, steps, Step::Value(value));
+        text.add(steps, Step::Value(value));
     }
 
     /// The steps for fields.

@@ -76,7 +76,8 @@ impl<'a> Types<'a> {
             key.push_number(inner.parts.len());
         }
         for part in &inner.parts {
-            key.push_all(&["_", self.key(*part)]);
+            key.push("_");
+            key.push(self.key(*part));
         }
     }
 
@@ -94,7 +95,8 @@ impl<'a> Types<'a> {
         let count = inner.spelled_count();
         for (index, part) in inner.parts.iter().take(count).enumerate() {
             let mark = if index == 0 { "<" } else { ", " };
-            text.push_all(&[mark, self.spelling(*part)]);
+            text.push(mark);
+            text.push(self.spelling(*part));
         }
         text.push(if count > 0 { ">" } else { "" });
         text.finish()

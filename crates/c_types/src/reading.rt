@@ -26,7 +26,8 @@ impl<'a> Types<'a> {
             let Some((label, field)) = self.first_field(end) else {
                 break;
             };
-            path.push_all(&[".", label]);
+            path.push(".");
+            path.push(label);
             end = self.end(field);
         }
         end
@@ -40,7 +41,8 @@ impl<'a> Types<'a> {
         end: ValType,
         returned: Option<CoreKind>,
     ) {
-        text.push_all(&["    ", path]);
+        text.push("    ");
+        text.push(path);
         if self.form(end) == Form::Variant {
             text.push(".tag = (uint");
             text.push_number(tag_bits(self.parts(end).len()) as usize);
@@ -55,7 +57,7 @@ impl<'a> Types<'a> {
             Some(CoreKind::I64) => ")wit_i64(back);\n",
             _ => ")wit_i32(back);\n",
         };
-        text.push_all(&[" = (", self.c(end), reader]);
+        text.push_three(" = (", self.c(end), reader);
     }
 
     /// Writes how a value of one core value is read.

@@ -12,9 +12,7 @@ pub fn flat_texts(alloc: Global, text: &mut TextBuilder, flats: &[Flat]) -> Vec<
             Flat::I32(number) => format!(in alloc; "i32 {number}"),
             Flat::I64(number) => format!(in alloc; "i64 {number}"),
         });
-        if texts.push(told).is_err() {
-            text.refuse();
-        }
+        text.add(&mut texts, told);
     }
     texts
 }
@@ -22,6 +20,7 @@ pub fn flat_texts(alloc: Global, text: &mut TextBuilder, flats: &[Flat]) -> Vec<
 /// Appends texts, with commas between them.
 pub fn push_list(line: &mut TextBuilder, texts: &[String]) {
     for (index, text) in texts.iter().enumerate() {
-        line.push_all(&[if index > 0 { ", " } else { "" }, text.as_str()]);
+        line.push(if index > 0 { ", " } else { "" });
+        line.push(text.as_str());
     }
 }

@@ -84,9 +84,12 @@ impl Page {
     pub fn add(&mut self, level: Level, line: &str) {
         match (self.form, level) {
             (Form::Svg, _) => self.sketch.push_text(level, line),
-            (Form::Boxes, Level::Outer) => self.text.push_all(&[line, "\n"]),
-            (Form::Boxes, Level::Inner) => self.text.push_all(&["    ", line, "\n"]),
-            (Form::Boxes, Level::Bytes) => self.text.push_all(&["          ", line, "\n"]),
+            (Form::Boxes, Level::Outer) => {
+                self.text.push(line);
+                self.text.push("\n");
+            }
+            (Form::Boxes, Level::Inner) => self.text.push_three("    ", line, "\n"),
+            (Form::Boxes, Level::Bytes) => self.text.push_three("          ", line, "\n"),
         }
     }
 
@@ -114,7 +117,8 @@ impl Page {
     /// Adds a line of core values after a word for them.
     fn push_flats(&mut self, word: &str, values: &[String]) {
         let mut line = TextBuilder::new(self.alloc);
-        line.push_all(&[word, if values.is_empty() { ": nothing" } else { ": " }]);
+        line.push(word);
+        line.push(if values.is_empty() { ": nothing" } else { ": " });
         push_list(&mut line, values);
         self.push_made(Level::Inner, line.finish());
     }

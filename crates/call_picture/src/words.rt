@@ -33,7 +33,8 @@ fn push_flags(text: &mut TextBuilder, layout: &TypeLayout<'_>, bits: u32, count:
     let mut rest = bits;
     for index in 0..count {
         if rest % 2 == 1 {
-            text.push_all(&[mark, member_name(layout, index)]);
+            text.push(mark);
+            text.push(member_name(layout, index));
             mark = ", ";
         }
         rest /= 2;
@@ -55,7 +56,8 @@ fn push_own_value(alloc: Global, text: &mut TextBuilder, layout: &TypeLayout<'_>
             text.push(" elements");
         }
         (Val::Variant(case, _), _) => {
-            text.push_all(&[" = ", member_name(layout, *case as usize)]);
+            text.push(" = ");
+            text.push(member_name(layout, *case as usize));
         }
         (Val::Flags(bits), Shape::Flags(count)) => push_flags(text, layout, *bits, count),
         _ => {
@@ -73,7 +75,8 @@ pub fn own_words(
     value: &Val,
 ) -> Result<String, AllocError> {
     let mut text = TextBuilder::new(alloc);
-    text.push_all(&[path, ": "]);
+    text.push(path);
+    text.push(": ");
     text.push_made(type_text(alloc, layout.resolve, layout.ty));
     push_own_value(alloc, &mut text, layout, value);
     text.finish()

@@ -131,9 +131,14 @@ fn push_refused(text: &mut TextBuilder, refused: Refused, fault: Option<&Fault>)
     match fault {
         Some(fault) => {
             let (path, words) = (fault.path.as_str(), fault.words.as_str());
-            text.push_all(&["at `", path, "`: ", words, "\n"]);
+            text.push_three("at `", path, "`: ");
+            text.push(words);
+            text.push("\n");
         }
-        None => text.push_all(&[hint_of(refused), "\n"]),
+        None => {
+            text.push(hint_of(refused));
+            text.push("\n");
+        }
     }
 }
 
@@ -210,7 +215,7 @@ fn interface_in<'a>(
 /// Appends the name of a function at a place of a list.
 fn push_function(text: &mut TextBuilder, place: usize, function: &Function) {
     let before = if place == 0 { "`" } else { ", `" };
-    text.push_all(&[before, function.name.as_str(), "`"]);
+    text.push_three(before, function.name.as_str(), "`");
 }
 
 /// Appends the names of an interface's functions, the first of them.
@@ -231,14 +236,14 @@ fn push_functions(text: &mut TextBuilder, tables: &Resolve, interface: &Interfac
 /// Appends that no package has an interface of this name with the function.
 fn push_no_interface(text: &mut TextBuilder, words: &CallWords<'_>) {
     text.push("wit-explain: error 63 no function\n   = no package has a function `");
-    text.push_all(&[words.function, "` in an interface `", words.interface]);
+    text.push_three(words.function, "` in an interface `", words.interface);
     text.push("`; its full name is `NAMESPACE:PACKAGE/NAME`, with `@VERSION` if there is one\n");
 }
 
 /// Appends that an interface does not have the function.
 fn push_no_function(text: &mut TextBuilder, words: &CallWords<'_>) {
     text.push("wit-explain: error 63 no function\n   = `");
-    text.push_all(&[words.interface, "` has no function `", words.function]);
+    text.push_three(words.interface, "` has no function `", words.function);
     text.push("`; it has ");
 }
 

@@ -77,7 +77,8 @@ fn refuse_name(report: &mut Report, path: &str, name: &str) {
     report.status = 1;
     report
         .text
-        .push_all(&[path, ": no type or function `", name, "`\n"]);
+        .push_three(path, ": no type or function `", name);
+    report.text.push("`\n");
 }
 
 /// Draws the types of packages, or the types and functions of a name.

@@ -8,7 +8,8 @@ use wit_faults::Report;
 /// Reports why something of a path is not written.
 pub fn refuse<E: Display>(report: &mut Report, path: &str, error: &E) {
     report.status = 1;
-    report.text.push_all(&[path, ": "]);
+    report.text.push(path);
+    report.text.push(": ");
     report.text.push_made(error.to_string(report.text.alloc()));
     report.text.push("\n");
 }

@@ -27,7 +27,10 @@ fn push_step(path: &mut TextBuilder, step: Step<'_>) {
             path.push_number(place);
             path.push("]");
         }
-        Step::Key(key) => path.push_all(&[".", key]),
+        Step::Key(key) => {
+            path.push(".");
+            path.push(key);
+        }
     }
 }
 

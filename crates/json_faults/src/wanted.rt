@@ -83,7 +83,8 @@ fn push_shown(words: &mut TextBuilder, text: &str) {
 fn push_scalar(words: &mut TextBuilder, ty: ValType) {
     match ty {
         ValType::Primitive(primitive) => {
-            words.push_all(&["a `", primitive.keyword(), "` is ", values_of(primitive)]);
+            words.push_three("a `", primitive.keyword(), "` is ");
+            words.push(values_of(primitive));
         }
         ValType::String | ValType::Id(_) => words.push("a `string` is a text"),
     }
@@ -128,7 +129,8 @@ fn push_label(words: &mut TextBuilder, place: usize, label: Label<'_>) {
     } else {
         ("`\"", "\"`")
     };
-    words.push_all(&[mark, before, label.0, after]);
+    words.push_three(mark, before, label.0);
+    words.push(after);
 }
 
 /// Appends the labels of a kind as JSON, the first of them.

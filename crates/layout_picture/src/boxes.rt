@@ -52,24 +52,18 @@ impl Line {
     }
 }
 
-/// Appends a character so many times.
-fn push_times(text: &mut TextBuilder, character: char, count: usize) {
-    for _ in 0..count {
-        text.push_char(character);
-    }
-}
-
 /// Appends the bytes of a piece: its words, and then blanks or the shade of padding.
 fn push_piece(alloc: Global, text: &mut TextBuilder, piece: &Piece<'_>) {
     let room = (piece.size as usize).saturating_mul(BYTE).saturating_sub(1);
     if piece.cell.member.is_none() {
-        push_times(text, '░', room);
+        text.push_times('░', room);
         return;
     }
     let label = text.kept(label_of(alloc, piece, room.saturating_sub(1)));
-    text.push_all(&[" ", label.as_str()]);
+    text.push(" ");
+    text.push(label.as_str());
     let used = label.as_str().chars().count();
-    push_times(text, ' ', room.saturating_sub(used).saturating_sub(1));
+    text.push_times(' ', room.saturating_sub(used).saturating_sub(1));
 }
 
 /// The text of a row.
@@ -90,7 +84,7 @@ fn gap_text(alloc: Global, skipped: u32, width: usize) -> Result<String, AllocEr
     text.push_number(skipped as usize);
     text.push(" bytes are left out");
     let used = text.as_str().chars().count();
-    push_times(&mut text, ' ', width.saturating_sub(used));
+    text.push_times(' ', width.saturating_sub(used));
     text.push("│");
     text.finish()
 }
@@ -106,9 +100,7 @@ struct Lines {
 
 impl Lines {
     fn push(&mut self, line: Line) {
-        if self.list.push(line).is_err() {
-            self.refusals.refuse();
-        }
+        self.refusals.add(&mut self.list, line);
     }
 
     /// Adds the line of a row. This word is before the line above it.
@@ -217,7 +209,8 @@ fn push_line(alloc: Global, out: &mut TextBuilder, offset: Option<u32>, text: &s
         Some(offset) => out.push_made(format!(in alloc; "{offset:>8} ")),
         None => out.push(MARGIN),
     }
-    out.push_all(&[text, "\n"]);
+    out.push(text);
+    out.push("\n");
 }
 
 /// Appends these lines, and what is between each two.

@@ -56,9 +56,7 @@ impl Diagram {
     /// Adds a cell where it begins, after those before it.
     fn push_cell(&mut self, cell: Cell) {
         self.end = cell.offset.saturating_add(cell.size);
-        if self.cells.push(cell).is_err() {
-            self.refusals.refuse();
-        }
+        self.refusals.add(&mut self.cells, cell);
     }
 
     /// Adds a cell of these words, which is a member of this number.
@@ -95,17 +93,13 @@ impl Diagram {
         let lane = Lane {
             cells: std::mem::replace(&mut self.cells, Vec::new(self.alloc)),
         };
-        if self.lanes.push(lane).is_err() {
-            self.refusals.refuse();
-        }
+        self.refusals.add(&mut self.lanes, lane);
         self.end = 0;
     }
 
     /// Adds a line that tells of an offset, if there is one.
     fn note(&mut self, offset: Option<u32>, text: String) {
-        if self.notes.push(Note { offset, text }).is_err() {
-            self.refusals.refuse();
-        }
+        self.refusals.add(&mut self.notes, Note { offset, text });
     }
 
     /// Adds a line that tells of padding before an offset, if there is some.
@@ -147,7 +141,7 @@ impl Diagram {
             self.end_line(&mut line, name.len());
             line.push(if line.as_str().is_empty() { "" } else { " " });
             line.push_number(index);
-            line.push_all(&[" ", name, if index + 1 == count { "" } else { "," }]);
+            line.push_three(" ", name, if index + 1 == count { "" } else { "," });
         }
         self.note_line(line);
     }
@@ -155,7 +149,8 @@ impl Diagram {
     /// The bytes of a value of this name.
     fn named_cell(&mut self, part: &Part<'_>, name: String, member: usize) -> Cell {
         let mut text = TextBuilder::new(self.alloc);
-        text.push_all(&[name.as_str(), ": "]);
+        text.push(name.as_str());
+        text.push(": ");
         text.push_made(type_text(self.alloc, part.layout.resolve, part.layout.ty));
         Cell {
             offset: part.offset,

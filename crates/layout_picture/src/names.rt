@@ -80,9 +80,7 @@ struct Spelling<'a> {
 impl Spelling<'_> {
     /// Leaves a piece to be written.
     fn leave(&mut self, piece: Piece) {
-        if self.pieces.push(piece).is_err() {
-            self.text.refuse();
-        }
+        self.text.add(&mut self.pieces, piece);
     }
 
     /// Leaves types between `<` and `>` to be written.

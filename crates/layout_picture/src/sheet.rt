@@ -102,7 +102,7 @@ impl Sheet {
         match self.form {
             Form::Boxes => {
                 let gap = if self.is_empty { "" } else { "\n" };
-                self.text.push_all(&[gap, heading, "\n"]);
+                self.text.push_three(gap, heading, "\n");
             }
             Form::Svg => {
                 self.bottom = self.bottom.saturating_add(8);
@@ -116,8 +116,8 @@ impl Sheet {
     pub fn push_line(&mut self, level: Level, line: &str) {
         self.is_empty = false;
         match (self.form, level) {
-            (Form::Boxes, Level::Second) => self.text.push_all(&["        ", line, "\n"]),
-            (Form::Boxes, _) => self.text.push_all(&["    ", line, "\n"]),
+            (Form::Boxes, Level::Second) => self.text.push_three("        ", line, "\n"),
+            (Form::Boxes, _) => self.text.push_three("    ", line, "\n"),
             (Form::Svg, Level::First) => self.draw_line(28, Ink::Plain, line),
             (Form::Svg, Level::Title) => self.draw_line(28, Ink::Bold, line),
             (Form::Svg, Level::Second) => self.draw_line(44, Ink::Plain, line),

@@ -14,7 +14,8 @@ fn kind_word(kind: CoreKind) -> &'static str {
 /// Appends kinds, with a blank between each two.
 fn push_kinds(text: &mut TextBuilder, kinds: &[CoreKind]) {
     for (index, kind) in kinds.iter().enumerate() {
-        text.push_all(&[if index > 0 { " " } else { "" }, kind_word(*kind)]);
+        text.push(if index > 0 { " " } else { "" });
+        text.push(kind_word(*kind));
     }
 }
 

@@ -15,9 +15,11 @@ use text_builder::TextBuilder;
 fn push_package(text: &mut TextBuilder, name: &PackageName)
     ensures { Grows (package_line name.now) text.old text.new }
 {
-    text.push_all(&["package ", name.namespace.as_str(), ":", name.name.as_str()]);
+    text.push_three("package ", name.namespace.as_str(), ":");
+    text.push(name.name.as_str());
     if let Some(version) = &name.version {
-        text.push_all(&["@", version.as_str()]);
+        text.push("@");
+        text.push(version.as_str());
     }
     text.push("\n");
 }
@@ -34,7 +36,8 @@ pub(crate) fn push_count(text: &mut TextBuilder, words: &str, count: usize)
 fn push_interface(text: &mut TextBuilder, interface: &Interface)
     ensures { Grows (interface_line interface.now) text.old text.new }
 {
-    text.push_all(&["interface ", interface.name.as_str()]);
+    text.push("interface ");
+    text.push(interface.name.as_str());
     push_count(text, " uses ", interface.uses.as_slice().len());
     push_count(text, " types ", interface.types.as_slice().len());
     push_count(text, " funcs ", interface.functions.as_slice().len());
@@ -69,7 +72,8 @@ fn push_world(text: &mut TextBuilder, world: &World)
 {
     let imports = count_of(Direction::Import, world.items.as_slice());
     let exports = count_of(Direction::Export, world.items.as_slice());
-    text.push_all(&["world ", world.name.as_str()]);
+    text.push("world ");
+    text.push(world.name.as_str());
     push_count(text, " imports ", imports);
     push_count(text, " exports ", exports);
     text.push("\n");

@@ -33,7 +33,8 @@ fn push_kinds(text: &mut TextBuilder, kinds: &[CoreKind])
     ensures { Grows (flat_map (λ k. codes " " ++ kind_word k) kinds.now) text.old text.new }
 {
     for kind in kinds {
-        text.push_all(&[" ", kind_word(*kind)]);
+        text.push(" ");
+        text.push(kind_word(*kind));
     }
 }
 
@@ -132,7 +133,8 @@ fn push_type(
 {
     let size = size_of(resolve, layouts, id);
     let align = align_of(resolve, layouts, id);
-    text.push_all(&["type ", interface, " ", label_of(resolve, id)]);
+    text.push_three("type ", interface, " ");
+    text.push(label_of(resolve, id));
     push_count(text, " size ", size as usize);
     push_count(text, " align ", align as usize);
     text.push("\n");
@@ -152,7 +154,8 @@ fn push_function(
 {
     let lifted = lifted(resolve, layouts, id);
     let lowered = lowered(resolve, layouts, id);
-    text.push_all(&["func ", interface, " ", resolve.signature(id).name.as_str()]);
+    text.push_three("func ", interface, " ");
+    text.push(resolve.signature(id).name.as_str());
     push_signature(text, " lift ", &lifted);
     push_signature(text, " lower ", &lowered);
     text.push("\n");

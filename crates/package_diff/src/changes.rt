@@ -132,11 +132,12 @@ impl Comparison<'_> {
         if is_spelled_alike && item.crossing == other.crossing {
             return;
         }
-        self.text.push_all(&[item.name.as_str(), ": ", was, "\n"]);
+        self.text.push_three(item.name.as_str(), ": ", was);
+        self.text.push("\n");
         if is_spelled_alike {
             self.text.push("    a type that it names changed\n");
         } else {
-            self.text.push_all(&["    now ", is, "\n"]);
+            self.text.push_three("    now ", is, "\n");
         }
         self.push_call(item, other);
     }
@@ -147,7 +148,8 @@ impl Comparison<'_> {
             self.lost = self.lost.saturating_add(1);
         }
         let (name, was) = (item.name.as_str(), item.words.as_str());
-        self.text.push_all(&[name, ": removed, it was ", was, "\n"]);
+        self.text.push_three(name, ": removed, it was ", was);
+        self.text.push("\n");
     }
 
     /// Tells what happened to the items of the old package.
@@ -169,7 +171,8 @@ impl Comparison<'_> {
         for item in items {
             let (name, is) = (item.name.as_str(), item.words.as_str());
             if places.get(name).is_none() {
-                self.text.push_all(&[name, ": added, ", is, "\n"]);
+                self.text.push_three(name, ": added, ", is);
+                self.text.push("\n");
             }
         }
     }

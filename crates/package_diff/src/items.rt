@@ -54,9 +54,7 @@ fn direction_word(direction: Direction) -> &'static str {
 
 impl<'a> Items<'a> {
     fn push(&mut self, item: Item) {
-        if self.list.push(item).is_err() {
-            self.refusals.refuse();
-        }
+        self.refusals.add(&mut self.list, item);
     }
 
     /// Whether a package is the last one.

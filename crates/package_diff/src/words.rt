@@ -14,11 +14,6 @@ struct Words<'a> {
     text: TextBuilder,
 }
 
-/// What stands before the member of this index.
-fn comma(index: usize) -> &'static str {
-    if index == 0 { "" } else { ", " }
-}
-
 impl<'a> Words<'a> {
     fn new(alloc: Global, table: &'a Resolve) -> Words<'a> {
         Words {
@@ -34,23 +29,25 @@ impl<'a> Words<'a> {
 
     fn push_fields(&mut self, fields: &[Field]) {
         for (index, field) in fields.iter().enumerate() {
-            self.text.push(comma(index));
-            self.text.push_all(&[field.name.as_str(), ": "]);
+            self.text.separate(index, ", ");
+            self.text.push(field.name.as_str());
+            self.text.push(": ");
             self.push_type(field.ty);
         }
     }
 
     fn push_parameters(&mut self, parameters: &[Parameter]) {
         for (index, parameter) in parameters.iter().enumerate() {
-            self.text.push(comma(index));
-            self.text.push_all(&[parameter.name.as_str(), ": "]);
+            self.text.separate(index, ", ");
+            self.text.push(parameter.name.as_str());
+            self.text.push(": ");
             self.push_type(parameter.ty);
         }
     }
 
     fn push_cases(&mut self, cases: &[Case]) {
         for (index, case) in cases.iter().enumerate() {
-            self.text.push(comma(index));
+            self.text.separate(index, ", ");
             self.text.push(case.name.as_str());
             if let Some(ty) = case.ty {
                 self.text.push("(");
@@ -62,7 +59,7 @@ impl<'a> Words<'a> {
 
     fn push_labels(&mut self, labels: &[Label]) {
         for (index, label) in labels.iter().enumerate() {
-            self.text.push(comma(index));
+            self.text.separate(index, ", ");
             self.text.push(label.as_str());
         }
     }
@@ -76,14 +73,14 @@ impl<'a> Words<'a> {
 
     fn push_payloads(&mut self, types: &[Option<ValType>]) {
         for (index, ty) in types.iter().enumerate() {
-            self.text.push(comma(index));
+            self.text.separate(index, ", ");
             self.push_payload(*ty);
         }
     }
 
     fn push_elements(&mut self, types: &[ValType]) {
         for (index, ty) in types.iter().enumerate() {
-            self.text.push(comma(index));
+            self.text.separate(index, ", ");
             self.push_type(*ty);
         }
     }

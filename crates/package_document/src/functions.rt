@@ -19,7 +19,7 @@ fn push_name(text: &mut TextBuilder, function: &Function) {
 
 /// Appends the size and the alignment of what goes through memory; `null` if nothing does.
 fn push_memory(text: &mut TextBuilder, row: Row<'_>, name: &str, ty: Option<ValType>) {
-    text.push_all(&[",\"", name, "\":"]);
+    text.push_three(",\"", name, "\":");
     if ty.is_none() {
         text.push("null");
         return;
@@ -45,7 +45,7 @@ fn push_result(text: &mut TextBuilder, row: Row<'_>, ty: Option<ValType>) {
 
 /// Appends a core signature.
 fn push_signature(text: &mut TextBuilder, name: &str, signature: &CoreSignature) {
-    text.push_all(&[",\"", name, "\":{\"parameters\":"]);
+    text.push_three(",\"", name, "\":{\"parameters\":");
     push_kinds(text, signature.params.as_slice());
     text.push(",\"results\":");
     match signature.result {

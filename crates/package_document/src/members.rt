@@ -1,6 +1,6 @@
 //! Members of a row: fields, cases and parameters.
 
-use crate::words::{comma, push_type, push_word};
+use crate::words::{push_type, push_word};
 use atoms::Label;
 use layout::Layouts;
 use tables::{Case, Field, Parameter, ValType};
@@ -82,7 +82,7 @@ fn push_member(text: &mut TextBuilder, row: Row<'_>, member: Member<'_>) {
 pub fn push_fields(text: &mut TextBuilder, row: Row<'_>, fields: &[Field]) {
     text.push(",\"fields\":[");
     for (place, field) in fields.iter().enumerate() {
-        text.push(comma(place));
+        text.separate(place, ",");
         let member = Member {
             name: Some(field.name.as_str()),
             ty: Some(field.ty),
@@ -97,7 +97,7 @@ pub fn push_fields(text: &mut TextBuilder, row: Row<'_>, fields: &[Field]) {
 pub fn push_elements(text: &mut TextBuilder, row: Row<'_>, types: &[ValType]) {
     text.push(",\"fields\":[");
     for (place, ty) in types.iter().enumerate() {
-        text.push(comma(place));
+        text.separate(place, ",");
         let member = Member {
             name: None,
             ty: Some(*ty),
@@ -112,7 +112,7 @@ pub fn push_elements(text: &mut TextBuilder, row: Row<'_>, types: &[ValType]) {
 pub fn push_parameters(text: &mut TextBuilder, row: Row<'_>, params: &[Parameter]) {
     text.push(",\"parameters\":[");
     for (place, param) in params.iter().enumerate() {
-        text.push(comma(place));
+        text.separate(place, ",");
         let member = Member {
             name: Some(param.name.as_str()),
             ty: Some(param.ty),
@@ -129,7 +129,7 @@ pub type NamedCase<'a> = (&'a str, Option<ValType>);
 /// Appends the case of this place.
 fn push_case(text: &mut TextBuilder, row: Row<'_>, place: usize, case: NamedCase<'_>) {
     let (name, ty) = case;
-    text.push(comma(place));
+    text.separate(place, ",");
     let member = Member {
         name: Some(name),
         ty,

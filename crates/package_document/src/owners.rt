@@ -1,6 +1,6 @@
 //! Packages, interfaces and worlds.
 
-use crate::words::{comma, push_number, push_word};
+use crate::words::{push_number, push_word};
 use atoms::Label;
 use std::alloc::Global;
 use tables::{
@@ -12,7 +12,8 @@ use text_builder::TextBuilder;
 /// Appends the names of packages.
 pub fn push_packages(alloc: Global, text: &mut TextBuilder, packages: &[PackageName]) {
     for (place, package) in packages.iter().enumerate() {
-        text.push_all(&[comma(place), "\""]);
+        text.separate(place, ",");
+        text.push("\"");
         text.push_made(package.to_string(alloc));
         text.push("\"");
     }
@@ -40,9 +41,9 @@ fn push_name(alloc: Global, text: &mut TextBuilder, resolve: &Resolve, owner: (P
 
 /// Appends the rows of types.
 fn push_types(text: &mut TextBuilder, name: &str, ids: &[TypeId]) {
-    text.push_all(&[",\"", name, "\":["]);
+    text.push_three(",\"", name, "\":[");
     for (place, id) in ids.iter().enumerate() {
-        text.push(comma(place));
+        text.separate(place, ",");
         text.push_number(id.0 as usize);
     }
     text.push("]");
@@ -52,7 +53,7 @@ fn push_types(text: &mut TextBuilder, name: &str, ids: &[TypeId]) {
 fn push_functions(text: &mut TextBuilder, ids: &[FunctionId]) {
     text.push(",\"functions\":[");
     for (place, id) in ids.iter().enumerate() {
-        text.push(comma(place));
+        text.separate(place, ",");
         text.push_number(id.0 as usize);
     }
     text.push("]");
@@ -66,7 +67,7 @@ pub fn push_interfaces(
     interfaces: &[Interface],
 ) {
     for (place, interface) in interfaces.iter().enumerate() {
-        text.push(comma(place));
+        text.separate(place, ",");
         push_name(alloc, text, resolve, (interface.package, &interface.name));
         push_types(text, "uses", interface.uses.as_slice());
         push_types(text, "types", interface.types.as_slice());
@@ -86,7 +87,7 @@ fn push_item(text: &mut TextBuilder, kind: WorldItemKind) {
 
 /// Appends what a world imports, or what it exports.
 fn push_items(text: &mut TextBuilder, name: &str, items: &[WorldItem], direction: Direction) {
-    text.push_all(&[",\"", name, "\":["]);
+    text.push_three(",\"", name, "\":[");
     let mut mark = "";
     for item in items {
         if item.direction == direction {
@@ -102,7 +103,7 @@ fn push_items(text: &mut TextBuilder, name: &str, items: &[WorldItem], direction
 pub fn push_worlds(alloc: Global, text: &mut TextBuilder, resolve: &Resolve, worlds: &[World]) {
     for (place, world) in worlds.iter().enumerate() {
         let items = world.items.as_slice();
-        text.push(comma(place));
+        text.separate(place, ",");
         push_name(alloc, text, resolve, (world.package, &world.name));
         push_items(text, "imports", items, Direction::Import);
         push_items(text, "exports", items, Direction::Export);

@@ -4,7 +4,6 @@ use crate::functions::push_function_row;
 use crate::members::Row;
 use crate::owners::{push_interfaces, push_packages, push_worlds};
 use crate::types::push_type_row;
-use crate::words::comma;
 use layout::Layouts;
 use std::alloc::{AllocError, Global};
 use tables::{Definition, FunctionId, Resolve, TypeId, ValType};
@@ -30,7 +29,7 @@ fn push_rows(text: &mut TextBuilder, layouts: &Layouts, definitions: &[Definitio
         let Ok(number) = u32::try_from(place) else {
             break;
         };
-        text.push(comma(place));
+        text.separate(place, ",");
         push_row(text, layouts, number, definition);
     }
 }

@@ -3,7 +3,7 @@
 use crate::members::{
     Row, push_cases, push_elements, push_enum, push_extent, push_fields, push_pair,
 };
-use crate::words::{comma, push_flat, push_type, push_word};
+use crate::words::{push_flat, push_type, push_word};
 use atoms::Label;
 use tables::{TypeDef, TypeDefKind, ValType};
 use text_builder::TextBuilder;
@@ -59,7 +59,7 @@ fn push_target(text: &mut TextBuilder, ty: ValType) {
 fn push_labels(text: &mut TextBuilder, labels: &[Label]) {
     text.push(",\"labels\":[");
     for (place, label) in labels.iter().enumerate() {
-        text.push(comma(place));
+        text.separate(place, ",");
         push_word(text, label.as_str());
     }
     text.push("]");

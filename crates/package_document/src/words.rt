@@ -5,14 +5,9 @@ use layout::Kinds;
 use tables::ValType;
 use text_builder::TextBuilder;
 
-/// The comma before an item of a list, where it is not the first.
-pub fn comma(place: usize) -> &'static str {
-    if place > 0 { "," } else { "" }
-}
-
 /// Appends a word in quotes.
 pub fn push_word(text: &mut TextBuilder, word: &str) {
-    text.push_all(&["\"", word, "\""]);
+    text.push_three("\"", word, "\"");
 }
 
 /// Appends a number after what it is of.
@@ -42,7 +37,8 @@ fn kind_word(kind: CoreKind) -> &'static str {
 pub fn push_kinds(text: &mut TextBuilder, kinds: &[CoreKind]) {
     text.push("[");
     for (place, kind) in kinds.iter().enumerate() {
-        text.push_all(&[comma(place), "\"", kind_word(*kind), "\""]);
+        text.separate(place, ",");
+        text.push_three("\"", kind_word(*kind), "\"");
     }
     text.push("]");
 }

@@ -90,7 +90,8 @@ impl<'a> FunctionView<'a> {
     /// Adds the core values of a parameter.
     fn push_core_value(&self, sheet: &mut Sheet, name: &str, layout: &TypeLayout<'a>) {
         let mut line = TextBuilder::new(sheet.alloc);
-        line.push_all(&[name, ": "]);
+        line.push(name);
+        line.push(": ");
         line.push_made(type_text(sheet.alloc, self.resolve, layout.ty));
         line.push(" is ");
         push_flat(&mut line, &layout.flat());

@@ -68,17 +68,13 @@ impl<'a> Requests<'a> {
     /// Leaves a value to be looked at.
     fn push_part(&mut self, path: Result<String, AllocError>, ty: ValType) {
         let path = self.refusals.kept(path);
-        if self.parts.push(Part { path, ty }).is_err() {
-            self.refusals.refuse();
-        }
+        self.refusals.add(&mut self.parts, Part { path, ty });
     }
 
     /// Tells a block.
     fn push_line(&mut self, line: Result<String, AllocError>) {
         let line = self.refusals.kept(line);
-        if self.lines.push(line).is_err() {
-            self.refusals.refuse();
-        }
+        self.refusals.add(&mut self.lines, line);
     }
 
     /// Leaves the members of a value to be looked at: fields, or payloads.

@@ -46,9 +46,9 @@ pub fn text_width(text: &str) -> u32 {
 
 /// Appends two attributes of an element, whose values are numbers.
 fn push_attributes(text: &mut TextBuilder, names: (&str, &str), numbers: (u32, u32)) {
-    text.push_all(&[" ", names.0, "=\""]);
+    text.push_three(" ", names.0, "=\"");
     text.push_number(numbers.0 as usize);
-    text.push_all(&["\" ", names.1, "=\""]);
+    text.push_three("\" ", names.1, "=\"");
     text.push_number(numbers.1 as usize);
     text.push("\"");
 }
@@ -83,9 +83,10 @@ impl Drawing {
     /// Adds a text whose anchor is at a place on its line.
     fn push_text(&mut self, at: Point, ink: Ink, anchor: &str, text: &str) {
         let content = &mut self.content;
-        content.push_all(&["<text class=\"", ink.class(), "\""]);
+        content.push_three("<text class=\"", ink.class(), "\"");
         push_attributes(content, ("x", "y"), (at.x, at.y));
-        content.push_all(&[anchor, ">"]);
+        content.push(anchor);
+        content.push(">");
         push_escaped(content, text);
         content.push("</text>\n");
     }
@@ -115,7 +116,7 @@ impl Drawing {
     /// Adds a rectangle, with a text that is shown where a pointer is on it.
     pub fn rectangle(&mut self, area: Area, fill: Fill, about: &str) {
         let content = &mut self.content;
-        content.push_all(&["<rect class=\"", fill.class(), "\""]);
+        content.push_three("<rect class=\"", fill.class(), "\"");
         push_attributes(content, ("x", "y"), (area.left, area.top));
         push_attributes(content, ("width", "height"), (area.width, area.height));
         content.push("><title>");

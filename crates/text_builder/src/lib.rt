@@ -97,13 +97,13 @@ impl TextBuilder {
         }
     }
 
-    /// Appends a text between two others.
-    pub fn push_around(&mut self, front: &str, part: &str, back: &str)
-        ensures { Grows (front.now ++ part.now ++ back.now) self.old self.new }
+    /// Appends three texts.
+    pub fn push_three(&mut self, first: &str, second: &str, third: &str)
+        ensures { Grows (first.now ++ second.now ++ third.now) self.old self.new }
     {
-        self.push(front);
-        self.push(part);
-        self.push(back);
+        self.push(first);
+        self.push(second);
+        self.push(third);
     }
 
     /// Appends what parts the items of a list, unless the item at this index is the first.

@@ -15,11 +15,13 @@ impl<'a> Page<'a> {
         for (index, parameter) in function.params.as_slice().iter().enumerate() {
             let before = if index == 0 { "" } else { ", " };
             let wit = self.spellings.wit(Some(parameter.ty));
-            text.push_all(&[before, parameter.name.as_str(), ": ", wit]);
+            text.push_three(before, parameter.name.as_str(), ": ");
+            text.push(wit);
         }
         text.push(")");
         if let Some(ty) = function.result {
-            text.push_all(&[" -> ", self.spellings.wit(Some(ty))]);
+            text.push(" -> ");
+            text.push(self.spellings.wit(Some(ty)));
         }
         text.finish()
     }
@@ -41,7 +43,8 @@ impl<'a> Page<'a> {
         self.text.push(": ");
         self.text.push(self.spellings.text(parameter.ty));
         if let Meaning::Numbers(array) = self.spellings.meaning(parameter.ty) {
-            self.text.push_all(&[" | ", array]);
+            self.text.push(" | ");
+            self.text.push(array);
         }
     }
 

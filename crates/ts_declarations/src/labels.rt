@@ -69,7 +69,7 @@ pub fn parameter_name(alloc: Global, label: &str) -> Result<String, AllocError> 
 /// Appends a label as the key of an object: in quotes if it has more than one word.
 pub fn push_key(text: &mut TextBuilder, label: &str) {
     match label.split_once('-') {
-        Some(_) => text.push_all(&["\"", label, "\""]),
+        Some(_) => text.push_three("\"", label, "\""),
         None => text.push(label),
     }
 }

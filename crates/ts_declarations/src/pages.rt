@@ -120,7 +120,7 @@ impl<'a> Page<'a> {
             WorldItemKind::Function(id) => self.put_function(id, side),
             WorldItemKind::Interface(id) => {
                 let full_name = self.interface_name(id);
-                self.text.push_all(&["    \"", full_name.as_str(), "\": "]);
+                self.text.push_three("    \"", full_name.as_str(), "\": ");
                 self.text.push(self.namespaces.interface(id.0 as usize));
                 self.text.push(".Functions;\n");
             }
@@ -129,7 +129,7 @@ impl<'a> Page<'a> {
 
     /// Writes what a world imports or exports.
     fn put_items(&mut self, name: &str, direction: Direction, items: &[WorldItem]) {
-        self.text.push_all(&["  export interface ", name, " {\n"]);
+        self.text.push_three("  export interface ", name, " {\n");
         let side = match direction {
             Direction::Import => "import ",
             Direction::Export => "export ",

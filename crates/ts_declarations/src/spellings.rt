@@ -176,27 +176,33 @@ impl Spellings {
     fn push_list(&self, text: &mut TextBuilder, element: ValType) {
         let spelled = self.text(element);
         match self.row(element) {
-            Some(row) if row.is_union => text.push_all(&["(", spelled, ")[]"]),
-            _ => text.push_all(&[spelled, "[]"]),
+            Some(row) if row.is_union => text.push_three("(", spelled, ")[]"),
+            _ => {
+                text.push(spelled);
+                text.push("[]");
+            }
         }
     }
 
     fn push_option(&self, text: &mut TextBuilder, payload: ValType) {
         let spelled = self.text(payload);
         match self.meaning(payload) {
-            Meaning::Option => text.push_all(&["\"none\" | { some: ", spelled, " }"]),
-            _ => text.push_all(&[spelled, " | undefined"]),
+            Meaning::Option => text.push_three("\"none\" | { some: ", spelled, " }"),
+            _ => {
+                text.push(spelled);
+                text.push(" | undefined");
+            }
         }
     }
 
     /// Appends a case: its label, or an object with its payload under this key.
     fn push_case(&self, text: &mut TextBuilder, label: &str, payload: Option<ValType>) {
         match payload {
-            None => text.push_all(&["\"", label, "\""]),
+            None => text.push_three("\"", label, "\""),
             Some(ty) => {
                 text.push("{ ");
                 push_key(text, label);
-                text.push_all(&[": ", self.text(ty), " }"]);
+                text.push_three(": ", self.text(ty), " }");
             }
         }
     }
@@ -235,14 +241,18 @@ impl Spellings {
 
     fn push_wit(&self, wit: &mut TextBuilder, kind: &TypeDefKind) {
         match kind {
-            TypeDefKind::List(element) => wit.push_all(&["list<", self.wit(Some(*element)), ">"]),
+            TypeDefKind::List(element) => wit.push_three("list<", self.wit(Some(*element)), ">"),
             TypeDefKind::Option(payload) => {
-                wit.push_all(&["option<", self.wit(Some(*payload)), ">"])
+                wit.push_three("option<", self.wit(Some(*payload)), ">")
             }
             TypeDefKind::Result(None, None) => wit.push("result"),
-            TypeDefKind::Result(ok, None) => wit.push_all(&["result<", self.wit(*ok), ">"]),
+            TypeDefKind::Result(ok, None) => wit.push_three("result<", self.wit(*ok), ">"),
             TypeDefKind::Result(ok, error) => {
-                wit.push_all(&["result<", self.wit(*ok), ", ", self.wit(*error), ">"])
+                {
+                    wit.push_three("result<", self.wit(*ok), ", ");
+                    wit.push(self.wit(*error));
+                    wit.push(">");
+                }
             }
             TypeDefKind::Tuple(types) => self.push_wit_tuple(wit, types.as_slice()),
             _ => {}

@@ -11,7 +11,7 @@ impl<'a> Page<'a> {
     fn put_heading(&mut self, word: &str, label: &str, keyword: &str) {
         let last = self.text.kept([word, " ", label].concat(self.alloc));
         self.put_comment("  ", label, last.as_str());
-        self.text.push_all(&["\n  export ", keyword, " "]);
+        self.text.push_three("\n  export ", keyword, " ");
     }
 
     /// Writes the name of a type between two texts.
@@ -89,7 +89,7 @@ impl<'a> Page<'a> {
         let name = case.name.as_str();
         self.begin_member(label, name);
         match case.ty {
-            None => self.text.push_all(&["\"", name, "\""]),
+            None => self.text.push_three("\"", name, "\""),
             Some(ty) => {
                 self.text.push("{ ");
                 self.put_member(name, ty);
@@ -111,7 +111,7 @@ impl<'a> Page<'a> {
     fn put_labels(&mut self, name: &str, labels: &[Label]) {
         for label in labels {
             self.begin_member(name, label.as_str());
-            self.text.push_all(&["\"", label.as_str(), "\""]);
+            self.text.push_three("\"", label.as_str(), "\"");
         }
     }
 
@@ -138,7 +138,8 @@ impl<'a> Page<'a> {
         let last = self.text.kept(last);
         self.put_comment("  ", label, last.as_str());
         self.put_name("\n  export type ", id, " = ");
-        self.text.push_all(&[text, ";\n"]);
+        self.text.push(text);
+        self.text.push(";\n");
     }
 
     fn put_type_alias(&mut self, label: &str, id: TypeId, target: ValType) {
@@ -164,9 +165,9 @@ impl<'a> Page<'a> {
             return;
         };
         let full_name = self.interface_name(used.interface);
-        self.text.push_all(&["  /** type ", label, " = "]);
+        self.text.push_three("  /** type ", label, " = ");
         self.text.push(full_name.as_str());
-        self.text.push_all(&[" ", used.name.as_str(), " */\n"]);
+        self.text.push_three(" ", used.name.as_str(), " */\n");
         self.put_name("  export type ", id, " = ");
         let place = used.interface.0 as usize;
         self.text.push(self.namespaces.interface(place));

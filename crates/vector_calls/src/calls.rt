@@ -187,7 +187,7 @@ impl<'a> Calls<'a> {
 
     /// Writes that no call was made, for this reason.
     fn push_refused(&self, text: &mut TextBuilder, reason: &str) {
-        text.push_all(&["{\"outcome\":{\"refused\":\"", reason, "\"},"]);
+        text.push_three("{\"outcome\":{\"refused\":\"", reason, "\"},");
         push_first_given(text, &self.sides.body);
         push_nodes(text, (0, 0));
         self.push_memories(text);

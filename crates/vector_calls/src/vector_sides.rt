@@ -10,4 +10,4 @@ pub use acting::Acting;
 pub use logged::Logged;
 pub use row::{body, field, flats, guest, list, number, package_bytes, text};
 pub(crate) use telling::answer_told;
-pub use telling::{comma, push_all_given, push_first_given, push_flats, push_memories};
+pub use telling::{push_all_given, push_digits, push_first_given, push_flats, push_memories};

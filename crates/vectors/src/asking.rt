@@ -4,7 +4,6 @@ use adapter::Request;
 use canonical_abi::Fault;
 use host_calls::CallError;
 use text_builder::TextBuilder;
-use vector_calls::vector_sides::comma;
 
 /// Writes why nothing was done, as a member.
 pub(crate) fn push_error(text: &mut TextBuilder, error: CallError) {
@@ -16,7 +15,7 @@ pub(crate) fn push_error(text: &mut TextBuilder, error: CallError) {
         CallError::Fault(_) => "trap",
         _ => "refused",
     };
-    text.push_all(&["\"", key, "\":\""]);
+    text.push_three("\"", key, "\":\"");
     text.push_made(error.to_string(text.alloc()));
     text.push("\"");
 }
@@ -34,7 +33,7 @@ fn push_request(text: &mut TextBuilder, request: &Request) {
 fn push_requests(text: &mut TextBuilder, requests: &[Request]) {
     text.push("\"asks\":[");
     for (index, request) in requests.iter().enumerate() {
-        text.push(comma(index));
+        text.separate(index, ",");
         push_request(text, request);
     }
     text.push("]");

@@ -7,7 +7,7 @@ use memory::Block;
 use serde_json::Value as Json;
 use std::alloc::{AllocError, Global};
 use text_builder::TextBuilder;
-use vector_calls::vector_sides::{list, number, push_flats};
+use vector_calls::vector_sides::{list, number, push_digits, push_flats};
 
 /// What a place for a core value has before one is put there.
 const UNSET: Value = Value {
@@ -72,23 +72,6 @@ fn count_of(flats: &[Flat]) -> usize {
     count
 }
 
-/// How many bytes there are up to the last that is not 0.
-fn length_of(bytes: &[u8]) -> usize {
-    let mut length = 0;
-    for (place, byte) in bytes.iter().enumerate() {
-        if *byte != 0 {
-            length = place.saturating_add(1);
-        }
-    }
-    length
-}
-
-/// Writes the bytes up to the last that is not 0, in hexadecimal digits.
-fn push_memory(text: &mut TextBuilder, memory: &[u8]) {
-    let front = memory.get(..length_of(memory)).unwrap_or(&[]);
-    text.push_made(hex::encode(text.alloc(), front));
-}
-
 /// The core values that places have.
 fn flats_of(alloc: Global, handed: &[Value]) -> Result<Vec<Flat>, AllocError> {
     let mut flats = Vec::new(alloc);
@@ -134,7 +117,7 @@ impl Filling {
             Err(_) => text.refuse(),
         }
         text.push(",\"memory\":\"");
-        push_memory(text, self.memory.as_slice());
+        push_digits(text, self.memory.as_slice(), true);
         text.push("\"}");
     }
 }

@@ -10,7 +10,7 @@ use serde_json::Value;
 use std::alloc::Global;
 use text_builder::TextBuilder;
 use vector_calls::function;
-use vector_calls::vector_sides::{comma, guest, list, text};
+use vector_calls::vector_sides::{guest, list, text};
 use witcall::Package;
 use witcall::laws::has_labels_apart;
 
@@ -44,7 +44,9 @@ fn push_both(told: &mut TextBuilder, one: &str, other: &str) {
     if one == other {
         told.push(one);
     } else {
-        told.push_all(&["[", one, ",", other, "]"]);
+        told.push_three("[", one, ",");
+        told.push(other);
+        told.push("]");
     }
 }
 
@@ -121,7 +123,7 @@ fn push_steps(
     requires labels { HasApartLabels host.now.types.now }
 {
     for (index, step) in steps.iter().enumerate() {
-        told.push(comma(index));
+        told.separate(index, ",");
         push_step(told, called, host, list(Some(step)))?;
     }
     Ok(())

@@ -13,9 +13,7 @@ use serde_json::Value;
 use std::alloc::Global;
 use tables::{FunctionId, ValType};
 use text_builder::TextBuilder;
-use vector_calls::vector_sides::{
-    Logged, body, comma, field, guest, list, number, push_memories, text,
-};
+use vector_calls::vector_sides::{Logged, body, field, guest, list, number, push_memories, text};
 use vector_calls::{function, parameter, push_fault};
 use witcall::{Answer, Held, Package, Session, Step, from_json, takes_steps, to_json};
 
@@ -39,7 +37,7 @@ fn push_value(
     if !package.is_type(ty) || !package.is_of(ty, value) {
         return Err(anyhow::anyhow!("no value of its type"));
     }
-    text.push_all(&["{\"", key, "\":"]);
+    text.push_three("{\"", key, "\":");
     text.push_made(to_json(text.alloc(), package, ty, value));
     text.push("}");
     Ok(())
@@ -203,9 +201,9 @@ fn push_answers(
     steps: &[Step],
     answers: &[Answer],
 ) -> anyhow::Result<()> {
-    text.push_all(&["\"", key, "\":["]);
+    text.push_three("\"", key, "\":[");
     for (index, (step, answer)) in steps.iter().zip(answers).enumerate() {
-        text.push(comma(index));
+        text.separate(index, ",");
         push_answer(text, package, step, answer, answers)?;
     }
     text.push("],");

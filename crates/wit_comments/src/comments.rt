@@ -27,12 +27,14 @@ fn side_word(side: Option<Keyword>) -> &'static str {
 
 /// Appends the words that name an interface or a world of a package, or the package.
 fn push_scope(key: &mut TextBuilder, package: PackageRef<'_>, scope: &str) {
-    key.push_all(&[package.namespace, ":", package.name]);
+    key.push_three(package.namespace, ":", package.name);
     if !scope.is_empty() {
-        key.push_all(&["/", scope]);
+        key.push("/");
+        key.push(scope);
     }
     if let Some(version) = package.version {
-        key.push_all(&["@", version]);
+        key.push("@");
+        key.push(version);
     }
 }
 
@@ -44,7 +46,8 @@ fn push_item(key: &mut TextBuilder, item: &Item<'_>) {
         key.push(item.name);
     }
     if !item.member.is_empty() {
-        key.push_all(&[" ", item.member]);
+        key.push(" ");
+        key.push(item.member);
     }
 }
 
@@ -134,13 +137,15 @@ fn push_lines(text: &mut TextBuilder, indent: &str, lines: &[String]) {
     for line in lines {
         let line = line.as_str();
         let blank = if line.is_empty() { "" } else { " " };
-        text.push_all(&[indent, "///", blank, line, "\n"]);
+        text.push_three(indent, "///", blank);
+        text.push(line);
+        text.push("\n");
     }
 }
 
 impl Comments {
     /// Writes a text with these comments, each in lines before its item.
-    fn push_around(
+    fn push_three(
         &self,
         text: &mut TextBuilder,
         lexed: &Lexed<'_>,
@@ -175,7 +180,7 @@ pub fn with_comments(
     let lexed = Lexed::new(alloc, "", text);
     let items = items_of(alloc, &lexed)?;
     let mut commented = TextBuilder::new(alloc);
-    comments.push_around(&mut commented, &lexed, package, items.as_slice());
+    comments.push_three(&mut commented, &lexed, package, items.as_slice());
     commented.finish()
 }
 
@@ -204,23 +209,25 @@ impl Block<'_> {
     /// Writes a line of the package's text.
     fn push_line(&self, text: &mut TextBuilder, line: &str) {
         let blank = if line.is_empty() { "" } else { " " };
-        text.push_all(&["\n", self.indent, " *", blank]);
+        text.push_three("\n", self.indent, " *");
+        text.push(blank);
         push_inside(text, line);
     }
 
     /// Writes the lines, then what the item is. It ends with the comment's last mark.
     pub fn push(&self, text: &mut TextBuilder) {
         let (indent, last) = (self.indent, self.last);
-        text.push_all(&[indent, self.open]);
+        text.push(indent);
+        text.push(self.open);
         if self.lines.is_empty() {
-            text.push_all(&[" ", last, " */"]);
+            text.push_three(" ", last, " */");
             return;
         }
         for line in self.lines {
             self.push_line(text, line.as_str());
         }
-        text.push_all(&[
-            "\n", indent, " *\n", indent, " * ", last, "\n", indent, " */",
-        ]);
+        text.push_three("\n", indent, " *\n");
+        text.push_three(indent, " * ", last);
+        text.push_three("\n", indent, " */");
     }
 }

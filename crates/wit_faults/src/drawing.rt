@@ -21,20 +21,13 @@ fn push_shown(out: &mut TextBuilder, text: &str) {
     }
 }
 
-/// Appends a character so many times.
-fn push_times(out: &mut TextBuilder, character: char, count: usize) {
-    for _ in 0..count {
-        out.push_char(character);
-    }
-}
-
 /// Appends blanks as wide as a text. A tab stays a tab.
 fn push_blanks(out: &mut TextBuilder, text: &str) {
     for character in text.chars() {
         if character == '\t' {
             out.push("\t");
         } else {
-            push_times(out, ' ', columns(character));
+            out.push_times(' ', columns(character));
         }
     }
 }
@@ -57,7 +50,7 @@ fn covered(behind: &str, span: Span) -> &str {
 /// Appends what stands before a line or its carets: a text, and a bar.
 fn push_gutter(out: &mut TextBuilder, paint: Paint, text: &str) {
     paint.begin(out, Part::Gutter);
-    out.push_all(&[" ", text, " |"]);
+    out.push_three(" ", text, " |");
     paint.end(out);
     out.push(" ");
 }
@@ -84,7 +77,7 @@ fn push_source(out: &mut TextBuilder, paint: Paint, place: &Place<'_>, number: &
 fn push_carets(out: &mut TextBuilder, paint: Paint, place: &Place<'_>, span: Span) {
     push_blanks(out, place.before);
     paint.begin(out, Part::Carets);
-    push_times(out, '^', carets(covered(behind(place), span)));
+    out.push_times('^', carets(covered(behind(place), span)));
     paint.end(out);
     out.push("\n");
 }
@@ -110,7 +103,8 @@ fn found(text: &str, span: Option<Span>) -> Option<(Span, Place<'_>)> {
 
 /// Appends the path of a file, and the place if there is one.
 fn push_place(out: &mut TextBuilder, path: &str, place: Option<&Place<'_>>) {
-    out.push_all(&[path, ":"]);
+    out.push(path);
+    out.push(":");
     if let Some(place) = place {
         out.push_number(place.line);
         out.push(":");

@@ -37,7 +37,7 @@ pub struct Setting<'a> {
 fn of_duplicate(text: &mut TextBuilder, setting: Setting<'_>, name: &str) {
     match declared_twice(setting.alloc, setting.around.files, name) {
         Ok(Some(twice)) => {
-            text.push_all(&["rename one: `", twice.first.path, "` has this name too"]);
+            text.push_three("rename one: `", twice.first.path, "` has this name too");
         }
         Ok(None) => hint_of_duplicate(text, setting.found.lexed, name),
         Err(_) => text.refuse(),
@@ -99,9 +99,11 @@ fn of_interfaces(text: &mut TextBuilder, setting: Setting<'_>) {
 /// What to do about types that are each declared as the next one.
 fn of_aliases(text: &mut TextBuilder, alloc: Global, ring: &[&str]) {
     match ring {
-        [name] => text.push_all(&["`", *name, "` names itself: give it a type"]),
+        [name] => text.push_three("`", *name, "` names itself: give it a type"),
         [first, second] => {
-            text.push_all(&["`", *first, "` and `", *second, "` name each other"]);
+            text.push_three("`", *first, "` and `");
+            text.push(*second);
+            text.push("` name each other");
             text.push(": give one of them a type");
         }
         _ => {
@@ -124,7 +126,8 @@ fn of_type(
         Ok(aliases) if !aliases.is_empty() => of_aliases(text, setting.alloc, aliases.as_slice()),
         Ok(_) => {
             text.push("a value has no pointers: keep the nodes in a `list<");
-            text.push_all(&[lexed.at(span), ">` and name them by `u32`"]);
+            text.push(lexed.at(span));
+            text.push(">` and name them by `u32`");
         }
         Err(_) => text.refuse(),
     }
@@ -151,11 +154,11 @@ fn of_cycle(text: &mut TextBuilder, setting: Setting<'_>) {
 fn of_limit(text: &mut TextBuilder, alloc: Global, lexed: &Lexed<'_>) {
     match long_flags(alloc, lexed) {
         Ok(Some(flags)) => {
-            text.push_all(&[
+            text.push_three(
                 "flags have at most 32 labels, `",
                 lexed.at(flags.span),
                 "` has ",
-            ]);
+            );
             text.push_number(flags.labels);
             text.push(": use two sets, or a list of an enum");
         }

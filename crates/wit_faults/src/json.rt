@@ -33,7 +33,7 @@ fn push_string(out: &mut TextBuilder, alloc: Global, text: &str) {
 
 /// Appends a member that is a number, and a comma.
 fn push_number(out: &mut TextBuilder, name: &str, number: usize) {
-    out.push_all(&["\"", name, "\":"]);
+    out.push_three("\"", name, "\":");
     out.push_number(number);
     out.push(",");
 }
@@ -65,7 +65,7 @@ pub fn push_object(out: &mut TextBuilder, alloc: Global, fault: &Fault<'_>) {
         push_span(out, fault.lexed.text, span);
     }
     if let Some(number) = number_of(fault.words) {
-        out.push_all(&["\"error\":", number, ","]);
+        out.push_three("\"error\":", number, ",");
     }
     out.push("\"message\":");
     push_string(out, alloc, fault.words);

@@ -157,15 +157,16 @@ fn nearest_of<'a>(
 
 /// Appends the name of a package, with the version if it has one.
 pub fn push_package(text: &mut TextBuilder, package: PackageRef<'_>) {
-    text.push_all(&[package.namespace, ":", package.name]);
+    text.push_three(package.namespace, ":", package.name);
     if let Some(version) = package.version {
-        text.push_all(&["@", version]);
+        text.push("@");
+        text.push(version);
     }
 }
 
 /// What to do about a name that none of its own package's interfaces has, nor one that is near.
 fn of_far_interface(text: &mut TextBuilder, around: Around<'_>, word: &str) {
-    text.push_all(&["no interface `", word, "` in "]);
+    text.push_three("no interface `", word, "` in ");
     if let Some(own) = package_of(around.files)
         && let Some(other) = other_version(around, own)
     {
@@ -176,7 +177,8 @@ fn of_far_interface(text: &mut TextBuilder, around: Around<'_>, word: &str) {
         text.push("`, give both one version");
     } else {
         text.push("this package: declare it, or write `namespace:name/");
-        text.push_all(&[word, "` if another package has it"]);
+        text.push(word);
+        text.push("` if another package has it");
     }
 }
 
@@ -184,13 +186,9 @@ fn of_far_interface(text: &mut TextBuilder, around: Around<'_>, word: &str) {
 fn of_interface(text: &mut TextBuilder, setting: Setting<'_>, word: &str) {
     match nearest_of(setting.alloc, setting.around.files, word) {
         Ok(Some(name)) => {
-            text.push_all(&[
-                "no interface `",
-                word,
-                "` in this package; did you mean `",
-                name,
-                "`?",
-            ]);
+            text.push_three("no interface `", word, "` in this package; did you mean `");
+            text.push(name);
+            text.push("`?");
         }
         Ok(None) => of_far_interface(text, setting.around, word),
         Err(_) => text.refuse(),
@@ -236,7 +234,8 @@ fn types_of<'a>(
 fn push_listed(text: &mut TextBuilder, names: &[&str]) {
     for (place, name) in names.iter().take(MAX_NAMED).enumerate() {
         let before = if place == 0 { "" } else { ", " };
-        text.push_all(&[before, "`", *name, "`"]);
+        text.push_three(before, "`", *name);
+        text.push("`");
     }
     if names.len() > MAX_NAMED {
         text.push(", ..");
@@ -246,7 +245,7 @@ fn push_listed(text: &mut TextBuilder, names: &[&str]) {
 /// Appends which of these names is near, or which there are.
 fn push_near(text: &mut TextBuilder, near: Result<Option<&str>, AllocError>, names: &[&str]) {
     match near {
-        Ok(Some(name)) => text.push_all(&["did you mean `", name, "`?"]),
+        Ok(Some(name)) => text.push_three("did you mean `", name, "`?"),
         Ok(None) => {
             text.push("it has ");
             push_listed(text, names);
@@ -260,14 +259,14 @@ fn of_types(text: &mut TextBuilder, alloc: Global, types: &[&str], word: &str) {
     if types.is_empty() {
         return text.push(" declares no type");
     }
-    text.push_all(&[" has no type `", word, "`; "]);
+    text.push_three(" has no type `", word, "`; ");
     push_near(text, nearest(alloc, word, types), types);
 }
 
 /// What to do about a name that is no type of an interface of another package.
 fn of_used_type(text: &mut TextBuilder, setting: Setting<'_>, used: Used<'_>, word: &str) {
     let files = files_of(setting.around.known, used.package);
-    text.push_all(&["interface `", used.interface, "`"]);
+    text.push_three("interface `", used.interface, "`");
     match types_of(setting.alloc, files, used.interface) {
         Ok(types) => of_types(text, setting.alloc, types.as_slice(), word),
         Err(_) => text.refuse(),
@@ -279,7 +278,7 @@ fn of_interfaces(text: &mut TextBuilder, alloc: Global, interfaces: &[&str], wor
     if interfaces.is_empty() {
         return text.push(" has no interface");
     }
-    text.push_all(&[" has no interface `", word, "`; "]);
+    text.push_three(" has no interface `", word, "`; ");
     push_near(text, nearest_interface(alloc, interfaces, word), interfaces);
 }
 
@@ -318,13 +317,9 @@ fn interface_with<'a>(
 fn of_type(text: &mut TextBuilder, setting: Setting<'_>, word: &str) {
     match interface_with(setting.alloc, setting.around.files, word) {
         Ok(Some(interface)) => {
-            text.push_all(&[
-                "write `use ",
-                interface,
-                ".{",
-                word,
-                "};` in this interface",
-            ]);
+            text.push_three("write `use ", interface, ".{");
+            text.push(word);
+            text.push("};` in this interface");
         }
         Ok(None) => hint_of_unknown(text, setting.alloc, setting.found.lexed, word),
         Err(_) => text.refuse(),

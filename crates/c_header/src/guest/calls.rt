@@ -80,11 +80,6 @@ pub fn reader_of(kind: CoreKind) -> &'static str {
     }
 }
 
-/// What stands before an entry of a list.
-pub fn comma(index: usize) -> &'static str {
-    if index == 0 { "" } else { ", " }
-}
-
 /// What comes before the name of a function of the world itself where its comment is kept.
 fn word_before(place: &Place, direction: Direction) -> &'static str {
     match direction {
@@ -120,8 +115,8 @@ fn push_parameters(text: &mut TextBuilder, types: &Types<'_>, parameters: &[Part
     }
     for (index, part) in parameters.iter().enumerate() {
         if let Some(ty) = part.ty {
-            text.push(comma(index));
-            text.push_all(&[types.c(ty), " in_", part.label.as_str()]);
+            text.separate(index, ", ");
+            text.push_three(types.c(ty), " in_", part.label.as_str());
         }
     }
 }
@@ -132,7 +127,8 @@ pub fn push_value_head(text: &mut TextBuilder, types: &Types<'_>, call: &GuestCa
         Some(ty) => types.c(ty),
         None => "void",
     };
-    text.push_all(&[c, " ", call.name.as_str(), "("]);
+    text.push_three(c, " ", call.name.as_str());
+    text.push("(");
     push_parameters(text, types, call.parameters.parts.as_slice());
     text.push(")");
 }

@@ -3,8 +3,7 @@
 
 use crate::calls::{Called, called_of, take_if};
 use crate::guest::calls::{
-    GuestCall, comma, core_type, guest_call_of, push_value_head, put_heading, reader_of,
-    returned_type,
+    GuestCall, core_type, guest_call_of, push_value_head, put_heading, reader_of, returned_type,
 };
 use crate::guest::places::Place;
 use c_declarations::Header;
@@ -22,20 +21,18 @@ fn push_core_parameters(text: &mut TextBuilder, call: &GuestCall<'_>) {
     }
     let kinds = passing.lowered.params.as_slice();
     for (index, kind) in kinds.iter().take(passing.passed).enumerate() {
-        text.push_all(&[comma(index), core_type(*kind), " flat"]);
+        text.separate(index, ", ");
+        text.push(core_type(*kind));
+        text.push(" flat");
         text.push_number(index);
     }
 }
 
 /// Writes that a function is exported under a name that consists of these words.
 fn push_export_name(text: &mut TextBuilder, before: &str, front: &str, name: &str) {
-    text.push_all(&[
-        "\n__attribute__((export_name(\"",
-        before,
-        front,
-        name,
-        "\")))\n",
-    ]);
+    text.push_three("\n__attribute__((export_name(\"", before, front);
+    text.push(name);
+    text.push("\")))\n");
 }
 
 /// Writes the head of the export of core values.
@@ -44,7 +41,7 @@ fn push_head(text: &mut TextBuilder, place: &Place, call: &GuestCall<'_>) {
     let returned = returned_type(call.called.passing.returned);
     push_export_name(text, "", front, name);
     text.push(returned);
-    text.push_all(&[" ", call.core.as_str(), "("]);
+    text.push_three(" ", call.core.as_str(), "(");
     push_core_parameters(text, call);
     text.push(") {\n");
 }
@@ -59,7 +56,8 @@ fn push_value(text: &mut TextBuilder, types: &Types<'_>, call: &GuestCall<'_>) {
     } else {
         ""
     };
-    text.push_all(&["    ", storage, types.c(ty), " value;\n"]);
+    text.push_three("    ", storage, types.c(ty));
+    text.push(" value;\n");
 }
 
 /// Writes the core values of the parameters, which have room for that of the result.
@@ -80,7 +78,8 @@ fn push_flats(text: &mut TextBuilder, call: &GuestCall<'_>) {
     text.push_number(count);
     text.push("] = {");
     for index in 0..count {
-        text.push_all(&[comma(index), "flat"]);
+        text.separate(index, ", ");
+        text.push("flat");
         text.push_number(index);
     }
     text.push("};\n");
@@ -90,14 +89,17 @@ fn push_flats(text: &mut TextBuilder, call: &GuestCall<'_>) {
 fn push_parameters(text: &mut TextBuilder, types: &Types<'_>, call: &GuestCall<'_>) {
     if call.called.passing.is_spilled {
         let c = call.parameters.c.as_str();
-        text.push_all(&["    const ", c, " *parameters = (const ", c]);
+        text.push_three("    const ", c, " *parameters = (const ");
+        text.push(c);
         text.push(" *)(uintptr_t)flat0;\n");
         return;
     }
     let parts = call.parameters.parts.as_slice();
     for part in parts {
         if let Some(ty) = part.ty {
-            text.push_all(&["    ", types.c(ty), " in_", part.label.as_str(), ";\n"]);
+            text.push_three("    ", types.c(ty), " in_");
+            text.push(part.label.as_str());
+            text.push(";\n");
         }
     }
     types.push_received(text, "in_", parts);
@@ -108,14 +110,16 @@ fn push_value_call(text: &mut TextBuilder, call: &GuestCall<'_>) {
     let is_kept = call.called.function.result.is_some();
     text.push("    wit_enter();\n    ");
     text.push(if is_kept { "value = " } else { "" });
-    text.push_all(&[call.name.as_str(), "("]);
+    text.push(call.name.as_str());
+    text.push("(");
     let front = if call.called.passing.is_spilled {
         "parameters->"
     } else {
         "in_"
     };
     for (index, part) in call.parameters.parts.iter().enumerate() {
-        text.push_all(&[comma(index), front]);
+        text.separate(index, ", ");
+        text.push(front);
         text.push(part.label.as_str());
     }
     text.push(");\n");
@@ -130,7 +134,7 @@ fn push_returned(text: &mut TextBuilder, types: &Types<'_>, call: &GuestCall<'_>
     text.push("    wit_leave();\n");
     if let (Some(ty), Some(kind)) = (call.called.function.result, call.one()) {
         types.push_answered(text, ty);
-        text.push_all(&["    return ", reader_of(kind), "(&flats[0]);\n"]);
+        text.push_three("    return ", reader_of(kind), "(&flats[0]);\n");
     }
 }
 
@@ -159,7 +163,7 @@ fn put_post(
     let post = take_if(header, false, NameKind::Function, &words);
     let (front, name) = (place.front.as_str(), call.called.function.name.as_str());
     push_export_name(bodies, "cabi_post_", front, name);
-    bodies.push_all(&["void ", post.as_str(), "(uint32_t value) {\n"]);
+    bodies.push_three("void ", post.as_str(), "(uint32_t value) {\n");
     bodies.push("    (void)value;\n    wit_leave();\n}\n");
 }
 

@@ -2,8 +2,7 @@
 
 use crate::calls::called_of;
 use crate::guest::calls::{
-    GuestCall, comma, core_type, guest_call_of, push_value_head, put_heading, reader_of,
-    returned_type,
+    GuestCall, core_type, guest_call_of, push_value_head, put_heading, reader_of, returned_type,
 };
 use crate::guest::places::Place;
 use c_declarations::Header;
@@ -19,17 +18,18 @@ fn push_core_types(text: &mut TextBuilder, kinds: &[CoreKind]) {
         return;
     }
     for (index, kind) in kinds.iter().enumerate() {
-        text.push_all(&[comma(index), core_type(*kind)]);
+        text.separate(index, ", ");
+        text.push(core_type(*kind));
     }
 }
 
 /// Writes the import of core values.
 fn push_core(text: &mut TextBuilder, place: &Place, call: &GuestCall<'_>) {
     let (module, name) = (place.module.as_str(), call.called.function.name.as_str());
-    text.push_all(&["__attribute__((import_module(\"", module, "\"), "]);
-    text.push_all(&["import_name(\"", name, "\")))\n"]);
+    text.push_three("__attribute__((import_module(\"", module, "\"), ");
+    text.push_three("import_name(\"", name, "\")))\n");
     text.push(returned_type(call.one()));
-    text.push_all(&[" ", call.core.as_str(), "("]);
+    text.push_three(" ", call.core.as_str(), "(");
     push_core_types(text, call.called.passing.lowered.params.as_slice());
     text.push(");\n");
 }
@@ -43,13 +43,13 @@ fn push_variables(text: &mut TextBuilder, types: &Types<'_>, call: &GuestCall<'_
         text.push("] = {0};\n");
     }
     if call.called.passing.is_spilled {
-        text.push_all(&["    ", call.parameters.c.as_str(), " parameters;\n"]);
+        text.push_three("    ", call.parameters.c.as_str(), " parameters;\n");
     }
     if call.one().is_some() {
         text.push("    wit_flat back[1];\n");
     }
     if let Some(ty) = call.called.function.result {
-        text.push_all(&["    ", types.c(ty), " value;\n"]);
+        text.push_three("    ", types.c(ty), " value;\n");
     }
 }
 
@@ -59,7 +59,9 @@ fn push_flats(text: &mut TextBuilder, types: &Types<'_>, call: &GuestCall<'_>) {
     if passing.is_spilled {
         for part in &call.parameters.parts {
             let label = part.label.as_str();
-            text.push_all(&["    parameters.", label, " = in_", label, ";\n"]);
+            text.push_three("    parameters.", label, " = in_");
+            text.push(label);
+            text.push(";\n");
         }
         text.push("    wit_put(flats, 0, (uintptr_t)&parameters);\n");
     } else {
@@ -76,10 +78,13 @@ fn push_flats(text: &mut TextBuilder, types: &Types<'_>, call: &GuestCall<'_>) {
 fn push_core_call(text: &mut TextBuilder, call: &GuestCall<'_>) {
     let is_kept = call.one().is_some();
     text.push(if is_kept { "    back[0] = " } else { "    " });
-    text.push_all(&[call.core.as_str(), "("]);
+    text.push(call.core.as_str());
+    text.push("(");
     let kinds = call.called.passing.lowered.params.as_slice();
     for (index, kind) in kinds.iter().enumerate() {
-        text.push_all(&[comma(index), reader_of(*kind), "(&flats["]);
+        text.separate(index, ", ");
+        text.push(reader_of(*kind));
+        text.push("(&flats[");
         text.push_number(index);
         text.push("])");
     }

@@ -41,7 +41,7 @@ impl<'a> Guest<'a> {
         let full_name = scope.full_name.as_str();
         self.header
             .text
-            .push_all(&["\n/* ---- ", full_name, " */\n\n"]);
+            .push_three("\n/* ---- ", full_name, " */\n\n");
         let prefix = scope.prefix.as_str();
         put_guarded(&mut self.header, "wit_interface_", prefix, own.as_str());
     }
@@ -125,7 +125,8 @@ impl<'a> Guest<'a> {
         let text = &mut self.header.text;
         text.push("\n/* ---- ");
         text.push_all(&title);
-        text.push_all(&[" */\n", own.as_str()]);
+        text.push(" */\n");
+        text.push(own.as_str());
     }
 
     /// Writes the functions of the world of this scope.
@@ -151,7 +152,8 @@ impl<'a> Guest<'a> {
         let guard = take_guard(&mut self.header, scope.prefix.as_str());
         let (guard, full_name) = (guard.as_str(), scope.full_name.as_str());
         let text = &mut self.header.text;
-        text.push_all(&["/* The world ", full_name]);
+        text.push("/* The world ");
+        text.push(full_name);
         text.push(" for a guest in C or C++, by wit-explain bind guest. Do not edit. */\n");
         push_guard(text, guard);
         text.push(COMMON);

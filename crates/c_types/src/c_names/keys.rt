@@ -17,7 +17,8 @@ pub fn short_key(alloc: Global, word: &str, key: String) -> Result<String, Alloc
     }
     let digest = Sha256::digest(key.as_bytes());
     let mut short = TextBuilder::new(alloc);
-    short.push_all(&[word, "_x"]);
+    short.push(word);
+    short.push("_x");
     for index in 0..TOLD {
         let byte = digest[index];
         short.push_made(format!(in alloc; "{byte:02x}"));

@@ -69,11 +69,21 @@ fn without_each(alloc: Global, name: &str, front: &str) -> Result<String, AllocE
 fn push_line(text: &mut TextBuilder, name: &ShortName) {
     let (full, short) = (name.full.as_str(), name.short.as_str());
     match name.kind {
-        NameKind::Type => text.push_all(&["typedef ", full, " ", short, ";\n"]),
-        NameKind::Function => {
-            text.push_all(&["#define ", short, "(...) ", full, "(__VA_ARGS__)\n"])
+        NameKind::Type => {
+            text.push_three("typedef ", full, " ");
+            text.push(short);
+            text.push(";\n");
         }
-        NameKind::Constant => text.push_all(&["#define ", short, " ", full, "\n"]),
+        NameKind::Function => {
+            text.push_three("#define ", short, "(...) ");
+            text.push(full);
+            text.push("(__VA_ARGS__)\n");
+        }
+        NameKind::Constant => {
+            text.push_three("#define ", short, " ");
+            text.push(full);
+            text.push("\n");
+        }
     }
 }
 

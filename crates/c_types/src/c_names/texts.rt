@@ -10,16 +10,16 @@ const NUMBERS: usize = 24;
 
 /// Appends a text as a string of C.
 fn push_lines(text: &mut TextBuilder, constant: &str, content: &str) {
-    text.push_all(&["static const char ", constant, "[] ="]);
+    text.push_three("static const char ", constant, "[] =");
     for line in content.lines() {
-        text.push_all(&["\n    \"", line, "\\n\""]);
+        text.push_three("\n    \"", line, "\\n\"");
     }
     text.push(";\n");
 }
 
 /// Appends a text as the numbers of its bytes, and a 0.
 fn push_numbers(text: &mut TextBuilder, constant: &str, content: &str) {
-    text.push_all(&["static const char ", constant, "[] = {"]);
+    text.push_three("static const char ", constant, "[] = {");
     for (index, byte) in content.as_bytes().iter().enumerate() {
         let blank = if index % NUMBERS == 0 { "\n    " } else { " " };
         text.push(blank);

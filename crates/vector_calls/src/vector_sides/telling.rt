@@ -7,11 +7,6 @@ use lift_lower::Flats;
 use std::alloc::{AllocError, Global};
 use text_builder::TextBuilder;
 
-/// What stands before an item of a list.
-pub fn comma(index: usize) -> &'static str {
-    if index == 0 { "" } else { "," }
-}
-
 /// Writes a core value, `["i32", n]` or `["i64", n]`.
 fn push_flat(text: &mut TextBuilder, flat: Flat) {
     match flat {
@@ -31,7 +26,7 @@ fn push_flat(text: &mut TextBuilder, flat: Flat) {
 pub fn push_flats(text: &mut TextBuilder, flats: &[Flat]) {
     text.push("[");
     for (index, flat) in flats.iter().enumerate() {
-        text.push(comma(index));
+        text.separate(index, ",");
         push_flat(text, *flat);
     }
     text.push("]");
@@ -49,7 +44,7 @@ fn push_first(text: &mut TextBuilder, given: &[Flats]) {
 fn push_runs(text: &mut TextBuilder, given: &[Flats]) {
     text.push("[");
     for (index, flats) in given.iter().enumerate() {
-        text.push(comma(index));
+        text.separate(index, ",");
         push_flats(text, flats.as_slice());
     }
     text.push("]");
@@ -73,7 +68,7 @@ fn push_request(text: &mut TextBuilder, request: &Request) {
 fn push_requests(text: &mut TextBuilder, requests: &[Request]) {
     text.push("[");
     for (index, request) in requests.iter().enumerate() {
-        text.push(comma(index));
+        text.separate(index, ",");
         push_request(text, request);
     }
     text.push("]");
@@ -90,20 +85,27 @@ fn front_length(bytes: &[u8]) -> usize {
     length
 }
 
-/// Writes the bytes of a memory in hexadecimal digits, as a member.
-fn push_after(text: &mut TextBuilder, key: &str, guest: &Logged, is_cut: bool) {
-    let mut bytes = guest.bytes();
-    if is_cut {
-        bytes = bytes.get(..front_length(bytes)).unwrap_or(&[]);
-    }
-    text.push_all(&["\"", key, "\":\""]);
-    text.push_made(hex::encode(text.alloc(), bytes));
+/// Writes bytes in hexadecimal digits, all or up to the last that is not 0.
+pub fn push_digits(text: &mut TextBuilder, bytes: &[u8], are_cut: bool) {
+    let length = if are_cut {
+        front_length(bytes)
+    } else {
+        bytes.len()
+    };
+    let front = bytes.get(..length).unwrap_or(&[]);
+    text.push_made(hex::encode(text.alloc(), front));
+}
+
+/// Writes the bytes of a memory, as a member.
+fn push_after(text: &mut TextBuilder, key: &str, guest: &Logged, are_cut: bool) {
+    text.push_three("\"", key, "\":\"");
+    push_digits(text, guest.bytes(), are_cut);
     text.push("\",");
 }
 
 /// Writes the requests to a memory's allocator, as a member.
 fn push_log(text: &mut TextBuilder, key: &str, guest: &Logged) {
-    text.push_all(&["\"", key, "\":"]);
+    text.push_three("\"", key, "\":");
     match guest.requests() {
         Some(requests) => push_requests(text, requests),
         None => text.refuse(),
@@ -128,7 +130,7 @@ pub(crate) fn answer_told(
     callee: &Logged,
 ) -> Result<String, AllocError> {
     let mut text = TextBuilder::new(alloc);
-    text.push_all(&["{\"answers\":[", told, "],"]);
+    text.push_three("{\"answers\":[", told, "],");
     push_memories(&mut text, caller, callee, true);
     text.push("}");
     text.finish()

@@ -79,7 +79,8 @@ fn package_name(alloc: Global, name: &FullName) -> Result<String, AllocError> {
     text.push(":");
     push_label(&mut text, &name.package);
     if let Some(version) = &name.version {
-        text.push_all(&["@", version.as_str()]);
+        text.push("@");
+        text.push(version.as_str());
     }
     text.finish()
 }
@@ -120,7 +121,8 @@ impl Interface {
     fn push_to(&self, text: &mut TextBuilder) {
         text.push("interface ");
         push_label(text, &self.name);
-        text.push_all(&[" {\n", self.types.as_str()]);
+        text.push(" {\n");
+        text.push(self.types.as_str());
         if let Some(functions) = &self.functions {
             text.push(functions.as_str());
         }
@@ -139,7 +141,7 @@ impl Package {
 
     fn text(&self, alloc: Global) -> Result<String, AllocError> {
         let mut text = TextBuilder::new(alloc);
-        text.push_all(&["package ", self.name.as_str(), ";\n"]);
+        text.push_three("package ", self.name.as_str(), ";\n");
         for interface in &self.interfaces {
             interface.push_to(&mut text);
         }
