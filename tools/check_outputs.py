@@ -50,7 +50,7 @@ JSON = re.compile(r"`([^`]*)`: ((?:`[^`]*`(?:, )?)+)")
 # a row of a text file, and one of JSON
 ROW = re.compile(r"let \w+ = |[^:|]+: .*=>|\{\"", re.M)
 EXAMPLES = "example, and its answer"
-ROWS = ROOT / "crates" / "rows_texts" / "data"
+ROWS = ROOT / "crates" / "vectors" / "data"
 # the status of a failure, by how its line begins
 FAILURES = {"error ": 1, "usage: ": 2, "trap ": 3}
 # commands that are answered by lines of docs/ERRORS.md without an example
@@ -63,7 +63,7 @@ RUNS = {
 }
 NO_MEMORY = "error 21 no memory"
 # the stored answers of what the program doesn't do: of the library, and of calls over other memories than its own
-ANSWERS = ("examples/c/faults.expected", "crates/rows_texts/data/reading.rows", "crates/vectors/stdout")
+ANSWERS = ("examples/c/faults.expected", "crates/vectors/data/reading.rows", "crates/vectors/stdout")
 TOLD = re.compile(r"(?:error|trap) [^\n\"]+")
 
 
@@ -272,7 +272,7 @@ def plain_blocks(name, text):
 def check_rows(pages, name, text):
     """The rows in blocks of docs/FORMATS.md."""
     crates = ROOT / "crates"
-    files = [*crates.glob("rows_*/data/*.rows"), crates / "vectors" / "stdin", crates / "vectors" / "stdout"]
+    files = [*ROWS.glob("*.rows"), crates / "vectors" / "stdin", crates / "vectors" / "stdout"]
     stored = {line for it in files for line in it.read_text().splitlines()}
     for where, lines in plain_blocks(name, text):
         if ROW.match("\n".join(lines)):

@@ -186,16 +186,16 @@ class Row:
 
 @functools.cache
 def vectors():
-    """The rows of crates/vectors by their names, each two lines of JSON."""
+    """The rows of JSON of crates/vectors by their names, each two lines. Behind their answers stand others."""
     asked, answers = ((ROOT / "crates/vectors" / name).read_text().splitlines() for name in ("stdin", "stdout"))
-    return {json.loads(row)["name"]: Row(row, answer) for row, answer in zip(asked, answers, strict=True)}
+    return {json.loads(row)["name"]: Row(row, answer) for row, answer in zip(asked, answers)}
 
 
 @functools.cache
 def text_rows():
     """The rows of crates/rows_texts by their names; what is asked has what stands under its names, too."""
     found = {}
-    for path in sorted((ROOT / "crates/rows_texts/data").glob("*.rows")):
+    for path in sorted((ROOT / "crates/vectors/data").glob("*.rows")):
         kept, lines = {}, path.read_text().splitlines()
         for number, line in enumerate(lines):
             if line.startswith("let "):

@@ -299,7 +299,7 @@ def main():
     if len(sys.argv) != 2:
         sys.exit(__doc__)
     files = (VECTORS / name for name in ("stdin", "stdout"))
-    rows = list(zip(*([json.loads(line) for line in file.read_text().splitlines()] for file in files)))
+    rows = list(zip(*(map(json.loads, file.read_text().splitlines()) for file in files)))
     reasons = [left_out(row) for row, _ in rows]
     made = [
         (with_lengths(row), expected_of(row, stored)) for (row, stored), reason in zip(rows, reasons) if reason is None

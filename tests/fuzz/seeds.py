@@ -3,8 +3,8 @@
 
 usage: tests/fuzz/seeds.py FOLDER      a folder for each harness is made in it, and a dictionary of words of WIT
 
-- open: the texts and binaries of crates/rows_texts/data, of crates/vectors and of examples/, each once.
-- set: the sets of crates/rows_texts/data, in the form of tests/fuzz/set.c.
+- open: the texts and binaries of crates/vectors/data, of crates/vectors and of examples/, each once.
+- set: the sets of crates/vectors/data, in the form of tests/fuzz/set.c.
 - halves: the calls of crates/vectors, in the form of tests/fuzz/halves.c, and pseudorandom bytes that build types and
   values.
 - json: the rows of a host's memory of crates/vectors, in the form of tests/fuzz/json.c, and such bytes.
@@ -25,7 +25,7 @@ from tools.models import text_rows  # noqa: E402
 from tools.models.calls import line_of  # noqa: E402
 
 MOST = 4096
-DATA = ROOT / "crates/rows_texts/data"
+DATA = ROOT / "crates/vectors/data"
 BINARY = re.compile(r"\b0061736d[0-9a-f]*\b")
 FUNCTION = re.compile(r"%?([A-Za-z][A-Za-z0-9-]*) *: *func\b")
 WORDS = (

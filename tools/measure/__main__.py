@@ -46,7 +46,7 @@ WORDS = {
     "brief": ("--brief", {"action": "store_true", "help": "print one line, and what is wrong"}),
     "program": ("program", built("program")),
     "vectors": ("vectors", built("vectors")),
-    "rows": ("rows", built("rows_texts")),
+    "rows": ("rows", built("vectors")),
     "jobs": ("jobs", several("JOB", [*times.JOBS], "call alone by default")),
     "crates": ("crates", several("CRATE", [*refused.WORDS, "program"], "all three by default")),
     "command": ("command", {"nargs": argparse.REMAINDER, "help": "a command's words, with {} for the input's path"}),

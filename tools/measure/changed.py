@@ -53,7 +53,7 @@ def told(program, asked):
     with tempfile.NamedTemporaryFile("w", suffix=".rows") as file:
         file.write(f"row: {asked} =>\n")
         file.flush()
-        ran = subprocess.run([program], input=f"{file.name}\n", capture_output=True, text=True, check=False)
+        ran = subprocess.run([program, file.name], input="", capture_output=True, text=True, check=False)
     return ran.stdout.partition("row: ")[2].strip() or ran.stderr
 
 

@@ -11,6 +11,8 @@ from tools.repository import PROGRAM, ROOT
 
 from .harness import Counter, Folder
 
+# the program that answers rows
+ROWS = ROOT / "crates/vectors/out/vectors"
 PLAIN = "memory allocation failed"
 # What the programs that answer rows tell of themselves: of the allocator, of their files, of their JSON and of what
 # they keep; and the library of an output that is kept in memory and can't grow.
@@ -55,7 +57,8 @@ HOSTED = {
     ],
 }
 LIFTED = {"text": "package a:b; interface c { f: func(x: string); }", "lift": [["i32", 0], ["i32", 2]]}
-# Of each program its rows, and the words, by their number, that each has to tell at least once.
+# Of each crate whose rows the program `vectors` answers, rows, and the words, by their number, that each has to tell at
+# least once.
 WORDS = {
     "rows_texts": [
         (f"label {LABEL}", [5]),
@@ -188,10 +191,10 @@ def told_by_program(allowed):
 
 
 def asked_twice(crate, row, folder):
-    """The input in which a row is asked twice."""
+    """The words of the program, and its input, by which a row is asked twice."""
     if crate == "vectors":
-        return f"{row}\n{row}\n"
-    return f"{folder.keep(f'first: {row} => {chr(10)}again: {row} => {chr(10)}', 'asked.rows')}\n"
+        return [], f"{row}\n{row}\n"
+    return [folder.keep(f"first: {row} => \nagain: {row} => \n", "asked.rows")], ""
 
 
 def calls_of(crate, folder):
@@ -201,8 +204,8 @@ def calls_of(crate, folder):
         for arguments, allowed in COMMANDS:
             yield " ".join(arguments[:2]), [PROGRAM, *arguments], "", told_by_program(allowed), allowed
     for row, allowed in WORDS.get(crate, ()):
-        program = ROOT / "crates" / crate / "out" / crate
-        yield row[:60], [program], asked_twice(crate, row, folder), told_by_rows(allowed), allowed
+        arguments, given = asked_twice(crate, row, folder)
+        yield row[:60], [ROWS, *arguments], given, told_by_rows(allowed), allowed
 
 
 def refused(given):

@@ -60,26 +60,30 @@ def names_of(file):
 
 
 def all_names(files):
-    """The output of `rows_texts`: of each file its name and the names of its rows, since these are answered as they
-    say."""
+    """What is written of files: of each its name and the names of its rows, since these are answered as they say."""
     return [line for file in files for line in (f"# {file}", *names_of(file))]
 
 
-TEXT_ROWS = ROOT / "crates/rows_texts/data"
-NAMES = Stored(ROOT / "crates/rows_texts/stdout", all_names, ROOT / "crates/rows_texts/stdin")
-VECTORS = Stored(ROOT / "crates/vectors/stdout", vectors.answers, ROOT / "crates/vectors/stdin")
-# the rows of `wrong.rows` have wrong answers, of which NAMES has the right ones
+def output(rows):
+    """The output of `vectors`: the answers of its rows of JSON, and what it writes of the files that its words name."""
+    return [*vectors.answers(rows), *all_names(lines_of(WORDS))]
+
+
+TEXT_ROWS = ROOT / "crates/vectors/data"
+WORDS = ROOT / "crates/vectors/args"
+OUTPUT = Stored(ROOT / "crates/vectors/stdout", output, ROOT / "crates/vectors/stdin")
+# the rows of `wrong.rows` have wrong answers, of which OUTPUT has the right ones
 FILES = ("grammar", "texts", "errors", "sets", "packages", "changes", "layouts", "json", "reading")
-ALL = [VECTORS, *(rows_in(TEXT_ROWS / f"{name}.rows") for name in FILES), NAMES]
+ALL = [OUTPUT, *(rows_in(TEXT_ROWS / f"{name}.rows") for name in FILES)]
 
 
 def unlisted():
-    """The files of rows that nothing of ALL is the answers of, or that the input of `rows_texts` doesn't name."""
-    asked = lines_of(NAMES.asked)
+    """The files of rows that nothing of ALL is the answers of, or that the words of `vectors` don't name."""
+    asked = lines_of(WORDS)
     known = {it.path for it in ALL} | {TEXT_ROWS / "wrong.rows"}
     rows = sorted(TEXT_ROWS.glob("*.rows"))
     return [f"{it.relative_to(ROOT)}: no model answers these rows" for it in rows if it not in known] + [
-        f"{it.relative_to(ROOT)}: rows_texts is not asked for these rows" for it in rows if it.name not in asked]
+        f"{it.relative_to(ROOT)}: vectors is not asked for these rows" for it in rows if it.name not in asked]
 
 
 def named(paths):

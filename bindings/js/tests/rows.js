@@ -1,7 +1,7 @@
 // The text rows of crates/rows_texts (docs/FORMATS.md, "Text rows"): an input, a command, and the answer.
 import { fileOf } from "./support.js";
 
-const FOLDER = "crates/rows_texts/data/";
+const FOLDER = "crates/vectors/data/";
 const TOKEN = /"([^"]*)"|([^\s",]+)|(,)/g;
 
 /** A number as four letters, which are its digits to the base 26. */

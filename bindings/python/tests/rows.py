@@ -9,7 +9,7 @@ from typing import Iterator, NamedTuple
 
 from . import TOP
 
-FOLDER = TOP / "crates/rows_texts/data"
+FOLDER = TOP / "crates/vectors/data"
 TOKEN = re.compile(r'"([^"]*)"|([^\s",]+)|(,)')
 ROW = re.compile(r"([^ |#]+): (\S+) (.*) =>(?: (.*))?")
 
