@@ -38,9 +38,10 @@ fn type_beside<'a>(lexed: &Lexed<'a>, span: Span, is_after: bool) -> &'a str {
 fn of_bracket(text: &mut TextBuilder, lexed: &Lexed<'_>, span: Span) {
     let name = type_beside(lexed, span, false);
     if matches!(name, "list" | "option" | "result" | "tuple") {
-        text.push_all(&["write `", name, "<..>` instead of `", name, "[..]`"]);
+        text.push_three("write `", name, "<..>`");
+        text.push_three(" instead of `", name, "[..]`");
     } else {
-        text.push_all(&["a list is written `list<", name, ">`"]);
+        text.push_three("a list is written `list<", name, ">`");
     }
 }
 
@@ -48,7 +49,7 @@ fn of_bracket(text: &mut TextBuilder, lexed: &Lexed<'_>, span: Span) {
 fn of_question(text: &mut TextBuilder, lexed: &Lexed<'_>, span: Span) {
     let behind = lexed.text.get(span.end..).unwrap_or("");
     let name = type_beside(lexed, span, behind.starts_with(":"));
-    text.push_all(&["what may be missing is written `option<", name, ">`"]);
+    text.push_three("what may be missing is written `option<", name, ">`");
 }
 
 /// What to do about a `*`: of a `use`, or of a pointer.
@@ -68,20 +69,16 @@ fn of_bar(lexed: &Lexed<'_>, span: Span) -> &'static str {
     }
 }
 
-/// Whether a text begins as one of WIT does.
-fn begins_file(lexed: &Lexed<'_>) -> bool {
-    match keyword_at(lexed, 0) {
+/// What to do about a quote. It may be of a text that doesn't begin as one of WIT does.
+fn of_quote(lexed: &Lexed<'_>) -> &'static str {
+    let is_wit = match keyword_at(lexed, 0) {
         Some(keyword) => matches!(
             keyword,
             Keyword::Package | Keyword::Interface | Keyword::World | Keyword::Use
         ),
         None => mark_at(lexed, 0) == Some(Punctuation::At),
-    }
-}
-
-/// What to do about a quote.
-fn of_quote(lexed: &Lexed<'_>) -> &'static str {
-    if !begins_file(lexed) {
+    };
+    if !is_wit {
         return "this is no WIT: a file begins with `package NAMESPACE:NAME;`";
     }
     match mark_at(lexed, lexed.tokens.len().saturating_sub(1)) {
@@ -91,7 +88,7 @@ fn of_quote(lexed: &Lexed<'_>) -> &'static str {
 }
 
 /// What to do about a character that begins no token.
-fn of_character(text: &mut TextBuilder, alloc: Global, lexed: &Lexed<'_>, span: Span) {
+fn of_character(text: &mut TextBuilder, lexed: &Lexed<'_>, span: Span) {
     let word = lexed.at(span);
     match word {
         "[" => of_bracket(text, lexed, span),
@@ -104,7 +101,8 @@ fn of_character(text: &mut TextBuilder, alloc: Global, lexed: &Lexed<'_>, span: 
         "\u{feff}" => text.push("leave out this byte-order mark"),
         _ => match word.chars().next() {
             Some(character) if !character.is_ascii() => {
-                text.push_made(hint_of_character(alloc, character));
+                let hint = hint_of_character(text.alloc(), character);
+                text.push_made(hint);
             }
             _ => text.push("WIT has no such character here"),
         },
@@ -118,76 +116,59 @@ fn of_type(text: &mut TextBuilder, lexed: &Lexed<'_>, span: Span, name: &str) {
     if behind.starts_with("<")
         && let Some(holder) = holder_for(name)
     {
-        text.push("write `");
-        text.push(holder);
-        text.push_all(&["` instead of `", word, "<..>`"]);
+        text.push_three("write `", holder, "`");
+        text.push_three(" instead of `", word, "<..>`");
     } else if is_float(name) {
         text.push(NO_FLOATS);
     } else if let Some(other) = type_for(name) {
-        text.push_all(&["no `", word, "` here; WIT has `"]);
-        text.push(other);
-        text.push("`");
+        text.push_three("no `", word, "` here; ");
+        text.push_three("WIT has `", other, "`");
     } else {
         text.push(rule_of_names(word));
-        text.push_all(&[": write `", name, "`"]);
+        text.push_three(": write `", name, "`");
     }
 }
 
-/// A word that is no name, and the name that it may be changed to.
-#[derive(Clone, Copy)]
-pub struct Renamed<'a> {
-    pub lexed: &'a Lexed<'a>,
-    pub span: Span,
-    pub name: &'a str,
-}
-
-/// Whether a word is a keyword.
-fn is_keyword(alloc: Global, word: &str) -> bool {
-    let lexed = Lexed::new(alloc, "", word);
-    keyword_at(&lexed, 0).is_some()
-}
-
-/// What to do about a word that is no name, where a name has to come.
-pub fn of_name(text: &mut TextBuilder, alloc: Global, word: Renamed<'_>) {
-    let name = word.name;
-    text.push(rule_of_names(word.lexed.at(word.span)));
-    match line_of_taken(alloc, word.lexed, word.span, name) {
+/// What to do about a word that is no name, where a name has to come: this one is written, with a `%` if it is a
+/// keyword.
+pub fn of_name(text: &mut TextBuilder, lexed: &Lexed<'_>, span: Span, name: &str) {
+    text.push(rule_of_names(lexed.at(span)));
+    match line_of_taken(text.alloc(), lexed, span, name) {
         Ok(Some(line)) => {
-            text.push_all(&["; `", name, "` is taken in line "]);
+            text.push_three("; `", name, "` is taken in line ");
             text.push_number(line);
         }
-        Ok(None) if is_keyword(alloc, name) => text.push_all(&[": write `%", name, "`"]),
-        Ok(None) => text.push_all(&[": write `", name, "`"]),
+        Ok(None) => {
+            let alone = Lexed::new(text.alloc(), "", name);
+            let is_keyword = keyword_at(&alone, 0).is_some();
+            let front = if is_keyword {
+                ": write `%"
+            } else {
+                ": write `"
+            };
+            text.push_three(front, name, "`");
+        }
         Err(_) => text.refuse(),
     }
 }
 
-/// Whether a type has to come after the last token.
-fn ends_before_type(lexed: &Lexed<'_>) -> bool {
-    matches!(
-        mark_at(lexed, lexed.tokens.len().saturating_sub(1)),
-        Some(Punctuation::Colon | Punctuation::Less | Punctuation::Arrow | Punctuation::Equals)
-    )
-}
-
-/// What to do about a word that is no name, of which this may be one.
-fn of_word(text: &mut TextBuilder, alloc: Global, word: Renamed<'_>) {
-    if word.name.is_empty() || word.name == word.lexed.at(word.span) {
-        text.push("a name is words joined by `-`, each from a letter on");
-    } else if ends_before_type(word.lexed) {
-        of_type(text, word.lexed, word.span, word.name);
-    } else {
-        of_name(text, alloc, word);
-    }
-}
-
-/// What to do about a bad character or word.
+/// What to do about a bad character, or about a word that is no name. A type has to come after `:`, `<`, `->` and `=`.
 pub fn of_bad(text: &mut TextBuilder, alloc: Global, lexed: &Lexed<'_>, span: Span) {
     let word = lexed.at(span);
     if word.len() < 2 || !word.is_ascii() {
-        return of_character(text, alloc, lexed, span);
+        return of_character(text, lexed, span);
     }
     let name = text.kept(kebab(alloc, word));
     let name = name.as_str();
-    of_word(text, alloc, Renamed { lexed, span, name });
+    let wants_type = matches!(
+        mark_at(lexed, lexed.tokens.len().saturating_sub(1)),
+        Some(Punctuation::Colon | Punctuation::Less | Punctuation::Arrow | Punctuation::Equals)
+    );
+    if name.is_empty() || name == word {
+        text.push("a name is words joined by `-`, each from a letter on");
+    } else if wants_type {
+        of_type(text, lexed, span, name);
+    } else {
+        of_name(text, lexed, span, name);
+    }
 }

@@ -11,32 +11,18 @@ pub static NO_FLOATS: &str = "give another type: floats are not read here";
 /// What a hint begins with that says what to write in place of what is valid.
 static IN_PLACE: &str = "valid WIT, but not read here: for a check, ";
 
-/// A float, which has as many bytes as a whole number.
-fn of_float(text: &mut TextBuilder, word: &str) {
-    let number = if word == "f32" { "u32" } else { "u64" };
-    text.push_all(&[IN_PLACE, "write `", number, "` instead of `", word, "`"]);
-}
-
 /// The handle of a resource, or its declaration.
 fn of_resource(text: &mut TextBuilder, spot: &Spot<'_>) {
     let word = spot.word();
     let next = spot.index.saturating_add(1);
     if word == "resource" {
         let name = word_at(spot.lexed, next);
-        text.push_all(&[IN_PLACE, "write `type ", name, " = u32;` in its place"]);
+        text.push(IN_PLACE);
+        text.push_three("write `type ", name, " = u32;` in its place");
     } else {
         let name = word_at(spot.lexed, next.saturating_add(1));
-        text.push_all(&[IN_PLACE, "write `u32` instead of `", word, "<", name, ">`"]);
-    }
-}
-
-/// A list of several types, or one of fixed length.
-fn of_list(text: &mut TextBuilder, spot: &Spot<'_>) {
-    match spot.lexed.tokens.get(spot.index.saturating_add(1)) {
-        Some(token) if token.kind == TokenKind::Integer => {
-            text.push_all(&[IN_PLACE, "leave out the length"]);
-        }
-        _ => of_too_many(text, spot),
+        text.push_three(IN_PLACE, "write `u32` instead of `", word);
+        text.push_three("<", name, ">`");
     }
 }
 
@@ -67,13 +53,28 @@ fn in_place(feature: Feature) -> &'static str {
     }
 }
 
-/// What to write in place of a feature that is not read.
+/// What to write in place of a feature that is not read: for a float, the whole number that has as many bytes. A list
+/// of fixed length may be one of several types.
 pub fn of_feature(text: &mut TextBuilder, spot: &Spot<'_>, feature: Feature) {
     match feature {
-        Feature::Float => of_float(text, spot.word()),
+        Feature::Float => {
+            let word = spot.word();
+            let number = if word == "f32" { "u32" } else { "u64" };
+            text.push_three(IN_PLACE, "write `", number);
+            text.push_three("` instead of `", word, "`");
+        }
         Feature::Resource => of_resource(text, spot),
-        Feature::FixedLengthList => of_list(text, spot),
+        Feature::FixedLengthList => match spot.lexed.tokens.get(spot.index.saturating_add(1)) {
+            Some(token) if token.kind == TokenKind::Integer => {
+                text.push(IN_PLACE);
+                text.push("leave out the length");
+            }
+            _ => of_too_many(text, spot),
+        },
         Feature::NamedResults => text.push(of_results(spot)),
-        _ => text.push_all(&[IN_PLACE, in_place(feature)]),
+        _ => {
+            text.push(IN_PLACE);
+            text.push(in_place(feature));
+        }
     }
 }

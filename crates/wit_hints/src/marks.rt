@@ -4,22 +4,12 @@ use crate::earlier::earlier_line;
 use crate::types::{begins_type, of_bare, of_error_type, of_too_many, precedes_type};
 use crate::versions::{of_at, of_version};
 use near_names::{begins_function, declaration, did_you_mean, holder_for, is_constant};
-use std::alloc::Global;
 use text_builder::TextBuilder;
 use wit_places::{Spot, Within, keyword_at, mark_at, word_at};
 use wit_text::{Keyword, Punctuation};
 
 /// What to do about a `>` that closes nothing.
 static NO_OPEN_ANGLE: &str = "leave it out: no `<` is open here";
-
-/// Whether a parameter or the end of the parameters comes after a token.
-fn has_parameter_after(spot: &Spot<'_>) -> bool {
-    let next = spot.index.saturating_add(1);
-    if mark_at(spot.lexed, next) == Some(Punctuation::CloseParenthesis) {
-        return true;
-    }
-    spot.lexed.is_named(next) && spot.lexed.function_at(next).is_none()
-}
 
 /// What a mark tells that is found in place of a `,`.
 fn for_comma(within: Within, found: Punctuation) -> &'static str {
@@ -101,17 +91,14 @@ fn of_less(text: &mut TextBuilder, spot: &Spot<'_>, mark: Punctuation) {
     let word = spot.word_before();
     match holder_for(word) {
         Some(holder) => {
-            text.push("write `");
-            text.push(holder);
-            text.push_all(&["` instead of `", word, "<..>`"]);
+            text.push_three("write `", holder, "`");
+            text.push_three(" instead of `", word, "<..>`");
         }
-        None => {
-            text.push_all(&[
-                "`",
-                word,
-                "` holds no types: `list`, `option`, `result`, `tuple` do",
-            ]);
-        }
+        None => text.push_three(
+            "`",
+            word,
+            "` holds no types: `list`, `option`, `result`, `tuple` do",
+        ),
     }
 }
 
@@ -126,21 +113,23 @@ fn of_constant(text: &mut TextBuilder, spot: &Spot<'_>) {
     } else {
         ".."
     };
-    text.push_all(&[
+    text.push_three(
         "WIT has no constants: return it from a function, `",
         name,
         ": func() -> ",
-    ]);
-    text.push_all(&[ty, "`"]);
+    );
+    text.push(ty);
+    text.push("`");
 }
 
 /// How a function is written.
 fn push_function(text: &mut TextBuilder, name: &str) {
-    text.push_all(&["a function is written `", name, ": func(..)`"]);
+    text.push_three("a function is written `", name, ": func(..)`");
 }
 
 /// What to do about two words that begin an item of an interface, by what comes after. No text if it tells nothing.
-fn of_strange_word(text: &mut TextBuilder, alloc: Global, spot: &Spot<'_>) {
+fn of_strange_word(text: &mut TextBuilder, spot: &Spot<'_>) {
+    let alloc = text.alloc();
     let name = spot.word_before();
     let next = spot.index.saturating_add(1);
     match (mark_at(spot.lexed, next), spot.lexed.name_at(next)) {
@@ -150,44 +139,43 @@ fn of_strange_word(text: &mut TextBuilder, alloc: Global, spot: &Spot<'_>) {
         }
         (Some(Punctuation::Equals), _) => text.push_made(did_you_mean(alloc, name, &["type"])),
         (Some(Punctuation::Dot), _) => text.push_made(did_you_mean(alloc, name, &["use"])),
-        (Some(Punctuation::Colon), _) => text.push_all(&["leave out `", name, "`"]),
+        (Some(Punctuation::Colon), _) => text.push_three("leave out `", name, "`"),
         (None, Some(function)) if begins_function(spot.word()) => push_function(text, function),
         _ => {}
     }
 }
 
 /// What to do about two words that begin an item of an interface.
-fn of_two_words(text: &mut TextBuilder, alloc: Global, spot: &Spot<'_>) {
+fn of_two_words(text: &mut TextBuilder, spot: &Spot<'_>) {
     let name = spot.word_before();
     if begins_function(name) {
         push_function(text, spot.word());
     } else if let Some(keyword) = declaration(name) {
-        text.push("write `");
-        text.push(keyword);
-        text.push_all(&["` instead of `", name, "`"]);
+        text.push_three("write `", keyword, "`");
+        text.push_three(" instead of `", name, "`");
     } else if is_constant(name) {
         of_constant(text, spot);
     } else {
-        of_strange_word(text, alloc, spot);
+        of_strange_word(text, spot);
     }
 }
 
 /// What to do after a name of an interface that no `:` comes after.
-fn of_item(text: &mut TextBuilder, alloc: Global, spot: &Spot<'_>) {
+fn of_item(text: &mut TextBuilder, spot: &Spot<'_>) {
     let name = spot.word_before();
     let next = keyword_at(spot.lexed, spot.index.saturating_add(1));
     match spot.mark() {
-        None => of_two_words(text, alloc, spot),
+        None => of_two_words(text, spot),
         Some(Punctuation::Equals) if next == Some(Keyword::Func) => {
             text.push("write `:` instead of `=`");
         }
-        Some(Punctuation::Equals) => text.push_all(&["write `type` before `", name, "`"]),
+        Some(Punctuation::Equals) => text.push_three("write `type` before `", name, "`"),
         Some(Punctuation::OpenBrace) => {
-            text.push_all(&[
+            text.push_three(
                 "write `record`, `variant`, `enum` or `flags` before `",
                 name,
                 "`",
-            ]);
+            );
         }
         Some(_) => push_function(text, name),
     }
@@ -199,11 +187,12 @@ fn of_member(text: &mut TextBuilder, spot: &Spot<'_>, member: &str) {
     match spot.mark() {
         Some(Punctuation::Equals) => text.push("write `:` instead of `=`"),
         Some(_) => {
-            text.push_all(&["a ", member, " is `name: type`: only `", name, "` is here"]);
+            text.push_three("a ", member, " is `name: type`");
+            text.push_three(": only `", name, "` is here");
         }
-        None if spot.lexed.is_named(spot.index) => text.push_all(&["leave out `", name, "`"]),
+        None if spot.lexed.is_named(spot.index) => text.push_three("leave out `", name, "`"),
         None if spot.lexed.name_at(spot.index).is_some() => {
-            text.push_all(&["a ", member, " is `name: type`"]);
+            text.push_three("a ", member, " is `name: type`");
         }
         None => {}
     }
@@ -219,41 +208,32 @@ fn of_package(text: &mut TextBuilder, spot: &Spot<'_>) {
         _ => spot.lexed.name_at(spot.index),
     };
     let name = name.unwrap_or("NAME");
-    text.push_all(&[
-        "a package is `namespace:name`: write `",
-        namespace,
-        ":",
-        name,
-        "`",
-    ]);
+    text.push_three("a package is `namespace:name`: write `", namespace, ":");
+    text.push(name);
+    text.push("`");
 }
 
 /// What to do after a name that no `:` comes after. No text if this alone is missing.
-fn of_colon(text: &mut TextBuilder, alloc: Global, spot: &Spot<'_>) {
+fn of_colon(text: &mut TextBuilder, spot: &Spot<'_>) {
     let name = spot.word_before();
     let keyword = keyword_at(spot.lexed, spot.before.saturating_sub(1));
-    match (spot.within, keyword) {
-        (Within::File, _) => of_package(text, spot),
-        (Within::Interface | Within::World, _) if spot.mark() == Some(Punctuation::Slash) => {
+    match (spot.within, keyword, spot.mark()) {
+        (Within::File, _, _) => of_package(text, spot),
+        (Within::Interface | Within::World, _, Some(Punctuation::Slash))
+        | (Within::World, _, Some(Punctuation::Dot)) => {
             text.push("a path is written `namespace:name/interface`");
         }
-        (Within::World, _) if spot.mark() == Some(Punctuation::Dot) => {
-            text.push("a path is written `namespace:name/interface`");
-        }
-        (Within::Interface | Within::World, _) if spot.is_version() => {
+        (Within::Interface | Within::World, _, None) if spot.is_version() => {
             of_version(text, spot, Punctuation::Colon);
         }
-        (_, Some(Keyword::Use)) if spot.mark() == Some(Punctuation::OpenBrace) => {
-            text.push("write `.` before it");
+        (_, Some(Keyword::Use), Some(Punctuation::OpenBrace)) => text.push("write `.` before it"),
+        (_, Some(Keyword::Use), _) => {
+            text.push_three("say which types are used: `use ", name, ".{name};`");
         }
-        (_, Some(Keyword::Use)) => {
-            text.push_all(&["say which types are used: `use ", name, ".{name};`"]);
-        }
-        (Within::Record, _) => of_member(text, spot, "field"),
-        (Within::Parameters, _) => of_member(text, spot, "parameter"),
-        (Within::Interface, _) => of_item(text, alloc, spot),
-        (Within::World, _) if spot.mark() == Some(Punctuation::OpenParenthesis) => {
-            of_item(text, alloc, spot);
+        (Within::Record, _, _) => of_member(text, spot, "field"),
+        (Within::Parameters, _, _) => of_member(text, spot, "parameter"),
+        (Within::Interface, _, _) | (Within::World, _, Some(Punctuation::OpenParenthesis)) => {
+            of_item(text, spot);
         }
         _ => {}
     }
@@ -265,15 +245,9 @@ fn of_renamed(text: &mut TextBuilder, spot: &Spot<'_>) {
     let next = spot.index.saturating_add(1);
     match (spot.mark(), spot.lexed.name_at(next)) {
         (Some(Punctuation::Colon | Punctuation::Equals | Punctuation::Arrow), Some(name)) => {
-            text.push_all(&[
-                "write `as` instead of `",
-                mark,
-                "`: `",
-                before,
-                " as ",
-                name,
-                "`",
-            ]);
+            text.push_three("write `as` instead of `", mark, "`: `");
+            text.push_three(before, " as ", name);
+            text.push("`");
         }
         (Some(found), _) => text.push(for_comma(spot.within, found)),
         _ => {}
@@ -288,36 +262,33 @@ fn is_member(spot: &Spot<'_>) -> bool {
     )
 }
 
-/// Whether a token is the `:` of a function in braces that have to be closed before it.
-fn is_function(spot: &Spot<'_>) -> bool {
-    is_member(spot) && spot.lexed.function_at(spot.before).is_some()
-}
-
-/// What the token tells that is found in place of a `,` or a `;`. No text if the mark alone is missing.
-fn of_end(text: &mut TextBuilder, alloc: Global, spot: &Spot<'_>, mark: Punctuation) {
+/// What the token tells that is found in place of a `,` or a `;`. It may be the `:` of a function in braces that have
+/// to be closed before it. No text if the mark alone is missing.
+fn of_end(text: &mut TextBuilder, spot: &Spot<'_>, mark: Punctuation) {
     match (mark, spot.within, spot.mark()) {
         (Punctuation::Comma, Within::Use, _) => of_renamed(text, spot),
-        (Punctuation::Comma, _, _) if is_function(spot) => {
-            text.push_all(&["is a `}` missing before `", spot.word_before(), "`?"]);
+        (Punctuation::Comma, _, _)
+            if is_member(spot) && spot.lexed.function_at(spot.before).is_some() => {
+            text.push_three("is a `}` missing before `", spot.word_before(), "`?");
         }
         (Punctuation::Comma, Within::Angles, Some(Punctuation::Semicolon)) if precedes_type(spot) =>
             {
                 text.push("write `,` instead of `;`");
             }
         (Punctuation::Semicolon, _, None) => of_error_type(text, spot),
-        (Punctuation::Semicolon, Within::File, Some(Punctuation::At)) => of_at(text, alloc, spot),
+        (Punctuation::Semicolon, Within::File, Some(Punctuation::At)) => of_at(text, spot),
         (_, _, Some(found)) => text.push(for_other(spot.within, mark, found)),
         _ => {}
     }
 }
 
 /// What the token tells that is found in place of a mark. No text if the mark alone is missing.
-fn of_found(text: &mut TextBuilder, alloc: Global, spot: &Spot<'_>, mark: Punctuation) {
+fn of_found(text: &mut TextBuilder, spot: &Spot<'_>, mark: Punctuation) {
     let (word, before) = (spot.word(), spot.word_before());
     match (mark, spot.mark()) {
         (_, Some(Punctuation::Less)) => of_less(text, spot, mark),
-        (Punctuation::Colon, _) => of_colon(text, alloc, spot),
-        (Punctuation::Comma | Punctuation::Semicolon, _) => of_end(text, alloc, spot, mark),
+        (Punctuation::Colon, _) => of_colon(text, spot),
+        (Punctuation::Comma | Punctuation::Semicolon, _) => of_end(text, spot, mark),
         (Punctuation::Greater, Some(Punctuation::Comma)) => of_too_many(text, spot),
         (_, None) if spot.is_version() => of_version(text, spot, mark),
         (Punctuation::OpenParenthesis, Some(found))
@@ -329,10 +300,10 @@ fn of_found(text: &mut TextBuilder, alloc: Global, spot: &Spot<'_>, mark: Punctu
             text.push(of_bare(before));
         }
         (Punctuation::Slash, Some(Punctuation::OpenParenthesis)) => {
-            text.push_all(&["write `func` instead of `", before, "`"]);
+            text.push_three("write `func` instead of `", before, "`");
         }
         (Punctuation::OpenBrace, None) if before == "." => {
-            text.push_all(&["used names are in braces: write `{", word, "}`"]);
+            text.push_three("used names are in braces: write `{", word, "}`");
         }
         (_, Some(found)) => text.push(for_other(spot.within, mark, found)),
         _ => {}
@@ -357,12 +328,14 @@ fn is_list_over(spot: &Spot<'_>) -> bool {
     is_member(spot) && (is_declaration || spot.lexed.function_at(spot.index).is_some())
 }
 
-/// Whether a `;` is found in parameters that have to be closed.
+/// Whether a `;` is found in parameters that have to be closed: neither a parameter nor their end comes after it.
 fn are_parameters_over(spot: &Spot<'_>, mark: Punctuation) -> bool {
+    let next = spot.index.saturating_add(1);
     mark == Punctuation::Comma
         && matches!(spot.within, Within::Parameters)
         && spot.mark() == Some(Punctuation::Semicolon)
-        && !has_parameter_after(spot)
+        && mark_at(spot.lexed, next) != Some(Punctuation::CloseParenthesis)
+        && (!spot.lexed.is_named(next) || spot.lexed.function_at(next).is_some())
 }
 
 /// Whether a token begins an item of a file, an interface or a world.
@@ -440,16 +413,17 @@ fn missing(spot: &Spot<'_>, mark: Punctuation) -> Punctuation {
 
 /// Where to write a mark that is missing, if the text can go on then: after the token before, if this is in an earlier
 /// line.
-fn of_missing(text: &mut TextBuilder, alloc: Global, spot: &Spot<'_>, mark: Punctuation) {
+fn of_missing(text: &mut TextBuilder, spot: &Spot<'_>, mark: Punctuation) {
     let mark = missing(spot, mark);
     if !may_go_on(spot, mark) {
         return;
     }
+    let name = mark.to_string(text.alloc());
     text.push("write `");
-    text.push_made(mark.to_string(alloc));
+    text.push_made(name);
     match earlier_line(spot) {
         Some(line) => {
-            text.push_all(&["` after `", spot.word_before(), "`, in line "]);
+            text.push_three("` after `", spot.word_before(), "`, in line ");
             text.push_number(line);
         }
         None => text.push("` before it"),
@@ -457,12 +431,12 @@ fn of_missing(text: &mut TextBuilder, alloc: Global, spot: &Spot<'_>, mark: Punc
 }
 
 /// What to do if this mark has to come. If what is found in its place tells nothing, where to write it.
-pub fn of_mark(text: &mut TextBuilder, alloc: Global, spot: &Spot<'_>, mark: Punctuation) {
+pub fn of_mark(text: &mut TextBuilder, spot: &Spot<'_>, mark: Punctuation) {
     let before = text.as_str().len();
     if !are_parameters_over(spot, mark) {
-        of_found(text, alloc, spot, mark);
+        of_found(text, spot, mark);
     }
     if text.as_str().len() == before {
-        of_missing(text, alloc, spot, mark);
+        of_missing(text, spot, mark);
     }
 }

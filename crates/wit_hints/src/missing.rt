@@ -3,7 +3,6 @@
 use crate::types::{begins_type, is_type};
 use crate::words::near;
 use near_names::{begins_function, declaration};
-use std::alloc::Global;
 use text_builder::TextBuilder;
 use wit_places::{Spot, Within, keyword_at, mark_at, opener, word_at};
 use wit_text::{Keyword, Punctuation, TokenKind};
@@ -26,9 +25,9 @@ fn of_no_type(text: &mut TextBuilder, spot: &Spot<'_>, keyword: Keyword) {
     match (keyword, spot.within) {
         (Keyword::Func, Within::Record) => text.push("; is a `}` missing before the function?"),
         (Keyword::Record | Keyword::Variant | Keyword::Enum | Keyword::Flags, _) => {
-            text.push_all(&[": declare the ", word, ", and write its name"]);
+            text.push_three(": declare the ", word, ", and write its name");
         }
-        _ => text.push_all(&[", and `", word, "` begins none"]),
+        _ => text.push_three(", and `", word, "` begins none"),
     }
 }
 
@@ -44,7 +43,7 @@ fn of_no_word(text: &mut TextBuilder, spot: &Spot<'_>, mark: Punctuation) {
         Punctuation::Comma if word_at(spot.lexed, spot.before.saturating_sub(1)) == "result" => {
             text.push("write `_` for no value: `result<_, ..>`");
         }
-        _ => text.push_all(&["a type is missing after `", spot.word_before(), "`"]),
+        _ => text.push_three("a type is missing after `", spot.word_before(), "`"),
     }
 }
 
@@ -54,7 +53,7 @@ fn of_type(text: &mut TextBuilder, spot: &Spot<'_>) {
         (Some(keyword), _) => of_no_type(text, spot, keyword),
         (None, Some(mark)) => of_no_word(text, spot, mark),
         (None, None) => {
-            text.push_all(&["a type has to come here, and `", spot.word(), "` is none"]);
+            text.push_three("a type has to come here, and `", spot.word(), "` is none");
         }
     }
 }
@@ -90,34 +89,38 @@ fn of_keyword(text: &mut TextBuilder, spot: &Spot<'_>, keyword: Keyword) {
     let next = spot.index.saturating_add(1);
     let is_named = mark_at(spot.lexed, next) == Some(Punctuation::Colon);
     let word = spot.word();
-    match (keyword, spot.within) {
-        (Keyword::Static | Keyword::Async | Keyword::Import | Keyword::Export, Within::Interface)
+    match (keyword, spot.within, is_named) {
+        (Keyword::Static | Keyword::Async | Keyword::Import | Keyword::Export, Within::Interface, _)
             if is_item_at(spot, next) => {
-            text.push_all(&["leave out `", word, "`"]);
+            text.push_three("leave out `", word, "`");
         }
-        (Keyword::Func, Within::Interface | Within::World) if !is_named => {
+        (Keyword::Func, Within::Interface | Within::World, false) => {
             text.push("a function is written `name: func(..)`");
         }
-        (Keyword::Import | Keyword::Export, Within::Interface) if !is_named => {
-            text.push_all(&["`", word, "` is for worlds: in an interface, write `use`"]);
+        (Keyword::Import | Keyword::Export, Within::Interface, false) => {
+            text.push_three("`", word, "` is for worlds: in an interface, write `use`");
         }
-        (Keyword::Interface | Keyword::World, Within::Interface) if !is_named => {
+        (Keyword::Interface | Keyword::World, Within::Interface, false) => {
             let open = opener(spot.lexed, spot.index).unwrap_or(0);
             let name = word_at(spot.lexed, open.saturating_sub(1));
-            text.push_all(&["close `", name, "` with `}` before it: no ", word]);
+            text.push_three("close `", name, "` with `}` before it: no ");
+            text.push(word);
             text.push(" is in an interface");
         }
-        (Keyword::Interface, Within::World) => {
+        (Keyword::Interface, Within::World, _) => {
             text.push("leave it out: write the name of the interface alone");
         }
-        (_, Within::Parameters | Within::Record) if is_type(keyword) && !is_named => {
+        (_, Within::Parameters | Within::Record, false) if is_type(keyword) => {
             text.push(thing(spot.within));
-            text.push_all(&[" is `name: type`: write a name and `:` before `", word, "`"]);
+            text.push_three(" is `name: type`: write a name and `:` before `", word, "`");
         }
-        (_, Within::Interface) if is_type(keyword) && !is_named => {
-            text.push_all(&["a function is written `name: func(..) -> ", word, "`"]);
+        (_, Within::Interface, false) if is_type(keyword) => {
+            text.push_three("a function is written `name: func(..) -> ", word, "`");
         }
-        _ => text.push_all(&["`", word, "` is a keyword: write `%", word, "`"]),
+        _ => {
+            text.push_three("`", word, "` is a keyword: ");
+            text.push_three("write `%", word, "`");
+        }
     }
 }
 
@@ -129,12 +132,14 @@ fn of_colons(text: &mut TextBuilder, spot: &Spot<'_>) {
     let interface = word_at(spot.lexed, first);
     match (mark_at(spot.lexed, next), spot.lexed.name_at(next)) {
         (Some(Punctuation::OpenBrace), _) if is_use => {
-            text.push_all(&["write `.` instead of `::`: `use ", interface, ".{..};`"]);
+            text.push_three("write `.` instead of `::`: `use ", interface, ".{..};`");
         }
         (None, Some(name))
             if is_use
                 && mark_at(spot.lexed, next.saturating_add(1)) == Some(Punctuation::Semicolon) => {
-            text.push_all(&["a use is written `use ", interface, ".{", name, "};`"]);
+            text.push_three("a use is written `use ", interface, ".{");
+            text.push(name);
+            text.push("};`");
         }
         _ => text.push("a path is written `namespace:name/interface`"),
     }
@@ -147,7 +152,8 @@ fn of_number(text: &mut TextBuilder, spot: &Spot<'_>) {
     if let (Some(span), Some(name)) = (spot.lexed.span_at(next), spot.lexed.name_at(next))
         && span.start == spot.span.end
     {
-        text.push_all(&[": write `", name, spot.word(), "`"]);
+        text.push_three(": write `", name, spot.word());
+        text.push("`");
     }
 }
 
@@ -161,27 +167,23 @@ fn of_no_name(text: &mut TextBuilder, spot: &Spot<'_>) {
             text.push("a use is written `use interface.{name};`");
         }
         (None | Some(Punctuation::Colon | Punctuation::Slash), _) => {
-            text.push_all(&["a name is missing after `", before, "`"]);
+            text.push_three("a name is missing after `", before, "`");
         }
         (Some(Punctuation::Comma), Some(Punctuation::CloseParenthesis)) => {
             text.push("leave out the `,` before it");
         }
         (_, Some(Punctuation::CloseBrace)) => {
-            text.push_all(&[thing, " has to come here: there is at least one"]);
+            text.push(thing);
+            text.push(" has to come here: there is at least one");
         }
         (_, Some(Punctuation::Semicolon | Punctuation::Comma)) => {
             text.push(thing);
-            text.push_all(&[" has to come here: leave out the `", word, "`"]);
+            text.push_three(" has to come here: leave out the `", word, "`");
         }
-        _ => text.push_all(&[thing, " has to come here"]),
-    }
-}
-
-/// Whether a token is a number.
-fn is_number(spot: &Spot<'_>) -> bool {
-    match spot.lexed.tokens.get(spot.index) {
-        Some(token) => token.kind == TokenKind::Integer,
-        None => false,
+        _ => {
+            text.push(thing);
+            text.push(" has to come here");
+        }
     }
 }
 
@@ -193,38 +195,38 @@ pub fn of_identifier(text: &mut TextBuilder, spot: &Spot<'_>) {
         of_keyword(text, spot, keyword);
     } else if spot.lexed.name_at(spot.index).is_some() {
         text.push("the name of a package is in lower case");
-    } else if is_number(spot) {
+    } else if let Some(token) = spot.lexed.tokens.get(spot.index)
+        && token.kind == TokenKind::Integer
+    {
         of_number(text, spot);
     } else {
         of_no_name(text, spot);
     }
 }
 
-/// What to do about a word in place of `func`, before parentheses.
-fn of_no_func(text: &mut TextBuilder, alloc: Global, word: &str) {
-    match near(text, alloc, word, &["func"]) {
-        Some(name) => text.push_all(&["did you mean `", name, "`?"]),
-        None => text.push_all(&["write `func` instead of `", word, "`"]),
-    }
-}
-
 /// What to do if `func` has to come.
-fn of_func(text: &mut TextBuilder, alloc: Global, spot: &Spot<'_>) {
+fn of_func(text: &mut TextBuilder, spot: &Spot<'_>) {
     let word = spot.word();
     let next = spot.index.saturating_add(1);
     match (spot.mark(), mark_at(spot.lexed, next)) {
-        _ if begins_function(word) => text.push_all(&["write `func` instead of `", word, "`"]),
+        _ if begins_function(word) => text.push_three("write `func` instead of `", word, "`"),
         (Some(Punctuation::OpenParenthesis), _) => text.push("write `func` before it"),
-        (None, Some(Punctuation::OpenParenthesis)) => of_no_func(text, alloc, word),
+        (None, Some(Punctuation::OpenParenthesis)) => match near(text, word, &["func"]) {
+            Some(name) => text.push_three("did you mean `", name, "`?"),
+            None => text.push_three("write `func` instead of `", word, "`"),
+        },
         (None, Some(Punctuation::Semicolon)) if begins_type(spot) => {
-            text.push_all(&["an interface has no fields: write `func() -> ", word]);
-            text.push("`, or a record");
+            text.push_three(
+                "an interface has no fields: write `func() -> ",
+                word,
+                "`, or a record",
+            );
         }
         (None, Some(Punctuation::Less)) if begins_type(spot) => {
             text.push("an interface has no fields: write `func() ->` before the type, or a record");
         }
         (None, _) if keyword_at(spot.lexed, next) == Some(Keyword::Func) => {
-            text.push_all(&["leave out `", word, "`"]);
+            text.push_three("leave out `", word, "`");
         }
         _ => text.push("a function is written `name: func(..)`"),
     }
@@ -233,23 +235,18 @@ fn of_func(text: &mut TextBuilder, alloc: Global, spot: &Spot<'_>) {
 /// The words that begin what an interface has.
 static OF_INTERFACES: [&str; 6] = ["record", "variant", "enum", "flags", "type", "use"];
 
-/// Whether a word of a file begins what an interface has.
-fn is_of_interface(text: &mut TextBuilder, alloc: Global, spot: &Spot<'_>) -> bool {
+/// What to do about a word where an interface or a world has to come. It may begin what an interface has.
+fn of_file_word(text: &mut TextBuilder, spot: &Spot<'_>) {
     let word = spot.word();
-    near(text, alloc, word, &OF_INTERFACES).is_some()
+    if let Some(name) = near(text, word, &["interface", "world"]) {
+        text.push_three("did you mean `", name, "`?");
+    } else if declaration(word) == Some("interface") {
+        text.push_three("write `interface` instead of `", word, "`");
+    } else if near(text, word, &OF_INTERFACES).is_some()
         || spot.lexed.is_named(spot.index)
         || begins_function(word)
         || declaration(word).is_some()
-}
-
-/// What to do about a word where an interface or a world has to come.
-fn of_file_word(text: &mut TextBuilder, alloc: Global, spot: &Spot<'_>) {
-    let word = spot.word();
-    if let Some(name) = near(text, alloc, word, &["interface", "world"]) {
-        text.push_all(&["did you mean `", name, "`?"]);
-    } else if declaration(word) == Some("interface") {
-        text.push_all(&["write `interface` instead of `", word, "`"]);
-    } else if is_of_interface(text, alloc, spot) {
+    {
         text.push("put it into an interface: `interface NAME { .. }`");
     } else {
         text.push("an interface or a world has to come here");
@@ -257,7 +254,7 @@ fn of_file_word(text: &mut TextBuilder, alloc: Global, spot: &Spot<'_>) {
 }
 
 /// What to do if an interface or a world has to come.
-fn of_file(text: &mut TextBuilder, alloc: Global, spot: &Spot<'_>) {
+fn of_file(text: &mut TextBuilder, spot: &Spot<'_>) {
     let next = keyword_at(spot.lexed, spot.index.saturating_add(1));
     match (spot.mark(), keyword_at(spot.lexed, spot.index)) {
         (Some(Punctuation::CloseBrace), _) => {
@@ -266,13 +263,13 @@ fn of_file(text: &mut TextBuilder, alloc: Global, spot: &Spot<'_>) {
         (Some(Punctuation::Semicolon), _) => text.push("leave it out: no `;` comes here"),
         (Some(_), _) => text.push("an interface or a world has to come here"),
         (None, _) if matches!(next, Some(Keyword::Interface | Keyword::World)) => {
-            text.push_all(&["leave out `", spot.word(), "`"]);
+            text.push_three("leave out `", spot.word(), "`");
         }
         (None, Some(Keyword::Import | Keyword::Export | Keyword::Include)) => {
             text.push("put it into a world: `world NAME { .. }`");
         }
         (None, Some(_)) => text.push("put it into an interface: `interface NAME { .. }`"),
-        (None, None) => of_file_word(text, alloc, spot),
+        (None, None) => of_file_word(text, spot),
     }
 }
 
@@ -287,20 +284,15 @@ fn of_no_keyword(spot: &Spot<'_>, keyword: Keyword) -> &'static str {
 }
 
 /// What to do if a keyword has to come.
-pub fn of_missing_keyword(
-    text: &mut TextBuilder,
-    alloc: Global,
-    spot: &Spot<'_>,
-    keyword: Keyword,
-) {
+pub fn of_missing_keyword(text: &mut TextBuilder, spot: &Spot<'_>, keyword: Keyword) {
     let words: &[&str] = match keyword {
-        Keyword::Func => return of_func(text, alloc, spot),
-        Keyword::Interface => return of_file(text, alloc, spot),
+        Keyword::Func => return of_func(text, spot),
+        Keyword::Interface => return of_file(text, spot),
         Keyword::Package => &["package"],
         _ => &["import", "export", "include", "use", "type"],
     };
-    match near(text, alloc, spot.word(), words) {
-        Some(name) => text.push_all(&["did you mean `", name, "`?"]),
+    match near(text, spot.word(), words) {
+        Some(name) => text.push_three("did you mean `", name, "`?"),
         None => text.push(of_no_keyword(spot, keyword)),
     }
 }

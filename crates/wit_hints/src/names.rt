@@ -28,38 +28,35 @@ fn nearest_type<'a>(
 }
 
 /// What to do about a name that is no type of another language.
-fn of_other_name(text: &mut TextBuilder, alloc: Global, lexed: &Lexed<'_>, word: &str) {
-    match nearest_type(alloc, lexed, word) {
-        Ok(Some(name)) => text.push_all(&["no `", word, "` here; did you mean `", name, "`?"]),
+fn of_other_name(text: &mut TextBuilder, lexed: &Lexed<'_>, word: &str) {
+    match nearest_type(text.alloc(), lexed, word) {
+        Ok(Some(name)) => {
+            text.push_three("no `", word, "` here; ");
+            text.push_three("did you mean `", name, "`?");
+        }
         Ok(None) => {
-            text.push_all(&[
+            text.push_three(
                 "declare `",
                 word,
                 "`, or `use` it from the interface that has it",
-            ]);
+            );
         }
         Err(_) => text.refuse(),
     }
 }
 
 /// What to do about a name that no interface of its text declares. It may be a type of another language.
-fn of_undeclared(text: &mut TextBuilder, alloc: Global, lexed: &Lexed<'_>, word: &str) {
+fn of_undeclared(text: &mut TextBuilder, lexed: &Lexed<'_>, word: &str) {
     if is_float(word) {
         text.push(NO_FLOATS);
     } else if is_nothing(word) {
-        text.push_all(&[
-            "no `",
-            word,
-            "` here: leave out `-> ",
-            word,
-            "`, or write `_` in a result",
-        ]);
+        text.push_three("no `", word, "` here: ");
+        text.push_three("leave out `-> ", word, "`, or write `_` in a result");
     } else if let Some(name) = type_for(word) {
-        text.push_all(&["no `", word, "` here; WIT has `"]);
-        text.push(name);
-        text.push("`");
+        text.push_three("no `", word, "` here; ");
+        text.push_three("WIT has `", name, "`");
     } else {
-        of_other_name(text, alloc, lexed, word);
+        of_other_name(text, lexed, word);
     }
 }
 
@@ -68,15 +65,11 @@ pub fn hint_of_unknown(text: &mut TextBuilder, alloc: Global, lexed: &Lexed<'_>,
     match Declarations::of(alloc, lexed) {
         Ok(declarations) => match declarations.interface_with(word) {
             Some(interface) => {
-                text.push_all(&[
-                    "write `use ",
-                    interface,
-                    ".{",
-                    word,
-                    "};` in this interface",
-                ]);
+                text.push_three("write `use ", interface, ".{");
+                text.push(word);
+                text.push("};` in this interface");
             }
-            None => of_undeclared(text, alloc, lexed, word),
+            None => of_undeclared(text, lexed, word),
         },
         Err(_) => text.refuse(),
     }
@@ -113,7 +106,7 @@ pub fn hint_of_duplicate(text: &mut TextBuilder, lexed: &Lexed<'_>, name: &str) 
         text.push("rename one: the first is in ");
         push_place(text, lexed, &twins);
     } else {
-        text.push_all(&["rename one: `", first, "` in "]);
+        text.push_three("rename one: `", first, "` in ");
         push_place(text, lexed, &twins);
         text.push(" differs in the case of letters alone");
     }

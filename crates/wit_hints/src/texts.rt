@@ -1,6 +1,6 @@
 //! What to do about a fault that is found as a text is read.
 
-use crate::bad::{Renamed, of_bad, of_name};
+use crate::bad::{of_bad, of_name};
 use crate::earlier::earlier_line;
 use crate::features::of_feature;
 use crate::marks::of_mark;
@@ -15,18 +15,14 @@ use wit_text::{Expected, Keyword, Punctuation, Span, TextError};
 /// What to do if there is no memory.
 pub static MORE_MEMORY: &str = "give the process more memory";
 
-/// Whether a character is one of names, or a `_`.
-fn is_of_word(character: char) -> bool {
-    character.is_ascii_alphanumeric() || matches!(character, '_' | '-')
-}
-
 /// The word that has a `_`, from the token before it on.
 fn word_around(spot: &Spot<'_>) -> Option<Span> {
     let start = spot.lexed.span_at(spot.before)?.start;
     let text = spot.lexed.text.get(start..)?;
     let length = text
         .chars()
-        .take_while(|character| is_of_word(*character))
+        .take_while(|character| character.is_ascii_alphanumeric()
+            || matches!(*character, '_' | '-'))
         .count();
     let end = start.saturating_add(length);
     Some(Span { start, end })
@@ -43,53 +39,39 @@ fn underscore_at(lexed: &Lexed<'_>, span: Span) -> Option<Span> {
     (next.start == span.end && lexed.is_underscore(next)).then_some(next)
 }
 
-/// What to do about a `_` in a word: it is written otherwise.
-fn of_joined(text: &mut TextBuilder, alloc: Global, lexed: &Lexed<'_>, span: Span) {
-    let name = text.kept(kebab(alloc, lexed.at(span)));
-    let name = name.as_str();
-    of_name(text, alloc, Renamed { lexed, span, name });
-}
-
-/// What to do about a `_` that is not allowed where it is: it is in a name, or in a result.
-fn of_underscore(text: &mut TextBuilder, alloc: Global, spot: &Spot<'_>) {
+/// What to do about a `_` that is not allowed where it is: it is in a name, which is written otherwise, or in a result.
+fn of_underscore(text: &mut TextBuilder, spot: &Spot<'_>) {
     if matches!(spot.within, Within::Angles) && spot.word_before() == "," {
         return text.push("leave out the `_` and the `,` before it");
     }
     match word_around(spot) {
-        Some(word) if word.end > spot.span.end => of_joined(text, alloc, spot.lexed, word),
+        Some(word) if word.end > spot.span.end => {
+            let name = kebab(text.alloc(), spot.lexed.at(word));
+            let name = text.kept(name);
+            of_name(text, spot.lexed, word, name.as_str());
+        }
         _ => text.push("names are joined by `-`, not by `_`"),
     }
 }
 
-/// Whether a `/` begins a line, as one that has to be a comment.
-fn begins_comment(spot: &Spot<'_>) -> bool {
-    spot.mark() == Some(Punctuation::Slash) && (earlier_line(spot).is_some() || spot.index == 0)
-}
-
-/// What to do if another token has to come.
-fn of_expected(text: &mut TextBuilder, alloc: Global, spot: &Spot<'_>, expected: Expected) {
+/// What to do if another token has to come. A `/` that begins a line has to be a comment.
+fn of_expected(text: &mut TextBuilder, spot: &Spot<'_>, expected: Expected) {
     let is_end = spot.span.start >= spot.lexed.text.len() && !matches!(spot.within, Within::File);
+    let begins_line = spot.index == 0 || earlier_line(spot).is_some();
     match expected {
         Expected::Punctuation(Punctuation::Semicolon) => {
-            of_mark(text, alloc, spot, Punctuation::Semicolon);
+            of_mark(text, spot, Punctuation::Semicolon);
         }
-        Expected::Identifier | Expected::Keyword(_) if begins_comment(spot) => {
+        Expected::Identifier | Expected::Keyword(_)
+            if begins_line && spot.mark() == Some(Punctuation::Slash) => {
             text.push("a comment begins with `//`");
         }
         _ if is_end => text.push("the file ends here; is a `}` missing?"),
-        Expected::Punctuation(mark) => of_mark(text, alloc, spot, mark),
-        Expected::Keyword(Keyword::As) => of_mark(text, alloc, spot, Punctuation::Comma),
-        Expected::Keyword(keyword) => of_missing_keyword(text, alloc, spot, keyword),
+        Expected::Punctuation(mark) => of_mark(text, spot, mark),
+        Expected::Keyword(Keyword::As) => of_mark(text, spot, Punctuation::Comma),
+        Expected::Keyword(keyword) => of_missing_keyword(text, spot, keyword),
         Expected::Identifier => of_identifier(text, spot),
-        Expected::Version => of_at(text, alloc, spot),
-    }
-}
-
-/// What to do if another token has to come than the one at a place.
-fn of_unexpected(text: &mut TextBuilder, alloc: Global, spot: &Spot<'_>, expected: Expected) {
-    match underscore_at(spot.lexed, spot.span) {
-        Some(underscore) => of_underscore(text, alloc, &Spot::of(spot.lexed, underscore)),
-        None => of_expected(text, alloc, spot, expected),
+        Expected::Version => of_at(text, spot),
     }
 }
 
@@ -97,9 +79,10 @@ fn of_unexpected(text: &mut TextBuilder, alloc: Global, spot: &Spot<'_>, expecte
 pub fn hint_of_text(text: &mut TextBuilder, alloc: Global, lexed: &Lexed<'_>, error: &TextError) {
     match error {
         TextError::BadChar(span) => of_bad(text, alloc, lexed, *span),
-        TextError::Expected(expected, span) => {
-            of_unexpected(text, alloc, &Spot::of(lexed, *span), *expected);
-        }
+        TextError::Expected(expected, span) => match underscore_at(lexed, *span) {
+            Some(underscore) => of_underscore(text, &Spot::of(lexed, underscore)),
+            None => of_expected(text, &Spot::of(lexed, *span), *expected),
+        },
         TextError::Unsupported(feature, span) => {
             of_feature(text, &Spot::of(lexed, *span), *feature);
         }

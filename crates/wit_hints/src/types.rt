@@ -68,11 +68,11 @@ pub fn of_too_many(text: &mut TextBuilder, spot: &Spot<'_>) {
     text.push(rule);
     let next = spot.index.saturating_add(1);
     if may_have_next(spot.lexed, open) || spot.lexed.is_named(next) {
-        text.push_all(&["; is a `>` missing after `", spot.word_before(), "`?"]);
+        text.push_three("; is a `>` missing after `", spot.word_before(), "`?");
     } else if word == "result" {
         text.push(": put more into a `tuple`");
     } else {
-        text.push_all(&[": for two write `", word, "<tuple<..>>`"]);
+        text.push_three(": for two write `", word, "<tuple<..>>`");
     }
 }
 
@@ -91,13 +91,9 @@ pub fn of_error_type(text: &mut TextBuilder, spot: &Spot<'_>) {
     };
     let front = spot.lexed.text.get(first.start..last.start).unwrap_or(",");
     if is_error && !front.contains(',') {
-        text.push_all(&[
-            "a result with an error is `",
-            front,
-            ", ",
-            spot.word(),
-            ">`",
-        ]);
+        text.push_three("a result with an error is `", front, ", ");
+        text.push(spot.word());
+        text.push(">`");
     }
 }
 

@@ -1,18 +1,18 @@
 //! What to do about a version that is not where it may be, or is none.
 
 use near_names::{has_three_numbers, version_front};
-use std::alloc::Global;
 use text_builder::TextBuilder;
 use wit_places::{Spot, mark_at, word_at};
 use wit_text::Punctuation;
 
 /// What to do about an `@` that begins no version.
-pub fn of_at(text: &mut TextBuilder, alloc: Global, spot: &Spot<'_>) {
+pub fn of_at(text: &mut TextBuilder, spot: &Spot<'_>) {
     let behind = spot.lexed.text.get(spot.span.end..).unwrap_or("");
-    let number = text.kept(version_front(alloc, behind));
+    let number = version_front(text.alloc(), behind);
+    let number = text.kept(number);
     match number.as_str().strip_prefix("v") {
         Some(number) if has_three_numbers(number) => {
-            text.push_all(&["a version has no `v`: write `@", number, "`"]);
+            text.push_three("a version has no `v`: write `@", number, "`");
         }
         _ => text.push("a version is three numbers, as `@1.0.0`"),
     }
@@ -23,12 +23,12 @@ fn of_declared(text: &mut TextBuilder, spot: &Spot<'_>) {
     text.push("versions are of packages: leave it out");
     match spot.lexed.own_package() {
         Some(own) if own.package.version.is_none() => {
-            text.push_all(&[", and write `package ", own.package.namespace, ":"]);
-            text.push_all(&[own.package.name, spot.word(), ";`"]);
+            text.push_three(", and write `package ", own.package.namespace, ":");
+            text.push_three(own.package.name, spot.word(), ";`");
         }
         _ => {
-            let keyword = word_at(spot.lexed, spot.before.saturating_sub(1));
-            text.push_all(&[" of the ", keyword]);
+            text.push(" of the ");
+            text.push(word_at(spot.lexed, spot.before.saturating_sub(1)));
         }
     }
 }
@@ -46,17 +46,13 @@ pub fn of_version(text: &mut TextBuilder, spot: &Spot<'_>, mark: Punctuation) {
     match (mark, mark_at(spot.lexed, next)) {
         (Punctuation::Slash, Some(Punctuation::Slash)) => {
             let name = word_at(spot.lexed, next.saturating_add(1));
-            text.push_all(&[
-                "the version comes last: `",
-                package,
-                "/",
-                name,
-                version,
-                "`",
-            ]);
+            text.push_three("the version comes last: `", package, "/");
+            text.push_three(name, version, "`");
         }
         (Punctuation::Slash, _) => {
-            text.push_all(&["name an interface of it: `", package, "/NAME", version, "`"]);
+            text.push_three("name an interface of it: `", package, "/NAME");
+            text.push(version);
+            text.push("`");
         }
         (Punctuation::OpenBrace, _) => of_declared(text, spot),
         (Punctuation::Colon, _) => {
