@@ -18,7 +18,7 @@ use text_builder::TextBuilder;
 use wit_binaries::with_texts;
 use wit_comments::Comments;
 use wit_faults::{Cause, Known, PackageRef, Report, first_path};
-use wit_files::{MAX_FAULTS, Member, Source, members_of};
+use wit_files::{MAX_FAULTS, Member, RemainingItems, Source, members_of};
 use wit_text::Ast;
 
 /// A package without a fault: its own tables, which begin with what it uses of others.
@@ -140,6 +140,29 @@ impl<'a> Checker<'a> {
         None
     }
 
+    /// The fault of the names of these items, if there is one.
+    fn fault_of(&mut self, items: &RemainingItems<'_>) -> Result<Option<Cause>, AllocError> {
+        let Some(tree) = items.tree()? else {
+            return Ok(None);
+        };
+        Ok(added(self.alloc, &mut self.set, &tree, false).err())
+    }
+
+    /// Finds the faults of a package's names, of which the first is known.
+    fn find_each(&mut self, faults: &mut NameFaults<'_>, first: Cause) -> Result<(), AllocError> {
+        let mut cause = first;
+        for _ in 0..MAX_FAULTS {
+            if !faults.add(self.known.as_slice(), &cause)? {
+                break;
+            }
+            match self.fault_of(&faults.rest)? {
+                Some(next) => cause = next,
+                None => break,
+            }
+        }
+        Ok(())
+    }
+
     /// Reports the faults of a member's names, of which the first that was found is known, in the order of their
     /// places.
     fn report_each(
@@ -150,22 +173,26 @@ impl<'a> Checker<'a> {
     ) -> Result<(), AllocError>
         ensures { OnOk result (report.new.status ≡ 1) }
     {
-        let known = self.known.as_slice();
         let mut faults = NameFaults::of(self.alloc, member)?;
-        let mut cause = first;
-        for _ in 0..MAX_FAULTS {
-            if !faults.add(known, &cause)? {
-                break;
-            }
-            let Some(tree) = faults.rest.tree()? else {
-                break;
-            };
-            match added(self.alloc, &mut self.set, &tree, member.is_dependency) {
-                Ok(_) => break,
-                Err(next) => cause = next,
-            }
-        }
+        self.find_each(&mut faults, first)?;
         faults.report(report)
+    }
+
+    /// Keeps what was found of the member at a place, which has no fault.
+    fn keep(
+        &mut self,
+        place: usize,
+        member: &Member<'_>,
+        checked: Checked,
+    ) -> Result<(), AllocError>
+        ensures { OnOk result (length self.new.checked.items ≡ length self.old.checked.items + 1) }
+    {
+        self.checked.push(checked)?;
+        add_comments(&mut self.comments, member)?;
+        if let Some(mark) = self.is_good.get_mut(place) {
+            *mark = true;
+        }
+        Ok(())
     }
 
     /// Checks a member, which uses these. If one of them has a fault, it is left out.
@@ -193,14 +220,7 @@ impl<'a> Checker<'a> {
             &member.tree,
             member.is_dependency,
         ) {
-            Ok(checked) => {
-                self.checked.push(checked)?;
-                add_comments(&mut self.comments, member)?;
-                if let Some(mark) = self.is_good.get_mut(place) {
-                    *mark = true;
-                }
-                Ok(())
-            }
+            Ok(checked) => self.keep(place, member, checked),
             Err(cause) => self.report_each(report, member, cause),
         }
     }

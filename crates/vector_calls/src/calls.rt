@@ -6,22 +6,21 @@ ghost use Rattle.tables.specs.Closed.{IsFunction};
 
 use crate::functions::{NO_FUNCTION, push_fault};
 use crate::vector_sides::{
-    Acting, Logged, body, field, flats, guest, list, push_all_given, push_first_given, push_flats,
-    push_memories, text,
+    Acting, Memories, body, field, flats, list, memories_of, push_all_given, push_first_given,
+    push_flats, push_memories, text,
 };
 use adapter::Link;
 use canonical_abi::{Fault, Flat};
 use lift_lower::{FlatResults, Types};
 use serde_json::Value;
-use std::alloc::{AllocError, Global};
+use std::alloc::Global;
 use tables::FunctionId;
 use text_builder::TextBuilder;
 
 /// The caller, the callee and the body of a row.
 #[derive(Drop)]
 struct Sides {
-    caller: Logged,
-    callee: Logged,
+    memories: Memories,
     body: Acting,
 }
 
@@ -59,11 +58,9 @@ pub struct Calls<'a> {
 
 /// The memories and the body of a row.
 fn sides_of(alloc: Global, row: &Value) -> anyhow::Result<Sides> {
-    Ok(Sides {
-        caller: guest(alloc, row, 0)?,
-        callee: guest(alloc, row, 1)?,
-        body: body(alloc, row)?,
-    })
+    let memories = memories_of(alloc, row)?;
+    let body = body(alloc, row)?;
+    Ok(Sides { memories, body })
 }
 
 fn call_of<'a>(alloc: Global, row: &'a Value, value: &'a Value) -> anyhow::Result<Call<'a>> {
@@ -102,8 +99,8 @@ fn carried(
     link.call(
         f,
         flats,
-        &mut sides.caller,
-        &mut sides.callee,
+        &mut sides.memories.caller,
+        &mut sides.memories.callee,
         &mut sides.body,
     )
 }
@@ -159,34 +156,28 @@ fn push_nodes(text: &mut TextBuilder, nodes: (u64, u64)) {
 impl<'a> Calls<'a> {
     /// The calls that a row says.
     pub fn of(alloc: Global, row: &'a Value) -> anyhow::Result<Calls<'a>> {
+        let sides = sides_of(alloc, row)?;
+        let asked = asked_of(alloc, row)?;
+        let are_cut = field(row, "lens").is_some();
         Ok(Calls {
-            sides: sides_of(alloc, row)?,
-            asked: asked_of(alloc, row)?,
-            are_cut: field(row, "lens").is_some(),
+            sides,
+            asked,
+            are_cut,
         })
     }
 
-    /// Makes the calls, and tells what they did.
-    pub fn told(&mut self, alloc: Global, types: &Types<'_>) -> Result<String, AllocError>
+    /// Makes the calls, and writes what they did.
+    pub fn push(&mut self, text: &mut TextBuilder, types: &Types<'_>)
         requires { ∥ AreWithin «types».now ∥₁ }
     {
-        let mut text = TextBuilder::new(alloc);
         match called(types, &self.asked, &mut self.sides) {
-            Some(ended) => self.push_ended(&mut text, &ended),
-            None => self.push_refused(&mut text, NO_FUNCTION),
+            Some(ended) => self.push_ended(text, &ended),
+            None => self.push_refused(text, NO_FUNCTION),
         }
-        text.finish()
-    }
-
-    /// What is told if no call is made, for this reason.
-    pub fn refused(&self, alloc: Global, reason: &str) -> Result<String, AllocError> {
-        let mut text = TextBuilder::new(alloc);
-        self.push_refused(&mut text, reason);
-        text.finish()
     }
 
     /// Writes that no call was made, for this reason.
-    fn push_refused(&self, text: &mut TextBuilder, reason: &str) {
+    pub fn push_refused(&self, text: &mut TextBuilder, reason: &str) {
         text.push_three("{\"outcome\":{\"refused\":\"", reason, "\"},");
         push_first_given(text, &self.sides.body);
         push_nodes(text, (0, 0));
@@ -215,7 +206,7 @@ impl<'a> Calls<'a> {
 
     /// Writes what both memories hold, and what their allocators were asked for.
     fn push_memories(&self, text: &mut TextBuilder) {
-        let sides = &self.sides;
-        push_memories(text, &sides.caller, &sides.callee, self.are_cut);
+        let memories = &self.sides.memories;
+        push_memories(text, &memories.caller, &memories.callee, self.are_cut);
     }
 }

@@ -8,7 +8,9 @@ ghost use Rattle.value_json.specs.Apart.{HasApartLabels};
 ghost use Rattle.values.specs.Members.{fields_of_types};
 
 use crate::functions::{parameter_of_row, push_fault};
-use crate::vector_sides::{Logged, answer_told, field, flats, guest, list, push_flats};
+use crate::vector_sides::{
+    Logged, begin_answer, end_answer, field, flats, list, memories_of, push_flats,
+};
 use canonical_abi::{Fault, Flat};
 use lift_lower::{Flats, Types, Val, has_type, lift, lower};
 use serde_json::Value;
@@ -145,29 +147,28 @@ fn push_lowered(
     Ok(())
 }
 
-/// What is told of a value that is converted over the caller's memory.
-fn converted(
-    alloc: Global,
+/// Writes what is told of a value that is converted over the caller's memory.
+fn push_converted(
+    text: &mut TextBuilder,
     row: &Value,
     types: &Types<'_>,
     caller: &mut Logged,
-) -> anyhow::Result<String>
+) -> anyhow::Result<()>
     requires { HasApartLabels «types».now }
 {
-    let mut text = TextBuilder::new(alloc);
     match field(row, "lower") {
-        None => push_lifted(&mut text, row, types, caller)?,
-        Some(json) => push_lowered(&mut text, json, row, types, caller)?,
+        None => push_lifted(text, row, types, caller),
+        Some(json) => push_lowered(text, json, row, types, caller),
     }
-    Ok(text.finish()?)
 }
 
-/// What is told of a row that lifts or lowers, and of the memories.
-pub fn conversion_told(alloc: Global, row: &Value, types: &Types<'_>) -> anyhow::Result<String>
+/// Writes what is told of a row that lifts or lowers, and of the memories.
+pub fn push_conversion(text: &mut TextBuilder, row: &Value, types: &Types<'_>) -> anyhow::Result<()>
     requires { HasApartLabels «types».now }
 {
-    let mut caller = guest(alloc, row, 0)?;
-    let callee = guest(alloc, row, 1)?;
-    let told = converted(alloc, row, types, &mut caller)?;
-    Ok(answer_told(alloc, told.as_str(), &caller, &callee)?)
+    let mut memories = memories_of(text.alloc(), row)?;
+    begin_answer(text);
+    push_converted(text, row, types, &mut memories.caller)?;
+    end_answer(text, &memories);
+    Ok(())
 }

@@ -7,7 +7,9 @@ ghost use Rattle.tables.specs.Closed.{closed_type};
 ghost use Rattle.values.specs.Types.{IsInside};
 
 use crate::functions::{parameter_of_row, push_fault};
-use crate::vector_sides::{Logged, answer_told, field, flats, guest, list, number};
+use crate::vector_sides::{
+    Logged, Memories, begin_answer, end_answer, field, flats, list, memories_of, number,
+};
 use canonical_abi::{Fault, Flat, Guest, Step, Trap, TrapKind};
 use layout::Shape;
 use lift_lower::{Head, Types, head_at, head_of, put_head};
@@ -171,9 +173,9 @@ fn head_asked(
     alloc: Global,
     row: &Value,
     types: &Types<'_>,
-    (source, target): (&Logged, &mut Logged),
+    memories: &mut Memories,
 ) -> anyhow::Result<Result<Head, Trap>> {
-    let (ty, head) = asked_head(alloc, row, types, source)?;
+    let (ty, head) = asked_head(alloc, row, types, &memories.caller)?;
     let head = match head {
         Ok(head) => head,
         Err(kind) => return Ok(Err(Trap {
@@ -183,7 +185,7 @@ fn head_asked(
     };
     if let Some(at) = field(row, "put_at") {
         let at = number(Some(at))?;
-        if let Err(kind) = put(types, ty, head, (target, at)) {
+        if let Err(kind) = put(types, ty, head, (&mut memories.callee, at)) {
             return Ok(Err(Trap {
                 kind,
                 step: Step::Place,
@@ -193,25 +195,24 @@ fn head_asked(
     Ok(Ok(head))
 }
 
-/// What is told of a head that was asked for.
-fn head_told(alloc: Global, asked: Result<Head, Trap>) -> Result<String, AllocError> {
-    let mut text = TextBuilder::new(alloc);
+/// Writes a head that was asked for, or why there is none.
+fn push_asked(text: &mut TextBuilder, asked: Result<Head, Trap>) {
     match asked {
         Ok(head) => {
             text.push("{\"head\":");
-            push_head(&mut text, head);
+            push_head(text, head);
             text.push("}");
         }
-        Err(trap) => push_fault(&mut text, Fault::Trap(trap)),
+        Err(trap) => push_fault(text, Fault::Trap(trap)),
     }
-    text.finish()
 }
 
-/// What is told of a row that asks for a head, and of the memories.
-pub fn head_row_told(alloc: Global, row: &Value, types: &Types<'_>) -> anyhow::Result<String> {
-    let caller = guest(alloc, row, 0)?;
-    let mut callee = guest(alloc, row, 1)?;
-    let asked = head_asked(alloc, row, types, (&caller, &mut callee))?;
-    let told = head_told(alloc, asked)?;
-    Ok(answer_told(alloc, told.as_str(), &caller, &callee)?)
+/// Writes what is told of a row that asks for a head, and of the memories.
+pub fn push_head_row(text: &mut TextBuilder, row: &Value, types: &Types<'_>) -> anyhow::Result<()> {
+    let mut memories = memories_of(text.alloc(), row)?;
+    let asked = head_asked(text.alloc(), row, types, &mut memories)?;
+    begin_answer(text);
+    push_asked(text, asked);
+    end_answer(text, &memories);
+    Ok(())
 }

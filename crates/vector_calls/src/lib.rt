@@ -1,7 +1,7 @@
 //! What a row's calls over a link did, and what its values became that are lifted from core values or lowered to them,
 //! as JSON.
 //!
-//! `Calls` makes the calls of a row, `conversion_told` converts a value of one, and `head_row_told` reads and writes a
+//! `Calls` makes the calls of a row, `push_conversion` converts a value of one, and `push_head_row` reads and writes a
 //! head. Packages are opened by `vectors`, which answers rows. docs/FORMATS.md has the form of rows. It stands on
 //! `adapter` and on `value_json`.
 #![tactic(auto)]
@@ -13,6 +13,6 @@ mod heads;
 pub mod vector_sides;
 
 pub use calls::Calls;
-pub use conversions::conversion_told;
+pub use conversions::push_conversion;
 pub use functions::{function, parameter, push_fault};
-pub use heads::head_row_told;
+pub use heads::push_head_row;

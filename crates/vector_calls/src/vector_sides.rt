@@ -8,6 +8,8 @@ mod telling;
 
 pub use acting::Acting;
 pub use logged::Logged;
-pub use row::{body, field, flats, guest, list, number, package_bytes, text};
-pub(crate) use telling::answer_told;
+pub use row::{
+    Memories, body, field, flats, guest, list, memories_of, number, package_bytes, text,
+};
+pub(crate) use telling::{begin_answer, end_answer};
 pub use telling::{push_all_given, push_digits, push_first_given, push_flats, push_memories};

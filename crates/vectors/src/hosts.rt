@@ -7,7 +7,6 @@ use crate::{Filling, Host, opened, push_asks};
 use canonical_abi::Guest;
 use package_values::Called;
 use serde_json::Value;
-use std::alloc::Global;
 use text_builder::TextBuilder;
 use vector_calls::function;
 use vector_calls::vector_sides::{guest, list, text};
@@ -130,7 +129,7 @@ fn push_steps(
 }
 
 /// Writes what is told of the steps of a row over a memory.
-fn push_row(
+fn push_host(
     told: &mut TextBuilder,
     called: &Called<'_>,
     row: &Value,
@@ -150,12 +149,8 @@ fn push_row(
 }
 
 /// Writes what is told of the steps of a row, of a package.
-fn push_package(
-    told: &mut TextBuilder,
-    alloc: Global,
-    row: &Value,
-    package: &Package,
-) -> anyhow::Result<()> {
+fn push_package(told: &mut TextBuilder, row: &Value, package: &Package) -> anyhow::Result<()> {
+    let alloc = told.alloc();
     let interface = text(row.get("iface"))?;
     let func = function(package.resolve(), interface, text(row.get("func"))?)?;
     let called = Called {
@@ -164,15 +159,14 @@ fn push_package(
         func,
     };
     let memory = guest(alloc, row, 1)?;
-    push_row(told, &called, row, memory.bytes())
+    push_host(told, &called, row, memory.bytes())
 }
 
-/// What is told of the steps of a row.
-pub fn told_of(alloc: Global, row: &Value) -> anyhow::Result<String> {
-    let package = opened(alloc, row)?;
-    let mut told = TextBuilder::new(alloc);
+/// Writes what is told of the steps of a row.
+pub fn push_row(told: &mut TextBuilder, row: &Value) -> anyhow::Result<()> {
+    let package = opened(told.alloc(), row)?;
     told.push("{\"answers\":[");
-    push_package(&mut told, alloc, row, &package)?;
+    push_package(told, row, &package)?;
     told.push("]}");
-    Ok(told.finish()?)
+    Ok(())
 }

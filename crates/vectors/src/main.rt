@@ -15,8 +15,9 @@ use rows_texts::answer_file;
 use serde_json::Value;
 use std::alloc::Global;
 use std::env;
+use text_builder::TextBuilder;
 use vector_calls::vector_sides::package_bytes;
-use vector_calls::{Calls, conversion_told, head_row_told};
+use vector_calls::{Calls, push_conversion, push_head_row};
 use witcall::laws::has_labels_apart;
 use witcall::{OpenError, Package, open};
 
@@ -26,61 +27,70 @@ pub(crate) fn opened(alloc: Global, row: &Value) -> anyhow::Result<Package> {
     Ok(open(alloc, bytes.as_slice())?)
 }
 
-/// What is told of calls of a package that is refused.
-fn refused_told(alloc: Global, calls: &Calls<'_>, error: &OpenError) -> anyhow::Result<String> {
-    let line = error.to_string(alloc)?;
-    Ok(calls.refused(alloc, line.as_str())?)
+/// Writes what is told of calls of a package that is refused.
+fn push_refused(text: &mut TextBuilder, calls: &Calls<'_>, error: &OpenError) {
+    let line = error.to_string(text.alloc());
+    let line = text.kept(line);
+    calls.push_refused(text, line.as_str());
 }
 
-/// What is told of calls of the package that these bytes are.
-fn made_told(alloc: Global, calls: &mut Calls<'_>, bytes: &[u8]) -> anyhow::Result<String> {
-    match open(alloc, bytes) {
-        Ok(package) => Ok(calls.told(alloc, &package.types())?),
-        Err(error) => refused_told(alloc, calls, &error),
+/// Writes what is told of calls of the package that these bytes are.
+fn push_made(text: &mut TextBuilder, calls: &mut Calls<'_>, bytes: &[u8]) {
+    match open(text.alloc(), bytes) {
+        Ok(package) => calls.push(text, &package.types()),
+        Err(error) => push_refused(text, calls, &error),
     }
 }
 
-/// What is told of the calls of a row.
-fn calls_told(alloc: Global, row: &Value) -> anyhow::Result<String> {
-    let mut calls = Calls::of(alloc, row)?;
-    let bytes = package_bytes(alloc, row)?;
-    made_told(alloc, &mut calls, bytes.as_slice())
+/// Writes what is told of the calls of a row.
+fn push_calls(text: &mut TextBuilder, row: &Value) -> anyhow::Result<()> {
+    let mut calls = Calls::of(text.alloc(), row)?;
+    let bytes = package_bytes(text.alloc(), row)?;
+    push_made(text, &mut calls, bytes.as_slice());
+    Ok(())
 }
 
-/// What is told of a value of a row that is lifted or lowered.
-fn value_told(alloc: Global, row: &Value) -> anyhow::Result<String> {
-    let package = opened(alloc, row)?;
+/// Writes what is told of a value of a row that is lifted or lowered.
+fn push_value(text: &mut TextBuilder, row: &Value) -> anyhow::Result<()> {
+    let package = opened(text.alloc(), row)?;
     has_labels_apart(&package);
-    conversion_told(alloc, row, &package.types())
+    push_conversion(text, row, &package.types())
 }
 
-/// What is told of a head that a row asks for.
-fn head_told(alloc: Global, row: &Value) -> anyhow::Result<String> {
-    let package = opened(alloc, row)?;
-    head_row_told(alloc, row, &package.types())
+/// Writes what is told of a head that a row asks for.
+fn push_head(text: &mut TextBuilder, row: &Value) -> anyhow::Result<()> {
+    let package = opened(text.alloc(), row)?;
+    push_head_row(text, row, &package.types())
 }
 
-/// What is told of a row.
-fn row_told(alloc: Global, row: &Value) -> anyhow::Result<String> {
+/// Writes what is told of a row.
+fn push_row(text: &mut TextBuilder, row: &Value) -> anyhow::Result<()> {
     if row.get("steps").is_some() {
-        return sessions::told_of(alloc, row);
+        return sessions::push_row(text, row);
     }
     if row.get("host").is_some() {
-        return hosts::told_of(alloc, row);
+        return hosts::push_row(text, row);
     }
     if row.get("lift").is_some() || row.get("lower").is_some() {
-        return value_told(alloc, row);
+        return push_value(text, row);
     }
     if row.get("head_at").is_some() || row.get("head_of").is_some() {
-        return head_told(alloc, row);
+        return push_head(text, row);
     }
-    calls_told(alloc, row)
+    push_calls(text, row)
+}
+
+/// Writes what is told of the row that a line is.
+fn push_line(text: &mut TextBuilder, line: &str) -> anyhow::Result<()> {
+    let row = Value::from_str(text.alloc(), line)?;
+    push_row(text, &row)
 }
 
 /// What is told of the row that a line is.
 fn told_of(alloc: Global, line: &str) -> anyhow::Result<String> {
-    let row = Value::from_str(alloc, line)?;
-    row_told(alloc, &row)
+    let mut text = TextBuilder::new(alloc);
+    push_line(&mut text, line)?;
+    Ok(text.finish()?)
 }
 
 /// The line that tells of a row, or of why it is none.

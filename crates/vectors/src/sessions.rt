@@ -13,7 +13,7 @@ use serde_json::Value;
 use std::alloc::Global;
 use tables::{FunctionId, ValType};
 use text_builder::TextBuilder;
-use vector_calls::vector_sides::{Logged, body, field, guest, list, number, push_memories, text};
+use vector_calls::vector_sides::{body, field, guest, list, number, push_memories, text};
 use vector_calls::{function, parameter, push_fault};
 use witcall::{Answer, Held, Package, Session, Step, from_json, takes_steps, to_json};
 
@@ -223,21 +223,6 @@ fn push_taken(
     push_answers(text, "then", package, steps, behind)
 }
 
-/// What the steps answered, and what both memories then hold.
-fn taken_told(
-    alloc: Global,
-    package: &Package,
-    steps: &[Step],
-    answers: &[Answer],
-    (caller, callee): (&Logged, &Logged),
-) -> anyhow::Result<String> {
-    let mut text = TextBuilder::new(alloc);
-    push_taken(&mut text, package, steps, answers)?;
-    push_memories(&mut text, caller, callee, true);
-    text.push("}");
-    Ok(text.finish()?)
-}
-
 /// A session over the memories and the body of a row.
 fn session_of<'a>(alloc: Global, row: &Value, package: &'a Package) -> anyhow::Result<Rows<'a>>
     ensures { IfOk result (λ s. s.package.now ≡ «package».now) }
@@ -263,19 +248,27 @@ fn run(
     Ok(answers)
 }
 
-/// What is told of steps that are taken, and of the memories.
-fn taken(alloc: Global, row: &Value, package: &Package, steps: &[Step]) -> anyhow::Result<String> {
+/// Writes what is told of steps that are taken, and of the memories.
+fn push_steps_taken(
+    text: &mut TextBuilder,
+    row: &Value,
+    package: &Package,
+    steps: &[Step],
+) -> anyhow::Result<()> {
     if !takes_steps(package, steps) {
         return Err(anyhow::anyhow!("no steps of the package"));
     }
+    let alloc = text.alloc();
     let mut session = session_of(alloc, row, package)?;
     let answers = if row.get("alone").is_some() {
         taken_alone(alloc, package, &mut session, steps)?
     } else {
         run(alloc, &mut session, steps, row.get("twice").is_some())?
     };
-    let memories = (session.caller(), session.callee());
-    taken_told(alloc, package, steps, answers.as_slice(), memories)
+    push_taken(text, package, steps, answers.as_slice())?;
+    push_memories(text, session.caller(), session.callee(), true);
+    text.push("}");
+    Ok(())
 }
 
 /// How often the steps of a row are taken.
@@ -286,9 +279,9 @@ fn times_of(row: &Value) -> anyhow::Result<u32> {
     }
 }
 
-/// What is told of the steps of a row.
-pub fn told_of(alloc: Global, row: &Value) -> anyhow::Result<String> {
-    let package = opened(alloc, row)?;
-    let steps = steps_of(alloc, row, &package, times_of(row)?)?;
-    taken(alloc, row, &package, steps.as_slice())
+/// Writes what is told of the steps of a row.
+pub fn push_row(text: &mut TextBuilder, row: &Value) -> anyhow::Result<()> {
+    let package = opened(text.alloc(), row)?;
+    let steps = steps_of(text.alloc(), row, &package, times_of(row)?)?;
+    push_steps_taken(text, row, &package, steps.as_slice())
 }

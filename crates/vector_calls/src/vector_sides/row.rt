@@ -167,6 +167,20 @@ pub fn guest(alloc: Global, row: &Value, side: usize) -> anyhow::Result<Logged> 
     Ok(Logged::new(space, script, Vec::new(alloc)))
 }
 
+/// The memories of both sides of a row.
+#[derive(Drop)]
+pub struct Memories {
+    pub caller: Logged,
+    pub callee: Logged,
+}
+
+/// The memories that a row says.
+pub fn memories_of(alloc: Global, row: &Value) -> anyhow::Result<Memories> {
+    let caller = guest(alloc, row, 0)?;
+    let callee = guest(alloc, row, 1)?;
+    Ok(Memories { caller, callee })
+}
+
 /// Alignments and sizes of blocks.
 fn asks(alloc: Global, values: &[Value]) -> anyhow::Result<Vec<(u32, u32)>> {
     let mut asks = Vec::new(alloc);

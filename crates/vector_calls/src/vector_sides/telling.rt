@@ -2,9 +2,9 @@
 
 use crate::vector_sides::acting::Acting;
 use crate::vector_sides::logged::{Logged, Request};
+use crate::vector_sides::row::Memories;
 use canonical_abi::{Flat, Guest};
 use lift_lower::Flats;
-use std::alloc::{AllocError, Global};
 use text_builder::TextBuilder;
 
 /// Writes a core value, `["i32", n]` or `["i64", n]`.
@@ -122,18 +122,16 @@ pub fn push_memories(text: &mut TextBuilder, caller: &Logged, callee: &Logged, a
     push_log(text, "callee_log", callee);
 }
 
-/// What is told of a row with one answer, and of the memories.
-pub(crate) fn answer_told(
-    alloc: Global,
-    told: &str,
-    caller: &Logged,
-    callee: &Logged,
-) -> Result<String, AllocError> {
-    let mut text = TextBuilder::new(alloc);
-    text.push_three("{\"answers\":[", told, "],");
-    push_memories(&mut text, caller, callee, true);
+/// Writes what comes before the one answer of a row.
+pub(crate) fn begin_answer(text: &mut TextBuilder) {
+    text.push("{\"answers\":[");
+}
+
+/// Writes what comes after it: the memories.
+pub(crate) fn end_answer(text: &mut TextBuilder, memories: &Memories) {
+    text.push("],");
+    push_memories(text, &memories.caller, &memories.callee, true);
     text.push("}");
-    text.finish()
 }
 
 /// Writes what the first run and the first post-return were given.
