@@ -89,23 +89,20 @@ fn of_quote(lexed: &Lexed<'_>) -> &'static str {
 
 /// What to do about a character that begins no token.
 fn of_character(text: &mut TextBuilder, lexed: &Lexed<'_>, span: Span) {
-    let word = lexed.at(span);
-    match word {
-        "[" => of_bracket(text, lexed, span),
-        "?" => of_question(text, lexed, span),
-        "*" => text.push(of_star(lexed)),
-        "|" => text.push(of_bar(lexed, span)),
-        "&" => text.push("WIT has no references: leave it out"),
-        "\"" | "'" => text.push(of_quote(lexed)),
-        "#" => text.push("a comment begins with `//`"),
-        "\u{feff}" => text.push("leave out this byte-order mark"),
-        _ => match word.chars().next() {
-            Some(character) if !character.is_ascii() => {
-                let hint = hint_of_character(text.alloc(), character);
-                text.push_made(hint);
-            }
-            _ => text.push("WIT has no such character here"),
-        },
+    match lexed.at(span).chars().next() {
+        Some('[') => of_bracket(text, lexed, span),
+        Some('?') => of_question(text, lexed, span),
+        Some('*') => text.push(of_star(lexed)),
+        Some('|') => text.push(of_bar(lexed, span)),
+        Some('&') => text.push("WIT has no references: leave it out"),
+        Some('"' | '\'') => text.push(of_quote(lexed)),
+        Some('#') => text.push("a comment begins with `//`"),
+        Some('\u{feff}') => text.push("leave out this byte-order mark"),
+        Some(character) if !character.is_ascii() => {
+            let hint = hint_of_character(text.alloc(), character);
+            text.push_made(hint);
+        }
+        _ => text.push("WIT has no such character here"),
     }
 }
 

@@ -216,25 +216,25 @@ fn of_package(text: &mut TextBuilder, spot: &Spot<'_>) {
 /// What to do after a name that no `:` comes after. No text if this alone is missing.
 fn of_colon(text: &mut TextBuilder, spot: &Spot<'_>) {
     let name = spot.word_before();
-    let keyword = keyword_at(spot.lexed, spot.before.saturating_sub(1));
-    match (spot.within, keyword, spot.mark()) {
-        (Within::File, _, _) => of_package(text, spot),
-        (Within::Interface | Within::World, _, Some(Punctuation::Slash))
-        | (Within::World, _, Some(Punctuation::Dot)) => {
+    let found = spot.mark();
+    let is_use = keyword_at(spot.lexed, spot.before.saturating_sub(1)) == Some(Keyword::Use);
+    match spot.within {
+        Within::File => of_package(text, spot),
+        Within::Interface | Within::World if found == Some(Punctuation::Slash) => {
             text.push("a path is written `namespace:name/interface`");
         }
-        (Within::Interface | Within::World, _, None) if spot.is_version() => {
+        Within::World if found == Some(Punctuation::Dot) => {
+            text.push("a path is written `namespace:name/interface`");
+        }
+        Within::Interface | Within::World if spot.is_version() => {
             of_version(text, spot, Punctuation::Colon);
         }
-        (_, Some(Keyword::Use), Some(Punctuation::OpenBrace)) => text.push("write `.` before it"),
-        (_, Some(Keyword::Use), _) => {
-            text.push_three("say which types are used: `use ", name, ".{name};`");
-        }
-        (Within::Record, _, _) => of_member(text, spot, "field"),
-        (Within::Parameters, _, _) => of_member(text, spot, "parameter"),
-        (Within::Interface, _, _) | (Within::World, _, Some(Punctuation::OpenParenthesis)) => {
-            of_item(text, spot);
-        }
+        _ if is_use && found == Some(Punctuation::OpenBrace) => text.push("write `.` before it"),
+        _ if is_use => text.push_three("say which types are used: `use ", name, ".{name};`"),
+        Within::Record => of_member(text, spot, "field"),
+        Within::Parameters => of_member(text, spot, "parameter"),
+        Within::Interface => of_item(text, spot),
+        Within::World if found == Some(Punctuation::OpenParenthesis) => of_item(text, spot),
         _ => {}
     }
 }
@@ -285,28 +285,31 @@ fn of_end(text: &mut TextBuilder, spot: &Spot<'_>, mark: Punctuation) {
 /// What the token tells that is found in place of a mark. No text if the mark alone is missing.
 fn of_found(text: &mut TextBuilder, spot: &Spot<'_>, mark: Punctuation) {
     let (word, before) = (spot.word(), spot.word_before());
-    match (mark, spot.mark()) {
-        (_, Some(Punctuation::Less)) => of_less(text, spot, mark),
-        (Punctuation::Colon, _) => of_colon(text, spot),
-        (Punctuation::Comma | Punctuation::Semicolon, _) => of_end(text, spot, mark),
-        (Punctuation::Greater, Some(Punctuation::Comma)) => of_too_many(text, spot),
-        (_, None) if spot.is_version() => of_version(text, spot, mark),
-        (Punctuation::OpenParenthesis, Some(found))
-            if found != Punctuation::CloseParenthesis && before == "func" => {
+    let found = spot.mark();
+    match mark {
+        _ if found == Some(Punctuation::Less) => of_less(text, spot, mark),
+        Punctuation::Colon => of_colon(text, spot),
+        Punctuation::Comma | Punctuation::Semicolon => of_end(text, spot, mark),
+        Punctuation::Greater if found == Some(Punctuation::Comma) => of_too_many(text, spot),
+        _ if spot.is_version() => of_version(text, spot, mark),
+        Punctuation::OpenParenthesis
+            if before == "func" && !matches!(found, None | Some(Punctuation::CloseParenthesis)) => {
             text.push("write `func()`: a function has parentheses also without parameters");
         }
-        (Punctuation::Less, found)
-            if found != Some(Punctuation::OpenParenthesis) && before != "result" => {
+        Punctuation::Less if found != Some(Punctuation::OpenParenthesis) && before != "result" => {
             text.push(of_bare(before));
         }
-        (Punctuation::Slash, Some(Punctuation::OpenParenthesis)) => {
+        Punctuation::Slash if found == Some(Punctuation::OpenParenthesis) => {
             text.push_three("write `func` instead of `", before, "`");
         }
-        (Punctuation::OpenBrace, None) if before == "." => {
+        Punctuation::OpenBrace if found.is_none() && before == "." => {
             text.push_three("used names are in braces: write `{", word, "}`");
         }
-        (_, Some(found)) => text.push(for_other(spot.within, mark, found)),
-        _ => {}
+        _ => {
+            if let Some(found) = found {
+                text.push(for_other(spot.within, mark, found));
+            }
+        }
     }
 }
 

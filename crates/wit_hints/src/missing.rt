@@ -87,34 +87,37 @@ fn is_item_at(spot: &Spot<'_>, index: usize) -> bool {
 /// What to do about a keyword in place of a name: by default it can be escaped.
 fn of_keyword(text: &mut TextBuilder, spot: &Spot<'_>, keyword: Keyword) {
     let next = spot.index.saturating_add(1);
-    let is_named = mark_at(spot.lexed, next) == Some(Punctuation::Colon);
+    let is_alone = mark_at(spot.lexed, next) != Some(Punctuation::Colon);
     let word = spot.word();
-    match (keyword, spot.within, is_named) {
-        (Keyword::Static | Keyword::Async | Keyword::Import | Keyword::Export, Within::Interface, _)
-            if is_item_at(spot, next) => {
+    match spot.within {
+        Within::Interface
+            if matches!(
+                keyword,
+                Keyword::Static | Keyword::Async | Keyword::Import | Keyword::Export
+            ) && is_item_at(spot, next) => {
             text.push_three("leave out `", word, "`");
         }
-        (Keyword::Func, Within::Interface | Within::World, false) => {
+        Within::Interface | Within::World if is_alone && keyword == Keyword::Func => {
             text.push("a function is written `name: func(..)`");
         }
-        (Keyword::Import | Keyword::Export, Within::Interface, false) => {
+        Within::Interface if is_alone && matches!(keyword, Keyword::Import | Keyword::Export) => {
             text.push_three("`", word, "` is for worlds: in an interface, write `use`");
         }
-        (Keyword::Interface | Keyword::World, Within::Interface, false) => {
+        Within::Interface if is_alone && matches!(keyword, Keyword::Interface | Keyword::World) => {
             let open = opener(spot.lexed, spot.index).unwrap_or(0);
             let name = word_at(spot.lexed, open.saturating_sub(1));
             text.push_three("close `", name, "` with `}` before it: no ");
             text.push(word);
             text.push(" is in an interface");
         }
-        (Keyword::Interface, Within::World, _) => {
+        Within::World if keyword == Keyword::Interface => {
             text.push("leave it out: write the name of the interface alone");
         }
-        (_, Within::Parameters | Within::Record, false) if is_type(keyword) => {
+        Within::Parameters | Within::Record if is_alone && is_type(keyword) => {
             text.push(thing(spot.within));
             text.push_three(" is `name: type`: write a name and `:` before `", word, "`");
         }
-        (_, Within::Interface, false) if is_type(keyword) => {
+        Within::Interface if is_alone && is_type(keyword) => {
             text.push_three("a function is written `name: func(..) -> ", word, "`");
         }
         _ => {
@@ -159,30 +162,28 @@ fn of_number(text: &mut TextBuilder, spot: &Spot<'_>) {
 
 /// What to do if a name has to come, and a mark or nothing does.
 fn of_no_name(text: &mut TextBuilder, spot: &Spot<'_>) {
-    let (before, word) = (spot.word_before(), spot.word());
-    let thing = thing(spot.within);
-    match (mark_at(spot.lexed, spot.before), spot.mark()) {
-        (Some(Punctuation::Colon), Some(Punctuation::Colon)) => of_colons(text, spot),
-        (None, Some(Punctuation::OpenBrace)) if before == "use" => {
+    let (before, found) = (spot.word_before(), spot.mark());
+    match mark_at(spot.lexed, spot.before) {
+        Some(Punctuation::Colon) if found == Some(Punctuation::Colon) => of_colons(text, spot),
+        None if before == "use" && found == Some(Punctuation::OpenBrace) => {
             text.push("a use is written `use interface.{name};`");
         }
-        (None | Some(Punctuation::Colon | Punctuation::Slash), _) => {
+        None | Some(Punctuation::Colon | Punctuation::Slash) => {
             text.push_three("a name is missing after `", before, "`");
         }
-        (Some(Punctuation::Comma), Some(Punctuation::CloseParenthesis)) => {
+        Some(Punctuation::Comma) if found == Some(Punctuation::CloseParenthesis) => {
             text.push("leave out the `,` before it");
         }
-        (_, Some(Punctuation::CloseBrace)) => {
-            text.push(thing);
-            text.push(" has to come here: there is at least one");
-        }
-        (_, Some(Punctuation::Semicolon | Punctuation::Comma)) => {
-            text.push(thing);
-            text.push_three(" has to come here: leave out the `", word, "`");
-        }
         _ => {
-            text.push(thing);
+            text.push(thing(spot.within));
             text.push(" has to come here");
+            match found {
+                Some(Punctuation::CloseBrace) => text.push(": there is at least one"),
+                Some(Punctuation::Semicolon | Punctuation::Comma) => {
+                    text.push_three(": leave out the `", spot.word(), "`");
+                }
+                _ => {}
+            }
         }
     }
 }
