@@ -1,18 +1,26 @@
 //! Component type binaries: at once and by a reader that gives a byte at a time, may fail, or never ends.
 
 use ctype_bin::{BinError, Fault, RawComponent, decode, decode_from, encode};
-use row_inputs::{Drip, Tally, Zeros, decoded_number, first_word};
+use row_inputs::{Drip, Tally, Zeros, decoded_number, numbered};
 use std::alloc::Global;
+use text_builder::TextBuilder;
 
 /// What decoding by a reader answers that gives a byte at a time, and fails after so many.
 fn dripped(alloc: Global, bytes: &[u8], fails_at: usize) -> Result<RawComponent, BinError> {
     decode_from(alloc, &mut Drip::new(bytes, fails_at))
 }
 
-/// How many types and exports a component has.
-fn told(alloc: Global, component: &RawComponent) -> anyhow::Result<String> {
-    let (types, exports) = (component.types().len(), component.exports().len());
-    Ok(format!(in alloc; "types {types} exports {exports}")?)
+/// Writes how many types and exports a component has, or why there is none.
+fn push_told(text: &mut TextBuilder, answer: Result<RawComponent, BinError>) {
+    match answer {
+        Ok(component) => {
+            text.push("types ");
+            text.push_number(component.types().len());
+            text.push(" exports ");
+            text.push_number(component.exports().len());
+        }
+        Err(error) => text.push_made(error.to_string(text.alloc())),
+    }
 }
 
 /// The shortest bytes of a component.
@@ -48,16 +56,6 @@ fn are_alike(
     })
 }
 
-/// What is told of a component.
-fn decoded(alloc: Global, bytes: &[u8]) -> anyhow::Result<String> {
-    told(alloc, &decode(alloc, bytes)?)
-}
-
-/// What is told of a component that is read byte by byte, which has to be the one that is read at once.
-fn drip(alloc: Global, bytes: &[u8]) -> anyhow::Result<String> {
-    told(alloc, &read_twice(alloc, bytes)??)
-}
-
 /// What decoding answers, which a reader's answer has to be too.
 fn read_twice(alloc: Global, bytes: &[u8]) -> anyhow::Result<Result<RawComponent, BinError>> {
     let fast = decode(alloc, bytes);
@@ -76,17 +74,27 @@ fn test_kept(alloc: Global, component: &RawComponent) -> anyhow::Result<()> {
     Ok(())
 }
 
-/// The number of the error that bytes are refused with, or 0 for a component. Fails where the error is not within them,
-/// unless it is at the end of a section that is too long for them.
+/// Fails if a component is not written as itself, or if an error is not within so many bytes, unless it is at the end
+/// of a section that is too long for them.
+fn test_answer(
+    alloc: Global,
+    answer: &Result<RawComponent, BinError>,
+    length: usize,
+) -> anyhow::Result<()> {
+    match answer {
+        Ok(component) => test_kept(alloc, component),
+        Err(BinError::At(fault, place)) if *place <= length || *fault == Fault::SizeMismatch => {
+            Ok(())
+        }
+        Err(error) => Err(anyhow::anyhow!("{error}")),
+    }
+}
+
+/// The number of the error that bytes are refused with, or 0 for a component.
 fn kept_number(alloc: Global, bytes: &[u8]) -> anyhow::Result<u32> {
     let answer = read_twice(alloc, bytes)?;
-    match &answer {
-        Ok(component) => test_kept(alloc, component)?,
-        Err(BinError::At(fault, place)) if *place <= bytes.len() || *fault == Fault::SizeMismatch =>
-            {}
-        Err(error) => return Err(anyhow::anyhow!("{error}")),
-    }
-    Ok(decoded_number(&answer))
+    test_answer(alloc, &answer, bytes.len())?;
+    Ok(decoded_number(answer))
 }
 
 /// Counts what the 256 values of a byte answer.
@@ -101,90 +109,93 @@ fn take_values(alloc: Global, bytes: &[u8], place: usize, tally: &mut Tally) -> 
     Ok(())
 }
 
-/// How often each answer comes of the bytes that differ in one of so many first ones.
-fn changed(alloc: Global, bytes: &[u8], count: usize) -> anyhow::Result<String> {
+/// Writes how often each answer comes of the bytes that differ in one of so many first ones.
+fn push_changed(text: &mut TextBuilder, bytes: &[u8], count: usize) -> anyhow::Result<()> {
     let count = count.min(bytes.len());
     let mut tally = Tally::new();
     for place in 0..count {
-        take_values(alloc, bytes, place, &mut tally)?;
+        take_values(text.alloc(), bytes, place, &mut tally)?;
     }
-    let (changed, counts) = (count.saturating_mul(256), tally.told(alloc, "components")?);
-    Ok(format!(in alloc; "{changed} changed: {counts}")?)
+    text.push_number(count.saturating_mul(256));
+    text.push(" changed: ");
+    tally.push_to(text, "components");
+    Ok(())
 }
 
 /// Counts what a front answers, and tells whether it is told as cut at its end.
 fn is_cut(alloc: Global, front: &[u8], tally: &mut Tally) -> anyhow::Result<bool> {
     let answer = read_twice(alloc, front)?;
-    tally.take(decoded_number(&answer));
-    Ok(matches!(answer, Err(BinError::At(Fault::Truncated, place)) if place == front.len()))
+    let is_cut =
+        matches!(&answer, Err(BinError::At(Fault::Truncated, place)) if *place == front.len());
+    tally.take(decoded_number(answer));
+    Ok(is_cut)
 }
 
-/// How many fronts are told as cut at their end, and how often each answer comes of them.
-fn cuts(alloc: Global, bytes: &[u8]) -> anyhow::Result<String> {
+/// Writes how many fronts are told as cut at their end, and how often each answer comes of them.
+fn push_cuts(text: &mut TextBuilder, bytes: &[u8]) -> anyhow::Result<()> {
     let mut tally = Tally::new();
     let mut cut: usize = 0;
     for length in 0..bytes.len() {
-        if is_cut(alloc, bytes.get(..length).unwrap_or(&[]), &mut tally)? {
+        if is_cut(text.alloc(), bytes.get(..length).unwrap_or(&[]), &mut tally)? {
             cut = cut.saturating_add(1);
         }
     }
-    let (count, counts) = (bytes.len(), tally.told(alloc, "components")?);
-    Ok(format!(in alloc; "{count} fronts, {cut} told as cut: {counts}")?)
+    text.push_number(bytes.len());
+    text.push(" fronts, ");
+    text.push_number(cut);
+    text.push(" told as cut: ");
+    tally.push_to(text, "components");
+    Ok(())
 }
 
-/// The number that begins words, and the digits behind it.
-fn numbered(words: &str) -> anyhow::Result<(usize, &str)> {
-    let (number, digits) = first_word(words)?;
-    Ok((number.parse::<usize>()?, digits))
-}
-
-/// What a reader that fails after so many bytes is told as.
-fn failing(alloc: Global, words: &str) -> anyhow::Result<String> {
+/// Writes what a reader that fails after so many bytes is told as.
+fn push_failing(text: &mut TextBuilder, words: &str) -> anyhow::Result<()> {
     let (place, digits) = numbered(words)?;
-    let bytes = hex::decode(alloc, digits)?;
-    told(alloc, &dripped(alloc, bytes.as_slice(), place)?)
+    let bytes = hex::decode(text.alloc(), digits)?;
+    push_told(text, dripped(text.alloc(), bytes.as_slice(), place));
+    Ok(())
 }
 
-fn changes(alloc: Global, words: &str) -> anyhow::Result<String> {
+fn push_changes(text: &mut TextBuilder, words: &str) -> anyhow::Result<()> {
     let (count, digits) = numbered(words)?;
-    let bytes = hex::decode(alloc, digits)?;
-    changed(alloc, bytes.as_slice(), count)
+    let bytes = hex::decode(text.alloc(), digits)?;
+    push_changed(text, bytes.as_slice(), count)
 }
 
-/// The bytes that a component is written as, behind two that are there.
-fn encoded_told(alloc: Global, bytes: &[u8]) -> anyhow::Result<String> {
-    let written = encoded(alloc, bytes, &[0xaa, 0xbb])?;
-    Ok(hex::encode(alloc, written.as_slice())?)
+/// Writes the bytes that a component is written as, behind two that are there.
+fn push_encoded(text: &mut TextBuilder, bytes: &[u8]) -> anyhow::Result<()> {
+    let written = encoded(text.alloc(), bytes, &[0xaa, 0xbb])?;
+    text.push_made(hex::encode(text.alloc(), written.as_slice()));
+    Ok(())
 }
 
-/// What zeros that never end are told as.
-fn endless(alloc: Global) -> anyhow::Result<String> {
-    told(alloc, &decode_from(alloc, &mut Zeros)?)
-}
-
-/// What a command about bytes is answered.
-fn done_with(alloc: Global, word: &str, bytes: &[u8]) -> anyhow::Result<String> {
+/// Writes what a command about bytes is answered.
+fn push_done(text: &mut TextBuilder, word: &str, bytes: &[u8]) -> anyhow::Result<()> {
     match word {
-        "decode" => decoded(alloc, bytes),
-        "drip" => drip(alloc, bytes),
-        "encode" => encoded_told(alloc, bytes),
-        "component-cuts" => cuts(alloc, bytes),
-        _ => Err(anyhow::anyhow!("no such command: {word}")),
+        "decode" => push_told(text, decode(text.alloc(), bytes)),
+        "drip" => push_told(text, read_twice(text.alloc(), bytes)?),
+        "encode" => return push_encoded(text, bytes),
+        "component-cuts" => return push_cuts(text, bytes),
+        _ => return Err(anyhow::anyhow!("no such command: {word}")),
     }
+    Ok(())
 }
 
-/// What a command about the bytes of these digits is answered.
-fn done_of_digits(alloc: Global, word: &str, digits: &str) -> anyhow::Result<String> {
-    let bytes = hex::decode(alloc, digits)?;
-    done_with(alloc, word, bytes.as_slice())
+/// Writes what a command about the bytes of these digits is answered.
+fn push_done_of(text: &mut TextBuilder, word: &str, digits: &str) -> anyhow::Result<()> {
+    let bytes = hex::decode(text.alloc(), digits)?;
+    push_done(text, word, bytes.as_slice())
 }
 
-/// What a command is answered.
-pub fn done(alloc: Global, word: &str, rest: &str) -> anyhow::Result<String> {
+/// Writes what a command is answered.
+pub fn push_answer(text: &mut TextBuilder, word: &str, rest: &str) -> anyhow::Result<()> {
     match word {
-        "failing" => failing(alloc, rest),
-        "component-changes" => changes(alloc, rest),
-        "endless" => endless(alloc),
-        _ => done_of_digits(alloc, word, rest),
+        "failing" => push_failing(text, rest),
+        "component-changes" => push_changes(text, rest),
+        "endless" => {
+            push_told(text, decode_from(text.alloc(), &mut Zeros));
+            Ok(())
+        }
+        _ => push_done_of(text, word, rest),
     }
 }

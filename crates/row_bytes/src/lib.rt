@@ -1,5 +1,5 @@
 //! Rows of what knows no package: numbers and names of both formats, tokens and trees of texts, components, command
-//! lines, and memories. `done` answers one. docs/FORMATS.md has the language of rows.
+//! lines, and memories. `push_answer` answers one. docs/FORMATS.md has the language of rows.
 #![tactic(auto)]
 
 mod binaries;
@@ -7,4 +7,4 @@ mod memories;
 mod reading;
 mod trees;
 
-pub use reading::done;
+pub use reading::push_answer;

@@ -2,44 +2,8 @@
 
 use memory::{Block, Bump, FirstFit, Full, Guest, Lent, MemoryError, Scripted, Space, can_lend};
 use row_inputs::parted;
-use std::alloc::{AllocError, Global};
-use std::fmt;
-
-/// What is asked of a memory.
-#[derive(Clone, Copy)]
-enum Request {
-    /// A block of an alignment and a size.
-    Alloc(u32, u32),
-    /// The block at an address, of a size, back.
-    Free(u32, u32),
-    Length,
-    /// Whether each byte is 0.
-    IsZeros,
-}
-
-#[derive(Clone, Copy)]
-enum Answer {
-    /// An address or a length.
-    Number(u32),
-    Full,
-    Taken,
-    NotTaken,
-    Zeros,
-    NotZeros,
-}
-
-impl fmt::Display for Answer {
-    fn fmt<W: fmt::Write>(&self, f: &mut fmt::Formatter<W>) -> fmt::Result {
-        match self {
-            Answer::Number(number) => write!(f, "{number}"),
-            Answer::Full => f.write_str("full"),
-            Answer::Taken => f.write_str("taken"),
-            Answer::NotTaken => f.write_str("not taken"),
-            Answer::Zeros => f.write_str("zeros"),
-            Answer::NotZeros => f.write_str("not zeros"),
-        }
-    }
-}
+use std::alloc::Global;
+use text_builder::TextBuilder;
 
 pub fn number(word: &str) -> Option<u32> {
     word.parse().ok()
@@ -53,76 +17,81 @@ pub fn pair(words: &str) -> Option<(u32, u32)> {
     }
 }
 
-fn request_of_pair(word: &str, first: u32, second: u32) -> Option<Request> {
-    match word {
-        "alloc" => Some(Request::Alloc(first, second)),
-        "free" => Some(Request::Free(first, second)),
-        _ => None,
-    }
-}
-
-/// The request that words spell.
-fn request_of(words: &str) -> Option<Request> {
-    match words.split_once(' ') {
-        Some((word, rest)) => {
-            let (first, second) = pair(rest)?;
-            request_of_pair(word, first, second)
-        }
-        None if words == "length" => Some(Request::Length),
-        None if words == "zeros" => Some(Request::IsZeros),
-        None => None,
-    }
-}
-
-fn granted<G: Guest>(memory: &mut G, align: u32, size: u32) -> Option<Answer> {
+/// Writes the address of the block of an alignment and a size that a memory grants, or that it is full.
+fn push_granted<G: Guest>(
+    text: &mut TextBuilder,
+    memory: &mut G,
+    words: &str,
+    (align, size): (u32, u32),
+) -> anyhow::Result<()> {
     if !matches!(align, 1 | 2 | 4 | 8) {
-        return None;
+        return Err(anyhow::anyhow!("no alignment: {words}"));
     }
     match memory.alloc(align, size) {
-        Ok(at) => Some(Answer::Number(at)),
-        Err(_) => Some(Answer::Full),
+        Ok(at) => text.push_number(at as usize),
+        Err(_) => text.push("full"),
     }
+    Ok(())
 }
 
-fn taken<G: Guest>(memory: &mut G, at: u32, size: u32) -> Answer {
+/// The word for whether a memory takes the block at an address, of a size, back.
+fn taken<G: Guest>(memory: &mut G, at: u32, size: u32) -> &'static str {
     match memory.free(at, size) {
-        Ok(()) => Answer::Taken,
-        Err(_) => Answer::NotTaken,
+        Ok(()) => "taken",
+        Err(_) => "not taken",
     }
 }
 
-fn is_zeros(bytes: &[u8]) -> bool {
-    bytes.iter().all(|byte| *byte == 0)
+/// The word for whether each byte is 0.
+fn zeros(bytes: &[u8]) -> &'static str {
+    if bytes.iter().all(|byte| *byte == 0) {
+        "zeros"
+    } else {
+        "not zeros"
+    }
 }
-
-/// What a memory answers; nothing to what no memory may be asked.
-fn answered<G: Guest>(memory: &mut G, request: Request) -> Option<Answer> {
-    match request {
-        Request::Alloc(align, size) => granted(memory, align, size),
-        Request::Free(at, size) => Some(taken(memory, at, size)),
-        Request::Length => Some(Answer::Number(memory.len())),
-        Request::IsZeros if is_zeros(memory.bytes()) => Some(Answer::Zeros),
-        Request::IsZeros => Some(Answer::NotZeros),
+/// Writes what a memory answers to what is asked about a block.
+fn push_of_block<G: Guest>(
+    text: &mut TextBuilder,
+    memory: &mut G,
+    words: &str,
+) -> anyhow::Result<()> {
+    let (word, rest) = words.split_once(' ').unwrap_or((words, ""));
+    match (word, pair(rest)) {
+        ("alloc", Some(block)) => push_granted(text, memory, words, block),
+        ("free", Some((at, size))) => {
+            text.push(taken(memory, at, size));
+            Ok(())
+        }
+        _ => Err(anyhow::anyhow!("no request: {words}")),
     }
 }
 
-fn answer_to<G: Guest>(alloc: Global, memory: &mut G, words: &str) -> anyhow::Result<String> {
-    let Some(request) = request_of(words) else {
-        return Err(anyhow::anyhow!("no request: {words}"));
-    };
-    match answered(memory, request) {
-        Some(answer) => Ok(answer.to_string(alloc)?),
-        None => Err(anyhow::anyhow!("no alignment: {words}")),
+/// Writes what a memory answers to a request.
+fn push_answer<G: Guest>(
+    text: &mut TextBuilder,
+    memory: &mut G,
+    words: &str,
+) -> anyhow::Result<()> {
+    match words {
+        "length" => text.push_number(memory.len() as usize),
+        "zeros" => text.push(zeros(memory.bytes())),
+        _ => return push_of_block(text, memory, words),
     }
+    Ok(())
 }
 
-/// What a memory answers to requests in turn.
-fn answers<G: Guest>(alloc: Global, memory: &mut G, requests: &str) -> anyhow::Result<String> {
-    let mut answers = Vec::new(alloc);
-    for words in requests.split(", ") {
-        answers.push(answer_to(alloc, memory, words)?)?;
+/// Writes what a memory answers to requests in turn.
+fn push_answers<G: Guest>(
+    text: &mut TextBuilder,
+    memory: &mut G,
+    requests: &str,
+) -> anyhow::Result<()> {
+    for (index, words) in requests.split(", ").enumerate() {
+        text.separate(index, ", ");
+        push_answer(text, memory, words)?;
     }
-    Ok(answers.as_slice().join(alloc, ", ")?)
+    Ok(())
 }
 
 /// The kind of a memory.
@@ -155,11 +124,11 @@ fn space(alloc: Global, kind: Kind, lengths: &str) -> anyhow::Result<Space> {
     }
 }
 
-/// What a memory of a kind answers to requests.
-pub fn asked(alloc: Global, kind: Kind, line: &str) -> anyhow::Result<String> {
+/// Writes what a memory of a kind answers to requests.
+pub fn push_asked(text: &mut TextBuilder, kind: Kind, line: &str) -> anyhow::Result<()> {
     let (lengths, requests) = parted(line, "; ")?;
-    let mut memory = space(alloc, kind, lengths)?;
-    answers(alloc, &mut memory, requests)
+    let mut memory = space(text.alloc(), kind, lengths)?;
+    push_answers(text, &mut memory, requests)
 }
 
 /// The block of an alignment, a size and an address.
@@ -171,26 +140,39 @@ fn block(words: &str) -> Option<Block> {
     }
 }
 
-fn blocks(alloc: Global, words: &str) -> anyhow::Result<Vec<Block>> {
-    let mut blocks = Vec::new(alloc);
+fn push_blocks(text: &mut TextBuilder, blocks: &mut Vec<Block>, words: &str) -> anyhow::Result<()> {
     for words in words.split(", ") {
         match block(words) {
-            Some(block) => blocks.push(block)?,
+            Some(block) => text.add(blocks, block),
             None => return Err(anyhow::anyhow!("no block: {words}")),
         }
     }
+    Ok(())
+}
+
+/// The blocks that words say. A text notes whether an allocation was refused.
+fn blocks(text: &mut TextBuilder, words: &str) -> anyhow::Result<Vec<Block>> {
+    let mut blocks = Vec::new(text.alloc());
+    push_blocks(text, &mut blocks, words)?;
     Ok(blocks)
 }
 
-/// Whether blocks of a memory of a length can be lent, beside the place that stands before them.
-pub fn lendable(alloc: Global, line: &str) -> anyhow::Result<String> {
+/// Writes whether the blocks behind the first can be lent beside it.
+fn push_can_lend(text: &mut TextBuilder, length: usize, blocks: &[Block]) -> anyhow::Result<()> {
+    let [place, blocks @ ..] = blocks else {
+        return Err(anyhow::anyhow!("no place"));
+    };
+    let can_lend = can_lend(text.alloc(), length, place, blocks)?;
+    text.push(if can_lend { "true" } else { "false" });
+    Ok(())
+}
+
+/// Writes whether blocks of a memory of a length can be lent, beside the place that stands before them.
+pub fn push_lendable(text: &mut TextBuilder, line: &str) -> anyhow::Result<()> {
     let (length, rest) = parted(line, ", ")?;
     let length = length.parse::<usize>()?;
-    let blocks = blocks(alloc, rest)?;
-    match blocks.as_slice() {
-        [place, blocks @ ..] => Ok(can_lend(alloc, length, place, blocks)?.to_string(alloc)?),
-        [] => Err(anyhow::anyhow!("no place: {line}")),
-    }
+    let blocks = blocks(text, rest)?;
+    push_can_lend(text, length, blocks.as_slice())
 }
 
 /// A place that no block meets.
@@ -200,42 +182,42 @@ const NOWHERE: Block = Block {
     at: 0,
 };
 
-/// What an array with blocks that are lent answers to requests.
-fn lent_answers(
-    alloc: Global,
+/// Writes what an array with blocks that are lent answers to requests.
+fn push_lent_answers(
+    text: &mut TextBuilder,
     bytes: &mut [u8],
     blocks: &[Block],
     requests: &str,
-) -> anyhow::Result<String> {
-    if !can_lend(alloc, bytes.len(), &NOWHERE, blocks)? {
+) -> anyhow::Result<()> {
+    if !can_lend(text.alloc(), bytes.len(), &NOWHERE, blocks)? {
         return Err(anyhow::anyhow!("blocks that can't be lent"));
     }
-    answers(alloc, &mut Lent::new(bytes, blocks), requests)
+    push_answers(text, &mut Lent::new(bytes, blocks), requests)
 }
 
-/// What an array of so many bytes, with blocks that are lent, answers to requests.
-pub fn lent(alloc: Global, line: &str) -> anyhow::Result<String> {
+/// Writes what an array of so many bytes, with blocks that are lent, answers to requests.
+pub fn push_lent(text: &mut TextBuilder, line: &str) -> anyhow::Result<()> {
     let (memory, requests) = parted(line, "; ")?;
     let (length, rest) = parted(memory, ", ")?;
-    let mut bytes = vec![in alloc; 0; length.parse::<usize>()?]?;
-    let blocks = blocks(alloc, rest)?;
-    lent_answers(alloc, bytes.as_mut_slice(), blocks.as_slice(), requests)
+    let mut bytes = vec![in text.alloc(); 0; length.parse::<usize>()?]?;
+    let blocks = blocks(text, rest)?;
+    push_lent_answers(text, bytes.as_mut_slice(), blocks.as_slice(), requests)
 }
 
 /// The answers of an allocator: addresses, and `full` for a refusal.
-fn script(alloc: Global, words: &str) -> anyhow::Result<Vec<Result<u32, Full>>> {
-    let mut script = Vec::new(alloc);
+fn script(text: &mut TextBuilder, words: &str) -> Vec<Result<u32, Full>> {
+    let mut script = Vec::new(text.alloc());
     for word in words.split(' ') {
-        script.push(number(word).ok_or(Full))?;
+        text.add(&mut script, number(word).ok_or(Full));
     }
-    Ok(script)
+    script
 }
 
-/// What a memory of zeros, whose allocator gives these answers in turn, answers to requests.
-pub fn scripted(alloc: Global, line: &str) -> anyhow::Result<String> {
+/// Writes what a memory of zeros, whose allocator gives these answers in turn, answers to requests.
+pub fn push_scripted(text: &mut TextBuilder, line: &str) -> anyhow::Result<()> {
     let (memory, requests) = parted(line, "; ")?;
     let (length, words) = parted(memory, ", ")?;
-    let script = script(alloc, words)?;
-    let mut memory = Scripted::new(alloc, length.parse::<u32>()?, script)?;
-    answers(alloc, &mut memory, requests)
+    let script = script(text, words);
+    let mut memory = Scripted::new(text.alloc(), length.parse::<u32>()?, script)?;
+    push_answers(text, &mut memory, requests)
 }

@@ -3,12 +3,13 @@
 use crate::memories::{number, pair};
 use max_tree::MaxTree;
 use row_inputs::parted;
-use std::alloc::Global;
+use text_builder::TextBuilder;
 
-fn found(alloc: Global, place: Option<usize>) -> anyhow::Result<String> {
-    match place {
-        Some(place) => Ok(place.to_string(alloc)?),
-        None => Ok(String::from_str(alloc, "none")?),
+/// Writes a number, or that there is none.
+fn push_found(text: &mut TextBuilder, number: Option<usize>) {
+    match number {
+        Some(number) => text.push_number(number),
+        None => text.push("none"),
     }
 }
 
@@ -39,33 +40,34 @@ fn number_at(tree: &MaxTree, place: usize) -> Option<usize> {
     Some(tree.number(place) as usize)
 }
 
-fn answer(alloc: Global, tree: &mut MaxTree, request: &str) -> anyhow::Result<String> {
+fn push_answer(text: &mut TextBuilder, tree: &mut MaxTree, request: &str) -> anyhow::Result<()> {
     let (word, rest) = request.split_once(' ').unwrap_or((request, ""));
     match (word, number(rest)) {
-        ("count", None) => found(alloc, Some(tree.len())),
-        ("first", Some(size)) => found(alloc, tree.first(size)),
-        ("last-before", Some(place)) => found(alloc, last_before(tree, place as usize)),
-        ("number", Some(place)) => found(alloc, number_at(tree, place as usize)),
-        ("put", None) if is_put(tree, rest) => Ok(String::from_str(alloc, "put")?),
-        _ => Err(anyhow::anyhow!("no request: {request}")),
+        ("count", None) => text.push_number(tree.len()),
+        ("first", Some(size)) => push_found(text, tree.first(size)),
+        ("last-before", Some(place)) => push_found(text, last_before(tree, place as usize)),
+        ("number", Some(place)) => push_found(text, number_at(tree, place as usize)),
+        ("put", None) if is_put(tree, rest) => text.push("put"),
+        _ => return Err(anyhow::anyhow!("no request: {request}")),
     }
+    Ok(())
 }
 
-fn answers(alloc: Global, tree: &mut MaxTree, requests: &str) -> anyhow::Result<String> {
-    let mut answers = Vec::new(alloc);
-    for request in requests.split(", ") {
-        answers.push(answer(alloc, tree, request)?)?;
+fn push_answers(text: &mut TextBuilder, tree: &mut MaxTree, requests: &str) -> anyhow::Result<()> {
+    for (index, request) in requests.split(", ").enumerate() {
+        text.separate(index, ", ");
+        push_answer(text, tree, request)?;
     }
-    Ok(answers.as_slice().join(alloc, ", ")?)
+    Ok(())
 }
 
-/// What a row of zeros, as many as so many doublings of one make, answers to requests.
-pub fn asked(alloc: Global, line: &str) -> anyhow::Result<String> {
+/// Writes what a row of zeros, as many as so many doublings of one make, answers to requests.
+pub fn push_asked(text: &mut TextBuilder, line: &str) -> anyhow::Result<()> {
     let (depth, requests) = parted(line, "; ")?;
     match number(depth) {
         Some(depth) if depth <= 20 => {
-            let mut tree = MaxTree::new(alloc, depth)?;
-            answers(alloc, &mut tree, requests)
+            let mut tree = MaxTree::new(text.alloc(), depth)?;
+            push_answers(text, &mut tree, requests)
         }
         _ => Err(anyhow::anyhow!("no count of doublings: {depth}")),
     }

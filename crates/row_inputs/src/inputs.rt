@@ -1,7 +1,8 @@
 //! Inputs under names, and sets of inputs.
 
-use std::alloc::{AllocError, Global};
+use std::alloc::Global;
 use std::mem;
+use text_builder::TextBuilder;
 
 /// The inputs of a set, of which the last stands apart.
 #[derive(Drop)]
@@ -11,34 +12,33 @@ pub struct Set {
 }
 
 #[derive(Drop)]
-struct Named {
-    name: String,
+struct Named<'a> {
+    name: &'a str,
     set: Set,
 }
 
 /// The sets that were kept so far.
 #[derive(Drop)]
-pub struct Inputs(Vec<Named>);
+pub struct Inputs<'a>(Vec<Named<'a>>);
 
-impl Inputs {
-    pub fn new(alloc: Global) -> Inputs {
+impl<'a> Inputs<'a> {
+    pub fn new(alloc: Global) -> Inputs<'a> {
         Inputs(Vec::new(alloc))
     }
 
-    pub fn keep(&mut self, alloc: Global, name: &str, set: Set) -> anyhow::Result<()> {
-        let name = String::from_str(alloc, name)?;
-        self.0.push(Named { name, set })?;
-        Ok(())
+    pub fn keep(&mut self, text: &mut TextBuilder, name: &'a str, set: Set) {
+        text.add(&mut self.0, Named { name, set });
     }
 
     pub fn named(&self, name: &str) -> anyhow::Result<&Set> {
-        match self.0.iter().find(|named| named.name.as_str() == name) {
+        match self.0.iter().find(|named| named.name == name) {
             Some(named) => Ok(&named.set),
             None => Err(anyhow::anyhow!("no input {name}")),
         }
     }
 }
 
+/// What adds to a set notes in a text whether an allocation was refused.
 impl Set {
     /// The set of one input, which has no bytes.
     pub fn new(alloc: Global) -> Set {
@@ -49,10 +49,14 @@ impl Set {
     }
 
     /// Begins the next input.
-    pub fn begin(&mut self, alloc: Global) -> Result<(), AllocError> {
-        let before = mem::replace(&mut self.last, Vec::new(alloc));
-        self.earlier.push(before)?;
-        Ok(())
+    pub fn begin(&mut self, text: &mut TextBuilder) {
+        let before = mem::replace(&mut self.last, Vec::new(text.alloc()));
+        text.add(&mut self.earlier, before);
+    }
+
+    /// Goes on with the last input.
+    pub fn add(&mut self, text: &mut TextBuilder, bytes: &[u8]) {
+        text.note(self.last.extend_from_slice(bytes));
     }
 
     /// Changes the byte at a place of the last input, if there is one, and answers what it was.
@@ -64,11 +68,11 @@ impl Set {
     }
 
     /// Goes on with the inputs of another set, the first of them in the last input.
-    pub fn go_on(&mut self, alloc: Global, other: &Set) -> Result<(), AllocError> {
+    pub fn go_on(&mut self, text: &mut TextBuilder, other: &Set) {
         for input in &other.earlier {
-            self.last.extend_from_slice(input.as_slice())?;
-            self.begin(alloc)?;
+            self.add(text, input.as_slice());
+            self.begin(text);
         }
-        self.last.extend_from_slice(other.last.as_slice())
+        self.add(text, other.last.as_slice());
     }
 }

@@ -12,6 +12,6 @@ mod streams;
 mod tally;
 
 pub use inputs::{Inputs, Set};
-pub use parts::{expanded, first_word, inputs_in, parted};
+pub use parts::{expanded, first_word, inputs_in, numbered, parted};
 pub use streams::{Drip, Short, Zeros};
 pub use tally::{Tally, decoded_number, opened_number};

@@ -1,47 +1,8 @@
 //! The parts of which inputs are made.
 
 use crate::inputs::{Inputs, Set};
-use std::alloc::{AllocError, Global};
-
-/// A word or a text in quotation marks, or what stands between two inputs.
-#[derive(Clone, Copy)]
-enum Token<'a> {
-    Word(&'a str),
-    Text(&'a str),
-    Comma,
-}
-
-fn push_words<'a>(tokens: &mut Vec<Token<'a>>, piece: &'a str) -> Result<(), AllocError> {
-    for word in piece.split(' ') {
-        if !word.is_empty() {
-            tokens.push(Token::Word(word))?;
-        }
-    }
-    Ok(())
-}
-
-/// Adds the words and the commas of what stands outside quotation marks.
-fn push_plain<'a>(tokens: &mut Vec<Token<'a>>, piece: &'a str) -> Result<(), AllocError> {
-    for (index, words) in piece.split(',').enumerate() {
-        if index > 0 {
-            tokens.push(Token::Comma)?;
-        }
-        push_words(tokens, words)?;
-    }
-    Ok(())
-}
-
-/// Adds the tokens of a line: what stands in quotation marks is one.
-fn push_tokens<'a>(tokens: &mut Vec<Token<'a>>, line: &'a str) -> Result<(), AllocError> {
-    for (index, piece) in line.split('"').enumerate() {
-        if index % 2 == 1 {
-            tokens.push(Token::Text(piece))?;
-        } else {
-            push_plain(tokens, piece)?;
-        }
-    }
-    Ok(())
-}
+use std::alloc::Global;
+use text_builder::TextBuilder;
 
 fn letter(digit: usize) -> char {
     match u8::try_from(digit) {
@@ -50,67 +11,49 @@ fn letter(digit: usize) -> char {
     }
 }
 
-/// A number as four letters, which are its digits to the base 26.
-fn letters(alloc: Global, number: usize) -> Result<String, AllocError> {
-    let mut letters = String::new(alloc);
+/// Writes a number as four letters, which are its digits to the base 26.
+fn push_letters(text: &mut TextBuilder, number: usize) {
     for unit in [17576, 676, 26, 1] {
-        letters.push(letter(number / unit % 26))?;
+        text.push_char(letter(number / unit % 26));
     }
-    Ok(letters)
 }
 
-/// Adds what a rule stands for at this number: `n` for it, `m` for the next, and `a` for its letters.
-fn push_number(
-    alloc: Global,
-    input: &mut Vec<u8>,
-    rule: &str,
-    number: usize,
-) -> Result<(), AllocError> {
-    let told = match rule {
-        "a" => letters(alloc, number)?,
-        "m" => number.saturating_add(1).to_string(alloc)?,
-        _ => number.to_string(alloc)?,
-    };
-    input.extend_from_slice(told.as_bytes())
-}
-
-/// Adds what follows a brace of a text, in which a rule that ends at the next brace stands for this number.
-fn push_rule(
-    alloc: Global,
-    input: &mut Vec<u8>,
-    piece: &str,
-    number: usize,
-) -> Result<(), AllocError> {
-    match piece.split_once('}') {
-        Some((rule, rest)) if matches!(rule, "n" | "a" | "m") => {
-            push_number(alloc, input, rule, number)?;
-            input.extend_from_slice(rest.as_bytes())
-        }
+/// Writes what follows a brace of a text, in which a rule that ends at the next brace stands for this number: `n` for
+/// it, `m` for the next, and `a` for its letters.
+fn push_rule(text: &mut TextBuilder, piece: &str, number: usize) {
+    let (rule, rest) = piece.split_once('}').unwrap_or(("", ""));
+    match rule {
+        "n" => text.push_number(number),
+        "m" => text.push_number(number.saturating_add(1)),
+        "a" => push_letters(text, number),
         _ => {
-            input.push(b'{')?;
-            input.extend_from_slice(piece.as_bytes())
+            text.push("{");
+            text.push(piece);
+            return;
         }
     }
+    text.push(rest);
 }
 
-/// Adds a text to an input, with this number at its rules.
-fn push_numbered(
-    alloc: Global,
-    input: &mut Vec<u8>,
-    text: &str,
-    number: usize,
-) -> Result<(), AllocError> {
-    for (index, piece) in text.split('{').enumerate() {
+/// Writes a text with this number at its rules.
+fn push_numbered(text: &mut TextBuilder, part: &str, number: usize) {
+    for (index, piece) in part.split('{').enumerate() {
         if index == 0 {
-            input.extend_from_slice(piece.as_bytes())?;
+            text.push(piece);
         } else {
-            push_rule(alloc, input, piece, number)?;
+            push_rule(text, piece, number);
         }
     }
-    Ok(())
 }
 
-/// What the next token is taken for.
+/// Writes so many copies of a text, each with its own number.
+fn push_copies(text: &mut TextBuilder, part: &str, count: usize) {
+    for number in 0..count {
+        push_numbered(text, part, number);
+    }
+}
+
+/// What the next word or text is taken for.
 #[derive(Clone, Copy)]
 enum Awaited {
     Part,
@@ -127,111 +70,132 @@ enum Awaited {
 /// A set that is made of its parts.
 #[derive(Drop)]
 struct Maker<'a> {
-    kept: &'a Inputs,
+    kept: &'a Inputs<'a>,
     set: Set,
     awaited: Awaited,
 }
 
-impl<'a> Maker<'a> {
-    fn repeat_text(&mut self, alloc: Global, text: &str, count: usize) -> Result<(), AllocError> {
-        for number in 0..count {
-            push_numbered(alloc, &mut self.set.last, text, number)?;
-        }
-        Ok(())
+/// What adds to the set notes in a text whether an allocation was refused.
+impl Maker<'_> {
+    /// Adds a text that was made.
+    fn push_made(&mut self, text: &mut TextBuilder, made: TextBuilder) {
+        let made = text.kept(made.finish());
+        self.set.add(text, made.as_bytes());
     }
 
-    fn repeat_input(&mut self, name: &str, count: usize) -> anyhow::Result<Awaited> {
-        let part = self.kept.named(name)?;
+    fn repeat_text(&mut self, text: &mut TextBuilder, part: &str, count: usize) {
+        let mut copies = TextBuilder::new(text.alloc());
+        push_copies(&mut copies, part, count);
+        self.push_made(text, copies);
+    }
+
+    fn repeat_input(&mut self, text: &mut TextBuilder, part: &Set, count: usize) {
         for _time in 0..count {
-            self.set.last.extend_from_slice(part.last.as_slice())?;
+            self.set.add(text, part.last.as_slice());
         }
-        Ok(Awaited::Part)
-    }
-
-    fn push_bytes(&mut self, alloc: Global, digits: &str) -> anyhow::Result<Awaited> {
-        let bytes = hex::decode(alloc, digits)?;
-        self.set.last.extend_from_slice(bytes.as_slice())?;
-        Ok(Awaited::Part)
     }
 
     /// Adds so many inputs, of which the first goes on with the last that is there.
-    fn push_each(&mut self, alloc: Global, text: &str, count: usize) -> Result<(), AllocError> {
+    fn push_each(&mut self, text: &mut TextBuilder, part: &str, count: usize) {
         for number in 0..count {
             if number > 0 {
-                self.set.begin(alloc)?;
+                self.set.begin(text);
             }
-            push_numbered(alloc, &mut self.set.last, text, number)?;
+            let mut copy = TextBuilder::new(text.alloc());
+            push_numbered(&mut copy, part, number);
+            self.push_made(text, copy);
         }
-        Ok(())
+    }
+
+    fn push_bytes(&mut self, text: &mut TextBuilder, digits: &str) -> anyhow::Result<Awaited> {
+        let bytes = hex::decode(text.alloc(), digits)?;
+        self.set.add(text, bytes.as_slice());
+        Ok(Awaited::Part)
     }
 
     /// Takes a word that begins a part, and answers what is to come.
-    fn begin_part(&mut self, alloc: Global, word: &str) -> anyhow::Result<Awaited> {
+    fn begin_part(&mut self, text: &mut TextBuilder, word: &str) -> anyhow::Result<Awaited> {
         match word {
             "bytes" => Ok(Awaited::Bytes),
             "repeat" => Ok(Awaited::Repeats),
             "each" => Ok(Awaited::Inputs),
             _ => {
-                self.set.go_on(alloc, self.kept.named(word)?)?;
+                self.set.go_on(text, self.kept.named(word)?);
                 Ok(Awaited::Part)
             }
         }
     }
 
     /// Takes a word, and answers what is to come.
-    fn take_word(&mut self, alloc: Global, word: &str) -> anyhow::Result<Awaited> {
+    fn taken(&mut self, text: &mut TextBuilder, word: &str) -> anyhow::Result<Awaited> {
         match self.awaited {
-            Awaited::Part => self.begin_part(alloc, word),
-            Awaited::Bytes => self.push_bytes(alloc, word),
+            Awaited::Part => self.begin_part(text, word),
+            Awaited::Bytes => self.push_bytes(text, word),
             Awaited::Repeats => Ok(Awaited::Repeated(word.parse::<usize>()?)),
-            Awaited::Repeated(count) => self.repeat_input(word, count),
+            Awaited::Repeated(count) => {
+                self.repeat_input(text, self.kept.named(word)?, count);
+                Ok(Awaited::Part)
+            }
             Awaited::Inputs => Ok(Awaited::Each(word.parse::<usize>()?)),
             Awaited::Each(_) => Err(anyhow::anyhow!("no text: {word}")),
         }
     }
 
-    fn take_text(&mut self, alloc: Global, text: &str) -> anyhow::Result<Awaited> {
+    /// Takes what stands in quotation marks.
+    fn take_text(&mut self, text: &mut TextBuilder, part: &str) -> anyhow::Result<()> {
         match self.awaited {
-            Awaited::Part => self.set.last.extend_from_slice(text.as_bytes())?,
-            Awaited::Repeated(count) => self.repeat_text(alloc, text, count)?,
-            Awaited::Each(count) => self.push_each(alloc, text, count)?,
+            Awaited::Part => self.set.add(text, part.as_bytes()),
+            Awaited::Repeated(count) => self.repeat_text(text, part, count),
+            Awaited::Each(count) => self.push_each(text, part, count),
             Awaited::Bytes | Awaited::Repeats | Awaited::Inputs => {
-                return Err(anyhow::anyhow!("no number: {text}"));
+                return Err(anyhow::anyhow!("no number: {part}"));
             }
         }
-        Ok(Awaited::Part)
+        self.awaited = Awaited::Part;
+        Ok(())
     }
 
-    fn take(&mut self, alloc: Global, token: Token<'_>) -> anyhow::Result<()> {
-        self.awaited = match token {
-            Token::Word(word) => self.take_word(alloc, word)?,
-            Token::Text(text) => self.take_text(alloc, text)?,
-            Token::Comma => {
-                self.set.begin(alloc)?;
-                Awaited::Part
+    fn take_words(&mut self, text: &mut TextBuilder, words: &str) -> anyhow::Result<()> {
+        for word in words.split(' ') {
+            if !word.is_empty() {
+                self.awaited = self.taken(text, word)?;
             }
-        };
+        }
+        Ok(())
+    }
+
+    /// Takes what stands outside quotation marks: words, with commas between inputs.
+    fn take_plain(&mut self, text: &mut TextBuilder, piece: &str) -> anyhow::Result<()> {
+        for (index, words) in piece.split(',').enumerate() {
+            if index > 0 {
+                self.set.begin(text);
+                self.awaited = Awaited::Part;
+            }
+            self.take_words(text, words)?;
+        }
+        Ok(())
+    }
+
+    fn take_line(&mut self, text: &mut TextBuilder, line: &str) -> anyhow::Result<()> {
+        for (index, piece) in line.split('"').enumerate() {
+            if index % 2 == 1 {
+                self.take_text(text, piece)?;
+            } else {
+                self.take_plain(text, piece)?;
+            }
+        }
         Ok(())
     }
 }
 
-/// The inputs that a line has, with commas between.
-pub fn inputs_in(alloc: Global, kept: &Inputs, line: &str) -> anyhow::Result<Set> {
-    let mut tokens = Vec::new(alloc);
-    push_tokens(&mut tokens, line)?;
-    made(alloc, kept, tokens.as_slice())
-}
-
-/// The inputs that tokens say.
-fn made(alloc: Global, kept: &Inputs, tokens: &[Token<'_>]) -> anyhow::Result<Set> {
+/// The inputs that a line has, with commas between. A text notes whether an allocation was refused.
+pub fn inputs_in(text: &mut TextBuilder, kept: &Inputs<'_>, line: &str) -> anyhow::Result<Set> {
     let mut maker = Maker {
         kept,
-        set: Set::new(alloc),
+        set: Set::new(text.alloc()),
         awaited: Awaited::Part,
     };
-    for token in tokens {
-        maker.take(alloc, *token)?;
-    }
+    maker.take_line(text, line)?;
     Ok(maker.set)
 }
 
@@ -248,30 +212,28 @@ pub fn first_word(line: &str) -> anyhow::Result<(&str, &str)> {
     parted(line, " ")
 }
 
-/// How often a part is repeated, the part, and the rest.
-fn rule_of(rule: &str) -> anyhow::Result<(usize, &str, &str)> {
-    let (count, rest) = parted(rule, " \"")?;
-    let (part, rest) = parted(rest, "\"")?;
-    Ok((count.parse::<usize>()?, part, rest))
+/// The number that begins a line, and the rest.
+pub fn numbered(line: &str) -> anyhow::Result<(usize, &str)> {
+    let (number, rest) = first_word(line)?;
+    Ok((number.parse::<usize>()?, rest))
 }
 
-/// Adds what follows a word `repeat`: so many copies of a part, and the rest.
-fn push_repeated(alloc: Global, text: &mut Vec<u8>, rule: &str) -> anyhow::Result<()> {
-    let (count, part, rest) = rule_of(rule)?;
-    for number in 0..count {
-        push_numbered(alloc, text, part, number)?;
-    }
-    text.extend_from_slice(rest.as_bytes())?;
+/// Writes what follows a word `repeat`: so many copies of a part, and the rest.
+fn push_repeated(text: &mut TextBuilder, rule: &str) -> anyhow::Result<()> {
+    let (count, rest) = parted(rule, " \"")?;
+    let (part, rest) = parted(rest, "\"")?;
+    push_copies(text, part, count.parse::<usize>()?);
+    text.push(rest);
     Ok(())
 }
 
-/// Adds a text with its repeated parts written out.
-fn push_expanded(alloc: Global, text: &mut Vec<u8>, line: &str) -> anyhow::Result<()> {
+/// Writes a text with its repeated parts written out.
+fn push_expanded(text: &mut TextBuilder, line: &str) -> anyhow::Result<()> {
     for (index, piece) in line.split("repeat ").enumerate() {
         if index == 0 {
-            text.extend_from_slice(piece.as_bytes())?;
+            text.push(piece);
         } else {
-            push_repeated(alloc, text, piece)?;
+            push_repeated(text, piece)?;
         }
     }
     Ok(())
@@ -279,7 +241,7 @@ fn push_expanded(alloc: Global, text: &mut Vec<u8>, line: &str) -> anyhow::Resul
 
 /// A text with its repeated parts written out.
 pub fn expanded(alloc: Global, line: &str) -> anyhow::Result<String> {
-    let mut text = Vec::new(alloc);
-    push_expanded(alloc, &mut text, line)?;
-    Ok(String::from_utf8(text)?)
+    let mut text = TextBuilder::new(alloc);
+    push_expanded(&mut text, line)?;
+    Ok(text.finish()?)
 }

@@ -3,4 +3,4 @@
 mod layouts;
 mod shapes;
 
-pub use layouts::laid_out;
+pub use layouts::push_laid_out;

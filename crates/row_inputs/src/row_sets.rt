@@ -4,4 +4,4 @@
 pub mod changes;
 mod opened;
 
-pub use opened::{Wanted, indexed_behind, opened_behind, parsed, told_of};
+pub use opened::{Wanted, indexed_behind, opened_behind, push_parsed, push_told};

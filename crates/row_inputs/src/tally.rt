@@ -3,14 +3,14 @@
 use ctype_bin::BinError;
 use error_numbers::Numbered;
 use opening::{OpenError, binary_number};
-use std::alloc::{AllocError, Global};
+use text_builder::TextBuilder;
 
 /// How often inputs are refused with each error, by its number, and at 0 how often with none.
 #[derive(Drop)]
 pub struct Tally([usize; 100]);
 
 /// The number of the error that an input is refused with, or 0.
-pub fn opened_number<T>(answer: &Result<T, OpenError>) -> u32 {
+pub fn opened_number<T: Drop>(answer: Result<T, OpenError>) -> u32 {
     match answer {
         Ok(_) => 0,
         Err(error) => error.number(),
@@ -18,19 +18,22 @@ pub fn opened_number<T>(answer: &Result<T, OpenError>) -> u32 {
 }
 
 /// The number of the error that the bytes of a component are refused with, or 0.
-pub fn decoded_number<T>(answer: &Result<T, BinError>) -> u32 {
+pub fn decoded_number<T: Drop>(answer: Result<T, BinError>) -> u32 {
     match answer {
         Ok(_) => 0,
-        Err(error) => binary_number(error),
+        Err(error) => binary_number(&error),
     }
 }
 
-/// How often an answer came, which a word tells if it is no error.
-fn counted(alloc: Global, number: usize, count: usize, word: &str) -> Result<String, AllocError> {
+/// Writes how often an answer came, which a word tells if it is no error.
+fn push_count(text: &mut TextBuilder, number: usize, count: usize, word: &str) {
+    text.push_number(count);
     if number == 0 {
-        format!(in alloc; "{count} {word}")
+        text.push(" ");
+        text.push(word);
     } else {
-        format!(in alloc; "{count} error {number}")
+        text.push(" error ");
+        text.push_number(number);
     }
 }
 
@@ -46,23 +49,18 @@ impl Tally {
         }
     }
 
-    /// How often each answer came that came at all.
-    fn counts(&self, alloc: Global, word: &str) -> Result<Vec<String>, AllocError> {
-        let mut counts = Vec::new(alloc);
+    /// Writes how often each answer came that came at all, or that none did. The word is of inputs without an error.
+    pub fn push_to(&self, text: &mut TextBuilder, word: &str) {
+        let mut kinds: usize = 0;
         for (number, count) in self.0.iter().enumerate() {
             if *count > 0 {
-                counts.push(counted(alloc, number, *count, word)?)?;
+                text.separate(kinds, ", ");
+                push_count(text, number, *count, word);
+                kinds = kinds.saturating_add(1);
             }
         }
-        Ok(counts)
-    }
-
-    /// How often each answer came, or that none did. The word is of inputs without an error.
-    pub fn told(&self, alloc: Global, word: &str) -> Result<String, AllocError> {
-        let counts = self.counts(alloc, word)?;
-        if counts.is_empty() {
-            return String::from_str(alloc, "none");
+        if kinds == 0 {
+            text.push("none");
         }
-        counts.as_slice().join(alloc, ", ")
     }
 }

@@ -1,34 +1,34 @@
 //! What a row is answered.
 
-use crate::calls::{called, job_of, short_call, streamed};
-use crate::finding::found;
+use crate::calls::{job_of, push_called, push_short_call, push_streamed};
+use crate::finding::push_found;
 use crate::json;
-use crate::opened::{line_of, package, told};
+use crate::opened::{package, push_bytes, push_refused};
 use atoms::Watched;
-use row_bytes::done;
-use row_inputs::row_layouts::laid_out;
-use row_inputs::row_sets::changes::{changes, cuts, fronts, is_opened_alone};
-use row_inputs::row_sets::{Wanted, parsed, told_of};
+use row_inputs::row_layouts::push_laid_out;
+use row_inputs::row_sets::changes::{is_opened_alone, push_changes, push_cuts, push_fronts};
+use row_inputs::row_sets::{Wanted, push_parsed, push_told};
 use row_inputs::{Inputs, Set, inputs_in};
 use std::alloc::Global;
+use text_builder::TextBuilder;
 use witcall::{Refused, run, run_set};
 use words::asked::Job;
 
-/// What is wanted of the package of a set, or the line of its refusal.
-fn of_package(alloc: Global, wanted: Wanted, set: &Set) -> anyhow::Result<String> {
-    match package(alloc, set) {
-        Ok(package) => told_of(alloc, wanted, &package),
-        Err(refused) => line_of(alloc, &refused),
+/// Writes what is wanted of the package of a set, or the line of its refusal.
+fn push_of_package(text: &mut TextBuilder, wanted: Wanted, set: &Set) {
+    match package(text.alloc(), set) {
+        Ok(package) => push_told(text, wanted, &package),
+        Err(refused) => push_refused(text, &refused),
     }
 }
 
-/// Whether a set is opened. One of one input has to be answered as that input alone.
-fn opened(alloc: Global, set: &Set) -> anyhow::Result<String> {
-    let answer = of_package(alloc, Wanted::Opened, set)?;
-    if set.earlier.is_empty() && !is_opened_alone(alloc, set.last.as_slice(), answer.as_str())? {
-        return Err(anyhow::anyhow!("alone something else than {answer}"));
+/// Writes whether a set is opened. One of one input has to be answered as that input alone.
+fn push_opened(text: &mut TextBuilder, set: &Set) -> anyhow::Result<()> {
+    push_of_package(text, Wanted::Opened, set);
+    if set.earlier.is_empty() && !is_opened_alone(text, set.last.as_slice()) {
+        return Err(anyhow::anyhow!("alone something else than {}", text.as_str()));
     }
-    Ok(answer)
+    Ok(())
 }
 
 /// What a job makes of a set. A set of one input is given to `run`.
@@ -42,11 +42,11 @@ fn made(alloc: Global, job: Job, set: &Set) -> Result<Vec<u8>, Refused> {
     Ok(output.into_inner())
 }
 
-/// The binary of a set, in hexadecimal digits.
-fn binary(alloc: Global, set: &Set) -> anyhow::Result<String> {
-    match made(alloc, Job::Bin, set) {
-        Ok(bytes) => Ok(hex::encode(alloc, bytes.as_slice())?),
-        Err(refused) => line_of(alloc, &refused),
+/// Writes the binary of a set, in hexadecimal digits.
+fn push_binary(text: &mut TextBuilder, set: &Set) {
+    match made(text.alloc(), Job::Bin, set) {
+        Ok(bytes) => text.push_made(hex::encode(text.alloc(), bytes.as_slice())),
+        Err(refused) => push_refused(text, &refused),
     }
 }
 
@@ -75,33 +75,38 @@ fn is_kept_by_all(alloc: Global, set: &mut Set) -> Result<bool, Refused> {
     Ok(true)
 }
 
-fn repeated(alloc: Global, set: &mut Set) -> anyhow::Result<String> {
-    match is_kept_by_all(alloc, set) {
-        Ok(true) => Ok(String::from_str(alloc, "the same")?),
-        Ok(false) => Ok(String::from_str(alloc, "something else")?),
-        Err(refused) => line_of(alloc, &refused),
+fn push_repeated(text: &mut TextBuilder, set: &mut Set) {
+    match is_kept_by_all(text.alloc(), set) {
+        Ok(true) => text.push("the same"),
+        Ok(false) => text.push("something else"),
+        Err(refused) => push_refused(text, &refused),
     }
 }
 
-/// What a job makes of a set, or the line of its refusal.
-fn job_told(alloc: Global, job: Job, set: &Set) -> anyhow::Result<String> {
-    told(alloc, made(alloc, job, set))
+/// Writes what a job makes of a set, or the line of its refusal.
+fn push_job(text: &mut TextBuilder, job: Job, set: &Set) -> anyhow::Result<()> {
+    match made(text.alloc(), job, set) {
+        Ok(bytes) => return push_bytes(text, bytes.as_slice()),
+        Err(refused) => push_refused(text, &refused),
+    }
+    Ok(())
 }
 
-/// How a row is answered whose set was made.
-fn answer_to(alloc: Global, word: &str, set: &mut Set) -> anyhow::Result<String> {
+/// Writes the answer to a row whose set was made.
+fn push_of_set(text: &mut TextBuilder, word: &str, set: &mut Set) -> anyhow::Result<()> {
     match word {
-        "parse" => parsed(alloc, set),
-        "open" => opened(alloc, set),
-        "copy" => of_package(alloc, Wanted::Copy, set),
-        "work" => of_package(alloc, Wanted::Work, set),
-        "bin" => binary(alloc, set),
-        "again" => repeated(alloc, set),
-        "changes" => changes(alloc, set),
-        "cuts" => cuts(alloc, set),
-        "fronts" => fronts(alloc, set),
-        _ => job_told(alloc, job_of(word)?, set),
+        "parse" => return push_parsed(text, set),
+        "open" => return push_opened(text, set),
+        "copy" => push_of_package(text, Wanted::Copy, set),
+        "work" => push_of_package(text, Wanted::Work, set),
+        "bin" => push_binary(text, set),
+        "again" => push_repeated(text, set),
+        "changes" => return push_changes(text, set),
+        "cuts" => push_cuts(text, set),
+        "fronts" => push_fronts(text, set),
+        _ => return push_job(text, job_of(word)?, set),
     }
+    Ok(())
 }
 
 /// Whether a command is about a set of inputs.
@@ -112,27 +117,22 @@ fn is_of_set(word: &str) -> bool {
     ) || job_of(word).is_ok()
 }
 
-/// How a row about a set of inputs is answered.
-fn set_answer(alloc: Global, kept: &Inputs, word: &str, rest: &str) -> anyhow::Result<String> {
-    let mut set = inputs_in(alloc, kept, rest)?;
-    answer_to(alloc, word, &mut set)
-}
-
-/// How a row is answered.
-pub fn answer_of(alloc: Global, kept: &Inputs, asked: &str) -> anyhow::Result<String> {
+/// Writes the answer to a row. Inputs are of those that were kept.
+pub fn push_answer(text: &mut TextBuilder, kept: &Inputs<'_>, asked: &str) -> anyhow::Result<()> {
     let (word, rest) = asked.split_once(' ').unwrap_or((asked, ""));
     if is_of_set(word) {
-        return set_answer(alloc, kept, word, rest);
+        let mut set = inputs_in(text, kept, rest)?;
+        return push_of_set(text, word, &mut set);
     }
     match word {
-        "call" => called(alloc, kept, rest),
-        "find" => found(alloc, kept, rest),
-        "short-call" => short_call(alloc, kept, rest),
-        "streamed" => streamed(alloc, kept, rest),
-        "json" => json::answer_of(alloc, false, rest),
-        "json-call" => json::answer_of(alloc, true, rest),
-        "layouts" => laid_out(alloc, rest, false),
-        "last" => laid_out(alloc, rest, true),
-        _ => done(alloc, word, rest),
+        "call" => push_called(text, kept, rest),
+        "find" => push_found(text, kept, rest),
+        "short-call" => push_short_call(text, kept, rest),
+        "streamed" => push_streamed(text, kept, rest),
+        "json" => json::push_answer(text, false, rest),
+        "json-call" => json::push_answer(text, true, rest),
+        "layouts" => push_laid_out(text, rest, false),
+        "last" => push_laid_out(text, rest, true),
+        _ => row_bytes::push_answer(text, word, rest),
     }
 }

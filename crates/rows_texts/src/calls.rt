@@ -2,10 +2,11 @@
 
 ghost use Rattle.std.specs.Prelude.{◌≡◌, false};
 
-use crate::opened::{line_of, package, told};
+use crate::opened::{package, push_refused};
 use atoms::{Sink, Watched};
-use row_inputs::{Drip, Inputs, Set, Short, first_word, inputs_in};
+use row_inputs::{Drip, Inputs, Set, Short, first_word, inputs_in, numbered};
 use std::alloc::Global;
+use text_builder::TextBuilder;
 use witcall::{Package, Refused, Reply, run, run_call, run_set};
 use words::asked::Job;
 
@@ -80,46 +81,50 @@ fn call_of(words: &str) -> anyhow::Result<(Call<'_>, &str)> {
     Ok((call, inputs))
 }
 
-/// What a call prints, or the line of its refusal.
-fn printed(alloc: Global, kept: &Inputs, words: &str) -> anyhow::Result<String> {
+/// Writes what a call prints, without the end of its line, or the line of its refusal.
+fn push_call(text: &mut TextBuilder, call: &Call<'_>, set: &Set) -> anyhow::Result<()> {
+    match written(text.alloc(), call, set) {
+        Ok(bytes) => text.push(std::str::from_utf8(bytes.as_slice())?.trim_end()),
+        Err(refused) => push_refused(text, &refused),
+    }
+    Ok(())
+}
+
+/// Writes what the call of a row prints.
+pub fn push_called(text: &mut TextBuilder, kept: &Inputs<'_>, words: &str) -> anyhow::Result<()> {
     let (call, inputs) = call_of(words)?;
-    let set = inputs_in(alloc, kept, inputs)?;
-    told(alloc, written(alloc, &call, &set))
+    let set = inputs_in(text, kept, inputs)?;
+    push_call(text, &call, &set)
 }
 
-/// What a call prints, without the end of its line.
-pub fn called(alloc: Global, kept: &Inputs, words: &str) -> anyhow::Result<String> {
-    let output = printed(alloc, kept, words)?;
-    Ok(String::from_str(alloc, output.as_str().trim_end())?)
-}
-
-/// What an output of so much room took, in hexadecimal digits, and how the writing ended.
-fn taken(alloc: Global, output: &Short, ended: &Result<(), Refused>) -> anyhow::Result<String> {
-    let taken = hex::encode(alloc, output.taken.as_slice())?;
+/// Writes what an output took, in hexadecimal digits, and how the writing ended.
+fn push_taken(text: &mut TextBuilder, output: &Short, ended: &Result<(), Refused>) {
+    text.push_made(hex::encode(text.alloc(), output.taken.as_slice()));
+    text.push(", ");
     match ended {
-        Ok(()) => Ok(format!(in alloc; "{taken}, done")?),
-        Err(refused) => Ok(format!(in alloc; "{taken}, {}", line_of(alloc, refused)?)?),
+        Ok(()) => text.push("done"),
+        Err(refused) => push_refused(text, refused),
     }
 }
 
-/// The number that begins a line, and the rest.
-fn numbered(line: &str) -> anyhow::Result<(usize, &str)> {
-    let (number, rest) = first_word(line)?;
-    Ok((number.parse::<usize>()?, rest))
+/// Writes what a call writes to an output of so much room.
+fn push_short(text: &mut TextBuilder, room: usize, call: &Call<'_>, set: &Set) {
+    let mut output = Short::new(Vec::new(text.alloc()), room);
+    let ended = write_call(text.alloc(), call, set, &mut output);
+    push_taken(text, &output, &ended);
 }
 
-fn short_written(alloc: Global, room: usize, call: &Call<'_>, set: &Set) -> anyhow::Result<String> {
-    let mut output = Short::new(Vec::new(alloc), room);
-    let ended = write_call(alloc, call, set, &mut output);
-    taken(alloc, &output, &ended)
-}
-
-/// What a call writes to an output of so much room.
-pub fn short_call(alloc: Global, kept: &Inputs, words: &str) -> anyhow::Result<String> {
+/// Writes what the call of a row writes to an output of so much room.
+pub fn push_short_call(
+    text: &mut TextBuilder,
+    kept: &Inputs<'_>,
+    words: &str,
+) -> anyhow::Result<()> {
     let (room, words) = numbered(words)?;
     let (call, inputs) = call_of(words)?;
-    let set = inputs_in(alloc, kept, inputs)?;
-    short_written(alloc, room, &call, &set)
+    let set = inputs_in(text, kept, inputs)?;
+    push_short(text, room, &call, &set);
+    Ok(())
 }
 
 pub fn job_of(word: &str) -> anyhow::Result<Job> {
@@ -132,26 +137,23 @@ pub fn job_of(word: &str) -> anyhow::Result<Job> {
     }
 }
 
-fn short_made(
-    alloc: Global,
-    job: Job,
-    set: &Set,
-    (fails_at, room): (usize, usize),
-) -> anyhow::Result<String> {
-    let mut output = Short::new(Vec::new(alloc), room);
+/// Writes what a job writes to an output of so much room, of an input that fails after so many bytes.
+fn push_job(text: &mut TextBuilder, job: Job, set: &Set, (fails_at, room): (usize, usize)) {
+    let mut output = Short::new(Vec::new(text.alloc()), room);
     let mut input = Drip::new(set.last.as_slice(), fails_at);
     let ended = match set.earlier.as_slice() {
-        [] => run(alloc, job, &mut input, &mut output),
-        earlier => run_set(alloc, job, earlier, &mut input, &mut output),
+        [] => run(text.alloc(), job, &mut input, &mut output),
+        earlier => run_set(text.alloc(), job, earlier, &mut input, &mut output),
     };
-    taken(alloc, &output, &ended)
+    push_taken(text, &output, &ended);
 }
 
-/// What a job writes to an output of so much room, of an input that fails after so many bytes.
-pub fn streamed(alloc: Global, kept: &Inputs, words: &str) -> anyhow::Result<String> {
+/// Writes what the job of a row writes to an output of so much room, of an input that fails after so many bytes.
+pub fn push_streamed(text: &mut TextBuilder, kept: &Inputs<'_>, words: &str) -> anyhow::Result<()> {
     let (fails_at, words) = numbered(words)?;
     let (room, words) = numbered(words)?;
     let (word, inputs) = first_word(words)?;
-    let set = inputs_in(alloc, kept, inputs)?;
-    short_made(alloc, job_of(word)?, &set, (fails_at, room))
+    let set = inputs_in(text, kept, inputs)?;
+    push_job(text, job_of(word)?, &set, (fails_at, room));
+    Ok(())
 }

@@ -7,6 +7,7 @@ use crate::calls::{Call, written};
 use row_inputs::{Set, expanded, parted};
 use std::alloc::Global;
 use tables::ValType;
+use text_builder::TextBuilder;
 use witcall::{Package, from_json, open, to_json};
 
 /// The type of the parameter of `the-type-t`, which was added to the interface.
@@ -23,11 +24,12 @@ fn type_of(package: &Package) -> anyhow::Result<ValType>
     }
 }
 
-/// The value of the type `t` that a text says, written again.
-fn rewritten(alloc: Global, package: &Package, text: &str) -> anyhow::Result<String> {
+/// Writes the value of the type `t` that JSON says as JSON again.
+fn push_value(text: &mut TextBuilder, package: &Package, json: &str) -> anyhow::Result<()> {
     let ty = type_of(package)?;
-    let value = from_json(alloc, package, ty, text)?;
-    Ok(to_json(alloc, package, ty, &value)?)
+    let value = from_json(text.alloc(), package, ty, json)?;
+    text.push_made(to_json(text.alloc(), package, ty, &value));
+    Ok(())
 }
 
 /// The package of an interface with these items, of which `the-type-t` uses the type `t`.
@@ -38,53 +40,42 @@ fn opened(alloc: Global, items: &str) -> anyhow::Result<Package> {
     Ok(open(alloc, wit.as_bytes())?)
 }
 
-fn value(alloc: Global, items: &str, text: &str) -> anyhow::Result<String> {
-    let package = opened(alloc, items)?;
-    rewritten(alloc, &package, text)
-}
-
 /// The set of the package whose interface has these items.
-fn set_of(alloc: Global, items: &str) -> anyhow::Result<Set> {
-    let text = format!(in alloc; "package a:b; interface c {{ {items} }}")?;
-    let last = text.as_bytes().to_vec(alloc)?;
-    Ok(Set {
-        earlier: Vec::new(alloc),
-        last,
-    })
+fn set_of(text: &mut TextBuilder, items: &str) -> Set {
+    let mut set = Set::new(text.alloc());
+    set.add(text, b"package a:b; interface c { ");
+    set.add(text, items.as_bytes());
+    set.add(text, b" }");
+    set
 }
 
-/// What a call prints of the package whose interface has these items.
-fn printed(alloc: Global, items: &str, call: &Call<'_>) -> anyhow::Result<String> {
-    let set = set_of(alloc, items)?;
-    let bytes = written(alloc, call, &set)?;
-    Ok(String::from_utf8(bytes)?)
+/// Writes what a call of the package whose interface has these items prints, without the end of its line.
+fn push_call(text: &mut TextBuilder, items: &str, call: &Call<'_>) -> anyhow::Result<()> {
+    let set = set_of(text, items);
+    let printed = written(text.alloc(), call, &set)?;
+    let printed = std::str::from_utf8(printed.as_slice())?;
+    text.push(printed.strip_suffix("\n").unwrap_or("nothing"));
+    Ok(())
 }
 
-/// What a call of `f` prints, without the end of its line.
-fn called(alloc: Global, items: &str, arguments: &str, reply: &str) -> anyhow::Result<String> {
+/// Writes what is asked of a value or of a call, whose parts stand between bars.
+fn push_told(text: &mut TextBuilder, is_call: bool, arguments: &str) -> anyhow::Result<()> {
+    let (items, rest) = parted(arguments, " | ")?;
+    if !is_call {
+        return push_value(text, &opened(text.alloc(), items)?, rest);
+    }
+    let (arguments, reply) = parted(rest, " | ")?;
     let call = Call {
         interface: "a:b/c",
         function: "f",
         arguments,
         reply,
     };
-    let printed = printed(alloc, items, &call)?;
-    let result = printed.as_str().strip_suffix("\n").unwrap_or("nothing");
-    Ok(String::from_str(alloc, result)?)
+    push_call(text, items, &call)
 }
 
-/// What is asked of a value or of a call, whose parts stand between bars.
-fn told(alloc: Global, is_call: bool, arguments: &str) -> anyhow::Result<String> {
-    let (items, rest) = parted(arguments, " | ")?;
-    if !is_call {
-        return value(alloc, items, rest);
-    }
-    let (given, reply) = parted(rest, " | ")?;
-    called(alloc, items, given, reply)
-}
-
-/// A value or a result, or the line of a refusal or of a trap.
-pub fn answer_of(alloc: Global, is_call: bool, arguments: &str) -> anyhow::Result<String> {
-    let arguments = expanded(alloc, arguments)?;
-    told(alloc, is_call, arguments.as_str())
+/// Writes a value or a result, or the line of a refusal or of a trap.
+pub fn push_answer(text: &mut TextBuilder, is_call: bool, arguments: &str) -> anyhow::Result<()> {
+    let arguments = expanded(text.alloc(), arguments)?;
+    push_told(text, is_call, arguments.as_str())
 }

@@ -1,6 +1,6 @@
 //! Rows of texts, binaries and sets of packages, JSON, layouts, numbers, names, command lines and memories, one a line,
-//! each with its name and its answer. docs/FORMATS.md has their language. Of each file that a line names, the name of
-//! each row is written, and behind it what was answered if that is something else.
+//! each with its name and its answer. docs/FORMATS.md has their language. `answer_file` answers those of a file: it
+//! writes the name of each row, and behind it what was answered if that is something else.
 #![tactic(auto)]
 
 mod answers;

@@ -1,10 +1,11 @@
 //! Lines: comments, inputs that are kept, and rows.
 
-use crate::answers::answer_of;
+use crate::answers::push_answer;
 use atoms::Watched;
 use row_inputs::{Inputs, Set, inputs_in, parted};
 use std::alloc::Global;
 use std::fs;
+use text_builder::TextBuilder;
 use witcall::read_all;
 
 /// A row that was read: what is asked, and what is to be answered.
@@ -12,13 +13,13 @@ use witcall::read_all;
 struct Row<'a> {
     name: &'a str,
     asked: &'a str,
-    wanted: String,
+    wanted: TextBuilder,
 }
 
 /// The inputs that were kept so far, and the row whose answer may have further lines.
 #[derive(Drop)]
 pub struct Rows<'a> {
-    kept: Inputs,
+    kept: Inputs<'a>,
     last: Option<Row<'a>>,
 }
 
@@ -28,11 +29,17 @@ pub fn read(rt: &HostRuntime, alloc: Global, path: &str) -> anyhow::Result<Vec<u
     Ok(read_all(alloc, &mut input)?)
 }
 
+/// What an answer begins with or goes on with, without the space before it.
+fn push_wanted(wanted: &mut TextBuilder, line: &str) {
+    wanted.push(line.strip_prefix(" ").unwrap_or(line));
+}
+
 /// The row that a line begins.
 fn row_of(alloc: Global, line: &str) -> anyhow::Result<Row<'_>> {
     let (name, rest) = parted(line, ": ")?;
-    let (asked, wanted) = parted(rest, " =>")?;
-    let wanted = String::from_str(alloc, wanted.strip_prefix(" ").unwrap_or(wanted))?;
+    let (asked, front) = parted(rest, " =>")?;
+    let mut wanted = TextBuilder::new(alloc);
+    push_wanted(&mut wanted, front);
     Ok(Row {
         name,
         asked,
@@ -40,9 +47,32 @@ fn row_of(alloc: Global, line: &str) -> anyhow::Result<Row<'_>> {
     })
 }
 
-/// Writes the name of a row, and its answer if that is another than it says.
-fn write_answer(rt: &HostRuntime, row: &Row<'_>, answer: &str) -> anyhow::Result<()> {
-    if answer == row.wanted.as_str() {
+/// The answer to what is asked. Memory that was refused is told before anything else that is wrong.
+fn answered(alloc: Global, kept: &Inputs<'_>, asked: &str) -> anyhow::Result<String> {
+    let mut text = TextBuilder::new(alloc);
+    let pushed = push_answer(&mut text, kept, asked);
+    let answer = text.finish()?;
+    pushed?;
+    Ok(answer)
+}
+
+/// The answer to what is asked, or why there is none.
+fn answer_to(alloc: Global, kept: &Inputs<'_>, asked: &str) -> anyhow::Result<String> {
+    match answered(alloc, kept, asked) {
+        Ok(answer) => Ok(answer),
+        Err(error) => Ok(error.to_string(alloc)?),
+    }
+}
+
+/// Answers a row: writes its name, and the answer if that is another than it says.
+fn answer_row(
+    rt: &HostRuntime,
+    alloc: Global,
+    kept: &Inputs<'_>,
+    row: Row<'_>,
+) -> anyhow::Result<()> {
+    let answer = answer_to(alloc, kept, row.asked)?;
+    if answer == row.wanted.finish()? {
         println!(rt; "{}", row.name)?;
     } else {
         println!(rt; "{}: {answer}", row.name)?;
@@ -50,22 +80,19 @@ fn write_answer(rt: &HostRuntime, row: &Row<'_>, answer: &str) -> anyhow::Result
     Ok(())
 }
 
-/// Answers a row.
-fn answer_row(rt: &HostRuntime, alloc: Global, kept: &Inputs, row: &Row<'_>) -> anyhow::Result<()> {
-    match answer_of(alloc, kept, row.asked) {
-        Ok(answer) => write_answer(rt, row, answer.as_str()),
-        Err(error) => write_answer(rt, row, format!(in alloc; "{error}")?.as_str()),
-    }
-}
-
 /// The input that a line says: a file, or what its parts are.
-fn input_of(rt: &HostRuntime, alloc: Global, kept: &Inputs, line: &str) -> anyhow::Result<Set> {
+fn input_of(
+    rt: &HostRuntime,
+    text: &mut TextBuilder,
+    kept: &Inputs<'_>,
+    line: &str,
+) -> anyhow::Result<Set> {
     match line.strip_prefix("file ") {
         Some(path) => Ok(Set {
-            earlier: Vec::new(alloc),
-            last: read(rt, alloc, path)?,
+            earlier: Vec::new(text.alloc()),
+            last: read(rt, text.alloc(), path)?,
         }),
-        None => inputs_in(alloc, kept, line),
+        None => inputs_in(text, kept, line),
     }
 }
 
@@ -109,22 +136,25 @@ impl<'a> Rows<'a> {
         let Some(row) = &mut self.last else {
             return Err(anyhow::anyhow!("no row before: {more}"));
         };
-        row.wanted.push_str(more.strip_prefix(" ").unwrap_or(more))?;
-        row.wanted.push('\n')?;
+        push_wanted(&mut row.wanted, more);
+        row.wanted.push("\n");
         Ok(())
     }
 
     /// Keeps inputs under their name.
-    fn keep(&mut self, rt: &HostRuntime, alloc: Global, given: &str) -> anyhow::Result<()> {
+    fn keep(&mut self, rt: &HostRuntime, alloc: Global, given: &'a str) -> anyhow::Result<()> {
         let (name, rest) = parted(given, " = ")?;
-        let set = input_of(rt, alloc, &self.kept, rest)?;
-        self.kept.keep(alloc, name, set)
+        let mut text = TextBuilder::new(alloc);
+        let set = input_of(rt, &mut text, &self.kept, rest)?;
+        self.kept.keep(&mut text, name, set);
+        text.finish()?;
+        Ok(())
     }
 
     /// Answers the last row, if there is one, and writes its name.
     pub fn finish(&mut self, rt: &HostRuntime, alloc: Global) -> anyhow::Result<()> {
         match self.last.take() {
-            Some(row) => answer_row(rt, alloc, &self.kept, &row),
+            Some(row) => answer_row(rt, alloc, &self.kept, row),
             None => Ok(()),
         }
     }

@@ -1,14 +1,12 @@
 //! What the definitions of a package take.
 
 use crate::expanded;
-use crate::row_layouts::shapes::{shape_and_flat, shape_and_size, signatures};
-use layout::Layouts;
+use crate::row_layouts::shapes::{push_shape_and_flat, push_shape_and_size, push_signatures};
 use opening::{Package, open};
-use std::alloc::{AllocError, Global};
-use std::slice;
 use tables::{
     Definition, Function, FunctionId, InterfaceId, Owner, Resolve, TypeDef, TypeId, ValType,
 };
+use text_builder::TextBuilder;
 
 fn interface_name(resolve: &Resolve, id: InterfaceId) -> &str {
     match resolve.interfaces.as_slice().get(id.0 as usize) {
@@ -27,93 +25,70 @@ fn owner_name(resolve: &Resolve, owner: Owner) -> &str {
     }
 }
 
-/// The name of a type, behind that of its interface.
-fn type_name(alloc: Global, resolve: &Resolve, definition: &TypeDef) -> Result<String, AllocError> {
+/// Writes the name of a type, behind that of its interface.
+fn push_type_name(text: &mut TextBuilder, resolve: &Resolve, definition: &TypeDef) {
     let Some(name) = &definition.name else {
-        return String::from_str(alloc, "_");
+        text.push("_");
+        return;
     };
-    let interface = interface_name(resolve, name.interface);
-    format!(in alloc; "{interface}.{}", name.name.as_str())
+    text.push(interface_name(resolve, name.interface));
+    text.push(".");
+    text.push(name.name.as_str());
 }
 
-/// The line of the type at this place.
-fn type_line(
-    alloc: Global,
-    resolve: &Resolve,
-    layouts: &Layouts,
-    place: u32,
-    definition: &TypeDef,
-) -> anyhow::Result<String> {
-    let ty = ValType::Id(TypeId(place));
-    if !layouts.has(ty) {
-        return Err(anyhow::anyhow!("no row of {place}"));
+/// Writes the line of the type at this place.
+fn push_type(text: &mut TextBuilder, package: &Package, place: u32, definition: &TypeDef) {
+    let (layouts, ty) = (package.layouts(), ValType::Id(TypeId(place)));
+    text.push("type ");
+    push_type_name(text, package.resolve(), definition);
+    if layouts.has(ty) {
+        text.push(" ");
+        push_shape_and_flat(text, layouts, ty);
     }
-    let name = type_name(alloc, resolve, definition)?;
-    let shape = shape_and_flat(alloc, layouts, ty)?;
-    Ok(format!(in alloc; "type {name} {shape}; ")?)
+    text.push("; ");
 }
 
-/// The line of the function at this place.
-fn function_line(
-    alloc: Global,
-    resolve: &Resolve,
-    layouts: &Layouts,
-    place: u32,
-    function: &Function,
-) -> anyhow::Result<String> {
+/// Writes the line of the function at this place.
+fn push_function(text: &mut TextBuilder, package: &Package, place: u32, function: &Function) {
+    let layouts = package.layouts();
     let (ty, id) = (ValType::Id(TypeId(place)), FunctionId(place));
-    if !layouts.has(ty) || !layouts.has_function(id) {
-        return Err(anyhow::anyhow!("no row of {place}"));
+    text.push("func ");
+    text.push(owner_name(package.resolve(), function.owner));
+    text.push(".");
+    text.push(function.name.as_str());
+    if layouts.has(ty) && layouts.has_function(id) {
+        text.push(" ");
+        push_shape_and_size(text, layouts, ty);
+        push_signatures(text, &layouts.lifted(id), &layouts.lowered(id));
     }
-    let (owner, name) = (owner_name(resolve, function.owner), function.name.as_str());
-    let shape = shape_and_size(alloc, layouts, ty)?;
-    let kinds = signatures(alloc, &layouts.lifted(id), &layouts.lowered(id))?;
-    Ok(format!(in alloc; "func {owner}.{name} {shape} {kinds}; ")?)
+    text.push("; ");
 }
 
-/// The line of the definition at this place.
-fn line_of(
-    alloc: Global,
-    package: &Package,
-    index: usize,
-    definition: &Definition,
-) -> anyhow::Result<String> {
-    let (resolve, layouts) = (package.resolve(), package.layouts());
-    let place = u32::try_from(index)?;
+/// Writes the line of the definition at this place.
+fn push_line(text: &mut TextBuilder, package: &Package, index: usize, definition: &Definition) {
+    let place = u32::try_from(index).unwrap_or(u32::MAX);
     match definition {
-        Definition::Type(ty) => type_line(alloc, resolve, layouts, place, ty),
-        Definition::Function(f) => function_line(alloc, resolve, layouts, place, f),
+        Definition::Type(ty) => push_type(text, package, place, ty),
+        Definition::Function(f) => push_function(text, package, place, f),
     }
 }
 
-/// The lines of a package's definitions.
-fn lines(alloc: Global, package: &Package) -> anyhow::Result<Vec<String>> {
-    let mut lines = Vec::new(alloc);
-    for (index, definition) in package.resolve().definitions.as_slice().iter().enumerate() {
-        lines.push(line_of(alloc, package, index, definition)?)?;
+/// Writes what a package's definitions take, or its last one alone, and the work of its layouts.
+fn push_told(text: &mut TextBuilder, package: &Package, is_last: bool) {
+    let definitions = package.resolve().definitions.as_slice();
+    for (index, definition) in definitions.iter().enumerate() {
+        if !is_last || index.saturating_add(1) == definitions.len() {
+            push_line(text, package, index, definition);
+        }
     }
-    Ok(lines)
+    text.push("work ");
+    text.push_number(package.layouts().work() as usize);
 }
 
-/// The lines of a package's definitions, or of its last one alone.
-fn text_of(alloc: Global, package: &Package, is_last: bool) -> anyhow::Result<String> {
-    let lines = lines(alloc, package)?;
-    let lines = match lines.as_slice() {
-        [.., last] if is_last => slice::from_ref(last),
-        lines => lines,
-    };
-    Ok(lines.join(alloc, "")?)
-}
-
-/// What a package's definitions take, or its last one alone, and the work of its layouts.
-fn told(alloc: Global, package: &Package, is_last: bool) -> anyhow::Result<String> {
-    let text = text_of(alloc, package, is_last)?;
-    Ok(format!(in alloc; "{text}work {}", package.layouts().work())?)
-}
-
-/// What is told of the package of a text.
-pub fn laid_out(alloc: Global, line: &str, is_last: bool) -> anyhow::Result<String> {
-    let wit = expanded(alloc, line)?;
-    let package = open(alloc, wit.as_bytes())?;
-    told(alloc, &package, is_last)
+/// Writes what is told of the package of a text.
+pub fn push_laid_out(text: &mut TextBuilder, line: &str, is_last: bool) -> anyhow::Result<()> {
+    let wit = expanded(text.alloc(), line)?;
+    let package = open(text.alloc(), wit.as_bytes())?;
+    push_told(text, &package, is_last);
+    Ok(())
 }

@@ -5,108 +5,109 @@ ghost use Rattle.tables.specs.Tables.{is_below};
 
 use canonical_abi::CoreKind;
 use layout::{CoreSignature, Kinds, Layouts, Shape};
-use std::alloc::{AllocError, Global};
 use tables::ValType;
+use text_builder::TextBuilder;
 
-/// The places of so many fields.
-fn fields(alloc: Global, layouts: &Layouts, ty: ValType, count: usize) -> Result<String, AllocError>
+/// Writes the places of so many fields.
+fn push_fields(text: &mut TextBuilder, layouts: &Layouts, ty: ValType, count: usize)
     requires { IsTrue (is_below (length layouts.now.rows) ty) }
 {
-    let mut places = Vec::new(alloc);
+    text.push("record (");
     for index in 0..count {
+        text.separate(index, " ");
         if let Some(place) = layouts.field_offset(ty, index) {
-            places.push(place.to_string(alloc)?)?;
+            text.push_number(place as usize);
         }
     }
-    format!(in alloc; "({})", places.as_slice().join(alloc, " ")?)
+    text.push(")");
 }
 
-/// The place of the payloads of so many cases, and which cases have one.
-fn cases(alloc: Global, layouts: &Layouts, ty: ValType, count: usize) -> Result<String, AllocError>
+/// Writes which of so many cases have a payload.
+fn push_filled(text: &mut TextBuilder, layouts: &Layouts, ty: ValType, count: usize)
     requires { IsTrue (is_below (length layouts.now.rows) ty) }
 {
-    let mut place = 0;
-    let mut filled = Vec::new(alloc);
+    let mut filled: usize = 0;
     for index in 0..count {
-        if let Some(case) = layouts.case_info(ty, index) {
-            place = case.place;
-            if case.payload.is_some() {
-                filled.push(index.to_string(alloc)?)?;
-            }
+        if let Some(case) = layouts.case_info(ty, index)
+            && case.payload.is_some()
+        {
+            text.separate(filled, " ");
+            text.push_number(index);
+            filled = filled.saturating_add(1);
         }
     }
-    format!(in alloc; "at {place} ({})", filled.as_slice().join(alloc, " ")?)
 }
 
-fn shape(alloc: Global, layouts: &Layouts, ty: ValType) -> Result<String, AllocError>
+/// Writes how many cases there are, the place of their payloads, which is one for all, and which have one.
+fn push_cases(text: &mut TextBuilder, layouts: &Layouts, ty: ValType, count: usize)
+    requires { IsTrue (is_below (length layouts.now.rows) ty) }
+{
+    text.push("variant ");
+    text.push_number(count);
+    text.push(" at ");
+    if let Some(case) = layouts.case_info(ty, 0) {
+        text.push_number(case.place as usize);
+    }
+    text.push(" (");
+    push_filled(text, layouts, ty, count);
+    text.push(")");
+}
+
+/// Writes the shape of a type, and its size and alignment in bytes.
+pub fn push_shape_and_size(text: &mut TextBuilder, layouts: &Layouts, ty: ValType)
     requires { IsTrue (is_below (length layouts.now.rows) ty) }
 {
     match layouts.shape(ty) {
-        Shape::Primitive(primitive) => String::from_str(alloc, primitive.keyword()),
-        Shape::String => String::from_str(alloc, "string"),
-        Shape::List(_) => String::from_str(alloc, "list"),
-        Shape::Record(count) => {
-            format!(in alloc; "record {}", fields(alloc, layouts, ty, count)?)
+        Shape::Primitive(primitive) => text.push(primitive.keyword()),
+        Shape::String => text.push("string"),
+        Shape::List(_) => text.push("list"),
+        Shape::Record(count) => push_fields(text, layouts, ty, count),
+        Shape::Variant(count) => push_cases(text, layouts, ty, count),
+        Shape::Flags(count) => {
+            text.push("flags ");
+            text.push_number(count);
         }
-        Shape::Variant(count) => {
-            format!(in alloc; "variant {count} {}", cases(alloc, layouts, ty, count)?)
-        }
-        Shape::Flags(count) => format!(in alloc; "flags {count}"),
     }
+    text.push(" size ");
+    text.push_number(layouts.size(ty) as usize);
+    text.push(" align ");
+    text.push_number(layouts.align(ty) as usize);
 }
 
-/// The shape of a type, and its size and alignment in bytes.
-pub fn shape_and_size(alloc: Global, layouts: &Layouts, ty: ValType) -> Result<String, AllocError>
-    requires { IsTrue (is_below (length layouts.now.rows) ty) }
-{
-    let shape = shape(alloc, layouts, ty)?;
-    let (size, align) = (layouts.size(ty), layouts.align(ty));
-    format!(in alloc; "{shape} size {size} align {align}")
-}
-
-fn listed(alloc: Global, kinds: &[CoreKind]) -> Result<String, AllocError> {
-    let mut words = Vec::new(alloc);
-    for kind in kinds {
-        words.push(match kind {
+/// Writes flat kinds.
+fn push_kinds(text: &mut TextBuilder, kinds: &[CoreKind]) {
+    text.push("(");
+    for (index, kind) in kinds.iter().enumerate() {
+        text.separate(index, " ");
+        text.push(match kind {
             CoreKind::I32 => "i32",
             CoreKind::I64 => "i64",
-        })?;
+        });
     }
-    format!(in alloc; "({})", words.as_slice().join(alloc, " ")?)
+    text.push(")");
 }
 
-/// The flat kinds of a type.
-fn flat(alloc: Global, layouts: &Layouts, ty: ValType) -> Result<String, AllocError>
+/// Writes the shape of a type, its size and alignment, and its flat kinds.
+pub fn push_shape_and_flat(text: &mut TextBuilder, layouts: &Layouts, ty: ValType)
     requires { IsTrue (is_below (length layouts.now.rows) ty) }
 {
+    push_shape_and_size(text, layouts, ty);
+    text.push(" flat ");
     match layouts.flat(&[ty]) {
-        Kinds::Flat(kinds) => listed(alloc, kinds.as_slice()),
-        Kinds::Spilled => String::from_str(alloc, "spilled"),
+        Kinds::Flat(kinds) => push_kinds(text, kinds.as_slice()),
+        Kinds::Spilled => text.push("spilled"),
     }
 }
 
-/// The shape of a type, its size and alignment, and its flat kinds.
-pub fn shape_and_flat(alloc: Global, layouts: &Layouts, ty: ValType) -> Result<String, AllocError>
-    requires { IsTrue (is_below (length layouts.now.rows) ty) }
-{
-    let shape = shape_and_size(alloc, layouts, ty)?;
-    let flat = flat(alloc, layouts, ty)?;
-    format!(in alloc; "{shape} flat {flat}")
+fn push_signature(text: &mut TextBuilder, name: &str, signature: &CoreSignature) {
+    text.push(name);
+    push_kinds(text, signature.params.as_slice());
+    text.push(" -> ");
+    push_kinds(text, signature.result.as_slice());
 }
 
-fn signature(alloc: Global, signature: &CoreSignature) -> Result<String, AllocError> {
-    let params = listed(alloc, signature.params.as_slice())?;
-    let result = listed(alloc, signature.result.as_slice())?;
-    format!(in alloc; "{params} -> {result}")
-}
-
-/// The signatures of a function's core function as it is lifted and as it is lowered.
-pub fn signatures(
-    alloc: Global,
-    lifted: &CoreSignature,
-    lowered: &CoreSignature,
-) -> Result<String, AllocError> {
-    let lift = signature(alloc, lifted)?;
-    let lower = signature(alloc, lowered)?;
-    format!(in alloc; "lift {lift} lower {lower}")
+/// Writes the signatures of a function's core function as it is lifted and as it is lowered.
+pub fn push_signatures(text: &mut TextBuilder, lifted: &CoreSignature, lowered: &CoreSignature) {
+    push_signature(text, " lift ", lifted);
+    push_signature(text, " lower ", lowered);
 }

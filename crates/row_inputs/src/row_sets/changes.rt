@@ -4,20 +4,24 @@
 use crate::row_sets::opened::opened_behind;
 use crate::{Set, Tally, opened_number};
 use ctype_bin::{BinError, Fault, decode};
+use error_numbers::Numbered;
 use opening::{OpenError, Package, open};
-use std::alloc::{AllocError, Global};
+use std::alloc::Global;
+use text_builder::TextBuilder;
 
-/// The line of opening.
-fn line_of(alloc: Global, answer: &Result<Package, OpenError>) -> Result<String, AllocError> {
+/// Writes the line of opening.
+fn push_line(text: &mut TextBuilder, answer: Result<Package, OpenError>) {
     match answer {
-        Ok(_) => String::from_str(alloc, "opened"),
-        Err(error) => format!(in alloc; "{error}"),
+        Ok(_package) => text.push("opened"),
+        Err(error) => text.push_made(error.to_string(text.alloc())),
     }
 }
 
-/// Whether an input that is opened alone is answered so.
-pub fn is_opened_alone(alloc: Global, input: &[u8], line: &str) -> Result<bool, AllocError> {
-    Ok(line_of(alloc, &open(alloc, input))?.as_str() == line)
+/// Whether an input that is opened alone is answered as a text says.
+pub fn is_opened_alone(text: &mut TextBuilder, input: &[u8]) -> bool {
+    let mut alone = TextBuilder::new(text.alloc());
+    push_line(&mut alone, open(text.alloc(), input));
+    text.kept(alone.finish()).as_str() == text.as_str()
 }
 
 /// The front of a set's last input.
@@ -30,31 +34,37 @@ fn opened_front(alloc: Global, set: &Set, length: usize) -> Result<Package, Open
     opened_behind(alloc, set.earlier.as_slice(), front(set, length))
 }
 
-/// What the front of a set's last input answers.
-fn front_line(alloc: Global, set: &Set, length: usize) -> Result<String, AllocError> {
-    line_of(alloc, &opened_front(alloc, set, length))
+/// Writes what the front of a set's last input answers.
+fn push_front(text: &mut TextBuilder, set: &Set, length: usize) {
+    push_line(text, opened_front(text.alloc(), set, length));
 }
 
-/// What each front answers, a line each behind its length.
-pub fn cuts(alloc: Global, set: &Set) -> anyhow::Result<String> {
-    let mut told = String::new(alloc);
+/// Writes what each front answers, a line each behind its length.
+pub fn push_cuts(text: &mut TextBuilder, set: &Set) {
     for length in 0..set.last.len() {
-        let line = front_line(alloc, set, length)?;
-        told.push_str(format!(in alloc; "{length} {line}\n")?.as_str())?;
+        text.push_number(length);
+        text.push(" ");
+        push_front(text, set, length);
+        text.push("\n");
     }
-    Ok(told)
 }
 
-/// How often each answer comes of the fronts of an input, and what the whole answers.
-pub fn fronts(alloc: Global, set: &Set) -> anyhow::Result<String> {
-    let length = set.last.len();
+/// Counts what each front answers that is shorter than the input.
+fn fronts(alloc: Global, set: &Set) -> Tally {
     let mut tally = Tally::new();
-    for length in 0..length {
-        tally.take(opened_number(&opened_front(alloc, set, length)));
+    for length in 0..set.last.len() {
+        tally.take(opened_number(opened_front(alloc, set, length)));
     }
-    let counts = tally.told(alloc, "opened")?;
-    let whole = front_line(alloc, set, length)?;
-    Ok(format!(in alloc; "{length} fronts: {counts}; the whole: {whole}")?)
+    tally
+}
+
+/// Writes how often each answer comes of the fronts of an input, and what the whole answers.
+pub fn push_fronts(text: &mut TextBuilder, set: &Set) {
+    text.push_number(set.last.len());
+    text.push(" fronts: ");
+    fronts(text.alloc(), set).push_to(text, "opened");
+    text.push("; the whole: ");
+    push_front(text, set, set.last.len());
 }
 
 /// Whether bytes are told as cut at this length when they are decoded.
@@ -73,22 +83,25 @@ fn is_opened_as_cut(answer: &Result<Package, OpenError>, length: usize) -> bool 
 /// Counts what a front answers, and tells whether it is told as cut at its end, decoded and opened.
 fn is_front_cut(alloc: Global, set: &Set, length: usize, tally: &mut Tally) -> bool {
     let answer = opened_front(alloc, set, length);
-    tally.take(opened_number(&answer));
-    is_decoded_as_cut(alloc, front(set, length), length) && is_opened_as_cut(&answer, length)
+    let is_cut = is_opened_as_cut(&answer, length);
+    tally.take(opened_number(answer));
+    is_cut && is_decoded_as_cut(alloc, front(set, length), length)
 }
 
-/// How many fronts of a binary are told as cut, and how often each answer comes of them.
-fn binary_fronts(alloc: Global, set: &Set) -> Result<String, AllocError> {
-    let length = set.last.len();
+/// Writes how many fronts of a binary are told as cut, and how often each answer comes of them.
+fn push_binary_fronts(text: &mut TextBuilder, set: &Set) {
     let mut tally = Tally::new();
     let mut cut: usize = 0;
-    for length in 0..length {
-        if is_front_cut(alloc, set, length, &mut tally) {
+    for length in 0..set.last.len() {
+        if is_front_cut(text.alloc(), set, length, &mut tally) {
             cut = cut.saturating_add(1);
         }
     }
-    let counts = tally.told(alloc, "opened")?;
-    format!(in alloc; "{length} fronts, {cut} told as cut: {counts}")
+    text.push_number(set.last.len());
+    text.push(" fronts, ");
+    text.push_number(cut);
+    text.push(" told as cut: ");
+    tally.push_to(text, "opened");
 }
 
 /// What is written of the package of a set with this last input.
@@ -97,23 +110,23 @@ fn written(alloc: Global, earlier: &[Vec<u8>], last: &[u8]) -> anyhow::Result<Ve
     Ok(package.to_binary(alloc)?)
 }
 
-/// Fails if a package is not written and opened as itself.
-fn test_kept(alloc: Global, earlier: &[Vec<u8>], package: &Package) -> anyhow::Result<()> {
+/// 0 for a package that is written and opened as itself, which any has to be.
+fn package_number(alloc: Global, earlier: &[Vec<u8>], package: &Package) -> anyhow::Result<u32> {
     let first = package.to_binary(alloc)?;
     if written(alloc, earlier, first.as_slice())? != first {
         return Err(anyhow::anyhow!("another package"));
     }
-    Ok(())
+    Ok(0)
 }
 
 /// The number of the error that a set is refused with, or 0 for a package, which has to be written and opened as
 /// itself.
 fn kept_number(alloc: Global, set: &Set) -> anyhow::Result<u32> {
-    let answer = opened_behind(alloc, set.earlier.as_slice(), set.last.as_slice());
-    if let Ok(package) = &answer {
-        test_kept(alloc, set.earlier.as_slice(), package)?;
+    let earlier = set.earlier.as_slice();
+    match opened_behind(alloc, earlier, set.last.as_slice()) {
+        Ok(package) => package_number(alloc, earlier, &package),
+        Err(error) => Ok(error.number()),
     }
-    Ok(opened_number(&answer))
 }
 
 /// Counts what the 256 values of a byte answer.
@@ -132,20 +145,21 @@ fn take_values(
     Ok(())
 }
 
-/// What the changes of a binary answer. The first four bytes stay, which tell a binary from a text.
-fn changed(alloc: Global, set: &mut Set) -> anyhow::Result<String> {
+/// Writes what the changes of a binary answer. The first four bytes stay, which tell a binary from a text.
+fn push_changed(text: &mut TextBuilder, set: &mut Set) -> anyhow::Result<()> {
     let mut tally = Tally::new();
     for place in 4..set.last.len() {
-        take_values(alloc, set, place, &mut tally)?;
+        take_values(text.alloc(), set, place, &mut tally)?;
     }
-    let count = set.last.len().saturating_sub(4).saturating_mul(256);
-    let counts = tally.told(alloc, "packages")?;
-    Ok(format!(in alloc; "{count} changed: {counts}")?)
+    text.push_number(set.last.len().saturating_sub(4).saturating_mul(256));
+    text.push(" changed: ");
+    tally.push_to(text, "packages");
+    Ok(())
 }
 
-/// What the fronts and the changes of a binary answer.
-pub fn changes(alloc: Global, set: &mut Set) -> anyhow::Result<String> {
-    let fronts = binary_fronts(alloc, set)?;
-    let changed = changed(alloc, set)?;
-    Ok(format!(in alloc; "{fronts}; {changed}")?)
+/// Writes what the fronts and the changes of a binary answer.
+pub fn push_changes(text: &mut TextBuilder, set: &mut Set) -> anyhow::Result<()> {
+    push_binary_fronts(text, set);
+    text.push("; ");
+    push_changed(text, set)
 }

@@ -5,6 +5,7 @@ ghost use Rattle.std.specs.Prelude.{◌<◌, IfOk, length};
 use crate::Set;
 use opening::{IndexedPackage, OpenError, Package, open_indexed, open_set};
 use std::alloc::{AllocError, Global};
+use text_builder::TextBuilder;
 use wit_text::parse;
 
 /// What is asked of an opened package.
@@ -51,25 +52,36 @@ pub fn indexed_behind(
     open_indexed(alloc, inputs.as_slice())
 }
 
-/// The text of a copy of the package.
-fn copied(alloc: Global, package: &Package) -> anyhow::Result<String> {
-    let copy = package.copy(alloc)?;
-    Ok(copy.to_text(alloc)?)
+/// Writes the text of a package, or why it has none.
+fn push_text(text: &mut TextBuilder, package: &Package) {
+    match package.to_text(text.alloc()) {
+        Ok(made) => text.push(made.as_str()),
+        Err(error) => text.push_made(error.to_string(text.alloc())),
+    }
 }
 
-/// What is wanted of a package.
-pub fn told_of(alloc: Global, wanted: Wanted, package: &Package) -> anyhow::Result<String> {
+/// Writes the text of a copy of the package.
+fn push_copy(text: &mut TextBuilder, package: &Package) {
+    match package.copy(text.alloc()) {
+        Ok(copy) => push_text(text, &copy),
+        Err(_) => text.refuse(),
+    }
+}
+
+/// Writes what is wanted of a package.
+pub fn push_told(text: &mut TextBuilder, wanted: Wanted, package: &Package) {
     match wanted {
-        Wanted::Opened => Ok(String::from_str(alloc, "opened")?),
-        Wanted::Copy => copied(alloc, package),
-        Wanted::Work => Ok(format!(in alloc; "{}", package.layouts().work())?),
+        Wanted::Opened => text.push("opened"),
+        Wanted::Copy => push_copy(text, package),
+        Wanted::Work => text.push_number(package.layouts().work() as usize),
     }
 }
 
-/// Whether the last input is a text of the grammar.
-pub fn parsed(alloc: Global, set: &Set) -> anyhow::Result<String> {
-    match parse(alloc, std::str::from_utf8(set.last.as_slice())?) {
-        Ok(_tree) => Ok(String::from_str(alloc, "read")?),
-        Err(error) => Ok(format!(in alloc; "{error}")?),
+/// Writes whether the last input is a text of the grammar.
+pub fn push_parsed(text: &mut TextBuilder, set: &Set) -> anyhow::Result<()> {
+    match parse(text.alloc(), std::str::from_utf8(set.last.as_slice())?) {
+        Ok(_tree) => text.push("read"),
+        Err(error) => text.push_made(error.to_string(text.alloc())),
     }
+    Ok(())
 }
