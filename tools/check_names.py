@@ -77,8 +77,7 @@ COUNTS = {
 def known():
     """Every word of the sources, out of comments, and of file names."""
     files = [code(path) for path in (*sources(".rt", ".antt"), *(ROOT / "include").glob("*.h"))]
-    files += [path.read_text()
-              for path in (ROOT / "crates").glob("rows_*/**/*") if path.suffix == ".rows" or path.name == "stdin"]
+    files += [path.read_text() for path in (ROOT / "crates/vectors/data").glob("*.rows")]
     for path in (it for folder in FOLDERS for it in (ROOT / folder).rglob("*")):
         if "out" not in path.parts:
             files.append(path.name)
