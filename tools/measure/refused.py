@@ -88,9 +88,9 @@ WORDS = {
     "vectors": [
         (json.dumps({**ROW, "steps": STEPS}), [*OPENED, 54, 66]),
         (json.dumps({**ROW, **GROWN, "steps": STEPS[:2]}), [*OPENED, 54, 66]),
-        (json.dumps({**ROW, **LIFTED}), [*OPENED, 54, "no memory"]),
+        (json.dumps({**ROW, **LIFTED}), [*OPENED, 54, PLAIN]),
         (json.dumps({**ROW, "lower": json.loads(VALUE)}), [*OPENED, 54, 66]),
-        (json.dumps({**ROW, **HOSTED}), [*OPENED, 54, "no memory"]),
+        (json.dumps({**ROW, **HOSTED}), [*OPENED, 54, PLAIN]),
     ],
 }
 WITH = [word for name in ("clocks", "random", "cli") for word in ("--with", f"examples/wasi/{name}.wit")]

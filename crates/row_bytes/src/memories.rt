@@ -50,6 +50,7 @@ fn zeros(bytes: &[u8]) -> &'static str {
         "not zeros"
     }
 }
+
 /// Writes what a memory answers to what is asked about a block.
 fn push_of_block<G: Guest>(
     text: &mut TextBuilder,
