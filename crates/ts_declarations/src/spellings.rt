@@ -248,11 +248,9 @@ impl Spellings {
             TypeDefKind::Result(None, None) => wit.push("result"),
             TypeDefKind::Result(ok, None) => wit.push_three("result<", self.wit(*ok), ">"),
             TypeDefKind::Result(ok, error) => {
-                {
-                    wit.push_three("result<", self.wit(*ok), ", ");
-                    wit.push(self.wit(*error));
-                    wit.push(">");
-                }
+                wit.push_three("result<", self.wit(*ok), ", ");
+                wit.push(self.wit(*error));
+                wit.push(">");
             }
             TypeDefKind::Tuple(types) => self.push_wit_tuple(wit, types.as_slice()),
             _ => {}
