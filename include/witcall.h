@@ -194,7 +194,8 @@ typedef struct {
 /* The number of the library's binary interface: WITCALL_ABI, if it is that of this header. */
 uint32_t witcall_abi(void);
 
-/* The library's version, as WITCALL_VERSION, with no end: count bytes. WITCALL_MAX_STATUS_LINE bytes are room for it. */
+/* The library's version, as WITCALL_VERSION, then `+` and the commit that the release was made of, with no end: count bytes.
+ * WITCALL_MAX_STATUS_LINE bytes are room for it. */
 witcall_status witcall_version(uint8_t *version, size_t version_len);
 
 /* Opens a package from its text or its binary. The handle is written in any case, and is to be closed; what it stood for is forgotten, so

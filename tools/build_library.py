@@ -1,12 +1,13 @@
 #!/usr/bin/env python3
 """Builds the static library of crates/witcall_c over the libraries below it, without proving these again.
 
-usage: tools/build_library.py [--target TARGET] [--module FILE] ARCHIVE
+usage: tools/build_library.py [--target TARGET] [--module FILE] [--kept FOLDER] ARCHIVE
 
 It proves this crate alone. The libraries below have to be built, as the gate or `rt lib` leaves them. ARCHIVE is the file that the library is
 written to. TARGET is x86_64-unknown-linux-gnu, as `rt lib` builds it, or another one of the toolchain. With --module, FILE gets the LLVM module
-that the toolchain makes on the way, as LLVM's bitcode; it is then for processors without extensions. The exit status is the checker's, or 1 if
-there was no module.
+that the toolchain makes on the way, as LLVM's bitcode; it is then for processors without extensions. The check begins with what an earlier one
+kept in FOLDER, and keeps its work there: crates/witcall_c/out/incremental, if it is left out. The exit status is the checker's, or 1 if there was
+no module.
 """
 import os
 import pathlib
@@ -46,8 +47,8 @@ def build(options, folder):
     """Builds the archive, and the module if one is asked for. Returns the checker's status."""
     rtlib = toolchain()
     crate = next(it for it in rtlib.crates_below(str(ROOT)) if it.name == NAME)
-    os.makedirs(f"{crate.folder}/out/incremental", exist_ok=True)
-    words = ["--backend", "llvm", "--incremental", "out/incremental", "-o", options.archive]
+    os.makedirs(options.kept, exist_ok=True)
+    words = ["--backend", "llvm", "--incremental", options.kept, "-o", options.archive]
     # the words of `rt lib` have no target, which is then x86-64
     if options.target != TARGET or options.module:
         words += ["--target", options.target]
@@ -64,6 +65,7 @@ def main():
     options = parser(__doc__)
     options.add_argument("--target", default=TARGET)
     options.add_argument("--module", type=os.path.abspath)
+    options.add_argument("--kept", type=os.path.abspath, default=ROOT / "crates" / NAME / "out" / "incremental")
     options.add_argument("archive", type=os.path.abspath)
     options = options.parse_args()
     if options.module:

@@ -1,20 +1,21 @@
 #!/bin/sh
 # Checks tools/install.sh and tools/deb.sh: what they install is there and works, and what they remove is gone.
 #
-# usage: tools/check_install.sh [--released | --built]
+# usage: tools/check_install.sh [FOLDER]
 #
-# Run by root in a git checkout, it makes a root with this machine's compilers and nothing else of it. There a user with
-# an empty home installs witcall, and builds the hosts of docs/C.md, that of examples/rust if cargo is there, and the
-# package for Python if Debian's python3-venv, python3-setuptools and python3-wheel are there. The Debian package is
-# installed and removed in a folder as the root. Without lintian the script looks itself for what lintian asks of such a
-# package.
+# What is installed is the release, or what FOLDER has of tools/build.sh. In a git checkout the script makes a root with
+# this machine's compilers and nothing else of it. There a user with an empty home installs witcall, and builds the hosts
+# of docs/C.md, that of examples/rust, and the package for Python. The Debian package is installed and removed in a folder
+# as the root.
 #
-# It needs a C compiler, pkg-config and dpkg; also unshare, CMake and make if it is run by root, and otherwise fakeroot.
-# With --built, crates/explain/out/explain is to be there. Each check says `ok`; the exit status is 1 if one fails.
+# It needs root, and what tools/setup.sh installs. Each check says `ok`; the exit status is 1 if one fails.
 set -eu
+from=${1-}
+[ -z "$from" ] || from=$(cd "$from" && pwd)
 cd "$(dirname "$0")/.."
-origin=${1-}
 version=$(cat VERSION)
+text=$(python3 -B tools/version.py --text)
+[ -n "$from" ] || text="$(cat release/version)+$(cat release/commit)"
 SOURCE_DATE_EPOCH=${SOURCE_DATE_EPOCH:-$(git log -1 --format=%ct 2>/dev/null || date +%s)}
 export SOURCE_DATE_EPOCH
 work=$(mktemp -d)
@@ -40,8 +41,7 @@ tree() {
 }
 
 install_to() {
-    # shellcheck disable=SC2086 # no word where none was given
-    tools/install.sh --prefix "$@" $origin
+    tools/install.sh --prefix "$@" ${from:+--from "$from"}
 }
 
 # Whether the program in a folder makes its first call.
@@ -52,7 +52,7 @@ calls() {
 # Whether wit-explain in a folder finds no fault in a text, and the fault of a broken one.
 explains() {
     printf 'package a:b;\ninterface c { f: func(x: strng); }\n' >"$work/broken.wit"
-    [ "$("$1" --version)" = "wit-explain $version" ] && "$1" check examples/c.wit || return 1
+    [ "$("$1" --version)" = "wit-explain $text" ] && "$1" check examples/c.wit || return 1
     status=0
     "$1" check "$work/broken.wit" >"$work/faults" || status=$?
     [ "$status" = 1 ] && grep -q 'broken.wit:2:26: error 41 unknown strng$' "$work/faults"
@@ -148,14 +148,11 @@ sed -i 's/witcall::witcall/witcall::shared/' examples/c/CMakeLists.txt
 cmake -S examples/c -B shared
 cmake --build shared
 shared/host | diff examples/c/host.expected -
-if command -v cargo; then
-    cargo run --quiet --offline --manifest-path examples/rust/Cargo.toml | diff examples/rust/host.expected -
-fi
-if python3 -c 'import ensurepip, setuptools, venv, wheel'; then
-    python3 -m venv --system-site-packages python
-    python/bin/pip install --quiet --no-index --no-build-isolation ./bindings/python
-    [ "$(cd / && "$HOME/witcall/python/bin/python" -c 'import witcall; print(witcall.version())')" = "$(cat VERSION)" ]
-fi
+cargo run --quiet --offline --manifest-path examples/rust/Cargo.toml | diff examples/rust/host.expected -
+python3 -m venv --system-site-packages python
+python/bin/pip install --quiet --no-index --no-build-isolation ./bindings/python
+released="$(cat release/version)+$(cat release/commit)"
+[ "$(cd / && "$HOME/witcall/python/bin/python" -c 'import witcall; print(witcall.version())')" = "$released" ]
 tools/install.sh --uninstall --prefix "$prefix"
 [ ! -e "$prefix" ]
 END
@@ -176,7 +173,7 @@ done
 exec chroot --userspec=1000:1000 "$clean" /usr/bin/env -i HOME=/home/user PATH=/opt/rust/bin:/usr/bin:/bin "$@"
 END
 
-# The user's steps, in less than two minutes.
+# The user's steps.
 works_in_clean_root() {
     clean="$work/clean"
     rust=$(rustc --print sysroot || true)
@@ -189,20 +186,17 @@ works_in_clean_root() {
     cp "$work/first.sh" "$clean/home/user"
     chown -R 1000:1000 "$clean/home/user"
     chmod 1777 "$clean/tmp"
-    # shellcheck disable=SC2086 # no word where none was given
-    timeout 120 unshare --mount --pid --fork sh "$work/enter.sh" "$clean" "$rust" sh /home/user/first.sh $origin
+    [ -z "$from" ] || cp -R "$from" "$clean/home/user/built"
+    timeout 600 unshare --mount --pid --fork sh "$work/enter.sh" "$clean" "$rust" sh /home/user/first.sh \
+        ${from:+--from /home/user/built}
 }
 
-if [ "$(id -u)" = 0 ] && git rev-parse --git-dir >"$work/log" 2>&1; then
-    check clean-root works_in_clean_root
-else
-    echo "skipped clean-root: it needs root and a git checkout"
-fi
+check root [ "$(id -u)" = 0 ]
+check clean-root works_in_clean_root
 
 # ---- the Debian package
 
-# shellcheck disable=SC2086 # no word where none was given
-if ! tools/deb.sh $origin "$work" >"$work/log" 2>&1; then
+if ! tools/deb.sh ${from:+--from "$from"} "$work" >"$work/log" 2>&1; then
     echo "FAILED deb"
     cat "$work/log"
     exit 1
@@ -212,13 +206,9 @@ root="$work/root"
 
 # dpkg in a root of its own.
 dpkg_in() {
-    $as_root dpkg --root="$root" --force-depends --log="$work/dpkg.log" "$@"
+    dpkg --root="$root" --force-depends --log="$work/dpkg.log" "$@"
 }
 
-# dpkg looks for programs of /sbin, which a user may not have on the path
-PATH="$PATH:/usr/sbin:/sbin"
-as_root=''
-[ "$(id -u)" = 0 ] || as_root=fakeroot
 mkdir -p "$root/var/lib/dpkg/info" "$root/var/lib/dpkg/updates" "$root/var/lib/dpkg/triggers"
 : >"$root/var/lib/dpkg/status"
 : >"$root/var/lib/dpkg/available"
@@ -286,8 +276,7 @@ has_changelog() {
 # Whether the same sources make the same bytes.
 is_made_again() {
     mkdir "$work/again"
-    # shellcheck disable=SC2086 # no word where none was given
-    tools/deb.sh $origin "$work/again" && cmp "$deb" "$work/again/${deb##*/}"
+    tools/deb.sh ${from:+--from "$from"} "$work/again" && cmp "$deb" "$work/again/${deb##*/}"
 }
 
 is_gone() {
@@ -306,17 +295,13 @@ for file in doc/witcall/changelog.gz doc/witcall/changelog.Debian.gz man/man1/wi
     check "deb-${file##*/}" is_packed "$file"
 done
 for page in witcall.1 wit-explain.1; do
-    command -v man >/dev/null && check "deb-man-$page" is_rendered "$page"
+    check "deb-man-$page" is_rendered "$page"
 done
-command -v dpkg-parsechangelog >/dev/null && check deb-changelog has_changelog
+check deb-changelog has_changelog
 check deb-again is_made_again
 check deb-licence grep -q 'has given no licence' "$root/usr/share/doc/witcall/copyright"
 check deb-manifest [ ! -e "$root/usr/share/doc/witcall/manifest" ]
 check deb-remove dpkg_in --purge witcall
 check deb-gone is_gone
-if command -v lintian >/dev/null; then
-    check lintian lintian --fail-on error,warning "$deb"
-else
-    echo "skipped lintian: it isn't there"
-fi
+check lintian lintian --fail-on error,warning "$deb"
 exit $failed

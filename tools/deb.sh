@@ -1,20 +1,20 @@
 #!/bin/sh
 # Makes a Debian package of what tools/install.sh installs.
 #
-# usage: tools/deb.sh [--released | --built] [FOLDER]
+# usage: tools/deb.sh [--from BUILT] [FOLDER]
 #
-# FOLDER gets witcall_VERSION-1_amd64.deb; by default it is the one where the script is called. The path is printed. The
-# variables DEBFULLNAME and DEBEMAIL name the maintainer. The package has the same bytes for the same sources and the
-# same SOURCE_DATE_EPOCH, which is the time of the last commit if it is not set. It needs dpkg-deb.
+# FOLDER gets witcall_VERSION-1_amd64.deb; by default it is the one where the script is called. The path is printed. What
+# is packed is the release, or what BUILT has of tools/build.sh. The variables DEBFULLNAME and DEBEMAIL name the
+# maintainer. The package has the same bytes for the same sources and the same SOURCE_DATE_EPOCH, which is the time of
+# the last commit if it is not set. It needs dpkg-deb.
 set -eu
 here=$PWD
 cd "$(dirname "$0")/.."
-origin=''
-case "${1-}" in
-    --released | --built)
-        origin=$1
-        shift ;;
-esac
+from=''
+if [ "${1-}" = --from ]; then
+    from=$(cd "$here" && cd "${2:?'usage: tools/deb.sh [--from BUILT] [FOLDER]'}" && pwd)
+    shift 2
+fi
 folder=$(cd "$here" && mkdir -p "${1:-.}" && cd "${1:-.}" && pwd)
 version=$(cat VERSION)-1
 maintainer="${DEBFULLNAME:-witcall} <${DEBEMAIL:-witcall@example.org}>"
@@ -25,8 +25,7 @@ stage=$(mktemp -d)
 trap 'rm -rf "$stage"' EXIT
 chmod 755 "$stage"
 
-# shellcheck disable=SC2086 # no word where none was given
-tools/install.sh --prefix /usr --libdir lib/x86_64-linux-gnu --destdir "$stage" $origin >&2
+tools/install.sh --prefix /usr --libdir lib/x86_64-linux-gnu --destdir "$stage" ${from:+--from "$from"} >&2
 doc="$stage/usr/share/doc/witcall"
 
 # ---- what Debian has elsewhere

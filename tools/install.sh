@@ -2,16 +2,14 @@
 # Installs witcall: the programs witcall and wit-explain, the library for C in one archive and as a shared library, its
 # header, and what finds and documents them.
 #
-# usage: tools/install.sh [--prefix DIR] [--libdir NAME] [--destdir DIR] [--released | --built]
+# usage: tools/install.sh [--prefix DIR] [--libdir NAME] [--destdir DIR] [--from FOLDER]
 #        tools/install.sh --uninstall [--prefix DIR] [--destdir DIR]
 #
 # DIR is /usr/local if --prefix is not given, and NAME, the folder of libraries in it, is lib. With --destdir the files
 # go below that folder, for a package of a distribution.
 #
-# What is installed comes from release/ if that was built from the sources of this checkout, and otherwise from crates/
-# if the program was proved and built there. --released and --built ask for one of them; --released does not compare the
-# sources. --built takes wit-explain as crates/explain/out has it, or leaves it out if it is not there. It needs ar,
-# gzip and the usual commands of a POSIX system; --built needs rt too.
+# What is installed is the release, or what FOLDER has of tools/build.sh. It needs ar, gzip and the usual commands of a
+# POSIX system.
 #
 # PREFIX/share/doc/witcall/manifest has each file and folder that was made, and --uninstall removes these. An
 # installation over an earlier one removes that first. The exit status is 1 if something can't be done, and 2 for wrong
@@ -19,7 +17,6 @@
 set -eu
 here=$PWD
 cd "$(dirname "$0")/.."
-root=$PWD
 
 fail() {
     echo "install: $1" >&2
@@ -28,10 +25,10 @@ fail() {
 
 # ---- words
 
-prefix=/usr/local libdir=lib destdir='' origin='' uninstall=''
+prefix=/usr/local libdir=lib destdir='' from='' uninstall=''
 while [ $# -gt 0 ]; do
     case "$1" in
-        --prefix | --libdir | --destdir)
+        --prefix | --libdir | --destdir | --from)
             [ $# -gt 1 ] || fail "$1 needs a folder" 2
             words="$1=$2"
             shift 2
@@ -40,10 +37,10 @@ while [ $# -gt 0 ]; do
         --prefix=*) prefix=${1#*=} ;;
         --libdir=*) libdir=${1#*=} ;;
         --destdir=*) destdir=${1#*=} ;;
-        --released | --built) origin=${1#--} ;;
+        --from=*) from=${1#*=} ;;
         --uninstall) uninstall=yes ;;
         *)
-            words="[--prefix DIR] [--libdir NAME] [--destdir DIR] [--released | --built | --uninstall]"
+            words="[--prefix DIR] [--libdir NAME] [--destdir DIR] [--from FOLDER | --uninstall]"
             fail "usage: tools/install.sh $words" 2 ;;
     esac
     shift
@@ -86,56 +83,24 @@ fi
 work=$(mktemp -d)
 trap 'rm -rf "$work"' EXIT
 
-is_released() {
-    [ "$(cat release/sources 2>/dev/null)" = "$(tools/sources.sh program)" ] &&
-        [ "$(cat release/explain-sources 2>/dev/null)" = "$(tools/sources.sh explain)" ] &&
-        [ "$(cat release/library-sources 2>/dev/null)" = "$(tools/sources.sh witcall_c)" ]
-}
-
-is_built() {
-    [ -x crates/program/out/program ] &&
-        [ "$(cat crates/program/out/built-from 2>/dev/null)" = "$(tools/sources.sh program)" ]
-}
-
-# Unpacks what is installed of the release, which is all but the WebAssembly module, and compares the checksums.
-take_release() {
-    for file in witcall wit-explain libwitcall_c.a liblibc_c.a libwitcall.so; do
-        gzip -dc "release/$file.gz" >"$work/$file" || fail "release/$file.gz can't be unpacked"
+. tools/shipped.sh
+files='witcall wit-explain libwitcall_c.a liblibc_c.a libwitcall.so'
+if [ -z "$from" ]; then
+    # shellcheck disable=SC2086 # the names are words
+    unpack "$work" $files || fail "release/ is damaged"
+    version="$(cat release/version) ($(cat release/commit))"
+else
+    from=$(absolute "$from")
+    for file in $files; do
+        cp "$from/$file" "$work" || fail "$from has no $file: tools/build.sh makes it"
     done
-    # Neither the module nor the library for aarch64 is installed.
-    grep -v -e '  witcall\.wasm$' -e '-aarch64\.a$' release/SHA256SUMS >"$work/sums"
-    (cd "$work" && sha256sum --quiet -c sums) ||
-        fail "release/ isn't what release/SHA256SUMS says"
-}
-
-# Takes what was built here; rt builds the library anew if its sources changed.
-take_built() {
-    is_built || fail "no program was built from these sources: ./witcall --prove builds one"
-    (cd crates/witcall_c && rt lib) >&2 || fail "the library can't be built"
-    cp crates/program/out/program "$work/witcall"
-    [ ! -x crates/explain/out/explain ] || cp crates/explain/out/explain "$work/wit-explain"
-    cp crates/witcall_c/out/libwitcall_c.a "$(dirname "$(rt doc)")/c/liblibc_c.a" "$work"
-    tools/shared.sh "$work" || fail "the shared library can't be linked"
-}
-
-if [ -z "$origin" ]; then
-    if is_released; then
-        origin=released
-    elif is_built; then
-        origin=built
-    else
-        fail "release/ was built from other sources, and nothing from these: --released installs it all the same"
-    fi
+    version="$(cat VERSION) (of $from)"
 fi
-case "$origin" in
-    released) take_release ;;
-    built) take_built ;;
-esac
 
 # The library and the part of the kit that it calls, in one archive.
 (cd "$work" &&
     printf '%s\n' 'create libwitcall.a' 'addlib libwitcall_c.a' 'addlib liblibc_c.a' save end | "${AR:-ar}" -M)
-version=$(cat VERSION)
+number=$(cat VERSION)
 abi=$(sed -n 's/^#define WITCALL_ABI \([0-9]*\)$/\1/p' include/witcall.h)
 
 # A text as what sed puts for another.
@@ -145,7 +110,7 @@ quoted() {
 
 # Fills the places of a template.
 filled() {
-    sed "s|@PREFIX@|$(quoted "$prefix")|g; s|@LIBDIR@|$(quoted "$libdir")|g; s|@VERSION@|$version|g; s|@ABI@|$abi|g" \
+    sed "s|@PREFIX@|$(quoted "$prefix")|g; s|@LIBDIR@|$(quoted "$libdir")|g; s|@VERSION@|$number|g; s|@ABI@|$abi|g" \
         "packaging/$1.in" >"$work/$1"
 }
 
@@ -180,14 +145,13 @@ put_link() {
 
 [ ! -f "$to/$manifest" ] || remove
 : >"$work/manifest"
-put 755 "$work/witcall" bin/witcall
-if [ -f "$work/wit-explain" ]; then
-    put 755 "$work/wit-explain" bin/wit-explain
-    put 644 packaging/wit-explain.1 share/man/man1/wit-explain.1
-    put 644 packaging/completions/wit-explain.bash share/bash-completion/completions/wit-explain
-    put 644 packaging/completions/_wit-explain share/zsh/site-functions/_wit-explain
-    put 644 packaging/completions/wit-explain.fish share/fish/vendor_completions.d/wit-explain.fish
-fi
+for program in witcall wit-explain; do
+    put 755 "$work/$program" "bin/$program"
+    put 644 "packaging/$program.1" "share/man/man1/$program.1"
+    put 644 "packaging/completions/$program.bash" "share/bash-completion/completions/$program"
+    put 644 "packaging/completions/_$program" "share/zsh/site-functions/_$program"
+    put 644 "packaging/completions/$program.fish" "share/fish/vendor_completions.d/$program.fish"
+done
 put 644 "$work/libwitcall.a" "$libdir/libwitcall.a"
 put 644 "$work/libwitcall.so" "$libdir/libwitcall.so.$abi"
 put_link "libwitcall.so.$abi" "$libdir/libwitcall.so"
@@ -196,14 +160,10 @@ put 644 "$work/witcall.pc" "$libdir/pkgconfig/witcall.pc"
 put 644 "$work/witcall-shared.pc" "$libdir/pkgconfig/witcall-shared.pc"
 put 644 "$work/witcall-config.cmake" "$libdir/cmake/witcall/witcall-config.cmake"
 put 644 "$work/witcall-config-version.cmake" "$libdir/cmake/witcall/witcall-config-version.cmake"
-put 644 packaging/witcall.1 share/man/man1/witcall.1
-put 644 packaging/completions/witcall.bash share/bash-completion/completions/witcall
-put 644 packaging/completions/_witcall share/zsh/site-functions/_witcall
-put 644 packaging/completions/witcall.fish share/fish/vendor_completions.d/witcall.fish
 for page in README.md CHANGELOG.md CONTRIBUTING.md SECURITY.md docs/*.md docs/api/*.md docs/guarantees/*.md \
     docs/pictures/*.svg; do
     put 644 "$page" "share/doc/witcall/$page"
 done
 echo "$manifest" >>"$work/manifest"
 install -m 644 "$work/manifest" "$to/$manifest"
-echo "witcall $version, as $origin, is in $to"
+echo "witcall $version is in $to"

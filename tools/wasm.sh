@@ -1,50 +1,27 @@
 #!/bin/sh
-# Makes release/witcall.wasm.gz, the library for C as one WebAssembly module without imports, from the sources of this
-# checkout.
+# Makes the library for C as one WebAssembly module without imports, from the sources of this checkout.
 #
-# usage: tools/wasm.sh [--module FILE]
-#        tools/wasm.sh --sources
+# usage: tools/wasm.sh FOLDER [MODULE]      makes FOLDER/witcall.wasm, of the LLVM module MODULE if it is given
+#        tools/wasm.sh --versions           prints the versions of what makes it
 #
-# The library is proved and built for x86-64, as tools/release.sh does, and the LLVM module that the toolchain makes on
-# the way is kept (tools/build_library.py). From there on nothing is proved:
+# The library is proved and built for x86-64, and the LLVM module that the toolchain makes on the way is kept
+# (tools/build_library.py). From there on nothing is proved:
 #   1. The layout of data, the target and the processor of the module become those of wasm64. Both have 64-bit pointers.
 #   2. The toolchain's clang compiles it, and the heap of bindings/js/heap.
 #   3. The toolchain's lld links them.
 #   4. wasm-opt of binaryen lowers the memory to one of 32 bits, which each engine has, and makes the code small.
-# The libraries below crates/witcall_c have to be built, as `rt lib` there leaves them. --module takes the LLVM module
-# from FILE instead, and leaves release/ as it is. crates/witcall_c/out/witcall.wasm is the module that was built here
-# last.
-#
-# release/ then also has
-#   witcall.wasm.gz                       the module
-#   wasm-sources                          the checksums of what it was built from, as --sources prints them
-#   wasm-toolchain                        the versions of what built it
-# and SHA256SUMS has the checksum of the module, unpacked.
+# The libraries below crates/witcall_c have to be built, as the gate or `rt lib` leaves them.
 set -eu
+usage='usage: tools/wasm.sh FOLDER [MODULE] | --versions'
+what=${1:?"$usage"}
+given=${2-}
+[ "$what" = --versions ] || what=$(cd "$what" && pwd)
+[ -z "$given" ] || given=$(cd "$(dirname "$given")" && pwd)/$(basename "$given")
 cd "$(dirname "$0")/.."
 
-# What the module is built from: the library's sources, and what is added to it.
-sources() {
-    tools/sources.sh witcall_c
-    find bindings/js/heap tools/wasm.sh tools/build_library.py -type f | LC_ALL=C sort | tr '\n' '\0' |
-        xargs -0 sha256sum | sha256sum | cut -d ' ' -f 1
-}
-
-given=''
-case "${1-}" in
-    --sources)
-        sources
-        exit ;;
-    --module) given=${2:?"usage: tools/wasm.sh --module FILE"} ;;
-    '') ;;
-    *)
-        echo "usage: tools/wasm.sh [--module FILE | --sources]" >&2
-        exit 2 ;;
-esac
-
-for tool in rt python3 wasm-opt gzip sha256sum; do
+for tool in rt python3 wasm-opt; do
     command -v "$tool" >/dev/null || {
-        echo "tools/wasm.sh: no $tool, so there is no module (wasm-opt is of Debian's package binaryen)" >&2
+        echo "tools/wasm.sh: no $tool (wasm-opt is of Debian's package binaryen)" >&2
         exit 1
     }
 done
@@ -55,13 +32,12 @@ trap 'rm -rf "$work"' EXIT
 for tool in clang llvm-nm wasm-ld; do
     ln -s "$kit/toolchain/bin/clang" "$work/$tool"
 done
-versions() {
-    rt version
+if [ "$what" = --versions ]; then
     "$work/clang" --version | head -n 1
     "$work/wasm-ld" --version
     wasm-opt --version
-}
-versions
+    exit
+fi
 
 # ---- 1. the LLVM module for wasm64
 
@@ -97,20 +73,4 @@ exports=$(sed -n -E 's/^(witcall_status|void|uint32_t) (witcall_[a-z_]+)\(.*/--e
 # ---- 4. a memory of 32 bits
 
 wasm-opt --enable-memory64 --enable-bulk-memory --enable-sign-ext --enable-nontrapping-float-to-int \
-    --enable-mutable-globals --enable-multivalue --memory64-lowering -Oz "$work/wide.wasm" -o "$work/witcall.wasm"
-
-# ---- release/
-
-mkdir -p release crates/witcall_c/out
-cp "$work/witcall.wasm" crates/witcall_c/out/witcall.wasm
-ls -l crates/witcall_c/out/witcall.wasm
-[ -z "$given" ] || exit 0
-gzip -9nc "$work/witcall.wasm" >release/witcall.wasm.gz
-sources >release/wasm-sources
-versions >release/wasm-toolchain
-{
-    grep -v '  witcall.wasm$' release/SHA256SUMS 2>/dev/null || true
-    sha256sum <"$work/witcall.wasm" | sed 's/-$/witcall.wasm/'
-} >"$work/sums"
-cp "$work/sums" release/SHA256SUMS
-ls -l release/witcall.wasm.gz
+    --enable-mutable-globals --enable-multivalue --memory64-lowering -Oz "$work/wide.wasm" -o "$what/witcall.wasm"

@@ -22,7 +22,7 @@ MEASURES = {
     "calls": (memory.of_calls, "vectors"),
     "small-memory": (memory.small, "brief", "program"),
     "largest-request": (memory.largest, "brief", "program"),
-    "refused": (refused.refused, "brief", "crates"),
+    "refused": (refused.refused, "brief", "witcall", "crates"),
     "changed": (changed.by_rows, "program", "rows"),
     "changed-behind-sets": (changed.behind_sets, "program"),
 }
@@ -45,6 +45,7 @@ WORDS = {
                                 "help": "count instructions by callgrind in place of the time"}),
     "brief": ("--brief", {"action": "store_true", "help": "print one line, and what is wrong"}),
     "program": ("program", built("program")),
+    "witcall": ("--program", {**built("program"), "nargs": None, "metavar": "PROGRAM"}),
     "vectors": ("vectors", built("vectors")),
     "rows": ("rows", built("vectors")),
     "jobs": ("jobs", several("JOB", [*times.JOBS], "call alone by default")),

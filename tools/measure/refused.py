@@ -7,7 +7,7 @@ import sys
 import tempfile
 import time
 
-from tools.repository import PROGRAM, ROOT
+from tools.repository import ROOT
 
 from .harness import Counter, Folder
 
@@ -197,12 +197,12 @@ def asked_twice(crate, row, folder):
     return [folder.keep(f"first: {row} => \nagain: {row} => \n", "asked.rows")], ""
 
 
-def calls_of(crate, folder):
+def calls_of(crate, program, folder):
     """What is asked of a program: a name, the command, its input, how a run is told, and the words that have to be
     told."""
     if crate == "program":
         for arguments, allowed in COMMANDS:
-            yield " ".join(arguments[:2]), [PROGRAM, *arguments], "", told_by_program(allowed), allowed
+            yield " ".join(arguments[:2]), [program, *arguments], "", told_by_program(allowed), allowed
     for row, allowed in WORDS.get(crate, ()):
         arguments, given = asked_twice(crate, row, folder)
         yield row[:60], [ROWS, *arguments], given, told_by_rows(allowed), allowed
@@ -222,7 +222,7 @@ def refused(given):
         folder = Folder(path)
         refuser = Refuser(folder, given.brief)
         for crate in given.crates or [*WORDS, "program"]:
-            for call in calls_of(crate, folder):
+            for call in calls_of(crate, given.program, folder):
                 right &= refuser.tried(*call)
     told = f"{refuser.calls} calls, {refuser.refused} allocations refused, {time.monotonic() - begun:.0f} seconds"
     print(f"{told}; {'all right' if right else 'not right'}")

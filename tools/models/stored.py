@@ -36,10 +36,6 @@ class Stored:
         """The names that two of these rows have."""
         return [f"two rows {name}" for name, number in collections.Counter(self.rows(wanted)).items() if number > 1]
 
-    def not_computed(self):
-        """The names of the rows that keep their answer."""
-        return [name for name in self.rows(lines_of(self.path)) if name in text_rows.NOT_COMPUTED]
-
     def write(self):
         """Writes the answers anew."""
         self.path.write_text("".join(f"{line}\n" for line in self.wanted()))
@@ -115,14 +111,12 @@ def is_right(it):
 
 
 def check(paths):
-    """Whether what is stored is what the models answer; prints where it isn't, and which rows keep their answer."""
+    """Whether what is stored is what the models answer; prints where it isn't."""
     missing = [] if paths else unlisted()
     for line in missing:
         print(line)
     right = all([is_right(it) for it in named(paths)])
-    left = [name for it in named(paths) for name in it.not_computed()]
-    print(f"not computed: {len(left)} ({', '.join(left)})")
-    return right and not missing and (bool(paths) or left == list(text_rows.NOT_COMPUTED))
+    return right and not missing
 
 
 def write(paths):

@@ -1,8 +1,5 @@
 """Rows of texts, binaries and sets of packages, and of what is read alone (docs/FORMATS.md, "Text rows", "Reading
-rows").
-
-NOT_COMPUTED has the rows that keep their answer.
-"""
+rows")."""
 import re
 
 from . import atoms, changed, component, memory_rows, reading, rows, sessions
@@ -16,8 +13,6 @@ STATUS = {Trap: " (3)"}
 # the commands whose answer is one line, of what stands behind them
 ALONE = {**atoms.COMMANDS, **component.COMMANDS, **changed.COMMANDS, **memory_rows.COMMANDS}
 CHANGED = {"fronts": changed.fronts, "changes": changed.changes}
-# opening a package of so many bytes again takes minutes
-NOT_COMPUTED = ("entries-65535-again",)
 # the commands that name a function, and how many words stand before the inputs
 NAMING = {"call": 4, "find": 2}
 
@@ -175,11 +170,9 @@ def is_row(line):
 
 
 def known(kept, row):
-    """A row with the answer of the models, or as it is if they don't compute that."""
+    """A row with the answer of the models."""
     front = row[0].partition(" =>")[0]
-    name, asked = front.split(": ", 1)
-    if name in NOT_COMPUTED:
-        return row
+    asked = front.split(": ", 1)[1]
     return spelled(front, *answer(kept, asked))
 
 

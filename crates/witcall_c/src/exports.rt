@@ -37,8 +37,8 @@ use opening::{IndexedPackage, OpenError, open_indexed};
 use std::alloc::Global;
 use tables::Direction;
 
-/// The version of the library, which VERSION has for all of the repository.
-const VERSION: &[u8] = b"0.2.0";
+/// The version of the library, `+`, and the commit that the release was made of, or `next` after a release.
+const VERSION: &[u8] = b"0.2.0+next";
 
 /// The number of the binary interface that the header declares. Another number means that a host has to be compiled
 /// anew.
@@ -52,7 +52,7 @@ pub extern "C" fn witcall_abi() -> u32
     ABI
 }
 
-/// The version's bytes, with no end.
+/// The version's bytes, as `VERSION` has them, with no end.
 #[unsafe(no_mangle)]
 pub extern "C" fn witcall_version(bytes: &mut [u8]) -> Status
     ensures { (done : Result ℕ CallError) × (result ≡ status_of done)
