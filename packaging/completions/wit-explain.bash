@@ -11,7 +11,8 @@ _wit_explain() {
     if [[ $before == --color ]]; then
         mapfile -t COMPREPLY < <(compgen -W 'auto always never' -- "$current")
     elif [ "$COMP_CWORD" -eq 1 ]; then
-        mapfile -t COMPREPLY < <(compgen -W 'check show text bin encode layout diff call bind --help --version' -- "$current")
+        options='check show text bin encode embed decode layout diff call bind --help --version'
+        mapfile -t COMPREPLY < <(compgen -W "$options" -- "$current")
     elif [[ ${COMP_WORDS[1]} == bind && $COMP_CWORD -eq 2 && $current != -* ]]; then
         mapfile -t COMPREPLY < <(compgen -W 'c guest ts' -- "$current")
     elif [[ $current == -* ]]; then
@@ -19,12 +20,12 @@ _wit_explain() {
             check | show) options='--json --color --help' ;;
             layout) options='--svg --json --color --help' ;;
             bin) options='-o --output --color --help' ;;
-            encode) options='-o --output --world --color --help' ;;
+            encode | embed) options='-o --output --world --color --help' ;;
             call) options='--svg --color --help' ;;
-            text | diff) options='--color --help' ;;
-            bind) options='--world --color --help' ;;
+            text | decode | diff | bind) options='--color --help' ;;
             *) options=--help ;;
         esac
+        [[ ${COMP_WORDS[1]} != bind || ${COMP_WORDS[2]} != guest ]] || options="--world $options"
         mapfile -t COMPREPLY < <(compgen -W "$options" -- "$current")
     else
         compopt -o default
