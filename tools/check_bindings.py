@@ -10,13 +10,15 @@ and the memory that its `fill` leaves are those of the model of the Canonical AB
 reads is the value that the model put there. So is what the callee's `receive` reads, and the model reads the value that
 its `answer` gave. Each header is compiled with its short names, too.
 
-The program is the one that was built, crates/explain/out/explain, if no other is named. It prints each package that
-fails, and a line with the numbers of all. The exit status is 1 if one fails.
+The program is the one that was built, crates/explain/out/explain, if no other is named. The same N and SEED give the
+same packages, values and compilers. It prints each package that fails, and a line with the numbers of all. The exit
+status is 1 if one fails, or if a compiler or its sanitizers are missing.
 """
 import argparse
 import os
 import pathlib
 import random
+import re
 import shutil
 import subprocess
 import sys
@@ -29,6 +31,7 @@ sys.path.insert(0, str(ROOT))
 from tools.c_headers import Header  # noqa: E402
 from tools.models import abi  # noqa: E402
 from tools.models.crossing import Flat, Given, Stored, Way, lifted, lowered  # noqa: E402
+from tools.models.faults import Refused  # noqa: E402
 from tools.models.memory import Bump, Memory  # noqa: E402
 from tools.models.opening import opened  # noqa: E402
 from tools.models.random_calls import Source  # noqa: E402
@@ -38,9 +41,15 @@ EXAMPLES = sorted(it for it in (ROOT / "examples").rglob("*.wit") if it.parent.n
 WASI = [ROOT / "examples" / "wasi" / f"{name}.wit" for name in ("clocks", "random", "cli", "app")]
 STRICT = ["-Wall", "-Wextra", "-Werror", "-pedantic", f"-I{ROOT}/include"]
 DIALECTS = {"c": ["-x", "c", "-std=c11"], "c++": ["-x", "c++", "-std=c++17"]}
+# the compilers of programs, each with its language, and Debian's package of it and of its sanitizers
+COMPILERS = {"gcc": "c", "clang": "c", "g++": "c++", "clang++": "c++"}
+PACKAGES = {"gcc": ["gcc", "gcc"], "g++": ["g++", "g++"], "clang": ["clang", "libclang-rt-14-dev"],
+            "clang++": ["clang", "libclang-rt-14-dev"]}
 SANITIZED = ["-g", "-fsanitize=address,undefined", "-fno-sanitize-recover=all"]
 CALLS = 3
 START, ROOM = 16, 1 << 16
+# the heading of an interface below its comment in WIT
+HEADING = re.compile(r"^/\*\n(?: \*.*\n)*? \* ---- (\S+)\n \*/$", re.M)
 # packages of which two names become one in C, or a name one that C has
 COLLIDING = [
     "package a:b; interface c { record d-e { x: u8, y: u16 } variant v { b-c(u8) } variant v-b { c(u8) } "
@@ -441,14 +450,31 @@ def run(words):
     return done.stdout
 
 
+def missing_tools(folder):
+    """What is said of each compiler that is not there or makes no program with sanitizers that runs."""
+    source, binary = folder / "empty.c", folder / "empty"
+    source.write_text("int main(void) { return 0; }\n")
+    for compiler, dialect in COMPILERS.items():
+        package, sanitizers = PACKAGES[compiler]
+        if not shutil.which(compiler):
+            yield f"no {compiler}: apt-get install -y {package}"
+            continue
+        try:
+            run([compiler, *DIALECTS[dialect], *SANITIZED, "-o", str(binary), str(source)])
+            run([str(binary)])
+        except Fault:
+            yield f"{compiler} has no sanitizers here: apt-get install -y {sanitizers}"
+
+
 def compile_alone(folder):
-    """Compiles a header that nothing else is with, twice in a row, with its short names."""
+    """Compiles a header that nothing else is with, twice in a row, with its short names. How often."""
     source = folder / "alone.h.c"
     twice = '#include "header.h"\n' * 2
     source.write_text(f"#define WIT_SHORT_NAMES\n{twice}int main(void) {{ return 0; }}\n")
-    for compiler in ("gcc", "clang"):
-        for dialect in DIALECTS.values():
-            run([compiler, *dialect, *STRICT, "-fsyntax-only", str(source)])
+    ways = [(compiler, dialect) for compiler in ("gcc", "clang") for dialect in DIALECTS.values()]
+    for compiler, dialect in ways:
+        run([compiler, *dialect, *STRICT, "-fsyntax-only", str(source)])
+    return len(ways)
 
 
 def path_of(files, folder):
@@ -474,12 +500,12 @@ def test_functions(header, packages):
 
 
 def check(program, files, folder, number):
-    """Checks the header of a set of files; how many calls were compared."""
+    """Checks the header of a set of files; how often it was compiled, and how many calls and values were compared."""
     text = run([program, "bind", "c", str(path_of(files, folder))])
-    header = Header(text)
+    header = Header(HEADING.sub(r"/* ---- \1 */", text))
     (folder / "header.h").write_text(text)
     (folder / "prelude.h").write_text(PRELUDE)
-    compile_alone(folder)
+    compiled = compile_alone(folder)
     model = opened(header.texts)
     test_functions(header, model)
     calls = Program(number)
@@ -488,11 +514,11 @@ def check(program, files, folder, number):
             calls.call(model.function(made.full_name, made.name), made)
     source, binary = folder / "calls.c", folder / "calls"
     source.write_text(calls.text())
-    compiler, dialect = [("gcc", "c"), ("clang", "c"), ("g++", "c++"), ("clang++", "c++")][number % 4]
+    compiler, dialect = list(COMPILERS.items())[number % 4]
     run([compiler, *DIALECTS[dialect], *STRICT, *SANITIZED, "-o", str(binary), str(source)])
     for fault in calls.faults(run([str(binary)])):
         raise Fault(fault)
-    return len(calls.calls)
+    return compiled + 1, len(calls.calls), len(calls.checks)
 
 
 def written(folder, name, texts):
@@ -516,13 +542,13 @@ def packages_of(count, seed, folder):
 
 
 def checked(program, folder, numbered):
-    """How many calls were compared of a set, and what is wrong or None."""
+    """What was compared of a set, and what is wrong or None."""
     number, (title, files) = numbered
     with tempfile.TemporaryDirectory(dir=folder) as own:
         try:
             return check(program, files, pathlib.Path(own), number), None
-        except Fault as fault:
-            return 0, f"FAILED {title}: {fault}\n" + "\n".join(file.read_text() for file in files)
+        except (Fault, Refused) as fault:
+            return (0, 0, 0), f"FAILED {title}: {fault}\n" + "\n".join(file.read_text() for file in files)
 
 
 def main():
@@ -533,16 +559,19 @@ def main():
     parser.add_argument("count", nargs="?", type=int, default=200)
     parser.add_argument("seed", nargs="?", default="1")
     words = parser.parse_args()
-    with tempfile.TemporaryDirectory() as name, ThreadPoolExecutor(max(1, (os.cpu_count() or 1) // 2)) as pool:
+    if not os.access(words.program, os.X_OK):
+        sys.exit(f"tools/check_bindings.py: there is no program {words.program}")
+    with tempfile.TemporaryDirectory() as name, ThreadPoolExecutor(len(os.sched_getaffinity(0))) as pool:
         folder = pathlib.Path(name)
-        sets = enumerate(packages_of(words.count, words.seed, folder))
+        missing = list(missing_tools(folder))
+        sets = enumerate(packages_of(words.count, words.seed, folder)) if not missing else []
         results = list(pool.map(lambda numbered: checked(words.program, folder, numbered), sets))
-    faults = [fault for _, fault in results if fault]
-    calls = [count for count, _ in results]
+    faults = [*missing, *(fault for _, fault in results if fault)]
     for fault in faults:
         print(fault)
-    called = f"{sum(count > 0 for count in calls)} with calls, {sum(calls)} calls compared"
-    print(f"{len(results)} packages, {called}, {len(faults)} failed")
+    headers, calls, values = (sum(found[place] for found, _ in results) for place in range(3))
+    compared = f"{headers} compilations, {calls} calls and {values} values compared"
+    print(f"{len(results)} packages of seed {words.seed}, {compared}, {len(faults)} failed")
     sys.exit(1 if faults else 0)
 
 
