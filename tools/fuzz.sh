@@ -2,47 +2,61 @@
 # Runs the harnesses of tests/fuzz over the library for C, under the address and undefined behaviour sanitizers, and
 # compares what the library did with the models of tools/models.
 #
-# usage: tools/fuzz.sh [--released | --built] MINUTES [FOLDER]
+# usage: tools/fuzz.sh [--from FOLDER] MINUTES [KEPT]
+#        tools/fuzz.sh [--from FOLDER] --gate
 #
-# The library is installed by tools/install.sh, whose words --released and --built are. The harnesses run for MINUTES in
-# all, two at a time. Inputs that mark something new stay in FOLDER for the next run; without it a temporary folder is
-# made, and stays if something is found.
+# The library is installed by tools/install.sh, whose word --from is. The harnesses run for MINUTES in all, two at a
+# time. Inputs that mark something new stay in KEPT for the next run; without it a temporary folder is made, and stays
+# if something is found. At the end open, halves and json run 10,000 more inputs each, and tests/fuzz/compare.py
+# compares what they did.
 #
-# | harness | its inputs                                                                | share of the time |
-# |---------|---------------------------------------------------------------------------|-------------------|
-# | halves  | types, values and blocks of calls; each half, and what it asks for         | half of a process |
-# | json    | the same with values as JSON, and texts that are none                      | half of a process |
-# | open    | texts and binaries: what is opened is written and opens again              | half of the other |
-# | set     | sets of texts and binaries, their lengths, and names that are looked for   | three eighths     |
-# | status  | statuses and the room for their lines                                      | one eighth        |
+# With --gate each harness runs so many inputs of a fixed seed, which are the same in each run over the same library,
+# and fewer are compared. This takes a minute on four cores.
 #
-# The first inputs are made of the stored rows (tests/fuzz/seeds.py). At the end open, halves and json run COMPARED more
-# inputs each, and tests/fuzz/compare.py compares what they did. A line for each harness has the number of its inputs.
-# The exit status is 1 if something is found or missing.
+# | harness | its inputs                                              | share of the time | gate: run | compared |
+# |---------|---------------------------------------------------------|-------------------|-----------|----------|
+# | halves  | types, values and blocks of calls; each half alone,     | half of a process |   120,000 |    3,000 |
+# |         | and what it asks for                                    |                   |           |          |
+# | json    | the same with values as JSON, and texts that are none   | half of a process |    60,000 |    3,000 |
+# | open    | texts and binaries: what is opened is written and opens | half of the other |   200,000 |    3,000 |
+# |         | again                                                   |                   |           |          |
+# | set     | sets of texts and binaries, and their lengths           | three eighths     |   300,000 |          |
+# | status  | statuses and the room for their lines                   | one eighth        |   100,000 |          |
+#
+# The first inputs are made of the stored rows (tests/fuzz/seeds.py). A line for each harness has the number of its
+# inputs. The exit status is 1 if something is found or missing, or if fewer inputs ran than are stated here.
 #
 # It needs clang with libFuzzer, and python3: in Debian `apt-get install -y clang libclang-rt-14-dev python3`.
 set -eu
 root=$(cd "$(dirname "$0")/.." && pwd)
-origin=''
-case "${1-}" in
-    --released | --built)
-        origin=$1
-        shift ;;
-esac
-case "${1-}" in
-    '' | *[!0-9]*)
-        echo "usage: tools/fuzz.sh [--released | --built] MINUTES [FOLDER]" >&2
-        exit 2 ;;
-esac
-seconds=$(($1 * 60))
-COMPARED=10000
 HARNESSES="halves json open set status"
-if [ $# -gt 1 ]; then
-    mkdir -p "$2"
-    build=$(cd "$2" && pwd)
-else
-    build=$(mktemp -d)
-fi
+MODELLED="open halves json"
+
+usage() {
+    echo "usage: tools/fuzz.sh [--from FOLDER] MINUTES [KEPT], or tools/fuzz.sh [--from FOLDER] --gate" >&2
+    exit 2
+}
+
+from='' gate=''
+while [ $# -gt 0 ]; do
+    case "$1" in
+        --gate) gate=yes ;;
+        --from)
+            [ $# -gt 1 ] || usage
+            from=$2
+            shift ;;
+        --from=*) from=${1#*=} ;;
+        -*) usage ;;
+        *) break ;;
+    esac
+    shift
+done
+case "$gate${1-}" in
+    yes) [ $# = 0 ] || usage ;;
+    '' | *[!0-9]*) usage ;;
+esac
+seconds=$((${1:-0} * 60))
+kept=${2-}
 
 fail() {
     echo "fuzz: $1" >&2
@@ -53,6 +67,13 @@ for tool in clang python3; do
     command -v "$tool" >/dev/null || fail "there is no $tool: apt-get install -y clang libclang-rt-14-dev python3"
 done
 
+if [ -n "$kept" ]; then
+    mkdir -p "$kept"
+    build=$(cd "$kept" && pwd)
+else
+    build=$(mktemp -d)
+fi
+
 # ---- building
 
 flags='-std=gnu11 -g -O1 -Wall -Wextra -Werror -fsanitize=fuzzer,address,undefined -fno-sanitize-recover=all'
@@ -62,8 +83,19 @@ clang $flags -o "$build/empty" "$build/empty.c" 2>"$build/log" ||
     fail "clang has no libFuzzer: apt-get install -y libclang-rt-14-dev (or that of clang's version); clang says:
 $(head -n 1 "$build/log")"
 
-# shellcheck disable=SC2086 # no word if none was given
-"$root/tools/install.sh" --prefix "$build/installed" $origin >"$build/log" || fail "the library can't be installed"
+# Makes the first inputs, and a list of those of each harness in a fixed order.
+make_seeds() {
+    rm -rf "$build/seeds"
+    python3 -B "$root/tests/fuzz/seeds.py" "$build/seeds" >"$build/seeds.log" || return 1
+    for harness in $HARNESSES; do
+        find "$build/seeds/$harness" -type f | LC_ALL=C sort | paste -sd, - >"$build/seeds/$harness.list"
+    done
+}
+
+make_seeds &
+seeds=$!
+"$root/tools/install.sh" --prefix "$build/installed" ${from:+--from "$from"} >"$build/log" ||
+    fail "the library can't be installed"
 for harness in $HARNESSES; do
     wrapped=''
     [ "$harness" != open ] || wrapped='-Wl,--wrap=malloc -Wl,--wrap=realloc'
@@ -72,25 +104,75 @@ for harness in $HARNESSES; do
         "$root/tests/fuzz/$harness.c" "$build/installed/lib/libwitcall.a" ||
         fail "$harness can't be built"
 done
-python3 -B "$root/tests/fuzz/seeds.py" "$build/seeds" >"$build/log" || fail "no first inputs can be made"
+wait "$seeds" || fail "no first inputs can be made"
 
 # ---- running
 
-# Runs a harness for so many seconds.
+# Runs a harness with options of libFuzzer, over the inputs that were kept. In the gate nothing may depend on what a
+# folder's order is, or where things lie in memory: no operands of comparisons are kept, and leaks are looked for at the
+# end alone.
 run() {
-    mkdir -p "$build/kept/$1" "$build/found"
-    "$build/$1" -max_total_time="$2" -max_len=4096 -timeout=10 -dict="$build/seeds/words.dict" \
-        -artifact_prefix="$build/found/$1-" -print_final_stats=1 "$build/kept/$1" "$build/seeds/$1" \
-        >"$build/$1.log" 2>&1 || echo failed >"$build/$1.failed"
+    harness=$1
+    shift
+    mkdir -p "$build/kept/$harness" "$build/found"
+    if [ -n "$gate" ]; then
+        set -- "$@" -seed=1 -reload=0 -use_cmp=0 -detect_leaks=0 "-seed_inputs=@$build/seeds/$harness.list"
+    else
+        set -- "$@" "$build/kept/$harness" "$build/seeds/$harness"
+    fi
+    "$build/$harness" -max_len=4096 -timeout=10 -dict="$build/seeds/words.dict" \
+        -artifact_prefix="$build/found/$harness-" -print_final_stats=1 "$@"
 }
 
-rm -f "$build"/*.failed
-if [ "$seconds" -gt 0 ]; then
-    (run halves $((seconds / 2)); run json $((seconds / 2))) &
-    run open $((seconds / 2))
-    run set $((seconds * 3 / 8))
-    run status $((seconds / 8))
+# Runs a harness with an option that says how long or how many, and states how many inputs have to run at least.
+run_stated() {
+    echo "$3" >"$build/$1.stated"
+    run "$1" "$2" >"$build/$1.log" 2>&1 || echo failed >"$build/$1.failed"
+}
+
+run_for() {
+    run_stated "$1" -max_total_time="$2" 1
+}
+
+run_inputs() {
+    run_stated "$1" -runs="$2" "$2"
+}
+
+# Whether so many inputs, those that stay and changed ones, do what the models say. The cases are written to a file:
+# libFuzzer's timer may interrupt what is written to a pipe.
+is_modelled() {
+    cases="$build/$1.cases"
+    rm -f "$cases"
+    (export WITCALL_CASES="$cases" && run "$1" -runs="$2" >"$build/$1-cases.log" 2>&1) || return 1
+    inputs=$(sed -n 's/^Done \([0-9]*\) runs.*/\1/p' "$build/$1-cases.log")
+    [ "${inputs:-0}" -ge "$2" ] || return 1
+    python3 -B "$root/tests/fuzz/compare.py" "$cases" || return 1
+    rm -f "$cases"
+}
+
+# Compares such inputs of each harness that has a model.
+compare() {
+    for modelled in $MODELLED; do
+        is_modelled "$modelled" "$1" >"$build/$modelled.compared" 2>&1 || echo failed >"$build/$modelled.differs"
+    done
+}
+
+rm -f "$build"/*.failed "$build"/*.stated "$build"/*.differs
+if [ -n "$gate" ]; then
+    run_inputs halves 120000 &
+    run_inputs json 60000 &
+    (run_inputs open 200000; run_inputs set 300000; run_inputs status 100000) &
+    compare 3000
     wait
+else
+    if [ "$seconds" -gt 0 ]; then
+        (run_for halves $((seconds / 2)); run_for json $((seconds / 2))) &
+        run_for open $((seconds / 2))
+        run_for set $((seconds * 3 / 8))
+        run_for status $((seconds / 8))
+        wait
+    fi
+    compare 10000
 fi
 
 # ---- telling
@@ -98,31 +180,28 @@ fi
 failed=0
 all=0
 for harness in $HARNESSES; do
-    [ "$seconds" -gt 0 ] || continue
+    [ -f "$build/$harness.stated" ] || continue
     inputs=$(sed -n 's/^stat::number_of_executed_units: *//p' "$build/$harness.log")
     if [ -f "$build/$harness.failed" ]; then
         echo "FAILED $harness: see $build/$harness.log and $build/found"
         grep -a "it doesn't hold\|ERROR\|SUMMARY\|timeout" "$build/$harness.log" | head -n 5
         failed=1
+    elif [ "${inputs:-0}" -lt "$(cat "$build/$harness.stated")" ]; then
+        echo "FAILED $harness: fewer than $(cat "$build/$harness.stated") inputs"
+        failed=1
     fi
-    echo "$harness: ${inputs:-0} inputs, $(find "$build/kept/$harness" -type f | wc -l) kept"
+    echo "$harness: ${inputs:-0} inputs"
     all=$((all + ${inputs:-0}))
 done
-
-# Runs inputs that stay and changed ones, and compares what was done.
-compared() {
-    mkdir -p "$build/kept/$1"
-    WITCALL_CASES=/dev/fd/3 "$build/$1" -runs=$COMPARED -max_len=4096 "$build/kept/$1" "$build/seeds/$1" \
-        3>&1 >"$build/$1-cases.log" 2>&1 |
-        python3 -B "$root/tests/fuzz/compare.py" /dev/stdin && grep -q '^Done ' "$build/$1-cases.log"
-}
-
-for harness in open halves json; do
-    compared "$harness" || { echo "FAILED $harness: it differs from the models"; failed=1; }
+for harness in $MODELLED; do
+    cat "$build/$harness.compared"
+    [ -f "$build/$harness.differs" ] || continue
+    echo "FAILED $harness: it differs from the models, or fewer inputs ran: see $build/$harness-cases.log"
+    failed=1
 done
 if [ $failed != 0 ]; then
     echo "fuzz: $all inputs, and faults"
     exit 1
 fi
-[ $# -gt 1 ] || rm -rf "$build"
+[ -n "$kept" ] || rm -rf "$build"
 echo "fuzz: $all inputs, nothing found"

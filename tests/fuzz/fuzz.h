@@ -121,7 +121,7 @@ static inline void put_words(const char *format, ...) {
     va_list arguments;
     va_start(arguments, format);
     if (cases())
-        vfprintf(cases(), format, arguments);
+        HOLDS(vfprintf(cases(), format, arguments) >= 0);
     va_end(arguments);
 }
 

@@ -4,8 +4,8 @@
  *
  * What has to hold: the memory that is read is as it was, and the other one outside the blocks. What is asked for is
  * asked for with any limit from its sum on, and is 76 with any less. The half is done with just these blocks. What it
- * put asks for the same blocks again. A call that was begun does the same. An answer is read as JSON just if its requests
- * are told. tests/fuzz/compare.py compares the rest with the models.
+ * put asks for the same blocks again. A call that was begun does the same. An answer is read as JSON just if its
+ * requests are told. tests/fuzz/compare.py compares the rest with the models.
  */
 #include "calls.h"
 

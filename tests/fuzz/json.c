@@ -5,8 +5,9 @@
  * What has to hold: the memory of the result is as it was, and the other one outside the blocks. What is asked for is
  * asked for with any limit from its sum on, and is 76 with any less. The arguments are put into just these blocks. What
  * is put asks for the same blocks again, as the result does whose JSON it is, and has that JSON again, also as the
- * arguments of a guest's call. Then the JSON is put into the same memory as the result of such a call, and is read there.
- * A text that is refused is refused before anything is written. tests/fuzz/compare.py compares the rest with the models.
+ * arguments of a guest's call. Then the JSON is put into the same memory as the result of such a call, and is read
+ * there. A text that is refused is refused before anything is written. tests/fuzz/compare.py compares the rest with the
+ * models.
  */
 #include "calls.h"
 
@@ -111,8 +112,8 @@ static size_t record_blocks(call *c) {
     return flat > 16;
 }
 
-/* What was put is read as the arguments that a guest passes: as the same JSON if the library wrote that, and else as JSON
- * that asks for the same blocks. */
+/* What was put is read as the arguments that a guest passes: as the same JSON if the library wrote that, and else as
+ * JSON that asks for the same blocks. */
 static void check_received(call *c, const asked *a, values given) {
     static uint8_t text[MOST_JSON], held[MEMORY];
     memory *m = &c->target;
@@ -244,8 +245,8 @@ static void check_answered(call *c, witcall_block area, const witcall_value *out
     HOLDS(is_done(told) && told.count == c->json_len && memcmp(text, c->json, c->json_len) == 0);
 }
 
-/* The JSON is put into the memory as the result of a guest's call. If it was read of an answer, it asks for the blocks that
- * the answer does. */
+/* The JSON is put into the memory as the result of a guest's call. If it was read of an answer, it asks for the blocks
+ * that the answer does. */
 static void check_served(call *c, input *in, witcall_value *out) {
     static witcall_request back[SLOTS];
     witcall_block area;
