@@ -5,8 +5,9 @@ usage: tools/changed_texts.py [COUNT [PROGRAM]]
 
 COUNT is 20,000 if it is left out. PROGRAM is the program of release/, which is unpacked, and WITCALL_MODULE the
 module's path if it isn't that of the release. Each changed text is opened by node (bindings/js/tests/changed.mjs) and
-by PROGRAM: both have to refuse it by the same line, or to write the same binary and the same text. It takes some
-minutes, so the gate leaves it out. The exit status is 1 if an answer differs.
+by PROGRAM: both have to refuse it by the same line, or to write the same binary and the same text. The same COUNT gives
+the same texts. 10,000 take a minute of processor time. The exit status is 1 if an answer differs, or if there is no
+node.
 """
 import concurrent.futures
 import gzip
@@ -59,7 +60,7 @@ def unpacked(folder):
 
 def main():
     if not shutil.which("node"):
-        sys.exit("tools/changed_texts.py: no node")
+        sys.exit("tools/changed_texts.py: no node: apt-get install -y nodejs")
     count = int(sys.argv[1]) if len(sys.argv) > 1 else 20000
     rng, given = random.Random(SEED), texts()
     made = [changed_text(rng.choice(given), rng) for _ in range(count)]

@@ -1,10 +1,11 @@
 #!/usr/bin/env python3
-"""Runs wit-explain in a terminal of 80 columns, and compares what stands there, with its colors, with tests/explain/terminal.
+"""Runs wit-explain in a terminal of 80 columns, and compares what is there, with its colors, with the screens of
+tests/explain/terminal.
 
 usage: tools/terminal_test.py [--program WIT-EXPLAIN] [--write]
 
-The program is the one of the release, if no other is named. The terminal is one of tmux, without which nothing is run, and
-the script says so. --write stores what stands there. The exit status is 1 if one of the screens differs.
+The program is the one of the release, if no other is named. The terminal is one of tmux. --write stores what is there.
+The exit status is 1 if one of the screens differs, or if there is no tmux.
 """
 import difflib
 import gzip
@@ -31,7 +32,8 @@ END = re.compile(r"^(?:\x1b\[[\d;]*m)*status \d+$", re.M)
 
 def tmux(socket, *words):
     """What a tmux prints on these words, whose server is the one of this socket."""
-    return subprocess.run(["tmux", "-S", socket, "-f", "/dev/null", *words], check=True, capture_output=True, text=True).stdout
+    words = ["tmux", "-S", socket, "-f", "/dev/null", *words]
+    return subprocess.run(words, check=True, capture_output=True, text=True).stdout
 
 
 def screen_of(program, words, socket):
@@ -63,7 +65,8 @@ def faults_of(shown):
         stored = SCREENS / f"{name}.txt"
         lines = stored.read_text().splitlines() if stored.exists() else []
         if lines != screen.splitlines():
-            yield "\n".join([f"{stored.name}: another screen", *difflib.unified_diff(lines, screen.splitlines(), lineterm="")])
+            changes = difflib.unified_diff(lines, screen.splitlines(), lineterm="")
+            yield "\n".join([f"{stored.name}: another screen", *changes])
 
 
 def main():
@@ -72,8 +75,7 @@ def main():
     options.add_argument("--write", action="store_true")
     given = options.parse_args()
     if not shutil.which("tmux"):
-        print("LEFT OUT: no terminal is tried, since there is no tmux")
-        return
+        sys.exit("tools/terminal_test.py: no tmux: apt-get install -y tmux")
     with tempfile.TemporaryDirectory() as room:
         room = pathlib.Path(room)
         program = given.program.resolve() if given.program else released(room)

@@ -1,21 +1,26 @@
 #!/usr/bin/env python3
-"""Tries `wit-explain encode` and `wit-explain decode` on random packages and on damaged binaries. The gate does not run it.
+"""Tries `wit-explain encode` and `wit-explain decode` on random packages and on damaged binaries.
 
-usage: tools/try_binaries.py [--program WIT-EXPLAIN] [N [SEED]]      N random sets, 200 if it is not given
+usage: tools/try_binaries.py [--program WIT-EXPLAIN] [--unjudged] [N [SEED]]      N random sets, 200 if it is not given
 
-Each random set is encoded, as a package and as each of its worlds. What is encoded is decoded: the package's text has to be the same, and the
-bytes when it is encoded again. Then one byte at a time of these binaries and of those in tests/binaries is changed, 10 N times. No changed
-binary may end the program otherwise than with status 0 or 1.
+Each random set is encoded, as a package and as each of its worlds. What is encoded is decoded: the package's text has
+to be the same, and the bytes when it is encoded again. Then one byte at a time of these binaries and of those in
+tests/binaries is changed, 10 N times. No changed binary may end the program otherwise than with status 0 or 1. The same
+N and SEED give the same sets and changes.
 
-If rustc has its linker of components, wasm-component-ld, it is the judge. Otherwise the script says that it is left out. Of the text of each
-world it has to make the bytes that we write; tools/freed_blocks.c, loaded before it, keeps them. Of a package it makes worlds that include each
-world, import each interface, and export each interface: of our binary the same ones as of its text. It has to refuse each set that we refuse,
-and to read each changed binary that we decode. Where it panics it says nothing of them, and this is counted.
+The judge is rustc's linker of components, wasm-component-ld. Of the text of each world it has to make the bytes that we
+write; tools/freed_blocks.c, loaded before it, keeps them. Of a package it makes worlds that include each world, import
+each interface, and export each interface: of our binary the same ones as of its text. It has to refuse each set that we
+refuse, and to read each changed binary that we decode. Where it panics it says nothing of them, and this is counted.
+With --unjudged it is not asked.
+
+The exit status is 1 if something is wrong, or if there is no judge or no C compiler for what is loaded before it.
 """
 import os
 import pathlib
 import random
 import re
+import shutil
 import subprocess
 import sys
 import tempfile
@@ -29,6 +34,7 @@ from tools.repository import parser  # noqa: E402
 
 BUILT = ROOT / "crates" / "explain" / "out" / "explain"
 PRIMITIVES = "bool s8 u8 s16 u16 s32 u32 s64 u64 char string".split()
+SHAPES = ["list<{}>", "option<{}>", "tuple<{}, {}>", "result<{}, {}>", "result<_, {}>", "result<{}>", "result"]
 LABELS = "a b c-d E-f %list %record g0 h-i-j".split()
 MODULE = b"\0asm\1\0\0\0"
 # what the linker says of a binary that it cannot read: of a section, and of a file
@@ -52,7 +58,7 @@ class Sets:
         if depth == 0 or self.random.random() < 0.5:
             return self.random.choice(PRIMITIVES + names * 3)
         inner = [self.type(names, depth - 1) for _ in range(2)]
-        return self.random.choice(["list<{}>", "option<{}>", "tuple<{}, {}>", "result<{}, {}>", "result<_, {}>", "result<{}>", "result"]).format(*inner)
+        return self.random.choice(SHAPES).format(*inner)
 
     def definition(self, name, names):
         """The definition of a type of this name."""
@@ -68,12 +74,13 @@ class Sets:
 
     def function(self, name, names):
         """A function of this name."""
-        parameters = ", ".join(f"{it}: {self.type(names)}" for it in self.random.sample(LABELS, self.random.randint(0, 3)))
+        labels = self.random.sample(LABELS, self.random.randint(0, 3))
+        parameters = ", ".join(f"{it}: {self.type(names)}" for it in labels)
         result = f" -> {self.type(names)}" if self.random.random() < 0.8 else ""
         return f"{name}: func({parameters}){result};"
 
     def interface(self, number, known):
-        """An interface that may use types of known ones, which are told by their paths, and the names of its own types."""
+        """An interface that may use types of known ones, which are given by their paths, and the names of its types."""
         items, names = [], []
         for path in self.random.sample(sorted(known), min(len(known), self.random.randint(0, 2))):
             for used in known[path][:2]:
@@ -188,7 +195,7 @@ class Judge:
         return done.stderr.decode(errors="replace"), done.returncode
 
     def refusal(self, stem, binary):
-        """What the linker says if it cannot read a binary: a file in the place of a package, or a section of a module."""
+        """What the linker says if it cannot read a binary: a file in place of a package, or a section of a module."""
         types = self.room / "types.wasm"
         self.core.write_bytes(MODULE if stem == "package" else module(binary))
         types.write_bytes(binary)
@@ -207,7 +214,8 @@ class Judge:
                 (given / "deps" / "binary.wasm").write_bytes(binary)
             said, _ = self.run(given, LD_PRELOAD=str(self.keeper), FREED=str(self.freed))
         copies = self.freed.read_bytes() if self.freed.exists() else b""
-        found = {copies[it.start():it.start() + end_of(copies[it.start():])] for it in re.finditer(re.escape(WORLD), copies)}
+        worlds = [copies[it.start():] for it in re.finditer(re.escape(WORLD), copies)]
+        found = {it[: end_of(it)] for it in worlds}
         return found.pop() if len(found) == 1 else said
 
 
@@ -254,7 +262,8 @@ class Trial:
         if written is None and isinstance(made, bytes):
             self.fault(f"{name}: the judge makes a binary of {world}, which is refused")
         if written is not None and made != written:
-            self.fault(f"{name}: the judge makes another binary of {world}: {made.hex() if isinstance(made, bytes) else made}")
+            told = made.hex() if isinstance(made, bytes) else made
+            self.fault(f"{name}: the judge makes another binary of {world}: {told}")
 
     def package(self, texts, binary, name):
         """Has the judge make worlds of a package's text and of its binary. A binary without worlds has no functions of
@@ -271,7 +280,7 @@ class Trial:
                     self.fault(f"{name}: the judge makes other binaries of the package and of its text: {way} {item}")
 
     def judged(self, texts, written, name):
-        """Has the judge make what was written of a set, by the stems. Worlds of other packages may be ones to be refused."""
+        """Has the judge make what was written of a set, by the stems. Worlds of other packages may be refused."""
         texts = [without_worlds(it) for it in texts[:-1]] + texts[-1:]
         for stem, binary in written.items():
             if stem != "package":
@@ -314,17 +323,19 @@ class Trial:
 
 
 def judge_of(room):
-    """The judge, if it is there."""
-    program = linker()
+    """The judge; the script ends if it is not there."""
+    program, compiler = linker(), os.environ.get("CC", "cc")
     if program is None:
-        print("LEFT OUT: no linker of components reads the binaries, since rustc has none here")
-        return None
+        sys.exit("tools/try_binaries.py: rustc has no wasm-component-ld: Debian's has none, and that of rustup does")
+    if not shutil.which(compiler):
+        sys.exit(f"tools/try_binaries.py: no {compiler}: apt-get install -y gcc")
     return Judge(program, room)
 
 
 def main():
     options = parser(__doc__)
     options.add_argument("--program", type=pathlib.Path, default=BUILT)
+    options.add_argument("--unjudged", action="store_true")
     options.add_argument("count", nargs="?", type=int, default=200)
     options.add_argument("seed", nargs="?", type=int, default=1)
     given = options.parse_args()
@@ -333,7 +344,7 @@ def main():
         sys.exit(f"tools/try_binaries.py: there is no {program}: run the gate, or name a program by --program")
     with tempfile.TemporaryDirectory() as room:
         room = pathlib.Path(room)
-        trial = Trial(program, judge_of(room), room)
+        trial = Trial(program, None if given.unjudged else judge_of(room), room)
         sets, chance = Sets(given.seed), random.Random(given.seed)
         binaries = [(it.stem, it.read_bytes()) for it in sorted((ROOT / "tests" / "binaries").glob("[0-9]*/*.wasm"))]
         for number in range(given.count):
@@ -341,7 +352,8 @@ def main():
         for _ in range(given.count * 10):
             trial.damaged(*chance.choice(binaries), chance)
     judged = f"{trial.judged_worlds} worlds made by the judge, {trial.panics} panics of it"
-    print(f"{trial.done} binaries of {program}, {judged}: {len(trial.faults)} faults")
+    judged = "not judged" if given.unjudged else judged
+    print(f"{given.count} sets of seed {given.seed}, {trial.done} binaries, {judged}: {len(trial.faults)} faults")
     sys.exit(bool(trial.faults))
 
 
