@@ -10,7 +10,6 @@ the same texts. 10,000 take a minute of processor time. The exit status is 1 if 
 node.
 """
 import concurrent.futures
-import gzip
 import json
 import pathlib
 import random
@@ -23,6 +22,7 @@ import tempfile
 ROOT = pathlib.Path(__file__).resolve().parent.parent
 sys.path.insert(0, str(ROOT))
 
+from tools.check_help import released  # noqa: E402
 from tools.models.damaged import changed_text  # noqa: E402
 
 SEED = 5
@@ -50,14 +50,6 @@ def by_module(folder, made):
     return map(json.loads, subprocess.run(words, check=True, stdout=subprocess.PIPE).stdout.splitlines())
 
 
-def unpacked(folder):
-    """The program of the release."""
-    program = folder / "witcall"
-    program.write_bytes(gzip.decompress((ROOT / "release/witcall.gz").read_bytes()))
-    program.chmod(0o755)
-    return program
-
-
 def main():
     if not shutil.which("node"):
         sys.exit("tools/changed_texts.py: no node: apt-get install -y nodejs")
@@ -66,7 +58,7 @@ def main():
     made = [changed_text(rng.choice(given), rng) for _ in range(count)]
     with tempfile.TemporaryDirectory() as name, concurrent.futures.ThreadPoolExecutor(2) as pool:
         folder = pathlib.Path(name)
-        program = sys.argv[2] if len(sys.argv) > 2 else unpacked(folder)
+        program = sys.argv[2] if len(sys.argv) > 2 else released("witcall", folder)
 
         def answer(place):
             path = folder / f"{place}.wit"

@@ -8,7 +8,6 @@ The program is the one of the release, if no other is named. The terminal is one
 The exit status is 1 if one of the screens differs, or if there is no tmux.
 """
 import difflib
-import gzip
 import pathlib
 import re
 import shutil
@@ -17,6 +16,7 @@ import sys
 import tempfile
 import time
 
+from check_help import released
 from repository import ROOT, parser
 
 FILES, SCREENS = ROOT / "tests" / "explain" / "files", ROOT / "tests" / "explain" / "terminal"
@@ -51,14 +51,6 @@ def screen_of(program, words, socket):
     raise TimeoutError(f"wit-explain {words} did not end")
 
 
-def released(room):
-    """The program of the release."""
-    program = room / "wit-explain"
-    program.write_bytes(gzip.decompress((ROOT / "release" / "wit-explain.gz").read_bytes()))
-    program.chmod(0o755)
-    return program
-
-
 def faults_of(shown):
     """How screens differ from those that are stored."""
     for name, screen in shown.items():
@@ -78,7 +70,7 @@ def main():
         sys.exit("tools/terminal_test.py: no tmux: apt-get install -y tmux")
     with tempfile.TemporaryDirectory() as room:
         room = pathlib.Path(room)
-        program = given.program.resolve() if given.program else released(room)
+        program = given.program.resolve() if given.program else released("wit-explain", room)
         shown = {name: screen_of(program, words, room / name) for name, words in RUNS.items()}
     if given.write:
         for name, screen in shown.items():
