@@ -6,7 +6,7 @@ usage: tools/changed_texts.py [COUNT [PROGRAM]]
 COUNT is 20,000 if it is left out. PROGRAM is the program of release/, which is unpacked, and WITCALL_MODULE the
 module's path if it isn't that of the release. Each changed text is opened by node (bindings/js/tests/changed.mjs) and
 by PROGRAM: both have to refuse it by the same line, or to write the same binary and the same text. The same COUNT gives
-the same texts. 10,000 take a minute of processor time. The exit status is 1 if an answer differs, or if there is no
+the same texts. 20,000 take a minute of processor time. The exit status is 1 if an answer differs, or if there is no
 node.
 """
 import concurrent.futures

@@ -85,7 +85,6 @@ $(head -n 1 "$build/log")"
 
 # Makes the first inputs, and a list of those of each harness in a fixed order.
 make_seeds() {
-    rm -rf "$build/seeds"
     python3 -B "$root/tests/fuzz/seeds.py" "$build/seeds" >"$build/seeds.log" || return 1
     for harness in $HARNESSES; do
         find "$build/seeds/$harness" -type f | LC_ALL=C sort | paste -sd, - >"$build/seeds/$harness.list"
@@ -190,7 +189,11 @@ for harness in $HARNESSES; do
         echo "FAILED $harness: fewer than $(cat "$build/$harness.stated") inputs"
         failed=1
     fi
-    echo "$harness: ${inputs:-0} inputs"
+    if [ -n "$gate" ]; then
+        echo "$harness: ${inputs:-0} inputs"
+    else
+        echo "$harness: ${inputs:-0} inputs, $(find "$build/kept/$harness" -type f | wc -l) kept"
+    fi
     all=$((all + ${inputs:-0}))
 done
 for harness in $MODELLED; do
