@@ -73,9 +73,24 @@ class Declarations(unittest.TestCase):
 class Loading(unittest.TestCase):
     def test_the_version_is_that_of_the_checkout(self):
         version = (TOP / "VERSION").read_text().strip()
-        self.assertEqual(witcall.version(), version)
+        self.assertEqual([witcall.version(), witcall.__version__], [version, version])
         project = (TOP / "bindings/python/pyproject.toml").read_text()
         self.assertIn(f'\nversion = "{version}"\n', project)
+
+    def test_the_library_says_its_version_and_may_say_its_commit(self):
+        told = witcall.library_version()
+        self.assertRegex(told, r"^\d+\.\d+\.\d+(\+[0-9a-f]{12})?$")
+        self.assertEqual(told.partition("+")[0], witcall.version())
+
+    def test_a_library_of_another_version_is_loaded(self):
+        for told in ("0.0.1", "9.0.0+0123456789ab"):
+            with mock.patch.object(_library, "bytes_of", return_value=told.encode()):
+                self.assertEqual(witcall.library_version(), told)
+                self.assertEqual(witcall.version(), told[:5])
+        with mock.patch.object(_library, "__version__", "9.0.0"):
+            _library.library.cache_clear()
+            _library.library()
+        _library.library.cache_clear()
 
     def loads(self, path):
         """What an import says if the library has this path."""
@@ -93,10 +108,14 @@ class Loading(unittest.TestCase):
     def test_another_binary_interface_is_told(self):
         with mock.patch.object(_library, "ABI", 1000):
             _library.library.cache_clear()
-            with self.assertRaisesRegex(ImportError, "is 2, and this package needs 1000"):
+            with self.assertRaisesRegex(ImportError, "is 2, and this package needs 1000") as caught:
                 _library.library()
+        versions = f"version {witcall.library_version()}, and this package {witcall.__version__}"
+        self.assertTrue(str(caught.exception).endswith(versions), caught.exception)
         _library.library.cache_clear()
 
     def test_the_names_of_the_package_are_there(self):
         for name in witcall.__all__:
+            if name == "__version__":
+                continue
             self.assertTrue(getattr(witcall, name).__doc__, name)

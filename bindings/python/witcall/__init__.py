@@ -8,12 +8,13 @@ f
 from ._calls import Block, Call, CoreValue, Request
 from ._errors import NotThisType, OutOfMemory, Refused, Status, Trap, WitcallError
 from ._faults import Fault, explain
-from ._library import version
+from ._library import library_version, version
 from ._link import ArrayMemory, Memory, Stopped, grant, link
 from ._package import Package, World, open, open_module
 from ._serving import answer, receive, serve
 from ._table import CoreSignature, Function, Member, Type
 from ._values import bind, fill, read
+from ._version import __version__
 
 __all__ = [
     "ArrayMemory",
@@ -36,11 +37,13 @@ __all__ = [
     "Type",
     "WitcallError",
     "World",
+    "__version__",
     "answer",
     "bind",
     "explain",
     "fill",
     "grant",
+    "library_version",
     "link",
     "open",
     "open_module",

@@ -2,14 +2,17 @@
 
 from __future__ import annotations
 
+import contextlib
 import ctypes
 import functools
 import os
 import pathlib
 from ctypes import POINTER, Structure, c_size_t, c_uint32, c_uint64, c_void_p
-from typing import Any, Callable
+from typing import Any, Callable, Iterator
 
+from . import _released
 from ._errors import OutOfMemory, Refused, Status, Trap, WitcallError
+from ._version import __version__
 
 # The binary interface that this package is written for (WITCALL_ABI of include/witcall.h).
 ABI = 2
@@ -122,11 +125,48 @@ PARAMETERS: dict[str, list[Any]] = {
 }
 
 
-def _path() -> str:
-    """Where the library is: what WITCALL_LIBRARY names, a file of this package, or the system's."""
+@contextlib.contextmanager
+def _path() -> Iterator[str]:
+    """Where the library is: what WITCALL_LIBRARY names, a file of this package, what is unpacked of
+    the checkout's release, or the system's.
+    """
     named = os.environ.get("WITCALL_LIBRARY")
-    own = pathlib.Path(__file__).with_name("libwitcall.so")
-    return named or (str(own) if own.exists() else f"libwitcall.so.{ABI}")
+    own = pathlib.Path(__file__).with_name(_released.NAME)
+    if named or own.exists():
+        yield named or str(own)
+    elif _released.is_there() and _released.is_for_this_machine():
+        with _released.unpacked() as path:
+            yield path
+    else:
+        yield f"libwitcall.so.{ABI}"
+
+
+def _loaded() -> tuple[ctypes.PyDLL, str]:
+    """The library that is loaded, and where it was."""
+    try:
+        with _path() as path:
+            return ctypes.PyDLL(path), path
+    except OSError as error:
+        raise ImportError(f"{error}; WITCALL_LIBRARY may have the path of libwitcall.so") from error
+
+
+def _told_version(found: ctypes.PyDLL) -> str:
+    """The version that a library says."""
+    found.witcall_version.argtypes = PARAMETERS["witcall_version"]
+    found.witcall_version.restype = CStatus
+    line = ctypes.create_string_buffer(_ROOM)
+    count = found.witcall_version(line, _ROOM).count
+    return line.raw[:count].decode(errors="replace")
+
+
+def _refuse_other_interface(found: ctypes.PyDLL, path: str) -> None:
+    """Raises if the library has another binary interface: its calls may mean other things."""
+    found.witcall_abi.restype = c_uint32
+    abi = found.witcall_abi()
+    if abi != ABI:
+        library_has = f"the binary interface of {path} is {abi}"
+        versions = f"it is version {_told_version(found)}, and this package {__version__}"
+        raise ImportError(f"{library_has}, and this package needs {ABI}: {versions}")
 
 
 @functools.lru_cache(maxsize=None)
@@ -136,17 +176,11 @@ def library() -> ctypes.PyDLL:
     It holds the interpreter's lock while it runs, so no other thread changes a memory then.
 
     Raises:
-        ImportError: if it is not found, or has another binary interface
+        ImportError: if it is not found, is not what its checksum says, or has another binary
+            interface
     """
-    path = _path()
-    try:
-        found = ctypes.PyDLL(path)
-    except OSError as error:
-        raise ImportError(f"{error}; WITCALL_LIBRARY may have the path of libwitcall.so") from error
-    found.witcall_abi.restype = c_uint32
-    abi = found.witcall_abi()
-    if abi != ABI:
-        raise ImportError(f"the binary interface of {path} is {abi}, and this package needs {ABI}")
+    found, path = _loaded()
+    _refuse_other_interface(found, path)
     found.witcall_close.argtypes = _HANDLE
     found.witcall_close.restype = None
     for name, parameters in PARAMETERS.items():
@@ -205,6 +239,15 @@ def joined(inputs: list[bytes]) -> tuple[Any, ...]:
     return whole, len(whole), lengths, len(inputs)
 
 
-def version() -> str:
-    """The version of the library, as `0.2.0`."""
+def library_version() -> str:
+    """What the library says of its version, as `0.3.0+0123456789ab`.
+
+    After the `+` is the beginning of the commit that it was made of, if the library says it.
+    `__version__` is the version of this package.
+    """
     return bytes_of(library().witcall_version).decode()
+
+
+def version() -> str:
+    """The version of the library alone, as `0.3.0`."""
+    return library_version().partition("+")[0]
