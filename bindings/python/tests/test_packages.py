@@ -3,6 +3,7 @@
 import gc
 import pathlib
 import re
+import shutil
 import tempfile
 import threading
 import unittest
@@ -57,6 +58,44 @@ class Inputs(unittest.TestCase):
         with self.assertRaises(witcall.Refused) as caught:
             witcall.open("")
         self.assertEqual(caught.exception.number, 32)
+
+    def test_a_path_as_a_text_is_refused_with_what_to_do(self):
+        folder = pathlib.Path(tempfile.mkdtemp())
+        self.addCleanup(shutil.rmtree, folder)
+        file = folder / "no-ending"
+        file.write_text(TEXT)
+        for path in ("cart.wit", "folder/cart.wasm", "/no/cart.wit", "Ä b.wit", str(file)):
+            for inputs in ([path], [TEXT, path]):
+                with self.subTest(inputs), self.assertRaises(witcall.Refused) as caught:
+                    witcall.open(*inputs)
+                error = caught.exception
+                self.assertRegex(error.line, r"^error (30|32) ")
+                self.assertTrue(error.line.startswith(f"error {error.number} "))
+                fix = f"`witcall.open(pathlib.Path({path!r}))` opens the file"
+                self.assertEqual(error.hint, f"a `str` is the text of a package; {fix}")
+                self.assertEqual(str(error), f"{error.line}: {error.hint}")
+        with self.assertRaisesRegex(witcall.Refused, r"^error 44 .*`witcall\.open_module\(pathlib"):
+            witcall.open_module("echo.wasm")
+
+    def test_another_text_that_is_refused_has_no_hint(self):
+        texts = ("", "cart", "package a:b; // cart.wit", "interface c {\n}.wit", str(TOP))
+        for given in (*texts, b"cart.wit", TEXT + "cart.wit"):
+            with self.subTest(given), self.assertRaises(witcall.Refused) as caught:
+                witcall.open(given)
+            error = caught.exception
+            self.assertEqual([error.hint, str(error)], ["", error.line])
+
+    def test_what_is_no_input_is_a_type_error(self):
+        for given in (5, None, [1, 2], 1.5, object(), {"a": 1}):
+            end = f"the path of a file as `pathlib.Path`, and not {type(given).__name__}$"
+            for call in (witcall.open, witcall.explain):
+                with self.subTest(given=given, call=call):
+                    with self.assertRaisesRegex(TypeError, f"^a package is a text.*, or {end}"):
+                        call(given)
+            with self.assertRaisesRegex(TypeError, f"^a module is bytes, or {end}"):
+                witcall.open_module(given)
+        with self.assertRaises(UnicodeEncodeError):
+            witcall.open("package a:b; // \ud800")
 
     def test_what_is_refused_has_its_status_and_its_line(self):
         with self.assertRaises(witcall.WitcallError) as caught:

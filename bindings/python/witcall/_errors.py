@@ -21,12 +21,13 @@ class Status(NamedTuple):
 
 
 class WitcallError(Exception):
-    """The library did not do what it was asked for. Its text is the library's line.
+    """The library did not do what it was asked for. Its text is the library's line, and the hint.
 
     Attributes:
         status: the library's status
         number: the number of the error in docs/ERRORS.md, or of the kind of a trap
         line: the library's line, as `error 41 unknown size`
+        hint: what to do about it, or an empty text
     """
 
     def __init__(self, status: Status, line: str) -> None:
@@ -34,6 +35,10 @@ class WitcallError(Exception):
         self.status = status
         self.number = status.number
         self.line = line
+        self.hint = ""
+
+    def __str__(self) -> str:
+        return f"{self.line}: {self.hint}" if self.hint else self.line
 
 
 class Refused(WitcallError):

@@ -9,7 +9,7 @@ import threading
 import weakref
 from dataclasses import dataclass
 from types import TracebackType
-from typing import Any, Callable, Iterator, Optional, Union
+from typing import Any, Callable, Iterator, Optional, Sequence, Union
 
 from ._errors import Refused, Status, WitcallError
 from ._library import (
@@ -33,13 +33,24 @@ from ._table import Function, Table, Type
 Input = Union[str, bytes, bytearray, memoryview, "os.PathLike[str]"]
 
 
-def bytes_of_input(source: Input) -> bytes:
-    """The bytes of a text, of a binary or of a file."""
+# The names that files of packages have.
+_ENDINGS = (".wit", ".wasm")
+
+_PATH = "the path of a file as `pathlib.Path`"
+_TAKEN = f"a package is a text as `str`, bytes, or {_PATH}"
+_TAKEN_MODULE = f"a module is bytes, or {_PATH}"
+
+
+def bytes_of_input(source: Input, taken: str = _TAKEN) -> bytes:
+    """The bytes of a text, of a binary or of a file. An error says what is taken."""
     if isinstance(source, str):
         return source.encode()
     if isinstance(source, os.PathLike):
         return pathlib.Path(source).read_bytes()
-    return bytes(source)
+    try:
+        return memoryview(source).tobytes()
+    except TypeError:
+        raise TypeError(f"{taken}, and not {type(source).__name__}") from None
 
 
 Opening = Callable[[Handle], CStatus]
@@ -213,6 +224,25 @@ class Package:
         self.close()
 
 
+def _is_path(source: Input) -> bool:
+    """Whether a text is surely meant as the path of a file."""
+    if not isinstance(source, str) or any(mark in source for mark in ";{\n"):
+        return False
+    return source.endswith(_ENDINGS) or os.path.isfile(source)
+
+
+def _opened(opening: Opening, call: str, inputs: Sequence[Input]) -> Package:
+    """Opens inputs by a call, and says what it takes if one is a path."""
+    try:
+        return Package(opening)
+    except Refused as error:
+        for path in filter(_is_path, inputs):
+            fix = f"`witcall.{call}(pathlib.Path({path!r}))` opens the file"
+            error.hint = f"a `str` is the text of a package; {fix}"
+            break
+        raise
+
+
 def open(*inputs: Input) -> Package:
     """Opens a package, or the last one of several, which may use the packages before it.
 
@@ -221,8 +251,9 @@ def open(*inputs: Input) -> Package:
 
     Raises:
         Refused: if the library refuses it; the line says why
+        TypeError: if an input is nothing of these
     """
-    return Package(_of_inputs([bytes_of_input(it) for it in inputs]))
+    return _opened(_of_inputs([bytes_of_input(it) for it in inputs]), "open", inputs)
 
 
 def open_module(module: Union[bytes, bytearray, memoryview, "os.PathLike[str]"]) -> Package:
@@ -235,4 +266,5 @@ def open_module(module: Union[bytes, bytearray, memoryview, "os.PathLike[str]"])
     Raises:
         Refused: `44 not this shape` if it carries no package; `explain` of the same bytes says why
     """
-    return Package(_of_module(bytes_of_input(module)))
+    data = bytes_of_input(module, _TAKEN_MODULE)
+    return _opened(_of_module(data), "open_module", [module])
