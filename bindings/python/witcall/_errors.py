@@ -46,22 +46,31 @@ class Refused(WitcallError):
 
 
 class NotThisType(Refused):
-    """JSON that is no array of a function's arguments: `62 not this type`.
+    """Values that are no arguments of a function, or one that is no result: `62 not this type`.
 
     Attributes:
-        path: the first place that is wrong, as `[0].lines[2].count`; empty if the JSON is no array
-            of as many values
+        path: the first place that is wrong: of arguments as `[0].lines[2].count`, empty if they
+            are not as many as the parameters; of a result as `.lines[2].count`, empty if it is all
         fault: what has to stand there, and what does
+        function: the full name of the function whose result it is; empty of arguments
     """
 
-    def __init__(self, status: Status, line: str, fault: str) -> None:
-        super().__init__(status, line)
-        found = _FAULT.fullmatch(fault)
-        self.path, self.fault = found.groups() if found else ("", fault)
+    def __init__(self, refused: Refused, path: str, fault: str, function: str = "") -> None:
+        super().__init__(refused.status, refused.line)
+        self.path = path
+        self.fault = fault
+        self.function = function
+
+    @classmethod
+    def told(cls, refused: Refused, line: str) -> NotThisType:
+        """What the library tells in a line: the place, and what has to stand there."""
+        found = _FAULT.fullmatch(line)
+        return cls(refused, *found.groups()) if found else cls(refused, "", line)
 
     def __str__(self) -> str:
+        result = f" in the result of {self.function}" if self.function else ""
         place = f" at {self.path}" if self.path else ""
-        return f"{self.line}{place}: {self.fault}"
+        return f"{self.line}{result}{place}: {self.fault}"
 
 
 class OutOfMemory(WitcallError, MemoryError):

@@ -208,6 +208,12 @@ def error_of(status: Status) -> WitcallError:
     return typed(status, line.raw[: told.count].decode())
 
 
+def refusal(number: int) -> tuple[Status, str]:
+    """The status and the line of a refusal that is found before the library is called."""
+    status = Status(REFUSED, number, 0, 0)
+    return status, error_of(status).line
+
+
 def typed(status: Status, line: str) -> WitcallError:
     """An error of the class that its code has."""
     classes = {REFUSED: Refused, TRAP: Trap}

@@ -2,13 +2,15 @@
 
 from __future__ import annotations
 
-import json
+import inspect
 from typing import TYPE_CHECKING, Any, Callable, Mapping, Optional, Sequence
 
 from ._calls import Flat, Lent, Writable, blocks_of, core_values, numbers_of, requests_of
-from ._library import MAX_VALUES, CValue, bytes_of, checked
+from ._errors import Refused
+from ._json import ToJson, Wrong, loaded, quoted, shown, written
+from ._library import MAX_VALUES, NOT_THIS_TYPE, CValue, bytes_of, checked
 from ._link import LIMIT, Import, Memory, exported, grant
-from ._values import arguments_of, to_json
+from ._values import arguments_of, not_this_type
 
 if TYPE_CHECKING:
     from ._package import Package
@@ -59,15 +61,25 @@ def answer(
         limit: the greatest size of the memory
 
     Raises:
-        Refused: the text is no JSON, or no result, or the blocks have more bytes than the limit
+        NotThisType: the text is no result
+        Refused: `61 bad JSON`, or the blocks have more bytes than the limit
         Trap: the memory has no room, or none for the result where the component wants it
     """
     given = text.encode()
-    asked = requests_of(
-        lambda array, room: package.ask(
-            "witcall_result_json_requests", function.number, given, len(given), array, room, limit
+    try:
+        asked = requests_of(
+            lambda array, room: package.ask(
+                "witcall_result_json_requests",
+                function.number,
+                given,
+                len(given),
+                array,
+                room,
+                limit,
+            )
         )
-    )
+    except Refused as error:
+        raise _located(error, function, text) from None
     blocks = blocks_of(grant(memory, asked))
     values = core_values(flats, function.lowered.parameters)
     told = (CValue * MAX_VALUES)()
@@ -76,6 +88,37 @@ def answer(
         status = package.ask("witcall_fill_result_json", function.number, *words)
     back = numbers_of(told, checked(status))
     return back[0] if back else None
+
+
+def _no_result(value: str) -> Wrong:
+    return Wrong(f"a function without a result gives nothing, and not {value}")
+
+
+def _located(error: Refused, function: Function, text: str) -> Refused:
+    """The same error; of JSON that is no result the one that says where."""
+    if error.number != NOT_THIS_TYPE:
+        return error
+    if function.result is None:
+        return not_this_type(_no_result(quoted(text)), function)
+    try:
+        ToJson(is_json=True)(function.result, loaded(text))
+    except Wrong as wrong:
+        return not_this_type(wrong, function)
+    return error
+
+
+def result_text(function: Function, value: Any) -> str:
+    """What a function of the host returned, as JSON; an empty text if it has no result."""
+    try:
+        if function.result is not None:
+            return written(ToJson()(function.result, value))
+        if inspect.isawaitable(value):
+            raise _no_result(shown(value))
+    except Wrong as wrong:
+        if inspect.iscoroutine(value):
+            value.close()
+        raise not_this_type(wrong, function) from None
+    return ""
 
 
 def serve(
@@ -94,8 +137,9 @@ def serve(
         limit: the greatest size of the memory, in bytes
 
     Returns:
-        functions over core values, by the same names. A call may end in a `Trap`, or in `Refused` if
-        what a function returns is no result. What a function raises goes on to the component's
+        functions over core values, by the same names. A call may end in a `Trap`, or in
+        `NotThisType` if what a function returns is no result. What a function without a result
+        returns is dropped, if it is no coroutine. What a function raises goes on to the component's
         caller.
 
     Raises:
@@ -105,10 +149,7 @@ def serve(
     def served(function: Function, own: Callable[..., Any]) -> Import:
         def call(*flats: Flat) -> Optional[int]:
             given = receive(package, function, flats, memory.data, limit)
-            value = own(*arguments_of(function, given))
-            text = ""
-            if function.result is not None:
-                text = json.dumps(to_json(function.result, value), allow_nan=False)
+            text = result_text(function, own(*arguments_of(function, given)))
             return answer(package, function, flats, text, memory, limit)
 
         return call

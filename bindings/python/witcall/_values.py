@@ -3,16 +3,17 @@
 from __future__ import annotations
 
 import json
-from typing import TYPE_CHECKING, Any, Callable, Iterable, Mapping, Optional, Sequence
+from typing import TYPE_CHECKING, Any, Callable, Mapping, Optional, Sequence
 
 from ._calls import Flat, Lent, Writable, blocks_of, core_values, numbers_of, requests_of
 from ._errors import NotThisType, Refused
-from ._library import MAX_VALUES, NOT_THIS_TYPE, CValue, bytes_of, checked
+from ._json import ToJson, Wrong, from_json, parameter_types, written
+from ._library import MAX_VALUES, NOT_THIS_TYPE, CValue, bytes_of, checked, refusal
 from ._link import BODY, LIMIT, POST, Body, Memory, Stopped, exported, grant, run, values_of
 
 if TYPE_CHECKING:
     from ._package import Package
-    from ._table import Function, Member, Type
+    from ._table import Function
 
 
 def fill(
@@ -40,7 +41,7 @@ def fill(
         if error.number != NOT_THIS_TYPE:
             raise
         fault = package.told("witcall_json_fault", *words).decode()
-        raise NotThisType(error.status, error.line, fault) from None
+        raise NotThisType.told(error, fault) from None
     blocks = blocks_of(grant(memory, asked))
     told = (CValue * MAX_VALUES)()
     with Lent(memory.data) as lent:
@@ -72,89 +73,28 @@ def read(
     return text.decode() if function.result else None
 
 
-# ---- values of Python
-
-
-def _named(kind: Type) -> Type:
-    """The type that a name stands for in the end."""
-    while kind.kind in ("alias", "use") and kind.target:
-        kind = kind.target
-    return kind
-
-
-def _payload(kind: Type) -> Optional[Type]:
-    """What an option has if it isn't None in Python. An option of an option is as in JSON."""
-    some = kind.members[1].type
-    return None if some is None or _named(some).kind == "option" else some
-
-
-def _is_list(value: Any) -> bool:
-    """Whether a value has items in an order or in none, and is no text and no dictionary."""
-    return isinstance(value, Iterable) and not isinstance(value, (str, Mapping))
-
-
-def _each(change: Callable[[Type, Any], Any], members: Sequence[Member], values: Any) -> Any:
-    """The values of members side by side. Others stay as they are, for the library to refuse."""
-    found = list(values) if _is_list(values) else None
-    if found is None or len(found) != len(members):
-        return found or values
-    return [change(it.type, value) for it, value in zip(members, found) if it.type]
-
-
-def _case(change: Callable[[Type, Any], Any], kind: Type, value: Any) -> Any:
-    """The members of a dictionary, each by its label. A case without payload is its label alone."""
-    types = {it.name: it.type for it in kind.members}
-    if not isinstance(value, Mapping):
-        return value
-    return {
-        label: change(found, it) if (found := types.get(label)) else it
-        for label, it in value.items()
-    }
-
-
-def _marks(kind: Type, value: Any) -> Any:
-    """The labels of flags, in the order in which they are declared."""
-    places = {it.name: place for place, it in enumerate(kind.members)}
-    return sorted(value, key=lambda it: places.get(it, len(places))) if _is_list(value) else value
-
-
-def to_json(kind: Type, value: Any) -> Any:
-    """A value of Python as `json` writes it."""
-    kind = _named(kind)
-    if kind.kind == "list" and kind.target and _is_list(value):
-        return [to_json(kind.target, it) for it in value]
-    if kind.kind == "tuple":
-        return _each(to_json, kind.members, value)
-    some = _payload(kind) if kind.kind == "option" else None
-    if some:
-        return "none" if value is None else {"some": to_json(some, value)}
-    if kind.kind == "flags":
-        return _marks(kind, value)
-    return _case(to_json, kind, value)
-
-
-def from_json(kind: Type, value: Any) -> Any:
-    """What `json` read of a result, as a value of Python."""
-    kind = _named(kind)
-    if kind.kind == "list" and kind.target:
-        return [from_json(kind.target, it) for it in value]
-    if kind.kind == "tuple":
-        return tuple(_each(from_json, kind.members, value))
-    some = _payload(kind) if kind.kind == "option" else None
-    if some:
-        return None if value == "none" else from_json(some, value["some"])
-    return _case(from_json, kind, value)
+def not_this_type(wrong: Wrong, function: Optional[Function] = None) -> NotThisType:
+    """The error for a value that is not of its type: of a function's result, or of arguments."""
+    refused = Refused(*refusal(NOT_THIS_TYPE))
+    return NotThisType(refused, wrong.path, wrong.fault, function.full_name if function else "")
 
 
 def arguments_text(function: Function, arguments: Sequence[Any]) -> str:
     """Values of Python for a function's parameters, as JSON."""
-    return json.dumps(_each(to_json, function.parameters, arguments), allow_nan=False)
+    types = parameter_types(function)
+    try:
+        if len(arguments) != len(types):
+            count = f"{len(types)} in all, each of its type"
+            raise Wrong(f"the arguments are an array of one value for each parameter, {count}")
+        return written(ToJson().members(types, arguments))
+    except Wrong as wrong:
+        raise not_this_type(wrong) from None
 
 
 def arguments_of(function: Function, text: str) -> Sequence[Any]:
     """The values of Python that JSON has for a function's parameters."""
-    found: Sequence[Any] = _each(from_json, function.parameters, json.loads(text))
-    return found
+    types = parameter_types(function)
+    return [from_json(kind, it) for kind, it in zip(types, json.loads(text))]
 
 
 def bind(
