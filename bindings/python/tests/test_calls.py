@@ -251,7 +251,7 @@ class Ends(unittest.TestCase):
     def test_a_function_that_the_package_lacks_is_refused(self):
         made = Upper()
         for name in ("a:b/c#lower", "upper", ""):
-            with self.assertRaisesRegex(witcall.Refused, "^error 63 no function$"):
+            with self.assertRaisesRegex(witcall.Refused, "^error 63 no function: "):
                 witcall.link(made.package, made.caller, made.callee, {name: made.body})
 
 

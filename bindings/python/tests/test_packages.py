@@ -216,7 +216,7 @@ class Tables(unittest.TestCase):
             self.assertEqual(press.parameters[1].type.target.kind, "string")
             self.assertEqual(press.full_name, "demo:labels/press#print")
             self.assertIs(package.find("demo:labels/press", "print"), press)
-            with self.assertRaisesRegex(witcall.Refused, "^error 63 no function$"):
+            with self.assertRaisesRegex(witcall.Refused, "^error 63 no function: .*`print`$"):
                 package.find("demo:labels/press", "prin")
 
     def test_functions_of_worlds_are_found(self):

@@ -38,8 +38,9 @@ class Program(unittest.TestCase):
         status, out, error = run("call", c, "a:b/c", "f", '["7"]', "[8]")
         self.assertEqual((status, out), (1, b""))
         self.assertTrue(error.startswith("error 62 not this type at [0]: "), error)
+        hint = "no `g` in `a:b/c`; the nearest is `f`"
         self.assertEqual(
-            run("call", c, "a:b/c", "g", "[7]", "[8]"), (1, b"", "error 63 no function\n")
+            run("call", c, "a:b/c", "g", "[7]", "[8]"), (1, b"", f"error 63 no function: {hint}\n")
         )
 
     def test_packages_are_written_and_checked(self):

@@ -22,7 +22,7 @@ MAX_STATUS_LINE = 64
 
 # Codes of a status, and numbers of refusals.
 DONE, REFUSED, TRAP = 0, 1, 2
-NOT_THIS_TYPE, NOT_OPEN, NO_ROOM, NOT_THERE = 62, 70, 71, 75
+NOT_THIS_TYPE, NO_FUNCTION, NOT_OPEN, NO_ROOM, NOT_THERE = 62, 63, 70, 71, 75
 
 # Bytes that most names and lines have room in.
 _ROOM = 256

@@ -14,6 +14,7 @@ from typing import Any, Callable, Iterator, Optional, Sequence, Union
 from ._errors import Refused, Status, WitcallError
 from ._library import (
     DONE,
+    NO_FUNCTION,
     NOT_OPEN,
     REFUSED,
     CStatus,
@@ -27,6 +28,7 @@ from ._library import (
     status_of,
     typed,
 )
+from ._names import hint_of, quoted
 from ._table import Function, Table, Type
 
 # A text, the bytes of a text or a binary, or the path of a file that has them.
@@ -148,14 +150,30 @@ class Package:
 
     def _find(self, call: str, owner: str, name: str) -> Function:
         words = [part for it in (owner.encode(), name.encode()) for part in (it, len(it))]
-        number = checked(self.ask(call, *words))
+        try:
+            number = checked(self.ask(call, *words))
+        except Refused as error:
+            if error.number == NO_FUNCTION:
+                error.hint = self._hint(call, owner, name)
+            raise
         return next(it for it in self.functions if it.number == number)
+
+    def _hint(self, call: str, owner: str, name: str) -> str:
+        """What to do about a function that is not found."""
+        worlds = self.worlds
+        if call == "witcall_find":
+            if any(it.name == owner for it in worlds):
+                return f"{quoted(owner)} is a world: find_import and find_export look there"
+            return hint_of(owner, name, [(it.interface or "", it.name) for it in self.functions])
+        ways = [it.imports if call == "witcall_find_import" else it.exports for it in worlds]
+        there = [(it.world or "", it.name) for way in ways for it in way]
+        return hint_of(owner, name, there, "world")
 
     def find(self, interface: str, name: str) -> Function:
         """The function of this name, by the full name of its interface, as `a:b/c@1.0.0`.
 
         Raises:
-            Refused: `63 no function`
+            Refused: `63 no function`; the hint names the nearest function
         """
         return self._find("witcall_find", interface, name)
 
