@@ -3,9 +3,11 @@
 from __future__ import annotations
 
 import ctypes
+import operator
 from types import TracebackType
 from typing import TYPE_CHECKING, Any, Callable, Iterable, NamedTuple, Optional, Sequence, Union
 
+from ._json import shown
 from ._library import MAX_VALUES, CBlock, CCall, CRequest, CStatus, CValue, checked
 
 if TYPE_CHECKING:
@@ -74,11 +76,27 @@ class Lent:
         return begins_before and other.address < self.address + self.length
 
 
+def within(number: int, end: int, what: str) -> int:
+    """A number below an end, which the library has room for: ctypes would cut any other."""
+    if isinstance(number, bool) or not hasattr(type(number), "__index__"):
+        raise TypeError(f"{what} is an int, and not {type(number).__name__}")
+    if not 0 <= number < end:
+        raise ValueError(f"{what} is a number from 0 to {end - 1}, and not {shown(number)}")
+    return operator.index(number)
+
+
+def limit_of(limit: int) -> int:
+    """A limit that the library takes."""
+    return within(limit, 2**64, "a limit")
+
+
 def _core_value(given: Flat, kind: str) -> CValue:
     kind, number = given if isinstance(given, CoreValue) else (kind, given)
-    width = _WIDTHS[kind]
+    width = _WIDTHS.get(kind)
+    if width is None:
+        raise ValueError(f"a core value is of `i32` or `i64`, and not of {shown(kind)}")
     if not -(2 ** (width - 1)) <= number < 2**width:
-        raise ValueError(f"{number} is no {kind}")
+        raise ValueError(f"{shown(number)} is no {kind}")
     return CValue(int(kind == "i64"), number % 2**width)
 
 
@@ -91,7 +109,12 @@ def core_values(given: Sequence[Flat], kinds: Sequence[str]) -> tuple[Any, int]:
 
 def blocks_of(granted: Iterable[Block]) -> tuple[Any, int]:
     """An array of blocks, and its length."""
-    found = [CBlock(*block) for block in granted]
+    found = []
+    for alignment, size, address in granted:
+        within(address, 2**32, "the address of a block")
+        within(alignment, 2**32, "the alignment of a block")
+        within(size, 2**32, "the size of a block")
+        found.append(CBlock(alignment, size, address))
     return (CBlock * len(found))(*found), len(found)
 
 
@@ -140,10 +163,11 @@ class Call:
     def _requests(
         self, name: str, values: tuple[Any, ...], data: Writable, limit: int
     ) -> list[Request]:
+        most = limit_of(limit)
         with Lent(data) as memory:
             words = (self._call, *values, memory.address, memory.length)
             return requests_of(
-                lambda array, room: self._package.ask(name, *words, array, room, limit)
+                lambda array, room: self._package.ask(name, *words, array, room, most)
             )
 
     def _carry(

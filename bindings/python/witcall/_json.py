@@ -10,6 +10,8 @@ import json
 import reprlib
 from typing import TYPE_CHECKING, Any, Callable, Iterable, Mapping, Optional, Sequence
 
+from ._names import quoted
+
 if TYPE_CHECKING:
     from ._table import Function, Member, Type
 
@@ -81,19 +83,13 @@ def _text_of(value: Any) -> str:
         return _Shown().repr(value)
 
 
-def quoted(text: str) -> str:
-    """The beginning of a text, in letters that any terminal can print."""
-    rest = ".." if len(text) > _MOST_SHOWN else ""
-    return f"`{text[:_MOST_SHOWN]}{rest}`".encode(errors="backslashreplace").decode()
-
-
 def shown(value: Any) -> str:
     """What a value is, in few words."""
     if inspect.iscoroutine(value):
         return "a coroutine, which has to be awaited first"
     if inspect.isawaitable(value):
         return f"an awaitable {type(value).__name__}, which has to be awaited first"
-    return quoted(_text_of(value))
+    return quoted(_text_of(value), _MOST_SHOWN)
 
 
 def _label(member: Member, has_payloads: bool) -> str:

@@ -238,6 +238,13 @@ def bytes_of(ask: Callable[[Any, int], CStatus]) -> bytes:
         room = status.count
 
 
+def encoded(text: str) -> bytes:
+    """The bytes of a text, which the library takes as UTF-8."""
+    if not isinstance(text, str):
+        raise TypeError(f"a text is a `str`, and not {type(text).__name__}")
+    return text.encode()
+
+
 def joined(inputs: list[bytes]) -> tuple[Any, ...]:
     """Inputs one after another, with their lengths, as the library takes them."""
     whole = b"".join(inputs)

@@ -5,8 +5,10 @@ from __future__ import annotations
 from dataclasses import dataclass
 from typing import TYPE_CHECKING, Callable, Iterable, Mapping, Optional, Protocol, Sequence, Union
 
-from ._calls import Block, Call, CoreValue, Flat, Request, Writable
+from ._calls import Block, Call, CoreValue, Flat, Request, Writable, limit_of
 from ._errors import Status
+from ._json import shown
+from ._names import quoted
 from ._library import TRAP, error_of
 
 if TYPE_CHECKING:
@@ -77,12 +79,23 @@ class ArrayMemory:
         address = self.allocate(alignment, len(data))
         if address is None:
             raise MemoryError("the component's memory is full")
-        self.data[address : address + len(data)] = data
+        self.data[self._range(address, len(data))] = data
         return address
 
     def get(self, address: int, length: int) -> bytes:
-        """A copy of the bytes at an address."""
-        return bytes(self.data[address : address + length])
+        """A copy of the bytes at an address.
+
+        Raises:
+            IndexError: if they are not all in the memory
+        """
+        return bytes(self.data[self._range(address, length)])
+
+    def _range(self, address: int, length: int) -> slice:
+        size = len(self.data)
+        if not 0 <= address <= address + length <= size:
+            place = f"{length} bytes at {address}"
+            raise IndexError(f"{place} are not all in a memory of {size} bytes")
+        return slice(address, address + length)
 
 
 def grant(memory: Memory, asked: Iterable[Request]) -> list[Block]:
@@ -102,6 +115,8 @@ def values_of(answer: Answer) -> Sequence[Flat]:
         return ()
     if isinstance(answer, (int, CoreValue)):
         return (answer,)
+    if isinstance(answer, str) or not isinstance(answer, Sequence):
+        raise TypeError(f"a core function answers an int or several, and not {shown(answer)}")
     return answer
 
 
@@ -115,14 +130,24 @@ def run(
         raise error_of(Status(TRAP, _STOPPED, step, 0)) from error
 
 
+def is_post_return(name: str) -> bool:
+    """Whether a core function of this name is a post-return."""
+    return name.startswith(_POST_RETURN)
+
+
 def exported(
     package: Package, bodies: Mapping[str, Body]
 ) -> dict[str, tuple[Function, Body, Optional[Body]]]:
     """The functions that a component exports, each with its body and its post-return."""
+    for name, body in bodies.items():
+        if not callable(body):
+            raise TypeError(f"{quoted(name)} is no function, but {shown(body)}")
+        if is_post_return(name) and name[len(_POST_RETURN) :] not in bodies:
+            raise ValueError(f"{quoted(name)} is the post-return of a function that is not there")
     return {
         name: (package.find(*_parts(name)), body, bodies.get(_POST_RETURN + name))
         for name, body in bodies.items()
-        if not name.startswith(_POST_RETURN)
+        if not is_post_return(name)
     }
 
 
@@ -184,7 +209,9 @@ def link(
 
     Raises:
         Refused: `63 no function`, if the package does not declare one of them
+        ValueError: if a post-return has no function, or the limit is none
     """
+    limit_of(limit)
     sides = _Sides(package, caller, callee, limit, (Stopped, *stops))
     return {name: _Import(sides, *found) for name, found in exported(package, bodies).items()}
 

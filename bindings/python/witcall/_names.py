@@ -1,4 +1,4 @@
-"""What to do about a function that a package does not have: the nearest name that it has."""
+"""How names are shown, and which is the nearest to one that a package does not have."""
 
 from __future__ import annotations
 
@@ -36,11 +36,11 @@ def nearest(name: str, names: Iterable[str]) -> str:
     return min(_compared(name, names), key=lambda it: _edits(name, it), default="")
 
 
-def quoted(name: str) -> str:
-    """The beginning of a name, in letters that any terminal can print."""
-    rest = ".." if len(name) > _MOST_SHOWN else ""
-    text = f"`{name[:_MOST_SHOWN]}{rest}`"
-    return "".join(it if it.isprintable() else ascii(it)[1:-1] for it in text)
+def quoted(text: str, most: int = _MOST_SHOWN) -> str:
+    """The beginning of a text, in letters that any terminal can print."""
+    rest = ".." if len(text) > most else ""
+    letters = (it if it.isprintable() else ascii(it)[1:-1] for it in text[:most])
+    return f"`{''.join(letters)}{rest}`"
 
 
 def _nearest_owner(owner: str, owners: Sequence[str]) -> str:

@@ -22,6 +22,7 @@ from ._library import (
     asked,
     bytes_of,
     checked,
+    encoded,
     error_of,
     joined,
     library,
@@ -149,7 +150,7 @@ class Package:
         return self._rows.types
 
     def _find(self, call: str, owner: str, name: str) -> Function:
-        words = [part for it in (owner.encode(), name.encode()) for part in (it, len(it))]
+        words = [part for it in (encoded(owner), encoded(name)) for part in (it, len(it))]
         try:
             number = checked(self.ask(call, *words))
         except Refused as error:

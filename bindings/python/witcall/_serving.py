@@ -5,11 +5,12 @@ from __future__ import annotations
 import inspect
 from typing import TYPE_CHECKING, Any, Callable, Mapping, Optional, Sequence
 
-from ._calls import Flat, Lent, Writable, blocks_of, core_values, numbers_of, requests_of
+from ._calls import Flat, Lent, Writable, blocks_of, core_values, limit_of, numbers_of, requests_of
 from ._errors import Refused
-from ._json import ToJson, Wrong, loaded, quoted, shown, written
-from ._library import MAX_VALUES, NOT_THIS_TYPE, CValue, bytes_of, checked
-from ._link import LIMIT, Import, Memory, exported, grant
+from ._json import ToJson, Wrong, loaded, shown, written
+from ._library import MAX_VALUES, NOT_THIS_TYPE, CValue, bytes_of, checked, encoded
+from ._link import LIMIT, Import, Memory, exported, grant, is_post_return
+from ._names import quoted
 from ._values import arguments_of, not_this_type
 
 if TYPE_CHECKING:
@@ -32,12 +33,12 @@ def receive(
         Trap: the core values are no arguments
         Refused: the arguments ask for more bytes than the limit
     """
-    values = core_values(flats, function.lowered.parameters)
+    values, most = core_values(flats, function.lowered.parameters), limit_of(limit)
     with Lent(data) as lent:
         words = (function.number, *values, lent.address, lent.length)
         text = bytes_of(
             lambda array, room: package.ask(
-                "witcall_read_arguments_json", *words, array, room, limit
+                "witcall_read_arguments_json", *words, array, room, most
             )
         )
     return text.decode()
@@ -65,17 +66,12 @@ def answer(
         Refused: `61 bad JSON`, or the blocks have more bytes than the limit
         Trap: the memory has no room, or none for the result where the component wants it
     """
-    given = text.encode()
+    given, most = encoded(text), limit_of(limit)
+    asking = (function.number, given, len(given))
     try:
         asked = requests_of(
             lambda array, room: package.ask(
-                "witcall_result_json_requests",
-                function.number,
-                given,
-                len(given),
-                array,
-                room,
-                limit,
+                "witcall_result_json_requests", *asking, array, room, most
             )
         )
     except Refused as error:
@@ -144,6 +140,7 @@ def serve(
 
     Raises:
         Refused: `63 no function`, if the package does not declare one of them
+        ValueError: if a name is that of a post-return, or the limit is none
     """
 
     def served(function: Function, own: Callable[..., Any]) -> Import:
@@ -154,5 +151,8 @@ def serve(
 
         return call
 
+    limit_of(limit)
+    for name in filter(is_post_return, functions):
+        raise ValueError(f"{quoted(name)} is a post-return, and a function of the host has none")
     found = exported(package, functions)
     return {name: served(function, own) for name, (function, own, _) in found.items()}

@@ -5,10 +5,10 @@ from __future__ import annotations
 import json
 from typing import TYPE_CHECKING, Any, Callable, Mapping, Optional, Sequence
 
-from ._calls import Flat, Lent, Writable, blocks_of, core_values, numbers_of, requests_of
+from ._calls import Flat, Lent, Writable, blocks_of, core_values, limit_of, numbers_of, requests_of
 from ._errors import NotThisType, Refused
 from ._json import ToJson, Wrong, from_json, parameter_types, written
-from ._library import MAX_VALUES, NOT_THIS_TYPE, CValue, bytes_of, checked, refusal
+from ._library import MAX_VALUES, NOT_THIS_TYPE, CValue, bytes_of, checked, encoded, refusal
 from ._link import BODY, LIMIT, POST, Body, Memory, Stopped, exported, grant, run, values_of
 
 if TYPE_CHECKING:
@@ -31,11 +31,11 @@ def fill(
         Refused: `61 bad JSON`, or the blocks have more bytes than the limit
         Trap: the memory has no room
     """
-    given = text.encode()
+    given, most = encoded(text), limit_of(limit)
     words = (function.number, given, len(given))
     try:
         asked = requests_of(
-            lambda array, room: package.ask("witcall_json_requests", *words, array, room, limit)
+            lambda array, room: package.ask("witcall_json_requests", *words, array, room, most)
         )
     except Refused as error:
         if error.number != NOT_THIS_TYPE:
@@ -64,11 +64,11 @@ def read(
         Trap: the answer is no result
         Refused: the result asks for more bytes than the limit
     """
-    values = core_values(answer, function.lifted.results)
+    values, most = core_values(answer, function.lifted.results), limit_of(limit)
     with Lent(data) as lent:
         words = (function.number, *values, lent.address, lent.length)
         text = bytes_of(
-            lambda array, room: package.ask("witcall_read_json", *words, array, room, limit)
+            lambda array, room: package.ask("witcall_read_json", *words, array, room, most)
         )
     return text.decode() if function.result else None
 
@@ -119,6 +119,7 @@ def bind(
         functions, by the same names. A call may end in a `Trap`, or in `NotThisType` if an argument
         is no value of its type.
     """
+    limit_of(limit)
     stopping: tuple[type[BaseException], ...] = (Stopped, *stops)
 
     def bound(function: Function, body: Body, post_return: Optional[Body]) -> Callable[..., Any]:
