@@ -1,5 +1,10 @@
-"""Copies of the part of this checkout that the package needs, in folders that are removed."""
+"""Copies of the part of this checkout that the package needs, in folders that are removed.
 
+Their release has the library that is tested.
+"""
+
+import gzip
+import hashlib
 import os
 import pathlib
 import shutil
@@ -10,18 +15,32 @@ import tempfile
 from . import TOP
 
 LEFT_OUT = shutil.ignore_patterns("build", "__pycache__", "*.egg-info", "tests")
-RELEASE = ("libwitcall.so.gz", "SHA256SUMS")
 # Variables that say where something is.
 OF_PLACES = ("WITCALL_LIBRARY", "PYTHONPATH", "PYTHONHOME", "VIRTUAL_ENV")
 
 
-def copied(case):
-    """A checkout with the package and the release's library."""
-    folder = pathlib.Path(tempfile.mkdtemp(prefix="witcall-checkout-"))
+def library():
+    """The library that is tested."""
+    named = os.environ.get("WITCALL_LIBRARY")
+    if named:
+        return pathlib.Path(named).read_bytes()
+    return gzip.decompress((TOP / "release/libwitcall.so.gz").read_bytes())
+
+
+def folder_of(case):
+    """An empty folder."""
+    folder = pathlib.Path(tempfile.mkdtemp(prefix="witcall-"))
     case.addCleanup(shutil.rmtree, folder)
+    return folder
+
+
+def copied(case):
+    """A checkout with the package, and a release of the library."""
+    folder, found = folder_of(case), library()
     (folder / "release").mkdir()
-    for name in RELEASE:
-        shutil.copy(TOP / "release" / name, folder / "release")
+    (folder / "release/libwitcall.so.gz").write_bytes(gzip.compress(found, 1))
+    sums = f"{'0' * 64}  witcall\n{hashlib.sha256(found).hexdigest()}  libwitcall.so\n"
+    (folder / "release/SHA256SUMS").write_text(sums)
     shutil.copy(TOP / "VERSION", folder)
     shutil.copytree(TOP / "bindings/python", folder / "bindings/python", ignore=LEFT_OUT)
     return folder

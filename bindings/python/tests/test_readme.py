@@ -1,19 +1,46 @@
-"""The code of README.md prints what its comments say."""
+"""All blocks of README.md run in its order: code prints what its comments say."""
 
-import contextlib
-import io
 import re
 import unittest
 
 from . import TOP
+from .checkouts import copied, folder_of, python, run
+
+PAGE = (TOP / "bindings/python/README.md").read_text()
+# Each block with its language.
+BLOCKS = re.findall(r"^```(\w*)\n(.*?)^```$", PAGE, re.M | re.S)
+PACKAGES = "python3-venv python3-setuptools python3-wheel"
+
+
+def blocks_of(language):
+    return [code for its_language, code in BLOCKS if its_language == language]
 
 
 class Readme(unittest.TestCase):
-    def test_blocks_print_their_comments(self):
-        text = (TOP / "bindings/python/README.md").read_text()
-        code = "\n".join(re.findall(r"^```python\n(.*?)^```", text, re.M | re.S))
-        printed = io.StringIO()
-        with contextlib.redirect_stdout(printed):
-            exec(compile(code, "README.md", "exec"), {})
+    def test_each_block_is_one_that_is_run(self):
+        self.assertEqual({language for language, _ in BLOCKS}, {"python", "sh"})
+        self.assertEqual(len(BLOCKS) * 2, len(re.findall("^ *```", PAGE, re.M)))
+
+    def test_code_prints_its_comments(self):
+        code = "\n".join(blocks_of("python"))
+        done = python(code, folder_of(self), PYTHONPATH=TOP / "bindings/python")
+        self.assertEqual((done.returncode, done.stderr), (0, ""))
         comments = re.findall(r"^ *# (.*)$", code, re.M)
-        self.assertEqual(printed.getvalue().splitlines(), comments)
+        self.assertEqual(done.stdout.splitlines(), comments)
+
+    def test_code_names_what_the_page_is_of(self):
+        code = "\n".join(blocks_of("python"))
+        for name in ("open", "link", "bind", "fill", "read", "serve", "receive", "answer"):
+            self.assertIn(f"witcall.{name}(", code)
+
+    def test_commands_run(self):
+        """In a checkout, without a network. PIP_NO_INDEX has pip fail and not wait for one."""
+        folder, commands = copied(self), "".join(blocks_of("sh"))
+        done = run(["sh", "-eux", "-c", commands], folder, PIP_NO_INDEX=1, HOME=folder)
+        told = f"{done.stdout}{done.stderr}\nneeded: apt-get install -y {PACKAGES}"
+        self.assertEqual(done.returncode, 0, told)
+        self.assertEqual(done.stdout.splitlines()[0].partition("+")[0], self.library_version())
+
+    def library_version(self):
+        code = "import witcall; print(witcall.version())"
+        return python(code, copied(self), PYTHONPATH="bindings/python").stdout.strip()

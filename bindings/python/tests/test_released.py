@@ -8,7 +8,7 @@ import tempfile
 import unittest
 
 from . import TOP
-from .checkouts import copied, python
+from .checkouts import copied, library, python
 
 OPENS = """import witcall
 print(witcall.open("package a:b; interface c {}").to_text(), witcall.library_version())
@@ -39,8 +39,7 @@ class Checkout(unittest.TestCase):
         self.assertRegex(done.stderr.splitlines()[-1], f"^ImportError: {line}")
 
     def assert_kept(self):
-        wanted = gzip.decompress((self.folder / "release/libwitcall.so.gz").read_bytes())
-        self.assertEqual(self.kept.read_bytes(), wanted)
+        self.assertEqual(self.kept.read_bytes(), library())
         self.assertEqual(os.listdir(self.kept.parent), [self.kept.name])
 
     def test_the_library_is_unpacked_once(self):
@@ -74,7 +73,7 @@ class Checkout(unittest.TestCase):
 
     def test_the_variable_comes_first(self):
         own = pathlib.Path(tempfile.mkdtemp(dir=self.folder), "own.so")
-        own.write_bytes(gzip.decompress((TOP / "release/libwitcall.so.gz").read_bytes()))
+        own.write_bytes(library())
         (self.folder / "release/libwitcall.so.gz").write_bytes(b"no archive")
         self.assert_opens(WITCALL_LIBRARY=own)
         self.assertFalse(self.kept.exists())

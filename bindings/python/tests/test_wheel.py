@@ -8,11 +8,12 @@ import sys
 import unittest
 import zipfile
 
+import witcall
+
 from . import TOP
 from .checkouts import copied, python, run
 
 VERSION = (TOP / "VERSION").read_text().strip()
-RELEASED = (TOP / "release/version").read_text().strip()
 MODULES = "setuptools, wheel, pip"
 PACKAGES = "python3-pip python3-setuptools python3-wheel"
 
@@ -63,7 +64,7 @@ class Wheel(unittest.TestCase):
         done = python(code, unpacked, PYTHONPATH=unpacked)
         self.assertEqual(done.stderr, "")
         path = str(unpacked / "witcall/__init__.py")
-        self.assertEqual(done.stdout.split(), [RELEASED, VERSION, path])
+        self.assertEqual(done.stdout.split(), [witcall.version(), VERSION, path])
 
     def test_without_a_release_it_has_no_library(self):
         folder = copied(self)
