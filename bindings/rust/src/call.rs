@@ -81,8 +81,10 @@ pub(crate) fn requests(mut ask: impl FnMut(&mut [RawRequest]) -> Status) -> Resu
         requests.resize(count, RawRequest::default());
         checked(ask(&mut requests))?;
     }
-    requests.truncate(count);
-    Ok(requests.iter().map(|raw| Request { alignment: raw.align, size: raw.size }).collect())
+    let mut found = Vec::new();
+    found.try_reserve_exact(count).map_err(|_| Error::OutOfMemory)?;
+    found.extend(requests.iter().take(count).map(|raw| Request { alignment: raw.align, size: raw.size }));
+    Ok(found)
 }
 
 /// The core values that a call of the library tells.

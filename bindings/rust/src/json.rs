@@ -129,6 +129,11 @@ fn write_text(out: &mut fmt::Formatter<'_>, text: &str) -> fmt::Result {
     for letter in text.chars() {
         match letter {
             '"' | '\\' => write!(out, "\\{letter}")?,
+            '\u{8}' => out.write_str("\\b")?,
+            '\t' => out.write_str("\\t")?,
+            '\n' => out.write_str("\\n")?,
+            '\u{c}' => out.write_str("\\f")?,
+            '\r' => out.write_str("\\r")?,
             '\0'..='\x1f' => write!(out, "\\u{:04x}", u32::from(letter))?,
             _ => out.write_char(letter)?,
         }
@@ -207,7 +212,8 @@ impl Reader<'_> {
 
     /// The four hexadecimal digits of an escape.
     fn unit(&mut self) -> Result<u16, NoJson> {
-        let digits = self.rest.as_str().get(..4).ok_or(NoJson)?;
+        let digits = self.rest.as_str().get(..4).filter(|it| it.bytes().all(|digit| digit.is_ascii_hexdigit()));
+        let digits = digits.ok_or(NoJson)?;
         let unit = u16::from_str_radix(digits, 16).map_err(|_| NoJson)?;
         self.rest = self.rest.as_str()[4..].chars();
         Ok(unit)
@@ -249,10 +255,15 @@ impl Reader<'_> {
         }
     }
 
+    /// A whole number: `-0` is none, and neither is one with a zero before other digits.
     fn number(&mut self) -> Result<Json, NoJson> {
         let text = self.rest.as_str();
         let end = text.find(|it: char| !it.is_ascii_digit() && it != '-').unwrap_or(text.len());
         self.rest = text[end..].chars();
+        let digits = text[..end].strip_prefix('-').unwrap_or(&text[..end]);
+        if digits.starts_with('0') && text[..end] != *"0" {
+            return Err(NoJson);
+        }
         text[..end].parse().map(Json::Number).map_err(|_| NoJson)
     }
 

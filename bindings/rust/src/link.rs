@@ -108,6 +108,9 @@ impl ArrayMemory {
     }
 
     /// Puts bytes into a new block: its address, or none if there is no room.
+    ///
+    /// # Panics
+    /// If the alignment is 0.
     pub fn put(&mut self, bytes: &[u8], alignment: u32) -> Option<u32> {
         let address = self.allocate(alignment, u32::try_from(bytes.len()).ok()?)?;
         self.bytes[address as usize..][..bytes.len()].copy_from_slice(bytes);
@@ -117,9 +120,21 @@ impl ArrayMemory {
     /// The bytes at an address.
     ///
     /// # Panics
-    /// If they are outside of the memory.
+    /// If they are outside of the memory. [`checked_get`](ArrayMemory::checked_get) is for addresses of a component.
     pub fn get(&self, address: u32, length: u32) -> &[u8] {
         &self.bytes[address as usize..][..length as usize]
+    }
+
+    /// The bytes at an address; none if they are not all in the memory.
+    ///
+    /// ```
+    /// let memory = witcall::ArrayMemory::new(16);
+    /// assert_eq!(memory.checked_get(12, 4), Some(&[0; 4][..]));
+    /// assert_eq!(memory.checked_get(12, 5), None);
+    /// assert_eq!(memory.checked_get(u32::MAX, u32::MAX), None);
+    /// ```
+    pub fn checked_get(&self, address: u32, length: u32) -> Option<&[u8]> {
+        self.bytes.get(address as usize..)?.get(..length as usize)
     }
 }
 
