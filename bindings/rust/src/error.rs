@@ -94,10 +94,13 @@ pub enum Error {
         number: u32,
         /// the library's line, as `error 41 unknown size`
         line: String,
+        /// what to do about it, if anything is known: of `63 no function` the nearest one
+        hint: Option<String>,
     },
-    /// JSON that is no array of a function's arguments: 62.
+    /// JSON that is no array of a function's arguments, or no result of it: 62.
     NotThisType {
-        /// the first place that is wrong, as `[0].lines[2].count`; empty if the JSON is no array of as many values
+        /// the first place that is wrong, as `[0].lines[2].count`; empty if the JSON is no array of as many values. That
+        /// of a result is as `.lines[2].count`, and empty if it is all of it
         path: String,
         /// what has to stand there, and what does
         fault: String,
@@ -115,7 +118,7 @@ pub enum Error {
 impl Error {
     /// A status that is not done.
     pub(crate) fn of(status: Status) -> Error {
-        let refused = || Error::Refused { number: status.number, line: status_line(status) };
+        let refused = || Error::Refused { number: status.number, line: status_line(status), hint: None };
         match status.code {
             sys::REFUSED => refused(),
             sys::TRAP => trap_of(status).map_or_else(refused, Error::Trap),
@@ -128,6 +131,17 @@ impl Error {
         match line.split_once(": ").filter(|(place, _)| place.starts_with('[')) {
             Some((path, fault)) => Error::NotThisType { path: path.to_owned(), fault: fault.to_owned() },
             None => Error::NotThisType { path: String::new(), fault: line },
+        }
+    }
+
+    /// The same error, with what to do if no function has a name.
+    pub(crate) fn with_hint(self, hint_of: impl FnOnce() -> Result<String, Error>) -> Error {
+        match self {
+            Error::Refused { number: sys::NO_FUNCTION, line, .. } => match hint_of() {
+                Ok(hint) => Error::Refused { number: sys::NO_FUNCTION, line, hint: Some(hint) },
+                Err(other) => other,
+            },
+            other => other,
         }
     }
 
@@ -165,7 +179,8 @@ impl fmt::Display for Trap {
 impl fmt::Display for Error {
     fn fmt(&self, out: &mut fmt::Formatter<'_>) -> fmt::Result {
         match self {
-            Error::Refused { line, .. } => out.write_str(line),
+            Error::Refused { line, hint: None, .. } => out.write_str(line),
+            Error::Refused { line, hint: Some(hint), .. } => write!(out, "{line}: {hint}"),
             Error::NotThisType { path, fault } => {
                 let place = if path.is_empty() { "" } else { " at " };
                 write!(out, "error {} not this type{place}{path}: {fault}", sys::NOT_THIS_TYPE)
@@ -193,19 +208,28 @@ pub(crate) fn checked(status: Status) -> Result<usize, Error> {
     }
 }
 
+/// Gives an array as much room as a call needs.
+fn grow(bytes: &mut Vec<u8>, size: usize) -> Result<(), Error> {
+    bytes.try_reserve_exact(size.saturating_sub(bytes.len())).map_err(|_| Error::OutOfMemory)?;
+    bytes.resize(size, 0);
+    Ok(())
+}
+
 /// The bytes that a call writes into an array, which has as much room as it needs.
 pub(crate) fn told(mut ask: impl FnMut(&mut [u8]) -> Status) -> Result<Vec<u8>, Error> {
-    let mut bytes = vec![0; ROOM];
+    let mut bytes = Vec::new();
+    grow(&mut bytes, ROOM)?;
     let mut status = ask(&mut bytes);
     if status.number == sys::NO_ROOM {
-        bytes.resize(status.count as usize, 0);
+        grow(&mut bytes, status.count as usize)?;
         status = ask(&mut bytes);
     }
     bytes.truncate(checked(status)?);
     Ok(bytes)
 }
 
-/// A text that a call writes.
+/// A text that a call writes, which is UTF-8.
 pub(crate) fn told_text(ask: impl FnMut(&mut [u8]) -> Status) -> Result<String, Error> {
-    told(ask).map(|bytes| String::from_utf8_lossy(&bytes).into_owned())
+    let bytes = told(ask)?;
+    Ok(String::from_utf8(bytes).unwrap_or_else(|error| String::from_utf8_lossy(error.as_bytes()).into_owned()))
 }

@@ -4,9 +4,11 @@
 
 use crate::call::{self, Block, Request, Value};
 use crate::error::Error;
+use crate::fits;
 use crate::json::Json;
 use crate::link::{granted, Memory};
 use crate::package::Package;
+use crate::sys;
 use crate::table::Function;
 
 /// A function of the host that a component imports, with values as [`Json`].
@@ -51,10 +53,22 @@ impl<'package> Import<'package> {
     }
 
     /// The blocks that a result needs in the component's memory. It is the JSON of one value, or an empty text if the
-    /// function has no result.
+    /// function has no result. If it is not of its type, this is [`Error::NotThisType`], which says where.
     pub fn result_requests(&self, json: &str) -> Result<Vec<Request>, Error> {
         let func = self.function.number;
         call::requests(|room| self.package.ask(|handle| handle.result_json_requests(func, json, room, self.limit)))
+            .map_err(|error| self.located(json, error))
+    }
+
+    /// The same error; of JSON that is no result the one that says where.
+    fn located(&self, json: &str, error: Error) -> Error {
+        let Error::Refused { number: sys::NOT_THIS_TYPE, .. } = error else { return error };
+        let Some(ty) = self.function.result else { return fits::no_result(json) };
+        let Ok(value) = json.parse() else { return error };
+        match fits::not_this_type(self.package, ty, &value) {
+            Ok(located) => located.unwrap_or(error),
+            Err(other) => other,
+        }
     }
 
     /// Puts the same result into the blocks and the return area: the one value that the component gets, if there is one.
@@ -70,7 +84,7 @@ impl<'package> Import<'package> {
         let told = |told: &mut _| {
             self.package.ask(|handle| handle.fill_result_json(func, (&flats, json), memory, &blocks, told))
         };
-        Ok(call::values(told)?.first().copied())
+        Ok(call::values(told).map_err(|error| self.located(json, error))?.first().copied())
     }
 
     /// Puts a result into the component's memory, whose allocator grants the blocks.

@@ -39,9 +39,11 @@ mod call;
 mod error;
 mod export;
 mod fault;
+mod fits;
 mod import;
 mod json;
 mod link;
+mod names;
 mod package;
 #[allow(unsafe_code)]
 mod sys;

@@ -4,12 +4,14 @@
 
 use crate::call::{self, Block, Call, Request, Value};
 use crate::error::{checked, told, told_text, Error};
+use crate::names;
 use crate::sys::{self, Handle, Place, Status};
-use crate::table::{self, Definition, Function, Type};
+use crate::table::{self, Definition, Function, Owner, Type};
 use std::cell::RefCell;
 use std::fmt;
 
-/// The version of the library, as `0.2.0`.
+/// What the library says of its version, as `0.3.0+0123456789ab`: after the `+` is the beginning of the commit that it was
+/// made of, if the library says it.
 pub fn version() -> Result<String, Error> {
     told_text(sys::version)
 }
@@ -90,11 +92,37 @@ impl Package {
     }
 
     fn found(&self, place: Place, owner: &str, name: &str) -> Result<Function, Error> {
-        let number = checked(self.ask(|handle| handle.find(place, owner, name)))?;
+        let number = checked(self.ask(|handle| handle.find(place, owner, name)))
+            .map_err(|error| error.with_hint(|| self.hint(place, owner, name)))?;
         table::function(self, number as u32)
     }
 
-    /// The function of this name, by the full name of its interface, as `a:b/c@1.0.0`.
+    /// What to do about a function that is not found.
+    fn hint(&self, place: Place, owner: &str, name: &str) -> Result<String, Error> {
+        let is_interface = matches!(place, Place::Interface);
+        if is_interface && self.worlds()?.iter().any(|it| it == owner) {
+            return Ok(format!("`{owner}` is a world: find_import and find_export look there"));
+        }
+        let mut there = Vec::new();
+        for it in self.functions()? {
+            match it.owner {
+                Owner::Interface(its_owner) if is_interface => there.push((its_owner, it.name)),
+                Owner::World(its_owner) if !is_interface => there.push((its_owner, it.name)),
+                _ => {}
+            }
+        }
+        Ok(names::hint(owner, name, &there, if is_interface { "interface" } else { "world" }))
+    }
+
+    /// The function of this name, by the full name of its interface, as `a:b/c@1.0.0`. If there is none, this is
+    /// `63 no function`, whose hint names the nearest.
+    ///
+    /// ```
+    /// let package = witcall::Package::open("package a:b; interface c { upper: func(); }")?;
+    /// let refused = package.find("a:b/c", "uper").unwrap_err();
+    /// assert_eq!(refused.to_string(), "error 63 no function: no `uper` in `a:b/c`; the nearest is `upper`");
+    /// # Ok::<(), witcall::Error>(())
+    /// ```
     pub fn find(&self, interface: &str, name: &str) -> Result<Function, Error> {
         self.found(Place::Interface, interface, name)
     }
@@ -201,10 +229,10 @@ impl Package {
 
 /// Why a package was refused: the whole line, if the handle stands for the refusal.
 fn refusal(mut handle: Handle, error: Error) -> Error {
-    let Error::Refused { number, line } = error else { return error };
+    let Error::Refused { number, line, hint } = error else { return error };
     match told_text(|room| handle.line(room)) {
-        Ok(line) => Error::Refused { number, line },
-        Err(Error::Refused { number: sys::NOT_OPEN, .. }) => Error::Refused { number, line },
+        Ok(line) => Error::Refused { number, line, hint },
+        Err(Error::Refused { number: sys::NOT_OPEN, .. }) => Error::Refused { number, line, hint },
         Err(other) => other,
     }
 }

@@ -17,6 +17,7 @@ pub const DONE: u32 = 0;
 pub const REFUSED: u32 = 1;
 pub const TRAP: u32 = 2;
 pub const NOT_THIS_TYPE: u32 = 62;
+pub const NO_FUNCTION: u32 = 63;
 pub const NOT_OPEN: u32 = 70;
 pub const NO_ROOM: u32 = 71;
 pub const NOT_THERE: u32 = 75;

@@ -82,7 +82,18 @@ fn functions_are_those_of_the_header() {
 
 #[test]
 fn numbers_are_those_of_the_header() {
-    for name in ["ABI", "MAX_VALUES", "DONE", "REFUSED", "TRAP", "NOT_THIS_TYPE", "NOT_OPEN", "NO_ROOM", "NOT_THERE"] {
+    for name in [
+        "ABI",
+        "MAX_VALUES",
+        "DONE",
+        "REFUSED",
+        "TRAP",
+        "NOT_THIS_TYPE",
+        "NO_FUNCTION",
+        "NOT_OPEN",
+        "NO_ROOM",
+        "NOT_THERE",
+    ] {
         let defined =
             HEADER.lines().find_map(|line| line.strip_prefix(&format!("#define WITCALL_{name} ")[..])).unwrap();
         let number = defined.split_whitespace().next().unwrap();

@@ -83,12 +83,107 @@ fn what_is_no_result_is_refused() {
     let number_of =
         |name: &str, values: &[Value], result: Option<Json>| match served(name, values, &mut memory(), |_| result) {
             Err(Error::Refused { number, .. }) => number,
+            Err(Error::NotThisType { .. }) => 62,
             other => panic!("{other:?}"),
         };
     assert_eq!(number_of("lines", &LINES, Some(7.into())), 62);
     assert_eq!(number_of("lines", &LINES, None), 61);
     assert_eq!(number_of("lines", &LINES, Some(Json::Array(vec![line(&"x".repeat(300), 1)]))), 76);
     assert_eq!(number_of("note", &[Value::I32(8), Value::I32(5)], Some(7.into())), 62);
+}
+
+/// A package with a function of each of these types, which takes and returns it.
+fn package_of(types: &[&str]) -> Package {
+    let functions: String =
+        types.iter().enumerate().map(|(number, ty)| format!("f{number}: func(x: {ty}) -> {ty}; ")).collect();
+    let declared = "type text = string; record row { first: u8, second: list<option<s8>> }
+        variant shape { none-yet, dot(tuple<u8, s64>), named(text) }
+        enum color { red, green, blue, c4, c5, c6, c7, c8, c9 } flags marks { a, b, c }";
+    Package::open(format!("package a:b; interface c {{ {declared} {functions} none: func(); }}")).unwrap()
+}
+
+/// For each type texts of JSON, of which the first says a value of it and the others none.
+const TEXTS: [(&str, &[&str]); 17] = [
+    ("bool", &["true", "1", "\"true\""]),
+    ("s8", &["-128", "-129", "128", "true"]),
+    ("u16", &["65535", "65536", "-1", "[]"]),
+    ("s32", &["2147483647", "2147483648", "-2147483649"]),
+    ("u32", &["4294967295", "4294967296"]),
+    ("s64", &["-9223372036854775808", "9223372036854775808"]),
+    ("u64", &["18446744073709551615", "-1", "{\"b\":1,\"a\":2}"]),
+    ("char", &["\"ä\"", "\"\"", "\"ab\"", "7"]),
+    ("text", &["\"grün\"", "7", "[\"\\u0001\\n\\t\\b\\f\\r\\\"\\\\/\"]"]),
+    ("list<u8>", &["[1,255]", "[1,256]", "\"ab\"", "{}"]),
+    ("tuple<u8, list<text>>", &["[1,[\"a\"]]", "[1]", "[1,[],2]", "[1,[\"\",1]]"]),
+    (
+        "row",
+        &[
+            r#"{"second":["none",{"some":1}],"first":1}"#,
+            r#"{"first":1}"#,
+            r#"{"first":256,"second":[1]}"#,
+            r#"{"first":1,"second":[{"some":300}]}"#,
+            r#"{"first":1,"second":[],"third":1}"#,
+            r#"{"first":1,"first":2}"#,
+        ],
+    ),
+    (
+        "shape",
+        &[
+            r#"{"dot":[1,2]}"#,
+            r#""dot""#,
+            r#"{"none-yet":true}"#,
+            r#""late""#,
+            r#"{"dot":[1,"2"]}"#,
+            r#"{"dot":[1,2],"named":"x"}"#,
+        ],
+    ),
+    ("color", &["\"red\"", "\"yellow\"", "{\"red\":1}"]),
+    ("marks", &["[\"a\",\"c\"]", "[\"c\",\"a\"]", "[\"a\",\"a\"]", "\"a\"", "[1]"]),
+    ("option<option<u8>>", &["{\"some\":\"none\"}", "{\"some\":{\"some\":256}}", "7", "\"some\""]),
+    ("result<_, text>", &["\"ok\"", "{\"ok\":1}", "{\"error\":1}", "\"error\""]),
+];
+
+/// The place and the words of an error for a value that is not of its type.
+fn place_and_words(refused: Option<Error>) -> Option<(String, String)> {
+    match refused? {
+        Error::NotThisType { path, fault } => Some((path, fault)),
+        other => panic!("{other:?}"),
+    }
+}
+
+#[test]
+fn a_result_of_another_type_is_told_as_arguments_are() {
+    let package = package_of(&TEXTS.map(|(ty, _)| ty));
+    for (number, (ty, texts)) in TEXTS.iter().enumerate() {
+        let function = package.find("a:b/c", &format!("f{number}")).unwrap();
+        let import = Import::new(&package, &function, 256);
+        for (place, text) in texts.iter().enumerate() {
+            let told = place_and_words(import.result_requests(text).err());
+            assert_eq!(told.is_none(), place == 0, "{ty}: {text}");
+            let arguments = package.json_requests(&function, &format!("[{text}]"), 256).err();
+            let wanted = place_and_words(arguments).map(|(path, fault)| (path.replacen("[0]", "", 1), fault));
+            let is_shown_as_another = told.as_ref().is_some_and(|(_, fault)| fault.contains("9223372036854775808`"));
+            assert!(told == wanted || is_shown_as_another, "{ty}: {told:?} {wanted:?}");
+        }
+    }
+}
+
+#[test]
+fn a_served_result_of_another_type_is_told_with_its_place() {
+    let lines = Json::Array(vec![line("tea", 1), line("tea", 256)]);
+    let error = served("lines", &LINES, &mut memory(), |_| Some(lines)).unwrap_err();
+    let fault = "a `u8` is a whole number from 0 to 255, and not `256`";
+    assert_eq!(error, Error::NotThisType { path: "[1].count".to_owned(), fault: fault.to_owned() });
+    assert_eq!(error.to_string(), format!("error 62 not this type at [1].count: {fault}"));
+    let error = served("note", &[Value::I32(8), Value::I32(5)], &mut memory(), |_| Some(7.into())).unwrap_err();
+    assert_eq!(error.to_string(), "error 62 not this type: a function without a result gives nothing, and not `7`");
+    // what no Json says has no place
+    let package = Package::open(SHOP).unwrap();
+    let sum = package.find("demo:shop/desk", "sum").unwrap();
+    for text in ["null", "1.5", "-0"] {
+        let error = Import::new(&package, &sum, 256).result_requests(text).unwrap_err();
+        assert_eq!(error.to_string(), "error 62 not this type");
+    }
 }
 
 #[test]

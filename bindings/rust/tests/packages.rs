@@ -2,7 +2,7 @@
 
 use std::path::Path;
 use std::{fs, thread};
-use witcall::{explain, CoreType, Error, Fault, Kind, Owner, Package, Place};
+use witcall::{explain, CoreType, Error, Fault, Function, Kind, Owner, Package, Place};
 
 const TEXT: &str = "package a:b;\n\ninterface c {\n  f: func(x: u32) -> u32;\n}\n";
 
@@ -15,7 +15,10 @@ fn a_package_is_written_and_opened_again() -> Result<(), Error> {
     let package = Package::open(TEXT)?;
     let again = Package::open(package.to_binary()?)?;
     assert_eq!([package.to_text()?, again.to_text()?], [TEXT, TEXT]);
-    assert_eq!(witcall::version()?, env!("CARGO_PKG_VERSION"));
+    let told = witcall::version()?;
+    let (version, commit) = told.split_once('+').unwrap_or((&told, "0123456789ab"));
+    assert_eq!(version, env!("CARGO_PKG_VERSION"));
+    assert!(commit.len() == 12 && commit.bytes().all(|digit| matches!(digit, b'0'..=b'9' | b'a'..=b'f')), "{told}");
     assert_eq!(file("VERSION"), format!("{}\n", env!("CARGO_PKG_VERSION")).as_bytes());
     Ok(())
 }
@@ -23,7 +26,7 @@ fn a_package_is_written_and_opened_again() -> Result<(), Error> {
 #[test]
 fn what_is_refused_has_its_number_and_its_line() {
     let refused = Package::open("package a:b; interface c { f: func(x: size); }").unwrap_err();
-    assert_eq!(refused, Error::Refused { number: 41, line: "error 41 unknown size".to_owned() });
+    assert_eq!(refused, Error::Refused { number: 41, line: "error 41 unknown size".to_owned(), hint: None });
     let none: [&[u8]; 0] = [];
     assert_eq!(Package::open_set(&none).unwrap_err().to_string(), "error 74 bad lengths");
     let name = format!("{}:{}", "a".repeat(200), "b".repeat(200));
@@ -44,7 +47,7 @@ fn a_module_has_its_world() -> Result<(), Error> {
     }
     for name in ["none", "guest", "cut", "old"] {
         let refused = Package::open_module(module(name)).unwrap_err();
-        assert_eq!(refused, Error::Refused { number: 44, line: "error 44 not this shape".to_owned() });
+        assert_eq!(refused, Error::Refused { number: 44, line: "error 44 not this shape".to_owned(), hint: None });
     }
     let message = "the module has no section `component-type`, at byte 8";
     assert_eq!(explain(&[module("none")])?[0].message, message);
@@ -104,12 +107,47 @@ fn functions_of_worlds_and_of_sets_are_found() -> Result<(), Error> {
     let [import, export] = [package.find_import("a:b/w", "f")?, package.find_export("a:b/w", "f")?];
     assert_eq!(import.owner, Owner::World("a:b/w".to_owned()));
     assert_eq!(export.lowered.results, [CoreType::I64]);
-    assert_eq!(package.find("a:b/w", "f").unwrap_err().to_string(), "error 63 no function");
+    let refused = package.find("a:b/w", "f").unwrap_err().to_string();
+    assert_eq!(refused, "error 63 no function: `a:b/w` is a world: find_import and find_export look there");
 
     let set =
         Package::open_set(&["clocks", "random", "cli", "app"].map(|name| file(&format!("examples/wasi/{name}.wit"))))?;
     let has_notes = |owner: &Owner| *owner == Owner::Interface("demo:diary/notes@1.0.0".to_owned());
     assert!(set.functions()?.iter().any(|it| has_notes(&it.owner)));
+    Ok(())
+}
+
+/// What is told of a function that is not there.
+fn hint_of(found: Result<Function, Error>) -> String {
+    let refused = found.unwrap_err();
+    let Error::Refused { number: 63, line, hint: Some(hint) } = &refused else { panic!("{refused:?}") };
+    assert_eq!(line, "error 63 no function");
+    assert_eq!(refused.to_string(), format!("{line}: {hint}"));
+    hint.clone()
+}
+
+#[test]
+fn a_function_that_is_not_there_is_told_with_the_nearest() -> Result<(), Error> {
+    let package = Package::open(
+        "package a:b@1.0.0; interface c { upper: func(); lower: func(); } interface d { other: func(); }
+        world w { import tell: func(); export ask: func(); import c; }",
+    )?;
+    let find = |owner: &str, name: &str| hint_of(package.find(owner, name));
+    assert_eq!(find("a:b/c@1.0.0", "uper"), "no `uper` in `a:b/c@1.0.0`; the nearest is `upper`");
+    assert_eq!(find("a:b/c@1.0.0", "towel"), "no `towel` in `a:b/c@1.0.0`; the nearest is `lower`");
+    assert_eq!(find("a:b/c@1.0.0", "other"), "no `other` in `a:b/c@1.0.0`; it is in `a:b/d@1.0.0`");
+    let missing = "has functions here; the nearest is";
+    assert_eq!(find("a:b/c", "uper"), format!("no interface `a:b/c` {missing} `upper` in `a:b/c@1.0.0`"));
+    assert_eq!(find("x:b/c", "other"), format!("no interface `x:b/c` {missing} `other` in `a:b/d@1.0.0`"));
+    assert_eq!(find("", "uper"), "`uper` has no interface; the nearest is `a:b/c@1.0.0#upper`");
+    assert_eq!(find("a:b/c@1.0.0", "a\n\u{200b}ä"), "no `a\\n\\u{200b}ä` in `a:b/c@1.0.0`; the nearest is `upper`");
+    let [import, export] = ["tel", "asks"];
+    let hint = hint_of(package.find_import("a:b/w@1.0.0", import));
+    assert_eq!(hint, "no `tel` in `a:b/w@1.0.0`; the nearest is `tell`");
+    let hint = hint_of(package.find_export("a:b/w@1.0.0", export));
+    assert_eq!(hint, "no `asks` in `a:b/w@1.0.0`; the nearest is `ask`");
+    let empty = Package::open("package a:b; interface c { type t = u8; }")?;
+    assert_eq!(hint_of(empty.find("a:b/c", "f")), "no `f` in `a:b/c`: no interface here has functions");
     Ok(())
 }
 
