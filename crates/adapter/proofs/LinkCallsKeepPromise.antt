@@ -4,12 +4,14 @@ use Rattle.canonical_abi.specs.Guest.{Release}
 use Rattle.canonical_abi.specs.Call.{Parties, World, Ways, exact, Calls}
 use Rattle.canonical_abi.specs.Halves.{counted_nodes, CallsInHalves}
 use Rattle.canonical_abi.specs.Headline.{IsLinkPromised}
+use Rattle.canonical_abi.specs.Tame.{IsLinkPromisedLive}
 use Rattle.canonical_abi.specs.declared.flat.Flat.{Flat}
 use Rattle.canonical_abi.specs.declared.trap.Fault.{Fault}
 use Rattle.canonical_abi.specs.Few.{AreFewNodes}
 use Rattle.canonical_abi.proofs.Calls.VisitsFewNodes.{visits-few-nodes}
 use Rattle.canonical_abi.proofs.Calls.HalvesAreACall.{halves-are-a-call}
 use Rattle.canonical_abi.proofs.Calls.LinkKeepsPromise.{link-keeps-promise}
+use Rattle.canonical_abi.proofs.Calls.TameLinkKeepsPromise.{tame-link-keeps-promise}
 use Rattle.layout.specs.Layout.{AreWithin}
 use Rattle.tables.specs.Closed.{function_type, IsFunction}
 use Rattle.tables.specs.declared.tables.FunctionId.{FunctionId}
@@ -22,6 +24,13 @@ pub link-promised : (parties : Parties) (caller_releases callee_releases : Relea
     → IsLinkPromised parties caller_releases callee_releases exact (function_type r f) flats old result new
 link-promised parties caller_releases callee_releases r f flats old result new is ways calls =
     link-keeps-promise parties caller_releases callee_releases exact (function_type r f) flats old result ways new (function-standard r f is) calls
+
+-- over tame guests, too
+pub link-promised-live : (parties : Parties) (caller_releases callee_releases : Release) (r : Resolve) (f : FunctionId) (flats : List Flat) (old : World)
+    (result : Result (List Flat) Fault) (new : World) → IsFunction r f → (ways : Ways) → Calls parties exact (function_type r f) flats old result ways new
+    → IsLinkPromisedLive parties caller_releases callee_releases exact (function_type r f) flats old result new
+link-promised-live parties caller_releases callee_releases r f flats old result new is ways calls =
+    tame-link-keeps-promise parties caller_releases callee_releases exact (function_type r f) flats old result ways new (function-standard r f is) calls
 
 -- and visit few nodes, so many
 pub link-told : (parties : Parties) (r : Resolve) → ∥ AreWithin r ∥₁ → (f : FunctionId) (flats : List Flat) (old : World) (result : Result (List Flat) Fault) (new : World) (there back : ℕ) → IsFunction r f

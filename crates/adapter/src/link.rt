@@ -9,6 +9,7 @@ ghost use Rattle.canonical_abi.specs.Halves.{CallsInHalves};
 ghost use Rattle.canonical_abi.specs.Headline.{IsLinkPromised, AreArguments, IsArgumentFault};
 ghost use Rattle.canonical_abi.specs.Layout.{max_flat_params, max_flat_results, size};
 ghost use Rattle.canonical_abi.specs.Requests.{params_requests, fields_requests};
+ghost use Rattle.canonical_abi.specs.Tame.{IsLinkPromisedLive};
 ghost use Rattle.canonical_abi.specs.Types.{record_type, result_fields};
 ghost use Rattle.canonical_abi.specs.declared.trap.Step.TheVariants.{LiftArgs, LiftResult};
 ghost use Rattle.tables.specs.Closed.{function_type, IsFunction};
@@ -343,9 +344,9 @@ impl<'a> Link<'a> {
     /// Calls a function of the package: the flat values are lifted from the caller and lowered into the callee, the
     /// body makes one run on them, and its answer goes the same way back. Then its post-return runs, unless there was a
     /// trap. With honest guests within the limit and a live return area the callee finds exactly what the caller holds
-    /// and is run once, and the caller then holds exactly its answer. A fault is the first, node by node: a
-    /// source's fault or a refused request. No tree of values is made, and no memory of the host is taken. After a
-    /// fault the link can be used again.
+    /// and is run once, and the caller then holds exactly its answer. With tame guests so, too, and no live byte is
+    /// changed. A fault is the first, node by node: a source's fault or a refused request. No tree of values is made,
+    /// and no memory of the host is taken. After a fault the link can be used again.
     pub fn call<C: Guest, E: Guest, B: Body<E>>(
         &mut self,
         func: FunctionId,
@@ -372,6 +373,21 @@ impl<'a> Link<'a> {
             × TellsNodes ways self.new
             × AreFewNodes (function_type self.old.resolve func) ways }
         ensures promise { IsLinkPromised
+            (record {
+              caller_allocates = C.allocates;
+              callee_allocates = E.allocates;
+              runs = B.runs body.old;
+              posts = B.posts body.old;
+            })
+            C.releases
+            E.releases
+            exact
+            (function_type self.old.resolve func)
+            flats.now
+            (record { caller = C.memory caller.old; callee = E.memory callee.old; body = B.state body.old })
+            (listed_answer result)
+            (record { caller = C.memory caller.new; callee = E.memory callee.new; body = B.state body.new }) }
+        ensures promise_live { IsLinkPromisedLive
             (record {
               caller_allocates = C.allocates;
               callee_allocates = E.allocates;

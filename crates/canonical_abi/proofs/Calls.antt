@@ -7,3 +7,5 @@ pub mod LinkKeepsPromise
 pub mod ExactIsEither
 pub mod CallKeepsPromise
 pub mod ResultIsHeld
+pub mod TameLinkKeepsPromise
+pub mod TameCallKeepsPromise

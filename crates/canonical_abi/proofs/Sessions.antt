@@ -7,3 +7,5 @@ pub mod RunsWithOneStepMore
 pub mod OnlyValuesCross
 pub mod PlacedIsHeld
 pub mod CalleeIsTold
+pub mod TameHeldStaysHeld
+pub mod TameTrapsShowValues

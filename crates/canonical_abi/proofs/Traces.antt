@@ -5,3 +5,4 @@ pub mod ConfinedTraces
 pub mod TracesLeaveImages
 pub mod WhatTracesKeep
 pub mod StoppedTracesAreConfined
+pub mod TameTraces

@@ -10,6 +10,7 @@ ghost use Rattle.tables.specs.Standard.{IsTypeOf};
 ghost use Rattle.canonical_abi.specs.Call.{exact, AllowsSameRuns, AllowsSamePosts};
 ghost use Rattle.canonical_abi.specs.Session.{PlacesValue, ReadsValue, TakesStep, TypedCall};
 ghost use Rattle.canonical_abi.specs.Headline.{IsPromised};
+ghost use Rattle.canonical_abi.specs.Tame.{IsPromisedLive};
 ghost use Rattle.values.specs.Val.{value_of};
 ghost use Rattle.witcall.specs.Session.{typed_answer};
 ghost use Rattle.witcall.specs.Steps.{IsKnownAnswer, IsOfStep, IsStep, answer_of, held_of, placed_answer, read_answer};
@@ -113,6 +114,29 @@ impl<'a, C: Guest, E: Guest, B: Body<E>> Session<'a, C, E, B> {
               body = B.state self.new.body;
             }) }
         ensures promise { IsPromised
+            (record {
+              caller_allocates = C.allocates;
+              callee_allocates = E.allocates;
+              runs = B.runs self.old.body;
+              posts = B.posts self.old.body;
+            })
+            C.releases
+            E.releases
+            exact
+            (function_type self.old.package.now.resolve func)
+            (map value_of arguments.now)
+            (record {
+              caller = C.memory self.old.caller;
+              callee = E.memory self.old.callee;
+              body = B.state self.old.body;
+            })
+            (typed_answer result)
+            (record {
+              caller = C.memory self.new.caller;
+              callee = E.memory self.new.callee;
+              body = B.state self.new.body;
+            }) }
+        ensures promise_live { IsPromisedLive
             (record {
               caller_allocates = C.allocates;
               callee_allocates = E.allocates;
@@ -321,6 +345,21 @@ pub(crate) fn call_typed<C: Guest, E: Guest, B: Body<E>>(
         (typed_answer result)
         (record { caller = C.memory caller.new; callee = E.memory callee.new; body = B.state body.new }) }
     ensures promise { IsPromised
+        (record {
+          caller_allocates = C.allocates;
+          callee_allocates = E.allocates;
+          runs = B.runs body.old;
+          posts = B.posts body.old;
+        })
+        C.releases
+        E.releases
+        exact
+        (function_type «package».now.resolve func)
+        (map value_of arguments.now)
+        (record { caller = C.memory caller.old; callee = E.memory callee.old; body = B.state body.old })
+        (typed_answer result)
+        (record { caller = C.memory caller.new; callee = E.memory callee.new; body = B.state body.new }) }
+    ensures promise_live { IsPromisedLive
         (record {
           caller_allocates = C.allocates;
           callee_allocates = E.allocates;

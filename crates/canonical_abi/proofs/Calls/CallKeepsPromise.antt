@@ -8,7 +8,7 @@ use Rattle.canonical_abi.specs.Layout.{align, size, max_flat_params, max_flat_re
 use Rattle.canonical_abi.specs.Reading.{low_bits, kind_of, number_of, denoting}
 use Rattle.canonical_abi.specs.Memory.{BlockHolds, BlockFaulty, FieldsHold}
 use Rattle.canonical_abi.specs.Flat.{Denotes, DenotesFault}
-use Rattle.canonical_abi.specs.Guest.{Memory, Release, IsLimited, KeepsLimit, IsWithin, IsAlignment}
+use Rattle.canonical_abi.specs.Guest.{Memory, Release, IsLimited, IsWithin, IsAlignment}
 use Rattle.canonical_abi.specs.Trace.{Event, grant, TraceLeads}
 use Rattle.canonical_abi.specs.Stands.{AreAligned, IsGranted, Carries}
 use Rattle.canonical_abi.specs.Laws.{IsOneOutcome}
@@ -31,7 +31,7 @@ use Rattle.canonical_abi.proofs.Traces.WhatTracesKeep.{not-both, runs-keep, gran
 use Rattle.canonical_abi.proofs.StoredValues.WritesOwnPlaceAndBlocks.{Confined, confined-then, own-confined}
 use Rattle.canonical_abi.proofs.StoredValues.StoredBytesStand.{Carrying, carrying-then, carrying-none, carrying-grant}
 use Rattle.canonical_abi.proofs.FlatValues.LoweredIsDenoted.{Nowhere, passes-own, passes-confined, passes-aligned, passes-denoted, passes-carrying}
-use Rattle.canonical_abi.proofs.Traces.ConfinedTraces.{Fine, leads-both, trace-limited, small, confined-granted, keeps-outside, typed-broken}
+use Rattle.canonical_abi.proofs.Traces.ConfinedTraces.{Fine, leads-both, small, confined-granted, keeps-outside, typed-broken}
 use Rattle.canonical_abi.proofs.Calls.LinkKeepsPromise.{InArea, Went, call-went, untouched, traps-before, answered-found, posted, completed-once, traps-once, gives-up-once, traps-own, result-given}
 
 -- ---- the arguments and the return area in the caller
@@ -77,11 +77,11 @@ length-map : {A : Type 0} (g : Flat → A) (xs : List Flat) → length (map g xs
 length-map g [] = refl
 length-map g (x ∷ xs) = let h = length-map g xs in omega arith
 
-asks-confined : (results : Fields) (arguments : List Event) (passed : List Flat) (es : List Event) (flats : List Flat) (area : ℕ) → AsksArea results arguments passed es flats area → Confined Nowhere arguments → Confined Nowhere es
+pub asks-confined : (results : Fields) (arguments : List Event) (passed : List Flat) (es : List Event) (flats : List Flat) (area : ℕ) → AsksArea results arguments passed es flats area → Confined Nowhere arguments → Confined Nowhere es
 asks-confined results arguments passed es flats area (inl s) c = subst (Confined Nowhere) (sym s.1) c
 asks-confined results arguments passed es flats area (inr s) c = subst (Confined Nowhere) (sym s.3) (confined-then Nowhere Nowhere Nowhere arguments (grant s.1 ∷ []) c tt (λ x i. i) (λ x i. i))
 
-asks-aligned : (results : Fields) (arguments : List Event) (passed : List Flat) (es : List Event) (flats : List Flat) (area : ℕ) → AsksArea results arguments passed es flats area → IsAlignment (align (record_type results)) → AreAligned arguments → AreAligned es
+pub asks-aligned : (results : Fields) (arguments : List Event) (passed : List Flat) (es : List Event) (flats : List Flat) (area : ℕ) → AsksArea results arguments passed es flats area → IsAlignment (align (record_type results)) → AreAligned arguments → AreAligned es
 asks-aligned results arguments passed es flats area (inl s) al a = subst AreAligned (sym s.1) a
 asks-aligned results arguments passed es flats area (inr s) al a =
     subst AreAligned (sym s.3) (aligned-both arguments (grant s.1 ∷ []) a (subst IsAlignment (sym s.2.0) al, tt))
@@ -196,7 +196,7 @@ module _ (parties : Parties) (caller_releases callee_releases : Release) (order 
       placed-fits : KindsFit f flats
       placed-fits = kinds-fit p.puts.0 flats area p.puts.1 alone-denoted.0
 
-      same-area : fits_flat max_flat_results (result_fields f.result) ≡ false → area_of f flats ≡ area
+      pub same-area : fits_flat max_flat_results (result_fields f.result) ≡ false → area_of f flats ≡ area
       same-area spills = area-is p.puts.0 flats area p.puts.1 placed.caller.bytes (small placed.caller placed-limited) placed-carried alone-length spills
 
       told-arguments : IsOneOutcome (AreArguments f flats placed.caller) (DenotesFault max_flat_params f.params placed.caller.bytes (argument_flats f flats))
@@ -209,11 +209,11 @@ module _ (parties : Parties) (caller_releases callee_releases : Release) (order 
       no-argument-fault k (inl h) = h.0 placed-fits
       no-argument-fault k (inr h) = told-arguments.not_both arguments k placed-denoted h.1
 
-      in-area : (x : ℕ) → InArea (result_fields f.result) (area_of f flats) x → IsGranted p.puts.0 x
+      pub in-area : (x : ℕ) → InArea (result_fields f.result) (area_of f flats) x → IsGranted p.puts.0 x
       in-area x i = area-granted p.puts.0 flats area p.puts.1 x (i.0, subst (λ b. IsWithin x b (size (record_type (result_fields f.result)))) (same-area i.0) i.1)
 
       -- the area that the call is given was granted, so it is live, and a block of the caller
-      placed-lends : LendsArea f flats placed.caller
+      pub placed-lends : LendsArea f flats placed.caller
       placed-lends fit stands x w = by (fits_flat max_flat_results (result_fields f.result)) refl
         where
           by : (b : Bool) → fits_flat max_flat_results (result_fields f.result) ≡ b → placed.caller.live x ≡ true
@@ -224,7 +224,7 @@ module _ (parties : Parties) (caller_releases callee_releases : Release) (order 
               (runs-keep parties.caller_allocates caller_releases honest.caller p.puts.0 old.caller placed.caller placed-fine.aligned placed-fine.leads).is_live x
               (in-area x (spills, subst (λ b. IsWithin x (area_of f flats) (cond b 0 (size (record_type (result_fields f.result))))) spills w))
 
-      area-stands : (k : TrapKind) → ReturnAreaFaulty f flats placed.caller k → ⊥
+      pub area-stands : (k : TrapKind) → ReturnAreaFaulty f flats placed.caller k → ⊥
       area-stands k (spills, faulty) = by p.puts.1.3
         where
           by : AsksArea (result_fields f.result) p.puts.1.0 p.puts.1.1 p.puts.0 flats area → ⊥
@@ -273,7 +273,7 @@ module _ (parties : Parties) (caller_releases callee_releases : Release) (order 
         same_body = u.same_body ∙ p.same_body;
       }
 
-      result-in-area : (new : World) (back : List Flat) (vs : List Value) → HasResult (result_fields f.result) new.caller.bytes back (area_of f flats) vs → HasResult (result_fields f.result) new.caller.bytes back area vs
+      pub result-in-area : (new : World) (back : List Flat) (vs : List Value) → HasResult (result_fields f.result) new.caller.bytes back (area_of f flats) vs → HasResult (result_fields f.result) new.caller.bytes back area vs
       result-in-area new back vs (inl h) = inl h
       result-in-area new back vs (inr h) = inr (h.0, subst (λ a. FieldsHold (result_fields f.result) new.caller.bytes a 0 vs) (same-area h.0) h.1)
 
@@ -393,7 +393,7 @@ module _ (parties : Parties) (caller_releases callee_releases : Release) (order 
         (result-given parties caller_releases callee_releases order f b.flats honest standard b.placed
         (placed-lends b.flats area b.placed b.places) b.completes.answer back b.ways b.completes.returned new b.completes.returns b.completes.finishes.same_caller)
 
-    told-result : (m : List ℕ) (back : List Flat) (area : ℕ) → IsOneOutcome (HasResult (result_fields f.result) m back area) (HasResultFault (result_fields f.result) m back area)
+    pub told-result : (m : List ℕ) (back : List Flat) (area : ℕ) → IsOneOutcome (HasResult (result_fields f.result) m back area) (HasResultFault (result_fields f.result) m back area)
     told-result m back area = one_outcome _ _ _ (tells-if (fits_flat max_flat_results (result_fields f.result)) _ _ _ _ _ _ (denoting-tells max_flat_results (result_fields f.result) m back) (fields-tell (result_fields f.result) m area 0))
 
     lifted : (back : List Flat) (area : ℕ) (new : World) (b : CameBack parties f arguments old back area new) (result : Option Value) → HasResult (result_fields f.result) new.caller.bytes back area (option_to_list result)

@@ -4,7 +4,7 @@ use Rattle.canonical_abi.specs.Types.{record_type, Fields, FunctionType, result_
 use Rattle.canonical_abi.specs.Values.{Value}
 use Rattle.canonical_abi.specs.Layout.{size, max_flat_params, max_flat_results, fits_flat}
 use Rattle.canonical_abi.specs.Flat.{DenotesFault}
-use Rattle.canonical_abi.specs.Guest.{Release, IsLimited, IsWithin, IsAlignment}
+use Rattle.canonical_abi.specs.Guest.{Release, IsWithin, IsAlignment}
 use Rattle.canonical_abi.specs.Trace.{Event, node, grant, TraceLeads}
 use Rattle.canonical_abi.specs.Lowering.{PassesResult}
 use Rattle.canonical_abi.specs.Stands.{AreAligned}
@@ -26,7 +26,7 @@ use Rattle.canonical_abi.proofs.FlatValues.LoweredIsDenoted.{Nowhere, passes-con
 use Rattle.canonical_abi.proofs.Calls.ResultIsHeld.{result-is-held}
 use Rattle.canonical_abi.proofs.Traces.StoppedTracesAreConfined.{confined-left, aligned-left, made-leaves, breaks-either, fields-until-confined, fields-until-aligned, fields-lower-until-confined, fields-lower-until-aligned}
 use Rattle.canonical_abi.proofs.ReadValues.StopsAtFirstFault.{address-denotes-fault, params-denote-fault, result-denotes-fault}
-use Rattle.canonical_abi.proofs.Traces.ConfinedTraces.{Fine, fine-none, fine-from, keeps-outside, broken, trace-limited, small}
+use Rattle.canonical_abi.proofs.Traces.ConfinedTraces.{Fine, fine-none, fine-from, keeps-outside, broken, small}
 
 -- the place of a result that doesn't go flat
 abbrev pub InArea : Fields → ℕ → ℕ → Type 0
@@ -46,7 +46,7 @@ passes-result-aligned results area vs es back (inr s) = fields-aligned results a
 in-whole-area : (results : Fields) (area x : ℕ) → InFields results area 0 x → IsWithin x area (size (record_type results))
 in-whole-area results area x i = (omega arith, omega arith)
 
-until-result-confined : (results : Fields) (m : List ℕ) (answer : List Flat) (area : ℕ) (k : TrapKind) (es : List Event) → ResultUntil max_flat_results results m answer area k es → Confined (InArea results area) es
+pub until-result-confined : (results : Fields) (m : List ℕ) (answer : List Flat) (area : ℕ) (k : TrapKind) (es : List Event) → ResultUntil max_flat_results results m answer area k es → Confined (InArea results area) es
 until-result-confined results m answer area k es (stands, inl s) = confined-more Nowhere (InArea results area) es (λ x i. absurd i) (fields-lower-until-confined results m _ k es s.1)
 until-result-confined results m answer area k es (stands, inr s) =
     confined-more (InFields results area 0) (InArea results area) es (λ x i. (s.0, in-whole-area results area x i)) (fields-until-confined results m _ area 0 k es s.1)
@@ -55,7 +55,7 @@ pub until-result-aligned : (results : Fields) (m : List ℕ) (answer : List Flat
 until-result-aligned results m answer area k es (stands, inl s) = fields-lower-until-aligned results m _ k es s.1
 until-result-aligned results m answer area k es (stands, inr s) = fields-until-aligned results m _ area 0 k es s.1
 
-script-confined : (results : Fields) (m : List ℕ) (answer : List Flat) (area : ℕ) (es : List Event) → ResultScript max_flat_results results m answer area es → Confined (InArea results area) es
+pub script-confined : (results : Fields) (m : List ℕ) (answer : List Flat) (area : ℕ) (es : List Event) → ResultScript max_flat_results results m answer area es → Confined (InArea results area) es
 script-confined results m answer area es (inl s) = passes-result-confined results area s.0 es s.1 s.3
 script-confined results m answer area es (inr s) = until-result-confined results m answer area s.0 es s.1
 
@@ -75,7 +75,7 @@ pub script-params-fine : (ts : Fields) (m : List ℕ) (flats : List Flat) (es : 
 script-params-fine ts m flats es (inl s) = (passes-aligned max_flat_params ts s.0 es s.1 s.3, passes-confined max_flat_params ts s.0 es s.1 s.3)
 script-params-fine ts m flats es (inr s) = until-params-fine ts m flats s.0 es s.1
 
-granted-part : (o : Order) (P : ℕ → Type 0) (done es : List Event) → IsGrantedPart o done es → AreAligned es → Confined P es → AreAligned done × Confined P done
+pub granted-part : (o : Order) (P : ℕ → Type 0) (done es : List Event) → IsGrantedPart o done es → AreAligned es → Confined P es → AreAligned done × Confined P done
 granted-part either P done es (rest, is) al c = (aligned-first done rest (subst AreAligned is al), confined-front P done rest (subst (Confined P) is c))
 granted-part exact P done es is al c = (subst AreAligned (sym is) al, subst (Confined P) (sym is) c)
 

@@ -2,16 +2,19 @@
 use Rattle.std.proofs.Common.{◌≡◌, inl, inr, ℕ, ◌<◌, ◌≤◌, true, List, [], ◌∷◌, ◌++◌, length, Option, Result, Ok, Err, ap, ◌∙◌, arith}
 use Rattle.std.specs.Prelude.{slice_get}
 use Rattle.std.specs.List.{AllByRecursion}
-use Rattle.canonical_abi.specs.Types.{FunctionType}
+use Rattle.canonical_abi.specs.Types.{ClosedType, FunctionType}
 use Rattle.canonical_abi.specs.Values.{Value}
 use Rattle.canonical_abi.specs.Layout.{max_flat_params}
 use Rattle.canonical_abi.specs.Guest.{Memory, Allocation, Release, IsHonest}
 use Rattle.canonical_abi.specs.Footprint.{Reads, KeepsBytes}
 use Rattle.canonical_abi.specs.Trace.{Event}
-use Rattle.canonical_abi.specs.Call.{Parties, World, Order, either, exact, Ways, Enters, Answered, Returned, Traps, GivesUp}
+use Rattle.canonical_abi.specs.Call.{Parties, World, Order, either, exact, Ways, Enters, Answered, Returned, ResultFaulty, ResultFails, Traps, GivesUp}
 use Rattle.canonical_abi.specs.Session.{SessionStep, call, place, read, release, SessionAnswer, TypedTraps, TypedCall, CameBack, TakesStep, RunsSession}
 use Rattle.canonical_abi.specs.Headline.{AreHonest, IsBeforeBody, IsAsItRan}
-use Rattle.canonical_abi.specs.Keeping.{Footprint, BodyRun, LeavesAlone, answering_run, runs_of_returned, runs_of_completed, runs_of_given_up, runs_of_traps, runs_of_call, runs_of_step, runs_of_session, CalleeKeepsHeld}
+use Rattle.canonical_abi.specs.Memory.{HoldsInBlock}
+use Rattle.canonical_abi.specs.Tame.{LeavesLive, AreTame}
+use Rattle.canonical_abi.specs.TameKeeping.{CalleeKeepsHeldLive}
+use Rattle.canonical_abi.specs.Keeping.{Footprint, IsLive, IsKept, BodyRun, LeavesAlone, answering_run, runs_of_returned, runs_of_completed, runs_of_given_up, runs_of_traps, runs_of_call, runs_of_step, runs_of_session, CalleeKeepsHeld}
 use Rattle.canonical_abi.specs.declared.flat.Flat.{Flat}
 use Rattle.canonical_abi.specs.declared.trap.Fault.{Fault}
 use Rattle.canonical_abi.specs.declared.trap.Fault.TheVariants.{Trap, NoMemory}
@@ -22,7 +25,9 @@ use Rattle.canonical_abi.proofs.ReadValues.FramesReading.{frames_reading, same_f
 use Rattle.canonical_abi.proofs.Traces.WhatTracesKeep.{not-both, runs-keep}
 use Rattle.canonical_abi.proofs.FlatValues.LoweredIsDenoted.{Nowhere, passes-confined, passes-aligned}
 use Rattle.canonical_abi.proofs.Traces.ConfinedTraces.{Fine, stays}
-use Rattle.canonical_abi.proofs.Calls.LinkKeepsPromise.{traps-wait, faulty-ran, fails-ran}
+use Rattle.canonical_abi.proofs.Traces.TameTraces.{went-leaves, leaves-same}
+use Rattle.canonical_abi.proofs.Calls.LinkKeepsPromise.{traps-wait}
+use Rattle.canonical_abi.proofs.Calls.TameLinkKeepsPromise.{traps-before}
 use Rattle.canonical_abi.proofs.Sessions.HeldStaysHeld.{reads-inside}
 
 -- ---- live addresses of a footprint, from one memory to another
@@ -61,10 +66,23 @@ module _ (F : Footprint) where
 
 -- ---- one call
 
-module _ (parties : Parties) (caller_releases callee_releases : Release) (order : Order) (honest : AreHonest parties caller_releases callee_releases) (F : Footprint) (f : FunctionType) where
+-- what the allocator of the callee keeps of the footprint, in a trace that puts arguments there and in a call that traps before the body is entered
+record CalleeKeeps (parties : Parties) (order : Order) (F : Footprint) : Type 0 where
+  entering : (old new : Memory) (es : List Event) → Fine parties.callee_allocates Nowhere old es new → KeepsAt F old new
+  before : (f : FunctionType) (flats : List Flat) (placed : World) (s : Step) (k : TrapKind) (ways : Ways) (new : World) → Traps parties order f flats placed s k ways new → IsBeforeBody s → KeepsAt F placed.callee new.callee
+
+pub faulty-ran : (parties : Parties) (order : Order) (f : FunctionType) (flats answer : List Flat) (answered : World) (k : TrapKind) (done : List Event) (new : World) → ResultFaulty parties order f flats answered answer k done new → IsAsItRan answered new
+faulty-ran parties order f flats answer answered k done new (inl (faulty, none, is)) = (ap (λ w. w.callee) is, ap (λ w. w.body) is)
+faulty-ran parties order f flats answer answered k done new (inr (tested, es, until, part, begun, callee, body)) = (callee, body)
+
+pub fails-ran : (parties : Parties) (order : Order) (f : FunctionType) (flats answer : List Flat) (answered : World) (k : TrapKind) (done : List Event) (new : World) → ResultFails parties order f flats answered answer k done new → IsAsItRan answered new
+fails-ran parties order f flats answer answered k done new (inl (stands, faulty, none, is)) = (ap (λ w. w.callee) is, ap (λ w. w.body) is)
+fails-ran parties order f flats answer answered k done new (inr (stands, es, script, breaks, is_done, callee, body)) = (callee, body)
+
+module _ (parties : Parties) (caller_releases : Release) (order : Order) (F : Footprint) (keeps : CalleeKeeps parties order F) (f : FunctionType) where
   -- the body is entered
   at-entered : (flats : List Flat) (placed : World) (values : List Value) (handed : List Flat) (there : List Event) (entered : World) → Enters parties f flats placed values handed there entered → KeepsAt F placed.callee entered.callee
-  at-entered flats placed values handed there entered e = at-fine F parties.callee_allocates callee_releases honest.callee placed.callee entered.callee there (record {
+  at-entered flats placed values handed there entered e = keeps.entering placed.callee entered.callee there (record {
     aligned = passes-aligned max_flat_params f.params values there handed e.passes;
     confined = passes-confined max_flat_params f.params values there handed e.passes;
     leads = e.leads;
@@ -84,12 +102,6 @@ module _ (parties : Parties) (caller_releases callee_releases : Release) (order 
   from-placed : (old placed new : World) → placed.callee ≡ old.callee → KeepsAt F placed.callee new.callee → KeepsAt F old.callee new.callee
   from-placed old placed new same k = at-then F old.callee placed.callee new.callee (at-same F old.callee placed.callee same) k
 
-  -- a trap before the entry
-  at-before : (flats : List Flat) (placed : World) (s : Step) (k : TrapKind) (ways : Ways) (new : World) → Traps parties order f flats placed s k ways new → IsBeforeBody s → KeepsAt F placed.callee new.callee
-  at-before flats placed s k ways new t b =
-      let waits = traps-wait parties caller_releases callee_releases order f flats honest placed s k ways new t b in
-      at-fine F parties.callee_allocates callee_releases honest.callee placed.callee new.callee waits.0 waits.1
-
   at-ran : (answered new : World) → IsAsItRan answered new → KeepsAt F answered.callee new.callee
   at-ran answered new ran = at-same F answered.callee new.callee ran.0
 
@@ -101,16 +113,16 @@ module _ (parties : Parties) (caller_releases callee_releases : Release) (order 
     at-trapped : (s : Step) (k : TrapKind) (new : World) (t : TypedTraps parties order f arguments old s k new) → AllByRecursion (LeavesAlone F) (runs_of_traps parties order f arguments old s k new t) → KeepsAt F old.callee new.callee
     at-trapped step.Place k new t leaves = at-same F old.callee new.callee t.same_callee
     at-trapped step.Take k new (back, area, b, fault) leaves = at-came back area new b leaves
-    at-trapped step.LiftArgs k new (flats, area, placed, p, ways, t) leaves = from-placed old placed new p.same_callee (at-before flats placed step.LiftArgs k ways new t tt)
-    at-trapped step.LowerArgs k new (flats, area, placed, p, ways, t) leaves = from-placed old placed new p.same_callee (at-before flats placed step.LowerArgs k ways new t tt)
+    at-trapped step.LiftArgs k new (flats, area, placed, p, ways, t) leaves = from-placed old placed new p.same_callee (keeps.before f flats placed step.LiftArgs k ways new t tt)
+    at-trapped step.LowerArgs k new (flats, area, placed, p, ways, t) leaves = from-placed old placed new p.same_callee (keeps.before f flats placed step.LowerArgs k ways new t tt)
     at-trapped step.Body k new (flats, area, placed, p, ways, (values, handed, entered, is, enters, runs, none)) leaves =
         from-placed old placed new p.same_callee (at-then F placed.callee entered.callee new.callee (at-entered flats placed values handed ways.there entered enters) (at-run F (record { before = entered.callee; after = new.callee }) leaves.0))
     at-trapped step.LiftResult k new (flats, area, placed, p, ways, (answer, answered, a, faulty)) leaves =
         from-placed old placed new p.same_callee (at-then F placed.callee answered.callee new.callee (at-answered flats placed answer ways.there answered a leaves.0)
-        (at-ran answered new (faulty-ran parties caller_releases callee_releases order f flats honest answer answered k ways.back new faulty)))
+        (at-ran answered new (faulty-ran parties order f flats answer answered k ways.back new faulty)))
     at-trapped step.LowerResult k new (flats, area, placed, p, ways, (answer, answered, a, fails)) leaves =
         from-placed old placed new p.same_callee (at-then F placed.callee answered.callee new.callee (at-answered flats placed answer ways.there answered a leaves.0)
-        (at-ran answered new (fails-ran parties caller_releases callee_releases order f flats honest answer answered k ways.back new fails)))
+        (at-ran answered new (fails-ran parties order f flats answer answered k ways.back new fails)))
     at-trapped step.Post k new (flats, area, placed, p, ways, (answer, given, returned, is, r, finishes)) leaves = from-placed old placed new p.same_callee (at-returned flats placed answer given ways returned r new leaves)
 
     at-given-up : (o : Order) (flats : List Flat) (placed : World) (ways : Ways) (new : World) (g : GivesUp parties f flats o placed ways new) → AllByRecursion (LeavesAlone F) (runs_of_given_up parties f o flats placed ways new g) → KeepsAt F placed.callee new.callee
@@ -134,10 +146,10 @@ all-second : (P : BodyRun → Type 0) (xs ys : List BodyRun) → AllByRecursion 
 all-second P [] ys all = all
 all-second P (x ∷ xs) ys all = all-second P xs ys all.1
 
-module _ (parties : Parties) (caller_releases callee_releases : Release) (order : Order) (honest : AreHonest parties caller_releases callee_releases) (F : Footprint) where
+module _ (parties : Parties) (caller_releases : Release) (order : Order) (F : Footprint) (keeps : CalleeKeeps parties order F) where
   at-step : (s : SessionStep) (before : List SessionAnswer) (old : World) (answer : SessionAnswer) (new : World) (taken : TakesStep parties caller_releases order before old s answer new)
       → AllByRecursion (LeavesAlone F) (runs_of_step parties caller_releases order s before old answer new taken) → KeepsAt F old.callee new.callee
-  at-step (call f arguments) before old answer new (result, is, calls) leaves = at-called parties caller_releases callee_releases order honest F f arguments old result new calls leaves
+  at-step (call f arguments) before old answer new (result, is, calls) leaves = at-called parties caller_releases order F keeps f arguments old result new calls leaves
   at-step (place t v) before old answer new (result, is, places, callee, body) leaves = at-same F old.callee new.callee callee
   at-step (read k) before old answer new (same, reads) leaves = at-same F old.callee new.callee (ap (λ w. w.callee) same)
   at-step (release at n) before old answer new (took, is, releases, callee, body) leaves = at-same F old.callee new.callee callee
@@ -150,14 +162,41 @@ module _ (parties : Parties) (caller_releases callee_releases : Release) (order 
       (at-step s before old run.answer run.between run.takes (all-first (LeavesAlone F) (runs_of_step parties caller_releases order s before old run.answer run.between run.takes) _ leaves))
       (at-steps (before ++ run.answer ∷ []) run.between steps run.rest new run.others (all-second (LeavesAlone F) (runs_of_step parties caller_releases order s before old run.answer run.between run.takes) _ leaves))
 
-pub callee-keeps-held : (parties : Parties) (caller_releases callee_releases : Release) (order : Order) → CalleeKeepsHeld parties caller_releases order callee_releases
-callee-keeps-held parties caller_releases callee_releases order t a v before old steps answers new run honest holds live leaves =
-    let k = at-steps parties caller_releases callee_releases order honest (Reads t old.callee.bytes a) before old steps answers new run leaves in
-    let inside : (x : ℕ) → Reads t old.callee.bytes a x → x < length old.callee.bytes = λ x r. reads-inside old.callee.bytes t a v holds.0.1 holds.1 x r in
-    let bytes : KeepsBytes t a old.callee.bytes new.callee.bytes = record { same = λ x r. k.same x r (inside x r) (live x r); no_shorter = k.no_shorter } in (
+-- a value that was held, in live addresses
+held-then : (t : ClosedType) (a : ℕ) (v : Value) (old new : Memory) → HoldsInBlock t old.bytes a v → IsLive (Reads t old.bytes a) old → KeepsAt (Reads t old.bytes a) old new → IsKept t a v old new × IsLive (Reads t old.bytes a) new
+held-then t a v old new holds live k =
+    let inside : (x : ℕ) → Reads t old.bytes a x → x < length old.bytes = λ x r. reads-inside old.bytes t a v holds.0.1 holds.1 x r in
+    let bytes : KeepsBytes t a old.bytes new.bytes = record { same = λ x r. k.same x r (inside x r) (live x r); no_shorter = k.no_shorter } in (
       record {
-        holds = ((holds.0.0, let i = holds.0.1 in let l = k.no_shorter in omega arith), frames_reading t a v old.callee.bytes new.callee.bytes bytes holds.1);
-        footprint = same_footprint t a old.callee.bytes new.callee.bytes bytes;
+        holds = ((holds.0.0, let i = holds.0.1 in let l = k.no_shorter in omega arith), frames_reading t a v old.bytes new.bytes bytes holds.1);
+        footprint = same_footprint t a old.bytes new.bytes bytes;
       },
       λ x r. k.live x r (inside x r) (live x r),
     )
+
+honest-keeps : (parties : Parties) (caller_releases callee_releases : Release) (order : Order) (F : Footprint) → AreHonest parties caller_releases callee_releases → CalleeKeeps parties order F
+honest-keeps parties caller_releases callee_releases order F honest = record {
+  entering = λ old new es fine. at-fine F parties.callee_allocates callee_releases honest.callee old new es fine;
+  before = λ f flats placed s k ways new t b.
+      let waits = traps-wait parties caller_releases callee_releases order f flats honest placed s k ways new t b in
+      at-fine F parties.callee_allocates callee_releases honest.callee placed.callee new.callee waits.0 waits.1;
+}
+
+tame-keeps : (parties : Parties) (caller_releases callee_releases : Release) (order : Order) (F : Footprint) → AreTame parties caller_releases callee_releases → CalleeKeeps parties order F
+tame-keeps parties caller_releases callee_releases order F tame = record {
+  entering = λ old new es fine. by-left old new (went-leaves parties.callee_allocates callee_releases tame.callee Nowhere old new 0 0 (λ x i. absurd i) (es, new, fine, leaves-same 0 0 new));
+  before = λ f flats placed s k ways new t b. by-left placed.callee new.callee (traps-before parties caller_releases callee_releases order f flats tame placed s k ways new t b).kept;
+}
+  where
+    by-left : (old new : Memory) → LeavesLive 0 0 old new → KeepsAt F old new
+    by-left old new k = record { no_shorter = k.no_shorter; same = λ x f below is. k.bytes x is below (inr (omega arith)); live = λ x f below is. k.live x is }
+
+pub callee-keeps-held : (parties : Parties) (caller_releases callee_releases : Release) (order : Order) → CalleeKeepsHeld parties caller_releases order callee_releases
+callee-keeps-held parties caller_releases callee_releases order t a v before old steps answers new run honest holds live leaves =
+    held-then t a v old.callee new.callee holds live
+    (at-steps parties caller_releases order (Reads t old.callee.bytes a) (honest-keeps parties caller_releases callee_releases order (Reads t old.callee.bytes a) honest) before old steps answers new run leaves)
+
+pub callee-keeps-held-live : (parties : Parties) (caller_releases callee_releases : Release) (order : Order) → CalleeKeepsHeldLive parties caller_releases order callee_releases
+callee-keeps-held-live parties caller_releases callee_releases order t a v before old steps answers new run tame holds live leaves =
+    held-then t a v old.callee new.callee holds live
+    (at-steps parties caller_releases order (Reads t old.callee.bytes a) (tame-keeps parties caller_releases callee_releases order (Reads t old.callee.bytes a) tame) before old steps answers new run leaves)

@@ -202,22 +202,26 @@ pub held-stays-held : (parties : Parties) (caller_releases callee_releases : Rel
 held-stays-held parties caller_releases callee_releases order t a v before old steps answers new run honest limited standard stay =
     run-keeps parties caller_releases callee_releases order honest limited.caller_keeps t a v before old steps answers new run limited.caller standard stay
 
--- what is read of a value that stayed held
-pub read-again : (parties : Parties) (caller_releases callee_releases : Release) (order : Order) (t : ClosedType) (a : ℕ) (v : Value) (before : List SessionAnswer) (old : World) (steps : List SessionStep) (answers : List SessionAnswer) (new : World)
-    (run : RunsSession parties caller_releases order before old steps answers new) (answer : SessionAnswer) → AreHonest parties caller_releases callee_releases → KeepsLimit parties.caller_allocates → IsLimited old.caller → AreStandardSteps steps
-    → StaysLive parties caller_releases order t a v before old steps answers new run → ReadsStep new.caller (Some (record { ty = t; at = a })) answer → ReadAnswers v answer
-read-again parties caller_releases callee_releases order t a v before old steps answers new run answer honest keeps few standard stay reads =
-    by reads.0 reads.1 reads.2 (run-keeps parties caller_releases callee_releases order honest keeps t a v before old steps answers new run few standard stay).holds
+-- what is read of a value that is held
+pub held-read : (t : ClosedType) (a : ℕ) (v : Value) (m : Memory) (answer : SessionAnswer) → HoldsInBlock t m.bytes a v → ReadsStep m (Some (record { ty = t; at = a })) answer → ReadAnswers v answer
+held-read t a v m answer holds reads = by reads.0 reads.1 reads.2 holds
   where
-    outcome : IsOneOutcome (Holds t new.caller.bytes a) (Faulty t new.caller.bytes a)
-    outcome = one_outcome (reading t new.caller.bytes a) _ _ (reading-tells t new.caller.bytes a)
+    outcome : IsOneOutcome (Holds t m.bytes a) (Faulty t m.bytes a)
+    outcome = one_outcome (reading t m.bytes a) _ _ (reading-tells t m.bytes a)
 
-    by : (result : Result Value Fault) → answer ≡ was_read result → ReadsValue new.caller (record { ty = t; at = a }) result → HoldsInBlock t new.caller.bytes a v → ReadAnswers v answer
+    by : (result : Result Value Fault) → answer ≡ was_read result → ReadsValue m (record { ty = t; at = a }) result → HoldsInBlock t m.bytes a v → ReadAnswers v answer
     by (Ok w) is h k = inl (is ∙ ap (λ u. was_read (Ok u)) (outcome.one_value w v h.1 k.1))
     by (Err NoMemory) is h k = inr is
     by (Err (Trap fault)) is (at, inl (inl (bad, kind))) k = absurd (bad k.0.0)
     by (Err (Trap fault)) is (at, inl (inr (ok, past, kind))) k = absurd (let i = k.0.1 in omega arith)
     by (Err (Trap fault)) is (at, inr (block, faulty)) k = absurd (outcome.not_both v fault.kind k.1 faulty)
+
+-- what is read of a value that stayed held
+pub read-again : (parties : Parties) (caller_releases callee_releases : Release) (order : Order) (t : ClosedType) (a : ℕ) (v : Value) (before : List SessionAnswer) (old : World) (steps : List SessionStep) (answers : List SessionAnswer) (new : World)
+    (run : RunsSession parties caller_releases order before old steps answers new) (answer : SessionAnswer) → AreHonest parties caller_releases callee_releases → KeepsLimit parties.caller_allocates → IsLimited old.caller → AreStandardSteps steps
+    → StaysLive parties caller_releases order t a v before old steps answers new run → ReadsStep new.caller (Some (record { ty = t; at = a })) answer → ReadAnswers v answer
+read-again parties caller_releases callee_releases order t a v before old steps answers new run answer honest keeps few standard stay reads =
+    held-read t a v new.caller answer (run-keeps parties caller_releases callee_releases order honest keeps t a v before old steps answers new run few standard stay).holds reads
 
 pub held-is-read : (parties : Parties) (caller_releases callee_releases : Release) (order : Order) → HeldIsRead parties caller_releases order callee_releases
 held-is-read parties caller_releases callee_releases order t a v before old steps answers new run answer honest limited standard stay reads =

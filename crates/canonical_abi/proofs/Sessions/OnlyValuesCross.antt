@@ -1,10 +1,10 @@
 -- Values tell what two ways into one memory leave there; and what a way that broke off leaves is what its events tell.
-use Rattle.std.proofs.Common.{◌≡◌, ◌⊎◌, inl, inr, ℕ, ◌+◌, ◌-◌, ◌<◌, ◌≤◌, List, [], ◌∷◌, ◌++◌, length, drop, Option, Some, refl, sym, ap, ◌∙◌, subst, arith}
+use Rattle.std.proofs.Common.{◌≡◌, ◌⊎◌, inl, inr, ℕ, ◌+◌, ◌-◌, ◌<◌, ◌≤◌, true, cond, List, [], ◌∷◌, ◌++◌, length, drop, Option, Some, refl, sym, ap, ◌∙◌, subst, arith}
 use Rattle.std.specs.Prelude.{slice_get, slice_range}
 use Rattle.std.proofs.lemmas.Bool.{cases_lt}
 use Rattle.std.proofs.lemmas.Option.{slice_get_within}
-use Rattle.canonical_abi.specs.Types.{FunctionType, result_fields}
-use Rattle.canonical_abi.specs.Layout.{max_flat_params, max_flat_results}
+use Rattle.canonical_abi.specs.Types.{FunctionType, record_type, result_fields}
+use Rattle.canonical_abi.specs.Layout.{size, max_flat_params, max_flat_results}
 use Rattle.canonical_abi.specs.Guest.{Memory, Allocation, Release, IsGrant, IsHonest, IsWithin, IsOutside, overwrite}
 use Rattle.canonical_abi.specs.Trace.{Grant, Event, node, grant, write, TraceLeads, LeavesOutWrites, RequestFails}
 use Rattle.canonical_abi.specs.Stands.{AreAligned}
@@ -12,6 +12,7 @@ use Rattle.canonical_abi.specs.Lowering.{PassesResult}
 use Rattle.canonical_abi.specs.Call.{Run, PostRun, Parties, World, Ways, exact, Answered, ArgumentsFaulty, ArgumentsFail, ResultFaulty, ResultFails, Traps, argument_flats, area_of}
 use Rattle.canonical_abi.specs.Headline.{AreHonest, IsBeforeBody}
 use Rattle.canonical_abi.specs.OnlyValues.{OnlyValuesCross, ShowsAlone, TrapsShowValues}
+use Rattle.canonical_abi.specs.TameValues.{OnlyValuesCrossLive}
 use Rattle.canonical_abi.specs.declared.flat.Flat.{Flat}
 use Rattle.canonical_abi.specs.declared.trap.Step.{Step}
 use Rattle.canonical_abi.specs.declared.trap.Step.TheVariants as step
@@ -20,9 +21,9 @@ use Rattle.canonical_abi.proofs.Traces.TracesLeaveImages.{byte_over-before, byte
 use Rattle.canonical_abi.proofs.Traces.WhatTracesKeep.{runs-keep, aligned-first, aligned-second}
 use Rattle.canonical_abi.proofs.Traces.StoppedTracesAreConfined.{aligned-left, made-leaves, leaves-none}
 use Rattle.canonical_abi.proofs.Traces.ConfinedTraces.{request-failed}
-use Rattle.canonical_abi.proofs.FlatValues.LoweredIsDenoted.{passes-aligned}
-use Rattle.canonical_abi.proofs.Sessions.ValuesTellTraces.{same-entry, same-return}
-use Rattle.canonical_abi.proofs.Calls.LinkKeepsPromise.{answered-same, returned-fine, passes-result-aligned, until-result-aligned, script-aligned, until-params-fine, script-params-fine}
+use Rattle.canonical_abi.proofs.FlatValues.LoweredIsDenoted.{Nowhere, passes-aligned, passes-confined}
+use Rattle.canonical_abi.proofs.Sessions.ValuesTellTraces.{same-entry, same-return, same-entry-live, same-return-live}
+use Rattle.canonical_abi.proofs.Calls.LinkKeepsPromise.{InArea, passes-result-confined, answered-same, returned-fine, passes-result-aligned, until-result-aligned, script-aligned, until-params-fine, script-params-fine}
 
 -- ---- ways that were taken to their end
 
@@ -38,6 +39,35 @@ only-values-cross target one two runs posts = λ one_way ignores. record {
       let passes = subst (λ a. PassesResult max_flat_results (result_fields f.result) a values fs given) (sym area) x.passes in
       let both = same-return target one_way ignores max_flat_results (result_fields f.result) (area_of f flats) values es fs handed given old.caller new.caller last.caller
       (passes-result-aligned (result_fields f.result) (area_of f flats) values es handed e.passes) e.passes passes e.leads leads in
+      (both.1, both.0);
+}
+
+-- so where the allocator keeps notes in bytes that are not live
+pub only-values-cross-live : (target : Allocation) (releases : Release) (one two : Allocation) (runs : Run) (posts : PostRun) → OnlyValuesCrossLive target releases one two runs posts
+only-values-cross-live target releases one two runs posts = λ tame one_way ignores. record {
+  there = λ f flats others old past values handed given es fs new last e x same.
+      let both = same-entry-live target releases tame one_way ignores max_flat_params f.params values es fs handed given old.callee new.callee last.callee Nowhere Nowhere
+      (record { aligned = passes-aligned max_flat_params f.params values es handed e.passes; confined = passes-confined max_flat_params f.params values es handed e.passes; live = λ a i. absurd i; leads = e.leads })
+      (record {
+        aligned = passes-aligned max_flat_params f.params values fs given x.passes;
+        confined = passes-confined max_flat_params f.params values fs given x.passes;
+        live = λ a i. absurd i;
+        leads = subst (λ m. TraceLeads target m fs last.callee) (sym same) x.leads;
+      }) e.passes x.passes in
+      (both.1, both.0);
+  back = λ f flats others old past answer reply values handed given es fs new last e x kinds lends area same.
+      let results = result_fields f.result in
+      let at = area_of f flats in
+      let passes = subst (λ a. PassesResult max_flat_results results a values fs given) (sym area) x.passes in
+      let live : (y : ℕ) → InArea results at y → old.caller.live y ≡ true = λ y i. lends kinds e.area_stands y (subst (λ b. IsWithin y at (cond b 0 (size (record_type results)))) (sym i.0) i.1) in
+      let both = same-return-live target releases tame one_way ignores max_flat_results results at values es fs handed given old.caller new.caller last.caller (InArea results at) (InArea results at)
+      (record { aligned = passes-result-aligned results at values es handed e.passes; confined = passes-result-confined results at values es handed e.passes; live = live; leads = e.leads })
+      (record {
+        aligned = passes-result-aligned results at values fs given passes;
+        confined = passes-result-confined results at values fs given passes;
+        live = live;
+        leads = subst (λ m. TraceLeads target m fs last.caller) (sym same) x.leads;
+      }) e.passes passes in
       (both.1, both.0);
 }
 
@@ -80,7 +110,7 @@ module _ (allocates : Allocation) (releases : Release) (honest : IsHonest alloca
           ]
 
   -- a byte of a memory that was written to
-  written-shows : (at : ℕ) (part old new : List ℕ) → at + length part ≤ length old → new ≡ overwrite old at part → (a b : ℕ) → slice_get new a ≡ Some b
+  pub written-shows : (at : ℕ) (part old new : List ℕ) → at + length part ≤ length old → new ≡ overwrite old at part → (a b : ℕ) → slice_get new a ≡ Some b
       → (slice_get old a ≡ Some b) ⊎ (IsWithin a at (length part) × (slice_get part (a - at) ≡ Some b))
   written-shows at part old new fits is a b e =
       let here = sym (overwrite-get old part at a fits) ∙ ap (λ bs. slice_get bs a) (sym is) ∙ e in

@@ -1,16 +1,22 @@
 -- A trace over one memory is told by its values, whose allocator answers in one way.
-use Rattle.std.proofs.Common.{◌≡◌, inl, inr, ℕ, zero, suc, ◌+◌, ◌≤◌, List, [], ◌∷◌, ◌++◌, length, map, Option, Some, refl, sym, ap, ◌∙◌, subst}
+use Rattle.std.proofs.Common.{◌≡◌, ◌⊎◌, inl, inr, ℕ, zero, suc, ◌+◌, ◌≤◌, true, List, [], ◌∷◌, ◌++◌, length, map, Option, Some, refl, sym, ap, ◌∙◌, subst, arith}
+use Rattle.std.specs.Prelude.{slice_get}
 use Rattle.canonical_abi.specs.Types.{ClosedType, prim_type, string_type, list_type, record_type, variant_type, flags_type, Fields, no_field, field, Cases, no_case, plain_case, case_with}
 use Rattle.canonical_abi.specs.Values.{Value}
 use Rattle.canonical_abi.specs.Layout.{size, payload_place}
-use Rattle.canonical_abi.specs.Guest.{Memory, Allocation, overwrite, with_bytes}
-use Rattle.canonical_abi.specs.Trace.{Grant, Event, node, grant, write, Request, grants_of, requests_of, TraceLeads}
+use Rattle.canonical_abi.specs.Guest.{Memory, Allocation, Release, overwrite, with_bytes, IsWithin, IsOutside}
+use Rattle.canonical_abi.specs.Trace.{Grant, Event, node, grant, write, Request, grants_of, requests_of, TraceLeads, byte_over}
 use Rattle.canonical_abi.specs.Stands.{AreAligned}
 use Rattle.canonical_abi.specs.Storing.{EachStores, Stores, FieldsStore, CaseStores}
 use Rattle.canonical_abi.specs.Lowering.{Lowers, FieldsLower, CaseLowers, PassesParams, PassesResult}
 use Rattle.canonical_abi.specs.Told.{AllocatesInOneWay, IgnoresBytes, SameButBytes}
+use Rattle.canonical_abi.specs.Tame.{IsTame}
+use Rattle.canonical_abi.specs.TameValues.{SameButLive, IgnoresLive}
 use Rattle.canonical_abi.specs.declared.flat.Flat.{Flat}
-use Rattle.canonical_abi.proofs.Traces.BytesWrittenOver.{length-overwrite}
+use Rattle.canonical_abi.proofs.Traces.BytesWrittenOver.{length-overwrite, within_or_not}
+use Rattle.canonical_abi.proofs.Traces.TracesLeaveImages.{byte_over-before, byte_over-after, overwrite-get}
+use Rattle.canonical_abi.proofs.Traces.WhatTracesKeep.{not-both}
+use Rattle.canonical_abi.proofs.StoredValues.WritesOwnPlaceAndBlocks.{Confined}
 use Rattle.canonical_abi.proofs.StoredValues.AsksRequests.{asks-requests}
 use Rattle.canonical_abi.proofs.FlatValues.SameLowering.{same-passing}
 
@@ -130,34 +136,7 @@ rest-of x y xs ys e = cc
 cons-one : (x y : Grant) (xs ys : List Grant) → x ≡ y → xs ≡ ys → x ∷ xs ≡ y ∷ ys
 cons-one x y xs ys p q = cc
 
-module _ (allocates : Allocation) (one_way : AllocatesInOneWay allocates) (ignores : IgnoresBytes allocates) where
-  -- equal requests of memories that are the same but for their bytes are granted equal blocks
-  same-grants : (es fs : List Event) (m m' n n' : Memory) → AreAligned es → SameButBytes m n → TraceLeads allocates m es m' → TraceLeads allocates n fs n' → requests_of es ≡ requests_of fs → map bare (grants_of es) ≡ map bare (grants_of fs)
-  same-grants [] fs m m' n n' al s r q e = none fs e
-    where
-      none : (fs : List Event) → ◌≡◌ {A = List Request} [] (requests_of fs) → ◌≡◌ {A = List Grant} [] (map bare (grants_of fs))
-      none [] e = refl
-      none (node ∷ fs) e = none fs e
-      none (write a bs ∷ fs) e = none fs e
-      none (grant g ∷ fs) e = absurd (cc)
-  same-grants (node ∷ es) fs m m' n n' al s r q e = same-grants es fs r.0 m' n n' al (subst (λ k. SameButBytes k n) (sym r.1) s) r.2 q e
-  same-grants (write a bs ∷ es) fs m m' n n' al s r q e = same-grants es fs r.0 m' n n' al (same-written m r.0 n a bs r.1 s) r.2 q e
-  same-grants (grant g ∷ es) fs m m' n n' al s r q e = next (λ gs k t p u. same-grants es gs r.0 m' k n' al.1 t r.2 p u) fs n s q e
-    where
-      next : ((gs : List Event) (k : Memory) → SameButBytes r.0 k → TraceLeads allocates k gs n' → requests_of es ≡ requests_of gs → map bare (grants_of es) ≡ map bare (grants_of gs))
-          → (fs : List Event) (n : Memory) → SameButBytes m n → TraceLeads allocates n fs n' → requests_of (grant g ∷ es) ≡ requests_of fs → map bare (grants_of (grant g ∷ es)) ≡ map bare (grants_of fs)
-      next rest [] n s q e = absurd (cc)
-      next rest (node ∷ fs) n s q e = next rest fs q.0 (subst (λ k. SameButBytes m k) (sym q.1) s) q.2 e
-      next rest (write a bs ∷ fs) n s q e = next rest fs q.0 (same-turned q.0 m (same-written n q.0 m a bs q.1 (same-turned m n s))) q.2 e
-      next rest (grant h ∷ fs) n s q e =
-          let align_is : h.align ≡ g.align = sym (first-align _ _ _ _ e) in
-          let size_is : h.size ≡ g.size = sym (first-size _ _ _ _ e) in
-          let granted : allocates n g.align g.size (Some h.at) q.0 = subst (λ a. allocates n a g.size (Some h.at) q.0) align_is (subst (λ b. allocates n h.align b (Some h.at) q.0) size_is q.1.0) in
-          let both = ignores m n g.align g.size (Some g.at) (Some h.at) r.0 q.0 al.0 s r.1.0 granted in
-          let here : bare g ≡ bare h = bare-one g h (sym align_is) (sym size_is) (some-one g.at h.at both.0) in
-          let there = rest fs q.0 both.1 q.2 (first-rest _ _ _ _ e) in
-          cons-one (bare g) (bare h) _ _ here there
-
+module _ (allocates : Allocation) (one_way : AllocatesInOneWay allocates) where
   -- a trace that is the same but for what stood in the blocks leads to the same memory
   same-end : (es fs : List Event) (m n n' : Memory) → AreAligned es → erased es ≡ erased fs → TraceLeads allocates m es n → TraceLeads allocates m fs n' → n ≡ n'
   same-end [] [] m n n' al e r q = r ∙ sym q
@@ -187,6 +166,34 @@ module _ (allocates : Allocation) (one_way : AllocatesInOneWay allocates) (ignor
       let written : q.0 ≡ with_bytes m (overwrite m.bytes a bs) = q.1.1 ∙ ap (λ x. with_bytes m (overwrite m.bytes x cs)) at_is ∙ ap (λ x. with_bytes m (overwrite m.bytes a x)) part_is in
       same-end es fs (with_bytes m (overwrite m.bytes a bs)) n n' al (rest-of _ _ _ _ e) (subst (λ k. TraceLeads allocates k es n) r.1.1 r.2) (subst (λ k. TraceLeads allocates k fs n') written q.2)
 
+module _ (allocates : Allocation) (one_way : AllocatesInOneWay allocates) (ignores : IgnoresBytes allocates) where
+  -- equal requests of memories that are the same but for their bytes are granted equal blocks
+  same-grants : (es fs : List Event) (m m' n n' : Memory) → AreAligned es → SameButBytes m n → TraceLeads allocates m es m' → TraceLeads allocates n fs n' → requests_of es ≡ requests_of fs → map bare (grants_of es) ≡ map bare (grants_of fs)
+  same-grants [] fs m m' n n' al s r q e = none fs e
+    where
+      none : (fs : List Event) → ◌≡◌ {A = List Request} [] (requests_of fs) → ◌≡◌ {A = List Grant} [] (map bare (grants_of fs))
+      none [] e = refl
+      none (node ∷ fs) e = none fs e
+      none (write a bs ∷ fs) e = none fs e
+      none (grant g ∷ fs) e = absurd (cc)
+  same-grants (node ∷ es) fs m m' n n' al s r q e = same-grants es fs r.0 m' n n' al (subst (λ k. SameButBytes k n) (sym r.1) s) r.2 q e
+  same-grants (write a bs ∷ es) fs m m' n n' al s r q e = same-grants es fs r.0 m' n n' al (same-written m r.0 n a bs r.1 s) r.2 q e
+  same-grants (grant g ∷ es) fs m m' n n' al s r q e = next (λ gs k t p u. same-grants es gs r.0 m' k n' al.1 t r.2 p u) fs n s q e
+    where
+      next : ((gs : List Event) (k : Memory) → SameButBytes r.0 k → TraceLeads allocates k gs n' → requests_of es ≡ requests_of gs → map bare (grants_of es) ≡ map bare (grants_of gs))
+          → (fs : List Event) (n : Memory) → SameButBytes m n → TraceLeads allocates n fs n' → requests_of (grant g ∷ es) ≡ requests_of fs → map bare (grants_of (grant g ∷ es)) ≡ map bare (grants_of fs)
+      next rest [] n s q e = absurd (cc)
+      next rest (node ∷ fs) n s q e = next rest fs q.0 (subst (λ k. SameButBytes m k) (sym q.1) s) q.2 e
+      next rest (write a bs ∷ fs) n s q e = next rest fs q.0 (same-turned q.0 m (same-written n q.0 m a bs q.1 (same-turned m n s))) q.2 e
+      next rest (grant h ∷ fs) n s q e =
+          let align_is : h.align ≡ g.align = sym (first-align _ _ _ _ e) in
+          let size_is : h.size ≡ g.size = sym (first-size _ _ _ _ e) in
+          let granted : allocates n g.align g.size (Some h.at) q.0 = subst (λ a. allocates n a g.size (Some h.at) q.0) align_is (subst (λ b. allocates n h.align b (Some h.at) q.0) size_is q.1.0) in
+          let both = ignores m n g.align g.size (Some g.at) (Some h.at) r.0 q.0 al.0 s r.1.0 granted in
+          let here : bare g ≡ bare h = bare-one g h (sym align_is) (sym size_is) (some-one g.at h.at both.0) in
+          let there = rest fs q.0 both.1 q.2 (first-rest _ _ _ _ e) in
+          cons-one (bare g) (bare h) _ _ here there
+
   -- so parameters that are put into one memory give one trace's end and the same core values
   pub same-entry : (limit : ℕ) (ts : Fields) (vs : List Value) (es fs : List Event) (flats others : List Flat) (m n n' : Memory) → AreAligned es
       → PassesParams limit ts vs es flats → PassesParams limit ts vs fs others → TraceLeads allocates m es n → TraceLeads allocates m fs n' → (n ≡ n') × (flats ≡ others)
@@ -194,7 +201,7 @@ module _ (allocates : Allocation) (one_way : AllocatesInOneWay allocates) (ignor
       let asked : requests_of es ≡ requests_of fs = asks-requests.params limit ts vs es flats p ∙ sym (asks-requests.params limit ts vs fs others o) in
       let blocks = same-grants es fs m n m n' al (same-ever m) r q asked in
       let same = same-passing.params limit ts vs (erased es) (erased fs) flats others (passes-erased limit ts vs es flats p) (passes-erased limit ts vs fs others o) (erased-grants es ∙ blocks ∙ sym (erased-grants fs)) in
-      (same-end es fs m n n' al same.0 r q, same.1)
+      (same-end allocates one_way es fs m n n' al same.0 r q, same.1)
 
   pub same-return : (limit : ℕ) (ts : Fields) (area : ℕ) (vs : List Value) (es fs : List Event) (flats others : List Flat) (m n n' : Memory) → AreAligned es
       → PassesResult limit ts area vs es flats → PassesResult limit ts area vs fs others → TraceLeads allocates m es n → TraceLeads allocates m fs n' → (n ≡ n') × (flats ≡ others)
@@ -202,4 +209,105 @@ module _ (allocates : Allocation) (one_way : AllocatesInOneWay allocates) (ignor
       let asked : requests_of es ≡ requests_of fs = asks-requests.result limit ts area vs es flats p ∙ sym (asks-requests.result limit ts area vs fs others o) in
       let blocks = same-grants es fs m n m n' al (same-ever m) r q asked in
       let same = same-passing.result limit ts area vs (erased es) (erased fs) flats others (result-erased limit ts area vs es flats p) (result-erased limit ts area vs fs others o) (erased-grants es ∙ blocks ∙ sym (erased-grants fs)) in
-      (same-end es fs m n n' al same.0 r q, same.1)
+      (same-end allocates one_way es fs m n n' al same.0 r q, same.1)
+
+-- ---- the same where the allocator keeps notes in bytes that are not live
+
+live-turned : (m n : Memory) → SameButLive m n → SameButLive n m
+live-turned m n s = record {
+  same_length = sym s.same_length;
+  same_live = λ x. sym (s.same_live x);
+  same_state = sym s.same_state;
+  same_notes = λ x free. sym (s.same_notes x (s.same_live x ∙ free));
+}
+
+-- a write to live addresses changes no notes
+live-written : (m n : Memory) (a : ℕ) (bs : List ℕ) → a + length bs ≤ length m.bytes → ((x : ℕ) → IsWithin x a (length bs) → m.live x ≡ true) → SameButLive m n → SameButLive (with_bytes m (overwrite m.bytes a bs)) n
+live-written m n a bs fits live s = record {
+  same_length = length-overwrite m.bytes a bs fits ∙ s.same_length;
+  same_live = s.same_live;
+  same_state = s.same_state;
+  same_notes = λ x free. overwrite-get m.bytes bs a x fits ∙ beside x (elim (within_or_not x a (length bs)) [ inl w ↦ absurd (not-both (live x w) free) | inr o ↦ o ]) ∙ s.same_notes x free;
+}
+  where
+    beside : (x : ℕ) → IsOutside x a (length bs) → byte_over a bs x (slice_get m.bytes x) ≡ slice_get m.bytes x
+    beside x (inl l) = byte_over-before a bs x (slice_get m.bytes x) l
+    beside x (inr r) = byte_over-after a bs x (slice_get m.bytes x) (omega arith) r
+
+module _ (allocates : Allocation) (releases : Release) (tame : IsTame allocates releases) (one_way : AllocatesInOneWay allocates) (ignores : IgnoresLive allocates) where
+  -- this many events of a memory are still to come, in places that are live, of blocks with alignments that a guest may be asked for
+  pub record Coming (P : ℕ → Type 0) (es : List Event) (m m' : Memory) : Type 0 where
+    pub aligned : AreAligned es
+    pub confined : Confined P es
+    pub live : (x : ℕ) → P x → m.live x ≡ true
+    pub leads : TraceLeads allocates m es m'
+
+  after-node : (P : ℕ → Type 0) (es : List Event) (m m' : Memory) → Coming P (node ∷ es) m m' → Coming P es m m'
+  after-node P es m m' c = record { aligned = c.aligned; confined = c.confined; live = c.live; leads = subst (λ k. TraceLeads allocates k es m') c.leads.1 c.leads.2 }
+
+  after-write : (P : ℕ → Type 0) (a : ℕ) (bs : List ℕ) (es : List Event) (m m' : Memory) → Coming P (write a bs ∷ es) m m' → Coming P es (with_bytes m (overwrite m.bytes a bs)) m'
+  after-write P a bs es m m' c = record { aligned = c.aligned; confined = c.confined.1; live = c.live; leads = subst (λ k. TraceLeads allocates k es m') c.leads.1.1 c.leads.2 }
+
+  wrote : (P : ℕ → Type 0) (a : ℕ) (bs : List ℕ) (es : List Event) (m m' n : Memory) → Coming P (write a bs ∷ es) m m' → SameButLive m n → SameButLive (with_bytes m (overwrite m.bytes a bs)) n
+  wrote P a bs es m m' n c s = live-written m n a bs c.leads.1.0 (λ x w. c.live x (c.confined.0 x w)) s
+
+  after-grant : (P : ℕ → Type 0) (g : Grant) (es : List Event) (m m' : Memory) (c : Coming P (grant g ∷ es) m m') → Coming (λ x. P x ⊎ IsWithin x g.at g.size) es c.leads.0 m'
+  after-grant P g es m m' c =
+      let t = tame.granted m g.align g.size g.at c.leads.0 c.aligned.0 c.leads.1.0 in
+      record {
+        aligned = c.aligned.1;
+        confined = c.confined;
+        live = λ x i. elim i [ inl p ↦ t.leaves.live x (c.live x p) | inr w ↦ t.is_live x w ];
+        leads = c.leads.2;
+      }
+
+  -- equal requests of memories that are the same but for their live bytes are granted equal blocks
+  same-grants-live : (P Q : ℕ → Type 0) (es fs : List Event) (m m' n n' : Memory) → Coming P es m m' → Coming Q fs n n' → SameButLive m n → requests_of es ≡ requests_of fs → map bare (grants_of es) ≡ map bare (grants_of fs)
+  same-grants-live P Q [] fs m m' n n' c d s e = none fs e
+    where
+      none : (fs : List Event) → ◌≡◌ {A = List Request} [] (requests_of fs) → ◌≡◌ {A = List Grant} [] (map bare (grants_of fs))
+      none [] e = refl
+      none (node ∷ fs) e = none fs e
+      none (write a bs ∷ fs) e = none fs e
+      none (grant g ∷ fs) e = absurd (cc)
+  same-grants-live P Q (node ∷ es) fs m m' n n' c d s e = same-grants-live P Q es fs m m' n n' (after-node P es m m' c) d s e
+  same-grants-live P Q (write a bs ∷ es) fs m m' n n' c d s e =
+      same-grants-live P Q es fs (with_bytes m (overwrite m.bytes a bs)) m' n n' (after-write P a bs es m m' c) d (wrote P a bs es m m' n c s) e
+  same-grants-live P Q (grant g ∷ es) fs m m' n n' c d s e =
+      next (λ R gs k x t p. same-grants-live (λ y. P y ⊎ IsWithin y g.at g.size) R es gs c.leads.0 m' k n' (after-grant P g es m m' c) x t p) Q fs n d s e
+    where
+      next : ((R : ℕ → Type 0) (gs : List Event) (k : Memory) → Coming R gs k n' → SameButLive c.leads.0 k → requests_of es ≡ requests_of gs → map bare (grants_of es) ≡ map bare (grants_of gs))
+          → (Q : ℕ → Type 0) (fs : List Event) (n : Memory) → Coming Q fs n n' → SameButLive m n → requests_of (grant g ∷ es) ≡ requests_of fs → map bare (grants_of (grant g ∷ es)) ≡ map bare (grants_of fs)
+      next rest Q [] n d s e = absurd (cc)
+      next rest Q (node ∷ fs) n d s e = next rest Q fs n (after-node Q fs n n' d) s e
+      next rest Q (write a bs ∷ fs) n d s e =
+          let over = with_bytes n (overwrite n.bytes a bs) in
+          next rest Q fs over (after-write Q a bs fs n n' d) (live-turned over m (wrote Q a bs fs n n' m d (live-turned m n s))) e
+      next rest Q (grant h ∷ fs) n d s e =
+          let align_is : h.align ≡ g.align = sym (first-align _ _ _ _ e) in
+          let size_is : h.size ≡ g.size = sym (first-size _ _ _ _ e) in
+          let q = d.leads in
+          let granted : allocates n g.align g.size (Some h.at) q.0 = subst (λ a. allocates n a g.size (Some h.at) q.0) align_is (subst (λ b. allocates n h.align b (Some h.at) q.0) size_is q.1.0) in
+          let both = ignores m n g.align g.size (Some g.at) (Some h.at) c.leads.0 q.0 c.aligned.0 s c.leads.1.0 granted in
+          let here : bare g ≡ bare h = bare-one g h (sym align_is) (sym size_is) (some-one g.at h.at both.0) in
+          let there = rest (λ y. Q y ⊎ IsWithin y h.at h.size) fs q.0 (after-grant Q h fs n n' d) both.1 (first-rest _ _ _ _ e) in
+          cons-one (bare g) (bare h) _ _ here there
+
+  notes-same : (m : Memory) → SameButLive m m
+  notes-same m = record { same_length = refl; same_live = λ a. refl; same_state = refl; same_notes = λ a free. refl }
+
+  pub same-entry-live : (limit : ℕ) (ts : Fields) (vs : List Value) (es fs : List Event) (flats others : List Flat) (m n n' : Memory) (P Q : ℕ → Type 0) → Coming P es m n → Coming Q fs m n'
+      → PassesParams limit ts vs es flats → PassesParams limit ts vs fs others → (n ≡ n') × (flats ≡ others)
+  same-entry-live limit ts vs es fs flats others m n n' P Q c d p o =
+      let asked : requests_of es ≡ requests_of fs = asks-requests.params limit ts vs es flats p ∙ sym (asks-requests.params limit ts vs fs others o) in
+      let blocks = same-grants-live P Q es fs m n m n' c d (notes-same m) asked in
+      let same = same-passing.params limit ts vs (erased es) (erased fs) flats others (passes-erased limit ts vs es flats p) (passes-erased limit ts vs fs others o) (erased-grants es ∙ blocks ∙ sym (erased-grants fs)) in
+      (same-end allocates one_way es fs m n n' c.aligned same.0 c.leads d.leads, same.1)
+
+  pub same-return-live : (limit : ℕ) (ts : Fields) (area : ℕ) (vs : List Value) (es fs : List Event) (flats others : List Flat) (m n n' : Memory) (P Q : ℕ → Type 0) → Coming P es m n → Coming Q fs m n'
+      → PassesResult limit ts area vs es flats → PassesResult limit ts area vs fs others → (n ≡ n') × (flats ≡ others)
+  same-return-live limit ts area vs es fs flats others m n n' P Q c d p o =
+      let asked : requests_of es ≡ requests_of fs = asks-requests.result limit ts area vs es flats p ∙ sym (asks-requests.result limit ts area vs fs others o) in
+      let blocks = same-grants-live P Q es fs m n m n' c d (notes-same m) asked in
+      let same = same-passing.result limit ts area vs (erased es) (erased fs) flats others (result-erased limit ts area vs es flats p) (result-erased limit ts area vs fs others o) (erased-grants es ∙ blocks ∙ sym (erased-grants fs)) in
+      (same-end allocates one_way es fs m n n' c.aligned same.0 c.leads d.leads, same.1)

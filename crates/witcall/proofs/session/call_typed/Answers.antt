@@ -17,7 +17,7 @@ use Rattle.adapter.proofs.FunctionsInLayouts.{result-inside, result-is}
 use Rattle.canonical_abi.specs.Halves.{as_world}
 use Rattle.witcall.specs.Session.{IsReady, IsNotReady}
 use Rattle.witcall.proofs.CallerBeforeTypedCalls.{area_stays}
-use Rattle.witcall.proofs.TypedCallsKeepPromise.{promised}
+use Rattle.witcall.proofs.TypedCallsKeepPromise.{promised, promised-live}
 use Rattle.witcall.proofs.TypedCalls.{placed, place_fails, link_fails, came_back, takes}
 use Rattle.witcall.proofs.session.call_typed.Goals as goal
 
@@ -129,3 +129,12 @@ returns-in_err-back-clause-promise g c = promised _ _ _ c.args.package.now.resol
 
 pub returns-clause-promise : goal.returns-clause-promise
 returns-clause-promise g c = promised _ _ _ c.args.package.now.resolve c.args.func _ _ _ _ c.requires.function (returns-clause-call g c)
+
+pub returns-in_err-area-clause-promise_live : goal.returns-in_err-area-clause-promise_live
+returns-in_err-area-clause-promise_live g c = promised-live _ _ _ c.args.package.now.resolve c.args.func _ _ _ _ c.requires.function (returns-in_err-area-clause-call g c)
+
+pub returns-in_err-back-clause-promise_live : goal.returns-in_err-back-clause-promise_live
+returns-in_err-back-clause-promise_live g c = promised-live _ _ _ c.args.package.now.resolve c.args.func _ _ _ _ c.requires.function (returns-in_err-back-clause-call g c)
+
+pub returns-clause-promise_live : goal.returns-clause-promise_live
+returns-clause-promise_live g c = promised-live _ _ _ c.args.package.now.resolve c.args.func _ _ _ _ c.requires.function (returns-clause-call g c)

@@ -4,7 +4,7 @@ use Rattle.canonical_abi.specs.Call.{Parties, World}
 use Rattle.canonical_abi.specs.Halves.{as_world, ReturnFails, RunsBetween, RunsAndReturns, CallsInHalves, ends_at_return, ends_at_post, completes}
 use Rattle.layout.specs.Layout.{AreWithin}
 use Rattle.tables.specs.Closed.{function_type}
-use Rattle.adapter.proofs.LinkCallsKeepPromise.{link-promised, link-told}
+use Rattle.adapter.proofs.LinkCallsKeepPromise.{link-promised, link-promised-live, link-told}
 use Rattle.adapter.proofs.link.Link.call.Goals as goal
 
 pub returns-in_err-ran-clause-call : goal.returns-in_err-ran-clause-call
@@ -104,3 +104,19 @@ returns-in_default-clause-promise g c =
 pub returns-clause-promise : goal.returns-clause-promise
 returns-clause-promise g c =
     link-promised _ _ _ c.args.self.now.resolve c.args.func _ _ _ _ c.requires.function (returns-clause-call g c).0 (returns-clause-call g c).1
+
+pub returns-in_err-ran-clause-promise_live : goal.returns-in_err-ran-clause-promise_live
+returns-in_err-ran-clause-promise_live g c =
+    link-promised-live _ _ _ c.args.self.now.resolve c.args.func _ _ _ _ c.requires.function (returns-in_err-ran-clause-call g c).0 (returns-in_err-ran-clause-call g c).1
+
+pub returns-in_err-given-clause-promise_live : goal.returns-in_err-given-clause-promise_live
+returns-in_err-given-clause-promise_live g c =
+    link-promised-live _ _ _ c.args.self.now.resolve c.args.func _ _ _ _ c.requires.function (returns-in_err-given-clause-call g c).0 (returns-in_err-given-clause-call g c).1
+
+pub returns-in_default-clause-promise_live : goal.returns-in_default-clause-promise_live
+returns-in_default-clause-promise_live g c =
+    link-promised-live _ _ _ c.args.self.now.resolve c.args.func _ _ _ _ c.requires.function (returns-in_default-clause-call g c).0 (returns-in_default-clause-call g c).1
+
+pub returns-clause-promise_live : goal.returns-clause-promise_live
+returns-clause-promise_live g c =
+    link-promised-live _ _ _ c.args.self.now.resolve c.args.func _ _ _ _ c.requires.function (returns-clause-call g c).0 (returns-clause-call g c).1
