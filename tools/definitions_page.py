@@ -27,6 +27,8 @@ FACTS = ROOT / "docs" / "definition-facts.txt"
 LAWS = ROOT / "crates" / "canonical_abi" / "src" / "laws.rt"
 # the two clauses of the promise
 TWO = ["opening/set.rt:open_set:ok", "witcall/session.rt:call:promise"]
+# the same over tame guests
+LIVE = [TWO[0], f"{TWO[1]}_live"]
 # a set told by names, and as its table is made
 TOLD, MADE = "opening/specs/ToldSet:IsToldSetOf", "opening/specs/Sets:IsSetOf"
 NAME = re.compile(r"(?!infix)[A-Za-z_]\w*")
@@ -71,8 +73,9 @@ of the repository is proved against them.
 - Attributes and invariants of structs are not counted. A clause speaks of fields. What is true of each value besides is
   proved.
 """
-CLAUSES = """`tools/believed.py {}` prints what these two clauses alone need: {:,} lines. The others say that there is no
-second answer, why inputs are refused, and which steps a call takes."""
+CLAUSES = """`tools/believed.py {}` prints what these two clauses alone need: {:,} lines. With `promise_live`, which is over
+tame memories, in place of `promise` it is {:,}. The others say that there is no second answer, why inputs are refused,
+and which steps a call takes."""
 SETS = """`tools/believed.py {}` prints what a set rests on that is told by names: {:,} lines. As the table is made (`{}`) it
 is {:,}."""
 LAWS_HEAD = """\
@@ -320,7 +323,7 @@ def page():
     for it, name in found:
         lines[it.split(".")[1]] += len(files()[it].definitions[name])
     needs = lambda *items: count(believed.believed(files(), items))  # noqa: E731
-    said = (CLAUSES.format(" ".join(TWO), needs(*TWO)), SETS.format(TOLD, needs(TOLD), MADE, needs(MADE)))
+    said = (CLAUSES.format(" ".join(TWO), needs(*TWO), needs(*LIVE)), SETS.format(TOLD, needs(TOLD), MADE, needs(MADE)))
     begin = HEAD.format(lines=count(found), definitions=len(found), subjects=subjects(facts, lines),
                         clauses="\n".join(wrapped(" ".join(it.split()), "- ", "  ") for it in said))
     first, *others = facts.parts
