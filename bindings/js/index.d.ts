@@ -185,7 +185,10 @@ export interface LinkOptions {
   /** The instance that exports the functions, as `a:b/c#f`, its `memory` and `cabi_realloc`. */
   callee: WebAssembly.Instance;
 
-  /** What else the caller imports. It comes first: a function of the package that is here is not linked. */
+  /**
+   * What else the caller imports. It comes first: a function of the package that is here is not linked. Own properties
+   * count, and not what objects inherit.
+   */
   imports?: WebAssembly.Imports;
 
   /**
@@ -237,7 +240,8 @@ export type Method = (...values: any[]) => unknown;
 
 /**
  * For each interface that a world imports an object of its functions, under the interface's full name, as
- * `a:b/c@1.0.0`. A function that the world itself imports is here under its own name. Names are those of WIT.
+ * `a:b/c@1.0.0`. A function that the world itself imports is here under its own name. Names are those of WIT. They are
+ * own properties, or methods of a class that is written in JavaScript. What an object inherits from the engine is none.
  */
 export interface Implementation {
   readonly [name: string]: Method | { readonly [name: string]: any };
@@ -246,6 +250,9 @@ export interface Implementation {
 export interface ImportsOptions {
   /** The instance of the guest, once there is one. It exports its `memory` and `cabi_realloc`. */
   guest: () => WebAssembly.Instance | undefined;
+
+  /** What else the guest imports: own properties. Functions of the world come first. */
+  imports?: WebAssembly.Imports;
 
   /**
    * The greatest size of its memory, in bytes: values that have more together are refused. 16 MiB if it is left out.
@@ -258,7 +265,7 @@ export interface ImportsOptions {
 
 /**
  * The import object of a guest whose imports are functions of values. A function of a world itself is in the module
- * `$root`. A call throws a `Trap` if the guest's values are none, a `WitError` if the answer is no value of the
+ * `$root`. The object and its members have no prototype. A call throws a `Trap` if the guest's values are none, a `WitError` if the answer is no value of the
  * result's type, and whatever the function throws.
  * @throws {TypeError} if the package has no such world, or the implementation lacks a function that it imports
  */
@@ -267,7 +274,7 @@ export function imports(
 ): WebAssembly.Imports;
 
 export interface GuestOptions {
-  /** What else the module imports. */
+  /** What else the module imports: own properties. Functions of its world come first. */
   imports?: WebAssembly.Imports;
 
   /**

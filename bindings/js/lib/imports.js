@@ -1,5 +1,6 @@
 // Functions of JavaScript's values as the imports of a guest.
 import { LIMIT, STEP, Side, granted, limitOf, ran, stopping } from "./link.js";
+import { empty, given } from "./own.js";
 import { Texts } from "./texts.js";
 import { decodedAll, encoded } from "./values.js";
 
@@ -16,10 +17,22 @@ function imported(pkg, func, implementation, { caller, limit }) {
   };
 }
 
-/** The implementation of a function, which is called as a method. */
+/** The implementation of a function, which is looked up at each call, and called as a method. */
 function methodOf(owner, name, of) {
-  if (typeof owner?.[name] !== "function") throw new TypeError(`the implementation has no function ${of}${name}`);
-  return (...values) => owner[name](...values);
+  const found = () => {
+    const method = given(owner, name);
+    if (typeof method !== "function") throw new TypeError(`the implementation has no function ${of}${name}`);
+    return method;
+  };
+  found();
+  return (...values) => Reflect.apply(found(), owner, values);
+}
+
+/** An import object with what these objects have themselves. */
+function copied(others) {
+  const all = empty();
+  for (const [module, functions] of Object.entries(others)) all[module] = Object.assign(empty(), functions);
+  return all;
 }
 
 /**
@@ -31,27 +44,28 @@ function methodOf(owner, name, of) {
  * interface's full name, and each function that the world itself imports
  * @param {object} options
  * @param {() => WebAssembly.Instance} options.guest the guest, once it is instantiated
+ * @param {WebAssembly.Imports} [options.imports] what else the guest imports: what these objects have themselves
  * @param {number} [options.limit] the greatest size of its memory: values that have more bytes are refused
  * @param {typeof granted} [options.grant] who grants blocks, if it isn't `cabi_realloc` alone
  * @returns {WebAssembly.Imports}
  */
-export function imports(pkg, world, implementation, { guest, limit = LIMIT, grant = granted }) {
+export function imports(pkg, world, implementation, { guest, imports: others = {}, limit = LIMIT, grant = granted }) {
   const started = () => {
     const instance = guest();
     if (!instance) throw new TypeError("the guest calls its imports before it is instantiated");
     return instance;
   };
   const options = { caller: new Side(started, grant), limit: limitOf(limit) };
-  const all = {};
+  const all = copied(others);
   const add = (module, func, method) => {
-    all[module] ??= {};
+    all[module] ??= empty();
     all[module][func.name] = imported(pkg, func, method, options);
   };
   const found = pkg.worlds.find((it) => it.name === world);
   if (!found) throw new TypeError(`the package has no world ${world}`);
   for (const func of found.imports) {
     if (func.interface) {
-      add(func.interface, func, methodOf(implementation[func.interface], func.name, `${func.interface}#`));
+      add(func.interface, func, methodOf(given(implementation, func.interface), func.name, `${func.interface}#`));
     } else {
       add(ROOT, func, methodOf(implementation, func.name, ""));
     }

@@ -1,5 +1,5 @@
 // A component's function as a function of JavaScript's values.
-import { LIMIT, STEP, Side, coreName, granted, limitOf, ran, stopping, valuesOf } from "./link.js";
+import { LIMIT, STEP, Side, coreOf, granted, limitOf, ran, stopping, valuesOf } from "./link.js";
 import { Texts } from "./texts.js";
 import { decodedText, encodedAll } from "./values.js";
 
@@ -14,10 +14,7 @@ import { decodedText, encodedAll } from "./values.js";
  * @param {typeof granted} [options.grant] who grants blocks, if it isn't `cabi_realloc` alone
  */
 export function lift(pkg, func, { callee, limit = LIMIT, grant = granted }) {
-  const name = coreName(func);
-  const body = callee.exports[name];
-  const post = callee.exports[`cabi_post_${name}`];
-  if (typeof body !== "function") throw new TypeError(`the callee exports no function ${name}`);
+  const { body, post } = coreOf(callee.exports, func);
   const texts = new Texts(pkg, func, new Side(() => callee, grant), limitOf(limit));
   return (...values) => {
     const handed = texts.putArguments(encodedAll(values, func.parameters));

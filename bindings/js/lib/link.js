@@ -2,6 +2,7 @@
 // memories.
 import { CODE } from "./core.js";
 import { Half } from "./half.js";
+import { empty, own } from "./own.js";
 
 /** Bytes that the blocks of one half may have together, if `link` is not told another limit. */
 export const LIMIT = 2 ** 24;
@@ -67,7 +68,7 @@ export const stopping = (pkg, step) => (cause) => {
 };
 
 /** The name under which a core module exports a function: that of a world itself has no interface. */
-export const coreName = (func) => (func.interface ? `${func.interface}#${func.name}` : func.name);
+const coreName = (func) => (func.interface ? `${func.interface}#${func.name}` : func.name);
 
 /**
  * A function as the caller imports it, over the core function of the callee.
@@ -97,15 +98,35 @@ function crossed(pkg, func, { caller, callee, body, post, limit }) {
  * @param {{caller: Side, callee: Side, exports: WebAssembly.Exports, limit: number}} sides
  */
 export function lowered(pkg, func, { caller, callee, exports, limit }) {
+  return crossed(pkg, func, { caller, callee, ...coreOf(exports, func), limit });
+}
+
+/** The core function of a function, and its post-return, if the callee exports one. */
+export function coreOf(exports, func) {
   const name = coreName(func);
-  const body = exports[name];
+  const body = own(exports, name);
   if (typeof body !== "function") throw new TypeError(`the callee exports no function ${name}`);
-  return crossed(pkg, func, { caller, callee, body, post: exports[`cabi_post_${name}`], limit });
+  return { body, post: own(exports, `cabi_post_${name}`) };
 }
 
 export function limitOf(limit) {
   if (!Number.isSafeInteger(limit) || limit < 0) throw new RangeError(`${limit} is no limit in bytes`);
   return limit;
+}
+
+/**
+ * The import object of a module, with what is found for each of its imports. The engine looks up the guest's names in
+ * it, so no object in it has a prototype.
+ * @param {WebAssembly.Module} module
+ * @param {(it: WebAssembly.ModuleImportDescriptor) => unknown} found undefined if there is nothing
+ */
+export function importsOf(module, found) {
+  const all = empty();
+  for (const it of WebAssembly.Module.imports(module)) {
+    const value = found(it);
+    if (value !== undefined) (all[it.module] ??= empty())[it.name] = value;
+  }
+  return all;
 }
 
 /**
@@ -115,7 +136,7 @@ export function limitOf(limit) {
  * @param {object} options
  * @param {WebAssembly.Module} options.caller
  * @param {WebAssembly.Instance} options.callee
- * @param {WebAssembly.Imports} [options.imports] what else the caller imports
+ * @param {WebAssembly.Imports} [options.imports] what else the caller imports: what these objects have themselves
  * @param {number} [options.limit] the greatest size of both memories: blocks that have more bytes together are refused
  * @param {typeof granted} [options.grant] who grants blocks, if it isn't `cabi_realloc` alone
  * @returns {WebAssembly.Instance}
@@ -132,11 +153,7 @@ export function link(pkg, { caller, callee, imports = {}, limit = LIMIT, grant =
     exports: callee.exports,
     limit: limitOf(limit),
   };
-  const all = {};
-  for (const { module, name } of WebAssembly.Module.imports(caller)) {
-    all[module] ??= {};
-    all[module][name] = imports[module]?.[name] ?? lowered(pkg, pkg.find(module, name), sides);
-  }
-  instance = new WebAssembly.Instance(caller, all);
+  const found = ({ module, name }) => own(own(imports, module), name) ?? lowered(pkg, pkg.find(module, name), sides);
+  instance = new WebAssembly.Instance(caller, importsOf(caller, found));
   return instance;
 }

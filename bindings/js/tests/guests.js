@@ -1,7 +1,7 @@
 // Core modules for the tests, made without a compiler.
-const TYPES = { i32: 0x7f, i64: 0x7e };
+const TYPES = { i32: 0x7f, i64: 0x7e, externref: 0x6f };
 const MAGIC = [0, 0x61, 0x73, 0x6d, 1, 0, 0, 0];
-const SECTION = { TYPE: 1, IMPORT: 2, FUNCTION: 3, MEMORY: 5, GLOBAL: 6, EXPORT: 7, CODE: 10 };
+const SECTION = { CUSTOM: 0, TYPE: 1, IMPORT: 2, FUNCTION: 3, MEMORY: 5, GLOBAL: 6, EXPORT: 7, CODE: 10 };
 const KIND = { FUNCTION: 0, MEMORY: 2 };
 
 /** An unsigned number in LEB128. */
@@ -92,6 +92,42 @@ export function relaying(pairs) {
   ];
   return new WebAssembly.Module(new Uint8Array(bytes));
 }
+
+/** The names of a module's functions from a place on. */
+const exportsFrom = (first, functions) => functions.map(({ name }, k) => [...text(name), KIND.FUNCTION, ...leb(first + k)]);
+
+/**
+ * A module of a stranger: it imports functions, and exports its own ones, each of which has these instructions.
+ * @param {{module: string, name: string, parameters: string[], results: string[]}[]} asked
+ * @param {{name: string, parameters: string[], results: string[], code: number[]}[]} own
+ * @param {[string, ArrayBuffer][]} sections custom ones
+ */
+export function stranger(asked, own, sections = []) {
+  const bytes = [
+    ...MAGIC,
+    ...section(SECTION.TYPE, [...asked, ...own].map(signature)),
+    ...section(SECTION.IMPORT, asked.map(({ module, name }, k) => [...text(module), ...text(name), 0, ...leb(k)])),
+    ...section(SECTION.FUNCTION, own.map((_, k) => leb(asked.length + k))),
+    ...section(SECTION.MEMORY, [[0, 1]]),
+    ...section(SECTION.EXPORT, [[...text("memory"), KIND.MEMORY, 0], ...exportsFrom(asked.length, own)]),
+    ...section(SECTION.CODE, own.map(({ code }) => body([], code))),
+    ...sections.flatMap(([name, content]) => {
+      const all = [...text(name), ...new Uint8Array(content)];
+      return [SECTION.CUSTOM, ...leb(all.length), ...all];
+    }),
+  ];
+  return new Uint8Array(bytes);
+}
+
+/** What a stranger's module imports to freeze the host's `Object.prototype`, and a function that does so. */
+export const FREEZING = {
+  asked: [
+    { module: "constructor", name: "constructor", parameters: [], results: ["externref"] },
+    { module: "constructor", name: "getPrototypeOf", parameters: ["externref"], results: ["externref"] },
+    { module: "constructor", name: "freeze", parameters: ["externref"], results: ["externref"] },
+  ],
+  code: [0x10, 0, 0x10, 1, 0x10, 1, 0x10, 2, 0x1a],
+};
 
 /** An instance as a callee has it, whose core functions are of JavaScript, with blocks above `top`. */
 export function callee(pages, functions, top = 1024) {

@@ -56,7 +56,7 @@ export function hosted(pkg: Package, module: WebAssembly.Module): WebAssembly.In
   const log = { say: (text: string) => console.log(text), next: (state: { paid: bigint } | "open") => state };
   // @ts-expect-error a guest has to be told
   imports(pkg, "a:b/w", { "a:b/log": log }, {});
-  const object: WebAssembly.Imports = imports(pkg, "a:b/w", { "a:b/log": log, now: () => 7n }, { guest: () => guest, limit: 65536 });
+  const object: WebAssembly.Imports = imports(pkg, "a:b/w", { "a:b/log": log, now: () => 7n }, { guest: () => guest, imports: { host: {} }, limit: 65536 });
   guest = new WebAssembly.Instance(module, object);
   return guest;
 }
