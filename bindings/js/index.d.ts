@@ -328,7 +328,10 @@ export class WitError extends Error {
 export class NotThisType extends WitError {
   constructor(number: number, line: string, told: string);
 
-  /** The first place that is wrong, as `[0].lines[2].count`; empty if there are too many arguments or too few. */
+  /**
+   * The first place that is wrong: `[0].lines[2].count` among arguments, `result.lines[2].count` in what a function of
+   * `imports` gave. It is empty if there are too many arguments or too few.
+   */
   readonly path: string;
 
   /** What has to stand there, and what does. */

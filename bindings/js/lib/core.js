@@ -8,7 +8,7 @@ const ABI = 2;
 
 /** Codes of a status, and numbers of refusals, as in include/witcall.h. */
 export const CODE = { DONE: 0, REFUSED: 1, TRAP: 2, NO_MEMORY: 3 };
-export const REFUSAL = { NOT_THIS_TYPE: 62, NO_MEMORY: 66, NOT_OPEN: 70, NO_ROOM: 71, NOT_THERE: 75 };
+export const REFUSAL = { NOT_THIS_TYPE: 62, NO_FUNCTION: 63, NO_MEMORY: 66, NOT_OPEN: 70, NO_ROOM: 71, NOT_THERE: 75 };
 
 /** The room that witcall_status_line needs, and that of a status. */
 const MAX_STATUS_LINE = 64;
@@ -113,6 +113,11 @@ export class Core {
   /** A text that the library wrote. */
   text(at, length) {
     return decoder.decode(this.bytes.subarray(at, at + length));
+  }
+
+  /** The error of a refusal that the package makes itself, with the library's line. */
+  refusal(number) {
+    return this.error({ code: CODE.REFUSED, number, step: 0, count: 0 });
   }
 
   /**

@@ -13,10 +13,13 @@ export class WitError extends Error {
   }
 }
 
-/** A fault as `[0].lines[2]: a `u8` is ..`: the path of a value, and what is wrong with it. */
-const FAULT = /^(\[\S*): (.+)$/s;
+/**
+ * A fault as `[0].lines[2]: a `u8` is ..` of an argument, or as `result.count of a:b/c#f: a `u8` is ..`: the path of a
+ * value, whose it is, and what is wrong with it.
+ */
+const FAULT = /^(\[\S*|result(?:[.[]\S*)?)( of \S+)?: (.+)$/s;
 
-/** A value of another type: 62. `path` is the place among the arguments, and `fault` what is wrong there. */
+/** A value of another type: 62. `path` is the place among the arguments or in the result, and `fault` what is wrong there. */
 export class NotThisType extends WitError {
   name = "NotThisType";
 
@@ -27,10 +30,10 @@ export class NotThisType extends WitError {
    */
   constructor(number, line, told) {
     super(number, line);
-    const [, path, fault] = FAULT.exec(told) ?? [told, "", told];
+    const [, path, of = "", fault] = FAULT.exec(told) ?? [told, "", "", told];
     this.path = path;
     this.fault = fault;
-    this.message = `${line}${path && ` at ${path}`}: ${fault}`;
+    this.message = `${line}${path && ` at ${path}`}${of}: ${fault}`;
   }
 }
 

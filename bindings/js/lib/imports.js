@@ -1,4 +1,6 @@
 // Functions of JavaScript's values as the imports of a guest.
+import { REFUSAL } from "./core.js";
+import { isPromise, promiseFault, reworded } from "./faults.js";
 import { LIMIT, STEP, Side, granted, limitOf, ran, stopping } from "./link.js";
 import { empty, given } from "./own.js";
 import { Texts } from "./texts.js";
@@ -7,13 +9,24 @@ import { decodedAll, encoded } from "./values.js";
 /** The module that a core module imports a function of a world itself from. */
 const ROOT = "$root";
 
+/** Puts a result into the guest's memory, and returns its core value, if it has one. */
+function answered(texts, flats, value, type) {
+  try {
+    return texts.putResult(encoded(value, type), flats)[0];
+  } catch (error) {
+    throw reworded(error, value, type);
+  }
+}
+
 /** A function of JavaScript's values as a guest imports it. */
 function imported(pkg, func, implementation, { caller, limit }) {
   const texts = new Texts(pkg, func, caller, limit);
   return (...flats) => {
     const values = decodedAll(texts.readArguments(flats), func.parameters);
     const value = ran(implementation, values, stopping(pkg, STEP.BODY));
-    return func.result === null ? undefined : texts.putResult(encoded(value, func.result.type), flats)[0];
+    if (func.result !== null) return answered(texts, flats, value, func.result.type);
+    if (isPromise(value)) throw promiseFault(pkg.place.core.refusal(REFUSAL.NOT_THIS_TYPE), func);
+    return undefined;
   };
 }
 

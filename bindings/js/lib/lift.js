@@ -1,7 +1,17 @@
 // A component's function as a function of JavaScript's values.
+import { reworded } from "./faults.js";
 import { LIMIT, STEP, Side, coreOf, granted, limitOf, ran, stopping, valuesOf } from "./link.js";
 import { Texts } from "./texts.js";
 import { decodedText, encodedAll } from "./values.js";
+
+/** Puts arguments into the component's memory, and returns the values for the core function. */
+function handedOver(texts, values, parameters) {
+  try {
+    return texts.putArguments(encodedAll(values, parameters));
+  } catch (error) {
+    throw reworded(error, values, { kind: "tuple", members: parameters });
+  }
+}
 
 /**
  * A function that an instance exports, as a function of values. The Canonical ABI calls this `lift`.
@@ -17,7 +27,7 @@ export function lift(pkg, func, { callee, limit = LIMIT, grant = granted }) {
   const { body, post } = coreOf(callee.exports, func);
   const texts = new Texts(pkg, func, new Side(() => callee, grant), limitOf(limit));
   return (...values) => {
-    const handed = texts.putArguments(encodedAll(values, func.parameters));
+    const handed = handedOver(texts, values, func.parameters);
     const answer = valuesOf(ran(body, handed, stopping(pkg, STEP.BODY)));
     const text = texts.readResult(answer);
     if (post) ran(post, answer, stopping(pkg, STEP.POST));

@@ -11,9 +11,12 @@ const decoder = new TextDecoder();
 
 /**
  * Opens inputs in an instance, or the package that a module carries.
+ * @param {Core} core
+ * @param {Uint8Array[]} inputs
+ * @param {boolean} [isModule]
  * @returns {number} the handle's address
  */
-function opened(core, inputs, isModule) {
+export function opened(core, inputs, isModule = false) {
   const space = new Space(core);
   const handle = core.allocate(HANDLE_SIZE);
   try {
@@ -127,7 +130,7 @@ export class Package {
    */
   get place() {
     if (!this.#place) {
-      throw this.#library.core.error({ code: CODE.REFUSED, number: REFUSAL.NOT_OPEN, step: 0, count: 0 });
+      throw this.#library.core.refusal(REFUSAL.NOT_OPEN);
     }
     if (this.#place.core.lost) this.#open();
     return this.#place;

@@ -1,6 +1,7 @@
 // Values as texts of JSON that go into a component's memory, and out of it. The library writes and reads them there.
 import { CODE, REFUSAL } from "./core.js";
 import { NotThisType } from "./errors.js";
+import { resultFault } from "./faults.js";
 import { MAX_VALUES, NOTHING, Run } from "./half.js";
 import { toldBy } from "./package.js";
 import { argumentsReader, resultReader } from "./reach.js";
@@ -12,12 +13,18 @@ const decoder = new TextDecoder();
 const ARGUMENTS = ["witcall_json_requests", "witcall_fill_json"];
 const RESULT = ["witcall_result_json_requests", "witcall_fill_result_json"];
 
-/** Why a text is refused. Of arguments of another type the error has the place. */
-function refusal({ core, handle }, func, text, status) {
+/** Why a text of arguments is refused. If they are of another type, the error has the place. */
+function argumentsRefusal({ core, handle }, func, text, status) {
   const error = core.error(status);
   if (status.number !== REFUSAL.NOT_THIS_TYPE) return error;
   const told = toldBy(core, (at, room) => core.call("witcall_json_fault", handle, [func.number], ...text, at, room));
   return new NotThisType(error.number, error.line, decoder.decode(told));
+}
+
+/** The same of a result. */
+function resultRefusal(core, func, json, status) {
+  const error = core.error(status);
+  return status.number === REFUSAL.NOT_THIS_TYPE ? resultFault(core, func, decoder.decode(json), error) : error;
 }
 
 /** The values of one function, over the memory of a component that has it or imports it. */
@@ -94,7 +101,8 @@ export class Texts {
     const { status, asked } = run.asked((room, count) =>
       run.core.call(asking, run.handle, [this.#func.number], ...text, room, count, this.#limit));
     if (status.code === CODE.DONE) return this.#side.grant(asked);
-    throw asking === ARGUMENTS[0] ? refusal(run, this.#func, text, status) : run.core.error(status);
+    if (asking === ARGUMENTS[0]) throw argumentsRefusal(run, this.#func, text, status);
+    throw resultRefusal(run.core, this.#func, json, status);
   }
 
   #read(reading, reader, flats) {

@@ -7,20 +7,34 @@ import { meant } from "./reach.js";
 const WIDE = new Set(["s64", "u64"]);
 const NARROW = new Set(["s8", "u8", "s16", "u16", "s32", "u32"]);
 
-const memberOf = (type, name) => type.members.find((it) => it.name === name)?.type;
+export const memberOf = (type, name) => type.members.find((it) => it.name === name)?.type;
 
 /** Whether a value of an option is `undefined` or the value itself. An option of an option is written with its cases. */
-const isPlain = (type) => type.kind === "option" && meant(memberOf(type, "some")).kind !== "option";
+export const isPlain = (type) => type.kind === "option" && meant(memberOf(type, "some")).kind !== "option";
 
 const isList = (value) => Array.isArray(value) || (ArrayBuffer.isView(value) && !(value instanceof DataView));
 const isObject = (value) => typeof value === "object" && value !== null && !isList(value);
 
-/** The text of a value without regard to its type. */
+/** A surrogate that is none of a pair. */
+const LONE = /\p{Surrogate}/u;
+
+/** Whether a text has no lone surrogate. */
+export const isWellFormed = String.prototype.isWellFormed ? (text) => text.isWellFormed() : (text) => !LONE.test(text);
+export const loneOf = (text) => LONE.exec(text)?.[0];
+
+/** The name of a member. A label has no lone surrogate, so one that has some is none. */
+const keyText = (key) => JSON.stringify(isWellFormed(key) ? key : key.replace(new RegExp(LONE, "gu"), "\ufffd"));
+
+/** Whether a number is a whole one whose digits in JSON's own text may be others. */
+const isGreat = (value) => Number.isInteger(value) && !Number.isSafeInteger(value);
+
+/** The text of a value without regard to its type. What JSON has no text for is null, which is no value of a type. */
 function bare(value) {
-  if (typeof value === "bigint") return value.toString();
+  if (typeof value === "bigint" || isGreat(value)) return BigInt(value).toString();
+  if (typeof value === "string" && !isWellFormed(value)) return "null";
   if (isList(value)) return `[${Array.from(value, bare).join()}]`;
   if (!isObject(value)) return JSON.stringify(value) ?? "null";
-  return `{${Object.entries(value).map(([key, it]) => `${JSON.stringify(key)}:${bare(it)}`).join()}}`;
+  return `{${Object.entries(value).map(([key, it]) => `${keyText(key)}:${bare(it)}`).join()}}`;
 }
 
 /** The text of a value of a type. */
@@ -35,7 +49,7 @@ export function encoded(value, named) {
     return `[${Array.from(value, (it, place) => encoded(it, type.members[place]?.type)).join()}]`;
   }
   if (!type.members || !isObject(value)) return bare(value);
-  const member = ([key, it]) => `${JSON.stringify(key)}:${encoded(it, memberOf(type, key))}`;
+  const member = ([key, it]) => `${keyText(key)}:${encoded(it, memberOf(type, key))}`;
   return `{${Object.entries(value).map(member).join()}}`;
 }
 

@@ -88,7 +88,7 @@ test("a call that is none says in which step", { skip }, () => {
   assert.deepEqual(ends, [
     'Read there, it is "b", of type string.',
     "error 62 not this type at [0]: a `string` is a text, and not `1`: The arguments are written into the caller's memory",
-    "error 62 not this type: The answer is written into the callee's memory",
+    "error 62 not this type at result of a:b/c#f: a `string` is a text, and not `1`: The answer is written into the callee's memory",
     "error 61 bad JSON: The arguments are written into the caller's memory",
   ]);
   pkg.close();
