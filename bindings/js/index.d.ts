@@ -66,7 +66,7 @@ export interface Package {
 
   /**
    * The function of this name, in the interface of this full name, as `a:b/c@1.0.0`.
-   * @throws {WitError} `63 no function`
+   * @throws {WitError} `63 no function`; the message names the nearest one
    */
   find(interfaceName: string, name: string): WitFunction;
 
@@ -313,7 +313,7 @@ export function instantiate(
 /** Has `cabi_realloc` of an instance grant blocks, up to the first one for which it traps. */
 export const granted: Grant;
 
-/** What the library refuses. The message is its line. */
+/** What the library refuses. The message begins with its line. */
 export class WitError extends Error {
   constructor(number: number, line: string);
 

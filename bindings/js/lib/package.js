@@ -1,5 +1,6 @@
 import { CODE, REFUSAL, Space } from "./core.js";
 import { WitError } from "./errors.js";
+import { insteadOf } from "./nearest.js";
 import { tableOf } from "./table.js";
 import { worldsOf } from "./worlds.js";
 
@@ -168,30 +169,37 @@ export class Package {
    * @param {string} name
    */
   find(interfaceName, name) {
-    return this.#found("witcall_find", interfaceName, name);
+    return this.#found("witcall_find", [interfaceName, name], () => this.functions.filter((it) => it.interface));
   }
 
   /** A function that a world itself imports. */
   findImport(world, name) {
-    return this.#found("witcall_find_import", world, name);
+    return this.#found("witcall_find_import", [world, name], () => this.#worldFunctions("imports"));
   }
 
   /** A function that a world itself exports. */
   findExport(world, name) {
-    return this.#found("witcall_find_export", world, name);
+    return this.#found("witcall_find_export", [world, name], () => this.#worldFunctions("exports"));
   }
 
-  #found(which, owner, name) {
+  /** The function of these names, which is one of `all`. */
+  #found(which, names, all) {
     const { core, handle } = this.place;
     const space = new Space(core);
     try {
-      const names = [owner, name].flatMap((it) => space.putText(it));
-      const status = core.call(which, handle, ...names);
-      if (status.code !== CODE.DONE) throw core.error(status);
-      return this.functions.find((it) => it.number === status.count);
+      const status = core.call(which, handle, ...names.flatMap((it) => space.putText(it)));
+      if (status.code === CODE.DONE) return this.functions.find((it) => it.number === status.count);
+      const error = core.error(status);
+      if (status.number === REFUSAL.NO_FUNCTION) error.message += `: ${insteadOf(all(), ...names)}`;
+      throw error;
     } finally {
       space.free();
     }
+  }
+
+  /** The functions that worlds import or export by themselves. */
+  #worldFunctions(side) {
+    return this.worlds.flatMap((it) => it[side]).filter((it) => it.world);
   }
 
   /** The package as a text. Of several it is the last one, which opens again after the others. */

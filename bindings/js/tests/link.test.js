@@ -263,6 +263,8 @@ test("what the callee lacks, and what the package lacks, is told when they are l
   const imports = { test: { cabi_realloc: () => 0 } };
   assert.throws(() => link(pkg, { caller, callee: callee(1, {}), imports }), /exports no function a:b\/c#upper/);
   assert.throws(() => link(pkg, { caller, callee: callee(1, { "a:b/c#upper": () => 0 }) }), { number: 63 });
+  const wanted = "error 63 no function: no `cabi_realloc` in `test`; the nearest is `upper` in `a:b/c`";
+  assert.throws(() => link(pkg, { caller, callee: callee(1, { "a:b/c#upper": () => 0 }) }), { message: wanted });
   const named = imports["a:b/c"] = { upper: () => undefined };
   assert.equal(link(pkg, { caller, callee: callee(1, {}), imports }).exports.upper(0, 0, 0), undefined);
   assert.equal(typeof named.upper, "function");

@@ -106,8 +106,52 @@ test("a function has its core signatures, and its types are those of the package
   assert.equal(print.result.type, pkg.types.find((it) => it.name === "outcome"));
   assert.equal(print.parameters[1].type.target.kind, "string");
   assert.equal(pkg.find("demo:labels/press", "print"), print);
-  assert.throws(() => pkg.find("demo:labels/press", "prin"), { number: 63, message: "error 63 no function" });
+  const message = "error 63 no function: no `prin` in `demo:labels/press`; the nearest is `print`";
+  assert.throws(() => pkg.find("demo:labels/press", "prin"), { number: 63, line: "error 63 no function", message });
   pkg.close();
+});
+
+test("a function that is not there is named, and the nearest one", { skip }, () => {
+  const pkg = witcall.open([
+    "package a:b@1.0.0; interface c { total: func(); sum: func(); } interface types { type t = u8; }",
+    `package d:e; interface f { total-of-all: func(); next: func(); }
+    world w { import f; import ask: func(); export tell: func(); export sum: func(); } world v { export next: func(); }`,
+  ]);
+  const told = (way, ...names) => {
+    try {
+      return pkg[way](...names).name;
+    } catch (error) {
+      assert.deepEqual([error.name, error.number, error.line], ["WitError", 63, "error 63 no function"]);
+      return error.message.replace("error 63 no function: ", "");
+    }
+  };
+  const wanted = [
+    ["find", "a:b/c@1.0.0", "totel", "`total`"],
+    ["find", "a:b/c@1.0.0", "next", "`next` in `d:e/f`"],
+    ["find", "a:b/c", "total", "`total` in `a:b/c@1.0.0`"],
+    ["find", "a:b/c@2.0.0", "sum", "`sum` in `a:b/c@1.0.0`"],
+    ["find", "a:b/types@1.0.0", "sum", "`sum` in `a:b/c@1.0.0`"],
+    ["find", "c", "sun", "`sum` in `a:b/c@1.0.0`"],
+    ["find", "d:e/g", "next", "`next` in `d:e/f`"],
+    ["find", "d:e/w", "tell", "`next` in `d:e/f`"],
+    ["find", "", "", "`sum` in `a:b/c@1.0.0`"],
+    ["findImport", "d:e/w", "sum", "`ask`"],
+    ["findImport", "d:e/v", "next", "`ask` in `d:e/w`"],
+    ["findExport", "d:e/w", "tel", "`tell`"],
+    ["findExport", "d:e/w", "nex", "`next` in `d:e/v`"],
+  ];
+  for (const [way, owner, name, found] of wanted) {
+    assert.equal(told(way, owner, name), `no \`${name}\` in \`${owner}\`; the nearest is ${found}`);
+  }
+  const long = "x".repeat(1000000);
+  const cut = told("find", long, "a\n`\u202e\ud800");
+  assert.ok(cut.startsWith(`no \`a\\u{a}\\u{60}\\u{202e}\\u{d800}\` in \`${"x".repeat(100)}..\`; the nearest is `), cut);
+  const none = witcall.open("package a:b; interface c { type t = u8; } world w { import c; }");
+  for (const way of ["find", "findImport", "findExport"]) {
+    assert.throws(() => none[way]("a:b/c", "f"), { message: "error 63 no function: no `f` in `a:b/c`; there is no other" });
+  }
+  pkg.close();
+  none.close();
 });
 
 test("a closed package is not open, and is closed once", { skip }, () => {
