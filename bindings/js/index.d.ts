@@ -10,12 +10,12 @@ export type Input = string | BufferSource;
 
 /**
  * Loads the module, from its bytes or from a URL, packed by gzip or not. Without a source it is the module of this
- * package.
+ * package, or of the release in a checkout that has no other one.
  */
 export function load(source?: BufferSource | string | URL | WebAssembly.Module): Promise<Library>;
 
 export interface Library {
-  /** The library's version, as `0.2.0`. */
+  /** The library's version, as `0.3.0+` and the first 12 digits of its commit, or as `0.2.0` in versions up to that. */
   readonly version: string;
 
   /**

@@ -1,7 +1,8 @@
 import { Core } from "./core.js";
-import { Package, explained } from "./package.js";
+import { Package, explained, toldBy } from "./package.js";
 
 const encoder = new TextEncoder();
+const decoder = new TextDecoder();
 
 /** Version 1 of gzip's files begins with these bytes. */
 const isGzip = (bytes) => bytes[0] === 0x1f && bytes[1] === 0x8b;
@@ -12,8 +13,22 @@ async function fetched(source) {
     return readFile(new URL(source));
   }
   const answer = await fetch(source);
-  if (!answer.ok) throw new Error(`${source}: ${answer.status} ${answer.statusText}`);
+  if (!answer.ok) throw Object.assign(new Error(`${source}: ${answer.status} ${answer.statusText}`), { code: answer.status });
   return answer.arrayBuffer();
+}
+
+/** What the address of this file ends with in a checkout of the repository, and the codes of what is not there. */
+const CHECKOUT = /\/bindings\/js\/lib\/library\.js$/;
+const MISSING = ["ENOENT", 404];
+
+/** The module of this package. In a checkout, which has none, it is that of the release. */
+async function packaged() {
+  try {
+    return await fetched(new URL("../witcall.wasm", import.meta.url));
+  } catch (error) {
+    if (!MISSING.includes(error.code) || !CHECKOUT.test(import.meta.url)) throw error;
+    return fetched(import.meta.url.replace(CHECKOUT, "/release/witcall.wasm.gz"));
+  }
 }
 
 /** A view of bytes, whatever kind of view or buffer they are given as. */
@@ -33,14 +48,15 @@ async function plain(bytes) {
 
 /**
  * Loads the library's module, from its bytes or from a URL. They may be packed by gzip.
- * @param {BufferSource | string | URL | WebAssembly.Module} [source] the module of this package, if it is left out
+ * @param {BufferSource | string | URL | WebAssembly.Module} [source] if it is left out, the module of this package, or of
+ * the release if this is a checkout
  * @returns {Promise<Library>}
  */
-export async function load(source = new URL("../witcall.wasm", import.meta.url)) {
+export async function load(source) {
   if (source instanceof WebAssembly.Module) return instantiated(source);
   const isUrl = typeof source === "string" || source instanceof URL;
-  const bytes = viewOf(isUrl ? await fetched(source) : source);
-  return instantiated(await WebAssembly.compile(await plain(bytes)));
+  const bytes = source === undefined ? await packaged() : isUrl ? await fetched(source) : source;
+  return instantiated(await WebAssembly.compile(await plain(viewOf(bytes))));
 }
 
 /** The library of a module, which is instantiated at once, so that another module is refused. */
@@ -69,16 +85,10 @@ export class Library {
     return this.#core;
   }
 
-  /** The library's version, as `0.2.0`. */
+  /** The library's version, as `0.3.0+` and the first 12 digits of its commit, or as `0.2.0` in versions up to that. */
   get version() {
     const { core } = this;
-    const room = 64;
-    const at = core.allocate(room);
-    try {
-      return core.text(at, core.call("witcall_version", at, room).count);
-    } finally {
-      core.free(at);
-    }
+    return decoder.decode(toldBy(core, (at, room) => core.call("witcall_version", at, room)));
   }
 
   /**

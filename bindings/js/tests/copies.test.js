@@ -7,7 +7,7 @@ import { CODE, Space } from "../lib/core.js";
 import { Half, MAX_VALUES, Run } from "../lib/half.js";
 import { callee, forwarding } from "./guests.js";
 import { Random, randomType } from "./random.js";
-import { loaded, skip } from "./support.js";
+import { loaded } from "./support.js";
 
 const witcall = await loaded();
 const PAGE = 65536;
@@ -164,7 +164,7 @@ function compared(random, ends) {
 /** The word of an end. */
 const kindOf = (end) => (Array.isArray(end) ? "done" : end.replace(/ in .*/, ""));
 
-test("halves do with pages what they do with whole memories", { skip }, () => {
+test("halves do with pages what they do with whole memories", () => {
   const seed = Number(process.env.WITCALL_SEED ?? 1);
   const rounds = Number(process.env.WITCALL_ROUNDS ?? 8);
   const ends = [];
@@ -197,13 +197,13 @@ function copied(pages) {
   return sum;
 }
 
-test("a call copies as much of a great memory as of a small one", { skip }, () => {
+test("a call copies as much of a great memory as of a small one", () => {
   const bytes = copied(1);
   assert.ok(bytes < 8192, `${bytes}`);
   for (const pages of [16, 256, 4096]) assert.equal(copied(pages), bytes);
 });
 
-test("a call within a call has its own copies", { skip }, () => {
+test("a call within a call has its own copies", () => {
   const pkg = witcall.open("package a:b; interface c { f: func(s: string); }");
   const from = new Uint8Array(PAGE).fill(97);
   const to = new Uint8Array(PAGE);

@@ -6,7 +6,7 @@ import { NotThisType, WitError, imports, lift } from "../index.js";
 import { decodedText } from "../lib/values.js";
 import { callee } from "./guests.js";
 import { Random, randomType } from "./random.js";
-import { loaded, skip } from "./support.js";
+import { loaded } from "./support.js";
 
 const witcall = await loaded();
 
@@ -52,7 +52,7 @@ function broken(random, value, other) {
 const OTHERS = [null, undefined, true, -1, 1.5, 300, 2n ** 64n, "text", "\ud800", [], [[1]], {}, { a: 1 }, NaN, () => 0, Symbol("s"),
   Promise.resolve(1), { l0: "\udc00" }, { "\ud800": 1 }];
 
-test("a result that is none of its type has the place and the words of an argument", { skip }, () => {
+test("a result that is none of its type has the place and the words of an argument", () => {
   const paths = new Set();
   let count = 0;
   for (let round = 0; round < 120; round++) {
@@ -86,7 +86,7 @@ const SHOP = {
 };
 const line = (more) => ({ paid: [{ name: "tea", note: undefined, count: 1n }, { name: "tea", note: "x", count: 1n, ...more }] });
 
-test("what stands there is named as JavaScript has it", { skip }, () => {
+test("what stands there is named as JavaScript has it", () => {
   const { pkg, taken, given } = sides(SHOP);
   const promise = "a promise: a function of values can't be asynchronous";
   const count = "a `u64` is a whole number of 64 bits, from 0 on, and not";
@@ -120,13 +120,13 @@ test("what stands there is named as JavaScript has it", { skip }, () => {
   pkg.close();
 });
 
-test("a name with a lone surrogate is no label", { skip }, () => {
+test("a name with a lone surrogate is no label", () => {
   const { pkg, taken, given } = sides(SHOP);
   for (const it of [taken({ "\ud800": [] }), given({ "\ud800": [] })]) assert.match(it.fault, /, and not `\{"\ufffd":\[\]\}`$/);
   pkg.close();
 });
 
-test("whole numbers go with all of their digits", { skip }, () => {
+test("whole numbers go with all of their digits", () => {
   const { pkg, taken } = sides({ type: "u64" });
   for (const value of [2 ** 53, 2 ** 60 + 2 ** 9, 2 ** 63, -0]) assert.equal(taken(value), undefined);
   for (const value of [2 ** 64, 1e21, -(2 ** 60)]) assert.equal(taken(value).path, "[0]");
@@ -137,7 +137,7 @@ test("whole numbers go with all of their digits", { skip }, () => {
   pkg.close();
 });
 
-test("arguments that are too many or too few have no place", { skip }, () => {
+test("arguments that are too many or too few have no place", () => {
   const pkg = witcall.open("package a:b; interface c { f: func(x: u8, y: u8); }");
   const f = lift(pkg, pkg.functions[0], { callee: callee(1, { "a:b/c#f": () => undefined }) });
   for (const values of [[], [1], [1, 2, 3], [Promise.resolve()]]) {
@@ -147,7 +147,7 @@ test("arguments that are too many or too few have no place", { skip }, () => {
   pkg.close();
 });
 
-test("a promise of a function without a result is named", { skip }, () => {
+test("a promise of a function without a result is named", () => {
   const pkg = witcall.open("package a:b; interface c { f: func(); } world w { import c; import g: func(); }");
   let value;
   const object = imports(pkg, "a:b/w", { "a:b/c": { f: () => value }, g: async () => undefined }, { guest: () => undefined });
@@ -163,7 +163,7 @@ test("a promise of a function without a result is named", { skip }, () => {
   pkg.close();
 });
 
-test("a result of the greatest depth has its place, and the library's line is left if it can't be told", { skip }, () => {
+test("a result of the greatest depth has its place, and the library's line is left if it can't be told", () => {
   const nested = (levels) => `${"list<".repeat(levels)}u8${">".repeat(levels)}`;
   const { pkg, given } = sides({ type: nested(62) });
   const deep = (levels, value) => (levels === 0 ? value : [deep(levels - 1, value)]);
@@ -174,7 +174,7 @@ test("a result of the greatest depth has its place, and the library's line is le
   pkg.close();
 });
 
-test("faults of results leave no memory behind in the module", { skip }, () => {
+test("faults of results leave no memory behind in the module", () => {
   const { pkg, given } = sides(SHOP);
   given("shut");
   const before = witcall.core.bytes.length;

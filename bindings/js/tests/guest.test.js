@@ -2,7 +2,7 @@
 import assert from "node:assert/strict";
 import { test } from "node:test";
 import { WitError, instantiate } from "../index.js";
-import { fileOf, loaded, skip } from "./support.js";
+import { fileOf, loaded } from "./support.js";
 
 const witcall = await loaded();
 
@@ -11,7 +11,7 @@ const [HOST, ECHO, WORLD] = ["host", "echo", "guest"].map((name) => `demo:echo/$
 const IMPLEMENTATION = { [HOST]: { upper: (text) => text.toUpperCase() }, ask: (x) => x + 1 };
 const namesOf = (functions) => functions.map((it) => `${it.interface ?? it.world} ${it.name}`).sort();
 
-test("a guest is linked without a text", { skip }, async () => {
+test("a guest is linked without a text", async () => {
   const { pkg, world, exports } = await instantiate(witcall, moduleOf("echo"), IMPLEMENTATION);
   assert.equal(world.name, WORLD);
   assert.deepEqual(namesOf(world.imports), [`${WORLD} ask`, `${HOST} upper`]);
@@ -22,12 +22,12 @@ test("a guest is linked without a text", { skip }, async () => {
   pkg.close();
 });
 
-test("what the world imports has to be there", { skip }, async () => {
+test("what the world imports has to be there", async () => {
   const message = `the implementation has no function ${HOST}#upper`;
   await assert.rejects(instantiate(witcall, moduleOf("echo"), { ask: () => 0 }), { name: "TypeError", message });
 });
 
-test("components of worlds and of packages are opened too", { skip }, () => {
+test("components of worlds and of packages are opened too", () => {
   for (const name of ["carrying", "world", "package"]) {
     const pkg = witcall.openModule(moduleOf(name));
     assert.deepEqual(pkg.worlds.map((it) => it.name).slice(0, 1), ["demo:greet/guest@0.1.0"]);
@@ -36,7 +36,7 @@ test("components of worlds and of packages are opened too", { skip }, () => {
   }
 });
 
-test("a module that carries no package is refused, and explained", { skip }, () => {
+test("a module that carries no package is refused, and explained", () => {
   const refused = (bytes) => assert.throws(() => witcall.openModule(bytes), (error) => error instanceof WitError && error.number === 44);
   for (const name of ["none", "guest", "cut", "old"]) refused(moduleOf(name));
   refused(new TextEncoder().encode("package a:b; interface c { }"));

@@ -3,7 +3,7 @@
 import assert from "node:assert/strict";
 import { test } from "node:test";
 import { Half } from "../lib/half.js";
-import { fileOf, loaded, skip } from "./support.js";
+import { fileOf, loaded } from "./support.js";
 
 const witcall = await loaded();
 
@@ -34,7 +34,7 @@ function packageText() {
   return `package a:b; interface c { record r { a: string, b: list<u16> } ${functions.join(" ")} }`;
 }
 
-const pkg = skip ? undefined : witcall.open(packageText());
+const pkg = witcall.open(packageText());
 
 /** What a half asks for, as a line of hostile.expected, and in how much processor time. */
 function line(half, func, values, bytes, limit) {
@@ -117,7 +117,7 @@ function* spilled() {
   }
 }
 
-test("what a stranger's memories ask for is bounded by the limit", { skip }, () => {
+test("what a stranger's memories ask for is bounded by the limit", () => {
   const shapes = SHAPES.flatMap((shape) => [...elements(shape, 64), ...elements(shape, 50000)]);
   const found = [...levels(), ...shapes, ...tuples(), ...spilled()];
   const expected = fileOf("examples/c/hostile.expected").toString().trimEnd().split("\n");
@@ -126,7 +126,7 @@ test("what a stranger's memories ask for is bounded by the limit", { skip }, () 
   assert.deepEqual(found, expected.filter(isAsked));
 });
 
-test("a half ends at the first block that is not granted", { skip }, () => {
+test("a half ends at the first block that is not granted", () => {
   const bytes = memory(Uint32Array.from({ length: 128 }, (_, place) => (place % 2) * 64));
   const to = { bytes: new Uint8Array(LIMIT), grant: (asked) => asked.slice(0, 1).map((it) => ({ ...it, at: 0 })) };
   const half = new Half(pkg, pkg.find("a:b/c", "take4"), "witcall_enter", 2 ** 25);

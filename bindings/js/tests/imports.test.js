@@ -6,7 +6,7 @@ import { ModuleFault, Trap, WitError, imports, lift } from "../index.js";
 import { decodedText } from "../lib/values.js";
 import { relaying } from "./guests.js";
 import { Random, randomType } from "./random.js";
-import { loaded, skip } from "./support.js";
+import { loaded } from "./support.js";
 
 const witcall = await loaded();
 
@@ -57,7 +57,7 @@ function shop(functions, { root = () => "", ...options } = {}) {
   return { pkg, guest, ...exported };
 }
 
-test("values go to JavaScript and come back", { skip }, () => {
+test("values go to JavaScript and come back", () => {
   const total = (lines, state, note) =>
     note === "x" ? { error: lines.map((it) => it.name) } : { ok: `${lines.map((it) => `${it.count} ${it.name}`)} ${typeof state}` };
   const made = shop({
@@ -76,7 +76,7 @@ test("values go to JavaScript and come back", { skip }, () => {
   assert.deepEqual(made.mixed("green", ["record"], [1, -3n], "none", false), ["green", ["record", "big"], -2, true]);
 });
 
-test("functions without parameters or result, and those of a world itself", { skip }, () => {
+test("functions without parameters or result, and those of a world itself", () => {
   const said = [];
   const made = shop({ say: (text) => said.push(text), tick: () => said.push("tick"), now: () => 5n }, { root: (x) => `${x}!` });
   assert.equal(made.say("two\u0000memories 🙂"), undefined);
@@ -86,14 +86,14 @@ test("functions without parameters or result, and those of a world itself", { sk
   assert.deepEqual(said, ["two\u0000memories 🙂", "tick"]);
 });
 
-test("an implementation is called as a method", { skip }, () => {
+test("an implementation is called as a method", () => {
   const host = { count: 3n, now() { return this.count; } };
   const pkg = witcall.open("package a:b; interface c { now: func() -> u64; } world w { import c; }");
   const object = imports(pkg, "a:b/w", { "a:b/c": host }, { guest: () => assert.fail("no memory is needed") });
   assert.equal(object["a:b/c"].now(), 3n);
 });
 
-test("random values of random types come back as they were", { skip }, () => {
+test("random values of random types come back as they were", () => {
   for (let round = 0; round < 60; round++) {
     const random = new Random(round);
     const declared = [];
@@ -114,7 +114,7 @@ test("random values of random types come back as they were", { skip }, () => {
   }
 });
 
-test("the guest's memory grows for arguments and results", { skip }, () => {
+test("the guest's memory grows for arguments and results", () => {
   const made = shop({ next: ({ refused }) => ({ refused: refused + refused }) });
   const before = made.guest.exports.memory.buffer.byteLength;
   const text = "grün ".repeat(100000);
@@ -122,7 +122,7 @@ test("the guest's memory grows for arguments and results", { skip }, () => {
   assert.ok(made.guest.exports.memory.buffer.byteLength > before + 1500000);
 });
 
-test("an implementation may call the guest again", { skip }, () => {
+test("an implementation may call the guest again", () => {
   const made = shop({
     next: ({ refused }) => {
       if (refused.length < 2) return { refused };
@@ -135,7 +135,7 @@ test("an implementation may call the guest again", { skip }, () => {
   assert.deepEqual(made.next({ refused: "again" }), { refused: "n2i2a2g2a" });
 });
 
-test("what JavaScript answers is tested", { skip }, () => {
+test("what JavaScript answers is tested", () => {
   const numberOf = (functions, call) => {
     try {
       call(shop(functions));
@@ -153,7 +153,7 @@ test("what JavaScript answers is tested", { skip }, () => {
   assert.equal(numberOf({ next: () => ({ refused: "\ud800" }) }, (it) => it.next("open")), 62);
 });
 
-test("what is thrown goes through the guest", { skip }, () => {
+test("what is thrown goes through the guest", () => {
   const error = new Error("of the host");
   const thrower = (thrown) => () => {
     throw thrown;
@@ -163,7 +163,7 @@ test("what is thrown goes through the guest", { skip }, () => {
   assert.throws(() => shop({ tick: thrower(stopped) }).tick(), { message: "trap K7 body in body", cause: stopped });
 });
 
-test("values of the guest that are none end in traps with their steps", { skip }, () => {
+test("values of the guest that are none end in traps with their steps", () => {
   const made = shop({});
   const { memory } = made.guest.exports;
   const stops = () => {
@@ -189,7 +189,7 @@ test("values of the guest that are none end in traps with their steps", { skip }
   assert.throws(() => host.next(0, 0n, 0, 64), trap("trap K6 full in place", 6, "full", "place"));
 });
 
-test("a limit bounds both ways", { skip }, () => {
+test("a limit bounds both ways", () => {
   const numberOf = (limit, refused) => {
     try {
       return shop({ next: () => ({ refused: "x".repeat(8) }) }, { limit }).next({ refused }).refused.length;
@@ -203,7 +203,7 @@ test("a limit bounds both ways", { skip }, () => {
   assert.equal(numberOf(8, "x".repeat(9)), 76);
 });
 
-test("what the implementation, the package or the guest lacks is told", { skip }, () => {
+test("what the implementation, the package or the guest lacks is told", () => {
   const pkg = witcall.open(SHOP);
   const guest = () => undefined;
   assert.throws(() => imports(pkg, WORLD, {}, { guest }), { name: "TypeError", message: /no function demo:shop\/host@1.2.0#/ });
@@ -215,7 +215,7 @@ test("what the implementation, the package or the guest lacks is told", { skip }
   assert.throws(() => imports(pkg, "demo:shop/other@1.2.0", {}, { guest, limit: -1 }), RangeError);
 });
 
-test("interfaces of other packages, and names that are words of WIT", { skip }, () => {
+test("interfaces of other packages, and names that are words of WIT", () => {
   const texts = [
     "package my:types@0.1.0; interface %record { record %list { %string: string } get: func(%type: u8) -> %list; }",
     "package a:b; world %world { import my:types/%record@0.1.0; import %func: func(%use: char) -> char; }",
@@ -233,7 +233,7 @@ test("interfaces of other packages, and names that are words of WIT", { skip }, 
   assert.equal(lift(pkg, func, { callee: guest })("ö"), "Ö");
 });
 
-test("imports go on after the engine stopped the module", { skip }, () => {
+test("imports go on after the engine stopped the module", () => {
   const made = shop({ next: (state) => state });
   const { core } = made.pkg.place;
   assert.throws(() => core.call("witcall_line", 0xfffffff0, 0, 0), ModuleFault);
@@ -248,7 +248,7 @@ test("imports go on after the engine stopped the module", { skip }, () => {
   assert.deepEqual(stop.next({ refused: "within" }), { refused: "within" });
 });
 
-test("many guests leave no memory behind in the module", { skip }, () => {
+test("many guests leave no memory behind in the module", () => {
   const opened = () => {
     const { pkg, next } = shop({ next: (state) => state });
     next("open");

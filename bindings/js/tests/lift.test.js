@@ -3,7 +3,7 @@ import { test } from "node:test";
 import { NotThisType, Trap, WitError, lift } from "../index.js";
 import { decodedText, encodedAll } from "../lib/values.js";
 import { callee } from "./guests.js";
-import { loaded, skip } from "./support.js";
+import { loaded } from "./support.js";
 
 const witcall = await loaded();
 const decoder = new TextDecoder();
@@ -38,25 +38,25 @@ function names(view, lines, count, paid, sum, hasNote, note) {
   return 128;
 }
 
-test("values go into the memory and come back", { skip }, () => {
+test("values go into the memory and come back", () => {
   const total = shop("total", names);
   const lines = [{ name: "tea", count: 2 }, { name: 'ä"', count: 255 }];
   assert.equal(total(lines, { paid: 2n ** 64n - 1n }, "x"), '2 tea,255 ä",1,-1,1,120');
   assert.equal(total([], "open", undefined), "0,0,0,0");
 });
 
-test("64-bit numbers are BigInt", { skip }, () => {
+test("64-bit numbers are BigInt", () => {
   const sum = shop("sum", (view, at, count) =>
     Array.from({ length: count }, (_, k) => view.getBigInt64(at + 8 * k, true)).reduce((a, b) => a + b, 0n));
   assert.equal(sum([2n ** 62n, 1, -3n]), 2n ** 62n - 2n);
   assert.equal(sum(new BigInt64Array([5n, 6n])), 11n);
 });
 
-test("a function without a result gives undefined", { skip }, () => {
+test("a function without a result gives undefined", () => {
   assert.equal(shop("close", () => undefined)(), undefined);
 });
 
-test("what is no value is refused before the component runs", { skip }, () => {
+test("what is no value is refused before the component runs", () => {
   const numberOf = (limit, ...values) => {
     try {
       shop("total", () => assert.fail("the component runs"), { limit })(...values);
@@ -74,7 +74,7 @@ test("what is no value is refused before the component runs", { skip }, () => {
   assert.equal(numberOf(14, [{ name: "tea", count: 1 }], "open", undefined), 76);
 });
 
-test("a value of another type has its place", { skip }, () => {
+test("a value of another type has its place", () => {
   const total = shop("total", () => assert.fail("the component runs"));
   assert.throws(() => total([{ name: "tea", count: 256 }], "open", undefined), (error) => {
     assert.ok(error instanceof NotThisType && error instanceof WitError, error);
@@ -86,7 +86,7 @@ test("a value of another type has its place", { skip }, () => {
   assert.throws(() => total([]), { name: "NotThisType", path: "" });
 });
 
-test("traps have their steps", { skip }, () => {
+test("traps have their steps", () => {
   const trapOf = (core, ...values) => {
     try {
       shop("total", core)(...values);
@@ -106,7 +106,7 @@ test("traps have their steps", { skip }, () => {
   assert.equal(trapOf(stops, ...none), "trap K7 body in body");
 });
 
-test("a value at the end of the memory is read", { skip }, () => {
+test("a value at the end of the memory is read", () => {
   const end = shop("total", (view) => {
     [1, 65533, 3].forEach((word, place) => view.setUint32(65520 + 4 * place, word, true));
     new Uint8Array(view.buffer).set(encoder.encode("end"), 65533);

@@ -2,7 +2,7 @@ import assert from "node:assert/strict";
 import { test } from "node:test";
 import { Trap, WitError, granted, link } from "../index.js";
 import { bump, callee, forwarding } from "./guests.js";
-import { loaded, skip } from "./support.js";
+import { loaded } from "./support.js";
 
 const witcall = await loaded();
 const PAGE = 65536;
@@ -59,11 +59,11 @@ function calls({ caller }, at, text) {
   return textAt(caller, from, length);
 }
 
-test("a text goes there and back", { skip }, () => {
+test("a text goes there and back", () => {
   assert.equal(calls(upper(), 100, "two memories, grün"), "TWO MEMORIES, GRÜN");
 });
 
-test("texts at any address of memories of several sizes", { skip }, () => {
+test("texts at any address of memories of several sizes", () => {
   for (const pages of [1, 2, 16, 256]) {
     const made = upper({ pages });
     const last = pages * PAGE - 3;
@@ -72,7 +72,7 @@ test("texts at any address of memories of several sizes", { skip }, () => {
   }
 });
 
-test("numbers of every kind, of 32 and of 64 bits", { skip }, () => {
+test("numbers of every kind, of 32 and of 64 bits", () => {
   const functions = "f: func(a: s8, b: u32, c: s64, d: u64) -> u64; g: func(a: u32) -> s32; h: func();";
   const made = linked(`package a:b; interface c { ${functions} }`, {
     f: (...values) => {
@@ -88,7 +88,7 @@ test("numbers of every kind, of 32 and of 64 bits", { skip }, () => {
   assert.equal(h(), undefined);
 });
 
-test("a function of numbers alone copies no byte", { skip }, () => {
+test("a function of numbers alone copies no byte", () => {
   const text = "package a:b; interface c { f: func(a: u32) -> u32; }";
   const made = linked(text, { f: (value) => value + 1 }, { pages: 4096 });
   const before = witcall.core.bytes.length;
@@ -96,7 +96,7 @@ test("a function of numbers alone copies no byte", { skip }, () => {
   assert.ok(witcall.core.bytes.length - before < PAGE);
 });
 
-test("padding and bytes beside the blocks stay as they were", { skip }, () => {
+test("padding and bytes beside the blocks stay as they were", () => {
   const made = linked("package a:b; interface c { record r { a: u8, b: u32 } f: func(x: list<r>) -> r; }", {
     f: (at, length) => {
       const found = [...bytesOf(made.callee).subarray(at - 1, at + 8 * length + 1)];
@@ -113,7 +113,7 @@ test("padding and bytes beside the blocks stay as they were", { skip }, () => {
   assert.deepEqual(all, [5, 2, 5, 5, 5, 8, 7, 6, 5, 5]);
 });
 
-test("both memories grow while blocks are granted", { skip }, () => {
+test("both memories grow while blocks are granted", () => {
   const grown = [];
   const grow = (instance, asked) => {
     instance.exports.memory.grow(1);
@@ -126,14 +126,14 @@ test("both memories grow while blocks are granted", { skip }, () => {
   assert.deepEqual([made.caller, made.callee].map((it) => bytesOf(it).length), [2 * PAGE, 2 * PAGE]);
 });
 
-test("a text in a memory that grew is found", { skip }, () => {
+test("a text in a memory that grew is found", () => {
   const made = upper();
   assert.equal(calls(made, 100, "before"), "BEFORE");
   made.caller.exports.memory.grow(20);
   assert.equal(calls(made, 20 * PAGE, "after"), "AFTER");
 });
 
-test("more blocks than there is room for at first", { skip }, () => {
+test("more blocks than there is room for at first", () => {
   const count = 1000;
   const made = linked("package a:b; interface c { join: func(all: list<string>) -> string; }", {
     join: (at, length) => {
@@ -151,7 +151,7 @@ test("more blocks than there is room for at first", { skip }, () => {
 
 // ---- guests that call again
 
-test("a body that has its caller call again", { skip }, () => {
+test("a body that has its caller call again", () => {
   const said = [];
   const made = linked(UPPER, {
     upper: (at, length) => {
@@ -165,7 +165,7 @@ test("a body that has its caller call again", { skip }, () => {
   assert.deepEqual(said, ["again", "gain", "ain", "in", "n"]);
 });
 
-test("an allocator that has the caller call again", { skip }, () => {
+test("an allocator that has the caller call again", () => {
   let inner;
   const made = upper({
     grant: (instance, asked) => {
@@ -180,7 +180,7 @@ test("an allocator that has the caller call again", { skip }, () => {
   assert.equal(inner, "ANOTHER ONE");
 });
 
-test("an allocator that closes the package ends the call", { skip }, () => {
+test("an allocator that closes the package ends the call", () => {
   const made = upper({ grant: () => made.pkg.close() ?? [] });
   assert.throws(() => calls(made, 100, "abc"), { number: 70 });
 });
@@ -196,7 +196,7 @@ function endOf(made, at = 100, text = "abc") {
   }
 }
 
-test("a component that stops ends the call in a trap", { skip }, () => {
+test("a component that stops ends the call in a trap", () => {
   const stopped = new WebAssembly.RuntimeError("unreachable");
   const stop = () => {
     throw stopped;
@@ -215,7 +215,7 @@ test("a component that stops ends the call in a trap", { skip }, () => {
   assert.equal(endOf(upper({ top: PAGE })).message, "trap K6 full in lower-result");
 });
 
-test("what else is thrown goes on to the caller", { skip }, () => {
+test("what else is thrown goes on to the caller", () => {
   const error = new Error("of the host");
   const made = linked(UPPER, {
     upper: () => {
@@ -225,7 +225,7 @@ test("what else is thrown goes on to the caller", { skip }, () => {
   assert.equal(endOf(made), error);
 });
 
-test("values that are none end the call in a trap", { skip }, () => {
+test("values that are none end the call in a trap", () => {
   const made = upper();
   assert.throws(() => made.caller.exports.upper(0, PAGE + 1, 16), { message: "trap K4 bounds in lift-args" });
   bytesOf(made.caller).set([0xc0, 0x80], 100);
@@ -239,7 +239,7 @@ test("values that are none end the call in a trap", { skip }, () => {
   assert.ok(endOf(linked(UPPER, { upper: () => 0.5 })) instanceof TypeError);
 });
 
-test("blocks above the limit, and blocks of a wrong allocator, are refused", { skip }, () => {
+test("blocks above the limit, and blocks of a wrong allocator, are refused", () => {
   const above = endOf(upper({ limit: 2 }));
   assert.ok(above instanceof WitError);
   assert.deepEqual([above.number, above.message], [76, "error 76 above the limit"]);
@@ -251,13 +251,13 @@ test("blocks above the limit, and blocks of a wrong allocator, are refused", { s
   for (const limit of [-1, 0.5, NaN, "1", 2 ** 53]) assert.throws(() => upper({ limit }), RangeError);
 });
 
-test("after a trap another call is made", { skip }, () => {
+test("after a trap another call is made", () => {
   const made = upper();
   assert.throws(() => made.caller.exports.upper(PAGE, 1, 16), Trap);
   assert.equal(calls(made, 100, "abc"), "ABC");
 });
 
-test("what the callee lacks, and what the package lacks, is told when they are linked", { skip }, () => {
+test("what the callee lacks, and what the package lacks, is told when they are linked", () => {
   const pkg = witcall.open(UPPER);
   const caller = forwarding(pkg.functions, 1);
   const imports = { test: { cabi_realloc: () => 0 } };
@@ -271,7 +271,7 @@ test("what the callee lacks, and what the package lacks, is told when they are l
   pkg.close();
 });
 
-test("calls leave no memory behind in the module", { skip }, () => {
+test("calls leave no memory behind in the module", () => {
   const made = upper({ pages: 16, top: 1024 });
   const run = () => {
     made.callee.exports.cabi_realloc = () => 2048;

@@ -1,20 +1,15 @@
 import assert from "node:assert/strict";
-import { mkdtempSync, readFileSync, rmSync, writeFileSync } from "node:fs";
-import { tmpdir } from "node:os";
+import { spawnSync } from "node:child_process";
+import { cpSync, existsSync, mkdirSync, rmSync, writeFileSync } from "node:fs";
 import { join } from "node:path";
 import { test } from "node:test";
 import { pathToFileURL } from "node:url";
-import { gunzipSync, gzipSync } from "node:zlib";
+import { gzipSync } from "node:zlib";
 import { ModuleFault, load } from "../index.js";
-import { fileOf, modulePath, skip } from "./support.js";
+import { checkoutIn, fileOf, folderFor, moduleBytes as bytes } from "./support.js";
 
-const bytes = () => {
-  const found = readFileSync(modulePath);
-  return found[0] === 0x1f ? gunzipSync(found) : found;
-};
-
-test("the module is loaded from bytes and URLs, packed or not", { skip }, async () => {
-  const folder = mkdtempSync(join(tmpdir(), "witcall-"));
+test("the module is loaded from bytes and URLs, packed or not", async (it) => {
+  const folder = folderFor(it);
   const [plain, packed] = ["witcall.wasm", "witcall.wasm.gz"].map((name) => join(folder, name));
   writeFileSync(plain, bytes());
   writeFileSync(packed, gzipSync(bytes()));
@@ -22,12 +17,63 @@ test("the module is loaded from bytes and URLs, packed or not", { skip }, async 
   const module = await WebAssembly.compile(bytes());
   for (const source of [bytes(), gzipSync(bytes()), new Uint8Array(bytes()).buffer, url, packedUrl, url.href, module]) {
     const witcall = await load(source);
-    assert.equal(witcall.version, fileOf("VERSION").toString().trim());
+    assert.match(witcall.version, /^\d+\.\d+\.\d+(\+[0-9a-f]{12})?$/);
+    const known = ["VERSION", "release/version"].map((name) => fileOf(name).toString().trim());
+    assert.ok(known.includes(witcall.version.split("+")[0]), witcall.version);
   }
-  rmSync(folder, { recursive: true });
 });
 
-test("a module without imports", { skip }, async () => {
+/** What `load` of a copy of this package says. */
+const loadedBy = async (binding) => (await import(pathToFileURL(join(binding, "index.js")))).load();
+
+test("in a checkout the module is that of the release, if there is no other", async (it) => {
+  const folder = folderFor(it);
+  const binding = await checkoutIn(folder);
+  const { version } = await load(bytes());
+  assert.equal((await loadedBy(binding)).version, version);
+  writeFileSync(join(binding, "witcall.wasm"), "no module");
+  await assert.rejects(loadedBy(binding), WebAssembly.CompileError);
+  rmSync(join(binding, "witcall.wasm"));
+  rmSync(join(folder, "release"), { recursive: true });
+  await assert.rejects(loadedBy(binding), { code: "ENOENT", message: /release/ });
+});
+
+test("a package that is installed takes no module of its project", async (it) => {
+  const folder = folderFor(it);
+  const binding = join(folder, "node_modules/witcall");
+  mkdirSync(join(folder, "node_modules"));
+  cpSync(await checkoutIn(folder), binding, { recursive: true });
+  await assert.rejects(loadedBy(binding), { code: "ENOENT", message: /node_modules\/witcall\/witcall\.wasm/ });
+  writeFileSync(join(binding, "witcall.wasm"), bytes());
+  assert.equal((await loadedBy(binding)).version, (await load(bytes())).version);
+});
+
+/** What pack.mjs does in a checkout whose package.json is of a version. */
+async function packing(folder, version) {
+  const binding = await checkoutIn(folder, version);
+  const module = join(binding, "witcall.wasm");
+  const packed = (...words) => spawnSync(process.execPath, ["pack.mjs", ...words], { cwd: binding, encoding: "utf8" });
+  return { binding, packed, isThere: () => existsSync(module) };
+}
+
+test("the module of the release is packed, and removed after that", async (it) => {
+  const { packed, isThere } = await packing(folderFor(it));
+  assert.deepEqual([packed().stderr, isThere()], ["", true]);
+  assert.deepEqual([packed("--done").status, isThere()], [0, false]);
+});
+
+test("a release of another version than the package's is not packed", async (it) => {
+  const folder = folderFor(it);
+  const { packed, isThere } = await packing(folder, "0.0.1");
+  const version = (await load(bytes())).version.split("+")[0];
+  const line = (place) => `pack.mjs: package.json is of version 0.0.1, and ${place} is ${version}\n`;
+  const { status, stderr } = packed();
+  assert.deepEqual([status, isThere(), stderr], [1, false, line("release/version") + line("witcall_version()")]);
+  writeFileSync(join(folder, "release/version"), "0.0.1\n");
+  assert.equal(packed().stderr, line("witcall_version()"));
+});
+
+test("a module without imports", async () => {
   const module = await WebAssembly.compile(bytes());
   assert.deepEqual(WebAssembly.Module.imports(module), []);
   const header = fileOf("include/witcall.h").toString();
@@ -45,7 +91,7 @@ test("what is no module is refused", async () => {
 
 const TEXT = "package a:b;\n\ninterface c {\n  f: func(x: u32) -> u32;\n}\n";
 
-test("packages go on after the engine stopped the module", { skip }, async () => {
+test("packages go on after the engine stopped the module", async () => {
   const witcall = await load(bytes());
   const [pkg, closed] = [witcall.open(TEXT), witcall.open(TEXT)];
   const func = pkg.functions[0];
@@ -60,7 +106,7 @@ test("packages go on after the engine stopped the module", { skip }, async () =>
   assert.equal(witcall.open(TEXT).toText(), TEXT);
 });
 
-test("packages go on after the stack of the engine was too small", { skip }, async () => {
+test("packages go on after the stack of the engine was too small", async () => {
   const witcall = await load(bytes());
   const pkg = witcall.open(TEXT);
   const deep = () => {
@@ -74,7 +120,7 @@ test("packages go on after the stack of the engine was too small", { skip }, asy
   assert.equal(pkg.toText(), TEXT);
 });
 
-test("types of the greatest depth are opened, and their values carried", { skip }, async () => {
+test("types of the greatest depth are opened, and their values carried", async () => {
   const { Half } = await import("../lib/half.js");
   const witcall = await load(bytes());
   const levels = 63;
@@ -96,7 +142,7 @@ test("types of the greatest depth are opened, and their values carried", { skip 
   assert.equal(witcall.open(`package a:b; interface c { type t = ${nested}; }`).types.length, 63);
 });
 
-test("a package is described", { skip }, async () => {
+test("a package is described", async () => {
   const witcall = await load(bytes());
   const world = "world w { import c; export g: func(); }";
   const text = `package a:b@1.0.0; interface c { f: func(x: list<u8>) -> u64; } ${world}`;

@@ -4,7 +4,7 @@ import { test } from "node:test";
 import { imports, instantiate, lift, link } from "../index.js";
 import { given } from "../lib/own.js";
 import { FREEZING, callee, relaying, stranger } from "./guests.js";
-import { fileOf, loaded, skip } from "./support.js";
+import { fileOf, loaded } from "./support.js";
 
 const witcall = await loaded();
 
@@ -36,7 +36,7 @@ function untouched() {
 
 // ---- a stranger's modules
 
-test("a linked module does not get the built-in functions, and so freezes nothing", { skip }, () => {
+test("a linked module does not get the built-in functions, and so freezes nothing", () => {
   const go = { name: "go", parameters: [], results: [], code: FREEZING.code };
   const caller = new WebAssembly.Module(stranger(FREEZING.asked, [go]));
   const pkg = witcall.open(NUMBERS);
@@ -46,7 +46,7 @@ test("a linked module does not get the built-in functions, and so freezes nothin
   }
 });
 
-test("a module with its world does not get the built-in functions, and so freezes nothing", { skip }, async () => {
+test("a module with its world does not get the built-in functions, and so freezes nothing", async () => {
   const go = { name: "_initialize", parameters: [], results: [], code: FREEZING.code };
   const bytes = stranger(FREEZING.asked, [go], worldOf(ECHO));
   for (const options of [undefined, { imports: {} }, { imports: { constructor: {} } }]) {
@@ -55,7 +55,7 @@ test("a module with its world does not get the built-in functions, and so freeze
   }
 });
 
-test("a linked module gets none of the names that objects and functions inherit", { skip }, () => {
+test("a linked module gets none of the names that objects and functions inherit", () => {
   const pkg = witcall.open(NUMBERS);
   const refused = (module, name) => {
     const caller = new WebAssembly.Module(stranger([nothing(module, name)], []));
@@ -69,7 +69,7 @@ test("a linked module gets none of the names that objects and functions inherit"
   }
 });
 
-test("a module with its world gets none of them either", { skip }, async () => {
+test("a module with its world gets none of them either", async () => {
   const section = worldOf(ECHO);
   const refused = (module, name) => {
     const bytes = stranger([nothing(module, name)], [], section);
@@ -80,7 +80,7 @@ test("a module with its world gets none of them either", { skip }, async () => {
   }
 });
 
-test("an import object inherits nothing, and takes what else is imported without a prototype", { skip }, () => {
+test("an import object inherits nothing, and takes what else is imported without a prototype", () => {
   const pkg = witcall.openModule(ECHO);
   const say = () => undefined;
   const others = { wasi: { say }, $root: { ask: say, more: say }, constructor: { freeze: say } };
@@ -93,7 +93,7 @@ test("an import object inherits nothing, and takes what else is imported without
   pkg.close();
 });
 
-test("modules that are named as what objects inherit get what is handed in for them", { skip }, async () => {
+test("modules that are named as what objects inherit get what is handed in for them", async () => {
   const seen = [];
   const others = JSON.parse('{ "__proto__": { "__proto__": 0 }, "constructor": { "constructor": 0 } }');
   for (const name of Object.keys(others)) others[name][name] = () => seen.push(name);
@@ -136,7 +136,7 @@ function named(implementation) {
 
 const forAll = (make) => Object.fromEntries(NAMES.map((it, place) => [it, make(it, place)]));
 
-test("functions, fields and cases may have these names", { skip }, () => {
+test("functions, fields and cases may have these names", () => {
   const { pkg, guest, functions } = named({ [OWNER]: forAll(() => (...values) => values), ...forAll((_, place) => () => place) });
   assert.equal(functions.length, 2 * NAMES.length);
   const record = forAll((_, place) => place);
@@ -154,7 +154,7 @@ test("functions, fields and cases may have these names", { skip }, () => {
   pkg.close();
 });
 
-test("a field that a record lacks is not one that it inherits", { skip }, () => {
+test("a field that a record lacks is not one that it inherits", () => {
   const { pkg, guest } = named({ [OWNER]: forAll(() => (...values) => values), ...forAll(() => () => 0) });
   const call = lift(pkg, pkg.find(OWNER, "call"), { callee: guest });
   const { constructor: _, ...less } = forAll(() => 1);
@@ -165,7 +165,7 @@ test("a field that a record lacks is not one that it inherits", { skip }, () => 
   pkg.close();
 });
 
-test("an implementation that lacks a function does not inherit it", { skip }, () => {
+test("an implementation that lacks a function does not inherit it", () => {
   for (const name of NAMES) {
     const all = { [OWNER]: forAll(() => () => 0), ...forAll(() => () => 0) };
     const { [name]: _, ...lessOwn } = all;
@@ -178,7 +178,7 @@ test("an implementation that lacks a function does not inherit it", { skip }, ()
   }
 });
 
-test("exports that a callee lacks are not those that it inherits", { skip }, () => {
+test("exports that a callee lacks are not those that it inherits", () => {
   const pkg = witcall.open(NAMED);
   const callees = [callee(1, {}), { exports: () => undefined }, { exports: class {} }, { exports: [] }];
   for (const func of pkg.worlds[0].imports) {
@@ -190,14 +190,14 @@ test("exports that a callee lacks are not those that it inherits", { skip }, () 
   assert.equal(lift(other, other.functions[0], { callee: { exports } })(), undefined);
 });
 
-test("exports of a guest inherit nothing", { skip }, async () => {
+test("exports of a guest inherit nothing", async () => {
   const { exports } = await instantiate(witcall, ECHO, SERVED);
   for (const it of [exports, exports["demo:echo/echo@1.0.0"]]) assert.equal(Object.getPrototypeOf(it), null);
 });
 
 // ---- classes
 
-test("methods of a class are an implementation's, and its constructor and the engine's classes are not", { skip }, () => {
+test("methods of a class are an implementation's, and its constructor and the engine's classes are not", () => {
   class Base {
     #count = 4n;
     now() { return this.#count; }
@@ -229,7 +229,7 @@ test("methods of a class are an implementation's, and its constructor and the en
   pkg.close();
 });
 
-test("a method that is replaced or taken away is looked up at each call", { skip }, () => {
+test("a method that is replaced or taken away is looked up at each call", () => {
   const pkg = witcall.open("package a:b; interface c { %call: func() -> u32; } world w { import c; }");
   const host = { call: () => 1 };
   const object = imports(pkg, "a:b/w", { "a:b/c": host }, { guest: () => undefined });

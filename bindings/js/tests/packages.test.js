@@ -2,7 +2,7 @@ import assert from "node:assert/strict";
 import { test } from "node:test";
 import { WitError } from "../index.js";
 import { rowsOf } from "./rows.js";
-import { fileOf, loaded, skip } from "./support.js";
+import { fileOf, loaded } from "./support.js";
 
 const witcall = await loaded();
 
@@ -31,7 +31,7 @@ function answered({ command, inputs }, wanted) {
 }
 
 for (const file of ["errors", "packages", "sets", "texts"]) {
-  test(`the rows of ${file}.rows`, { skip }, () => {
+  test(`the rows of ${file}.rows`, () => {
     const rows = rowsOf(`${file}.rows`, Object.keys(COMMANDS));
     assert.ok(rows.length >= 29);
     for (const row of rows) {
@@ -41,7 +41,7 @@ for (const file of ["errors", "packages", "sets", "texts"]) {
   });
 }
 
-test("each way of handing over an input opens the same package", { skip }, () => {
+test("each way of handing over an input opens the same package", () => {
   const text = "package a:b;\n\ninterface c {\n  f: func(x: u32) -> u32;\n}\n";
   const bytes = new TextEncoder().encode(`..${text}`);
   for (const input of [text, bytes.subarray(2), bytes.buffer.slice(2), new DataView(bytes.buffer, 2), [text]]) {
@@ -53,7 +53,7 @@ test("each way of handing over an input opens the same package", { skip }, () =>
   }
 });
 
-test("no input is refused", { skip }, () => {
+test("no input is refused", () => {
   assert.throws(() => witcall.open([]), { name: "WitError", number: 74, message: "error 74 bad lengths" });
   assert.throws(() => witcall.open(""), { name: "WitError", number: 32 });
 });
@@ -82,7 +82,7 @@ function rowLines(row) {
   ];
 }
 
-test("functions and types have the layouts that the library has in C", { skip }, () => {
+test("functions and types have the layouts that the library has in C", () => {
   const shop = witcall.open(fileOf("examples/c/shop.wit"));
   const listed = witcall.open(listedText());
   const lines = shop.functions.flatMap(({ name, parameters }) => [
@@ -97,7 +97,7 @@ test("functions and types have the layouts that the library has in C", { skip },
   listed.close();
 });
 
-test("a function has its core signatures, and its types are those of the package", { skip }, () => {
+test("a function has its core signatures, and its types are those of the package", () => {
   const pkg = witcall.open(fileOf("examples/engine/press.wit"));
   const [print] = pkg.functions;
   const values = Array(8).fill("i32");
@@ -111,7 +111,7 @@ test("a function has its core signatures, and its types are those of the package
   pkg.close();
 });
 
-test("a function that is not there is named, and the nearest one", { skip }, () => {
+test("a function that is not there is named, and the nearest one", () => {
   const pkg = witcall.open([
     "package a:b@1.0.0; interface c { total: func(); sum: func(); } interface types { type t = u8; }",
     `package d:e; interface f { total-of-all: func(); next: func(); }
@@ -154,7 +154,7 @@ test("a function that is not there is named, and the nearest one", { skip }, () 
   none.close();
 });
 
-test("a closed package is not open, and is closed once", { skip }, () => {
+test("a closed package is not open, and is closed once", () => {
   const pkg = witcall.open(fileOf("examples/c.wit"));
   assert.equal(pkg.functions.length, 1);
   pkg.close();
@@ -167,7 +167,7 @@ test("a closed package is not open, and is closed once", { skip }, () => {
   if (Symbol.dispose) assert.equal(pkg[Symbol.dispose], pkg.close);
 });
 
-test("many packages leave no memory behind", { skip }, () => {
+test("many packages leave no memory behind", () => {
   const text = fileOf("examples/engine/press.wit");
   const opened = () => {
     const pkg = witcall.open(text);
@@ -181,7 +181,7 @@ test("many packages leave no memory behind", { skip }, () => {
   assert.equal(witcall.core.bytes.length, before);
 });
 
-test("what is wrong with texts has its place and what to do", { skip }, () => {
+test("what is wrong with texts has its place and what to do", () => {
   const broken = "package a:b; interface c { f: func(x: strng); }";
   const fault = {
     text: 0,

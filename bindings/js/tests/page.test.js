@@ -7,7 +7,7 @@ import { EXAMPLES } from "../page/examples.js";
 import { nameOf, partsOf, sampleOf } from "../page/parts.js";
 import { packagesOf, placed } from "../page/text.js";
 import { Random, randomType } from "./random.js";
-import { loaded, skip } from "./support.js";
+import { loaded } from "./support.js";
 
 const witcall = await loaded();
 
@@ -18,7 +18,7 @@ function placesOf(text) {
   return faults.map(({ row, column, start, end, message }) => (row ? `${row}:${column} ${text.slice(start, end)}` : message));
 }
 
-test("a fault has its line and its characters", { skip }, () => {
+test("a fault has its line and its characters", () => {
   const package_ = "package a:b;\n";
   assert.deepEqual(placesOf(`${package_}interface c { f: func(x: u8); }`), []);
   assert.deepEqual(placesOf(`${package_}interface c { f: func(x: size); }`), ["2:26 size"]);
@@ -33,12 +33,12 @@ test("a fault has its line and its characters", { skip }, () => {
   assert.deepEqual(placesOf(`${package_}interface c { f: fun(); }\npackage d:e;\ninterface y { x: u9; }`), ["2:18 fun", "4:18 u9"]);
 });
 
-test("the examples open, but for the one with a fault", { skip }, () => {
+test("the examples open, but for the one with a fault", () => {
   const ends = Object.entries(EXAMPLES).map(([name, text]) => [name, placesOf(text)]);
   assert.deepEqual(ends.filter(([, end]) => end.length > 0), [["A fault", ["4:38 size"]]]);
 });
 
-test("parts of a layout are inside it, and only those of cases overlap", { skip }, () => {
+test("parts of a layout are inside it, and only those of cases overlap", () => {
   for (let round = 0; round < 60; round++) {
     const declared = [];
     const { type } = randomType(new Random(round), 3, declared);
@@ -58,7 +58,7 @@ test("parts of a layout are inside it, and only those of cases overlap", { skip 
   }
 });
 
-test("a call shows the same values in both memories", { skip }, () => {
+test("a call shows the same values in both memories", () => {
   for (let round = 0; round < 40; round++) {
     const random = new Random(1000 + round);
     const declared = [];
@@ -79,7 +79,7 @@ test("a call shows the same values in both memories", { skip }, () => {
   }
 });
 
-test("a call that is none says in which step", { skip }, () => {
+test("a call that is none says in which step", () => {
   const pkg = witcall.open("package a:b; interface c { f: func(x: string) -> string; }");
   const ends = [['["a"]', '"b"'], ["[1]", '"b"'], ['["a"]', "1"], ["x", '"b"']].map(([args, reply]) => {
     const { error, step, steps } = called(pkg, pkg.functions[0], args, reply);

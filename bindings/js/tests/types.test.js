@@ -5,12 +5,13 @@ import { readFileSync } from "node:fs";
 import { test } from "node:test";
 import { fileURLToPath } from "node:url";
 import * as all from "../index.js";
+import { needs } from "./support.js";
 
 const HERE = new URL(".", import.meta.url);
-const hasCompiler = spawnSync("tsc", ["--version"]).status === 0;
 const OPTIONS = ["--strict", "--noEmit", "--target", "es2022", "--module", "nodenext", "--moduleResolution", "nodenext"];
 
-test("tsc --strict takes the declarations", { skip: hasCompiler ? false : "no tsc" }, () => {
+test("tsc --strict takes the declarations", () => {
+  needs("tsc", "node-typescript", "--version");
   const { stdout, status } = spawnSync("tsc", [...OPTIONS, fileURLToPath(new URL("types.ts", HERE))]);
   assert.equal(stdout.toString(), "");
   assert.equal(status, 0);
