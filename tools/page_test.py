@@ -1,10 +1,11 @@
 #!/usr/bin/env python3
-"""Opens the page of bindings/js/page in Chromium, types a good and a broken text, calls a function, and makes screenshots.
+"""Opens the page of bindings/js/page in Chromium, types a good and a broken text, calls a function, makes screenshots.
 
-usage: tools/page_test.py [FOLDER]      FOLDER gets the screenshots: docs/pictures, if it is left out
+usage: tools/page_test.py [--write | FOLDER]
 
-The page is the one that tools/page.py makes, from a file. The browser is Debian's `chromium`, without a window, driven by the DevTools protocol. The
-exit status is 1 if the page does something else, and 0 with a line if there is no Chromium.
+The page is the one that tools/page.py makes, from a file. The browser is Debian's `chromium`, without a window, driven
+by the DevTools protocol. The screenshots are thrown away, unless --write stores them in docs/pictures, or a folder is
+named for them. The exit status is 1 if the page does something else, or if there is no Chromium.
 """
 import base64
 import json
@@ -44,6 +45,7 @@ BROKEN = GOOD.replace("color: color)", "color: colour)")
 ARGUMENTS = '[{"closed":true,"width":3,"path":[{"x":1,"y":-1},{"x":258,"y":7}]},{"named":"two memories"}]'
 WRONG = ARGUMENTS.replace("true", "1")
 ANSWER = '{"error":{"x":5,"y":6}}'
+WRONG_ANSWER = ANSWER.replace("6", '"6"')
 
 
 class Socket:
@@ -53,8 +55,8 @@ class Socket:
         host, port, path = re.fullmatch(r"ws://([^:/]+):(\d+)(/.*)", url).groups()
         self.socket = socket.create_connection((host, int(port)), timeout=WAIT)
         key = base64.b64encode(os.urandom(16)).decode()
-        lines = [f"GET {path} HTTP/1.1", f"Host: {host}:{port}", "Upgrade: websocket", "Connection: Upgrade", f"Sec-WebSocket-Key: {key}",
-                 "Sec-WebSocket-Version: 13"]
+        lines = [f"GET {path} HTTP/1.1", f"Host: {host}:{port}", "Upgrade: websocket", "Connection: Upgrade",
+                 f"Sec-WebSocket-Key: {key}", "Sec-WebSocket-Version: 13"]
         self.socket.sendall("".join(f"{it}\r\n" for it in [*lines, ""]).encode())
         self.file = self.socket.makefile("rb")
         if b" 101 " not in self.file.readline():
@@ -87,12 +89,17 @@ class Socket:
                     return text.decode()
 
 
+def sandbox():
+    """Returns the option without which Chromium doesn't run as root."""
+    return ["--no-sandbox"] if os.geteuid() == 0 else []
+
+
 class Browser:
     """Chromium with one page."""
 
     def __init__(self, program, folder):
-        words = [program, "--headless", "--no-sandbox", "--disable-gpu", "--hide-scrollbars", "--force-color-profile=srgb", "--no-first-run",
-                 "--remote-debugging-port=0", f"--user-data-dir={folder}", "about:blank"]
+        words = [program, "--headless", *sandbox(), "--disable-gpu", "--hide-scrollbars", "--force-color-profile=srgb",
+                 "--no-first-run", "--remote-debugging-port=0", f"--user-data-dir={folder}", "about:blank"]
         self.process = subprocess.Popen(words, stdout=subprocess.DEVNULL, stderr=subprocess.PIPE, text=True)
         for line in self.process.stderr:
             if found := re.search(r"listening on ws://([^/\s]+)", line):
@@ -139,12 +146,14 @@ class Browser:
         began = time.monotonic()
         while not self.value(expression):
             if time.monotonic() - began > WAIT:
-                sys.exit(f"tools/page_test.py: this is not so: {expression}\n{self.value('document.body.innerText')}\n{self.faults}")
+                text = self.value("document.body.innerText")
+                sys.exit(f"tools/page_test.py: this is not so: {expression}\n{text}\n{self.faults}")
             time.sleep(0.1)
 
     def size(self, width, height, is_dark=False):
         self.do("Emulation.setDeviceMetricsOverride", width=width, height=height, deviceScaleFactor=1, mobile=False)
-        self.do("Emulation.setEmulatedMedia", features=[{"name": "prefers-color-scheme", "value": "dark" if is_dark else "light"}])
+        scheme = "dark" if is_dark else "light"
+        self.do("Emulation.setEmulatedMedia", features=[{"name": "prefers-color-scheme", "value": scheme}])
 
     def type(self, text):
         """Types a text over the one that is there."""
@@ -186,7 +195,8 @@ def good(browser, folder):
     state(browser, "3 types, 1 function ")
     same(browser.value("document.querySelectorAll('#types .card').length"), 3)
     same(browser.value("document.querySelector('#types h3').textContent"), "point")
-    same(browser.value("[...document.querySelectorAll('#types .card:first-child .range')].map(it => it.textContent).join()"), "0 to 1,2 to 3")
+    ranges = "[...document.querySelectorAll('#types .card:first-child .range')].map(it => it.textContent).join()"
+    same(browser.value(ranges), "0 to 1,2 to 3")
     browser.value("document.querySelector('#types .byte').focus()")
     for key in ("ArrowRight",) * 3:
         browser.press(key)
@@ -201,14 +211,16 @@ def broken(browser, folder):
     """A broken text: its line, its caret, and what to do."""
     browser.type(BROKEN)
     browser.until("!!document.querySelector('#fault .fault')")
-    same(browser.value("document.querySelector('#fault strong').textContent"), "line 13, column 35: error 41 unknown colour")
+    told = browser.value("document.querySelector('#fault strong').textContent")
+    same(told, "line 13, column 35: error 41 unknown colour")
     source, caret = browser.value("document.querySelector('#fault pre').textContent").split("\n")
     same(source[caret.index("^"):caret.index("^") + caret.count("^")], "colour")
     same(browser.value("document.querySelector('#marks mark').textContent"), "colour")
     same(browser.value("document.querySelector('.right').classList.contains('stale')"), True)
     browser.picture(folder / "page-fault.png")
     browser.type("package a:b;\n// grün\ninterface c { f: fun(); }\n")
-    browser.until("document.querySelector('#fault strong')?.textContent.startsWith('line 3, column 18: error 32 expected func')")
+    words = "line 3, column 18: error 32 expected func"
+    browser.until(f"document.querySelector('#fault strong')?.textContent.startsWith('{words}')")
     browser.type(GOOD)
     browser.until("!document.querySelector('#fault .fault')")
 
@@ -232,12 +244,18 @@ def call(browser, folder):
     if f"it is {ANSWER}, of type result<u32, point>" not in steps:
         sys.exit(f"tools/page_test.py: the call says {steps}")
     same(browser.value("document.querySelectorAll('#call .memories .card').length"), 2)
-    browser.value("[...document.querySelectorAll('#call .parts li')].find(it => it.textContent.startsWith('shape.path[1].y')).focus()")
+    part = "[...document.querySelectorAll('#call .parts li')].find(it => it.textContent.startsWith('shape.path[1].y'))"
+    browser.value(f"{part}.focus()")
     same(browser.value("document.querySelectorAll('#call .byte.lit').length"), 4)
     browser.picture(folder / "page-call.png")
     fill(browser, WRONG, ANSWER)
     same(browser.value("document.querySelector('#call .fault strong').textContent"),
          "error 62 not this type at [0].closed: a `bool` is `true` or `false`, and not `1`")
+    fill(browser, ARGUMENTS, WRONG_ANSWER)
+    same(browser.value("document.querySelector('#call .fault strong').textContent"),
+         "error 62 not this type at result.error.y of my:draw/pen#draw: "
+         "a `s16` is a whole number from -32768 to 32767, and not `\"6\"`")
+    fill(browser, WRONG, ANSWER)
 
 
 def linked(browser, folder):
@@ -254,30 +272,36 @@ def linked(browser, folder):
     browser.value("document.getElementById('tab-types').click()")
 
 
+def test(program, work, pictures):
+    """Opens the page, makes it do all of this, and puts the screenshots into a folder."""
+    file = work / "page.html"
+    file.write_text(page.page(), encoding="utf-8")
+    browser = Browser(program, work / "profile")
+    try:
+        browser.size(1280, 860)
+        browser.do("Page.navigate", url=file.as_uri())
+        for step in (good, broken, call):
+            step(browser, pictures)
+        linked(browser, file)
+        browser.picture(pictures / "page-dark.png")
+        same(browser.faults, [])
+        same([it for it in browser.requests if not it.startswith(("file:", "about:", "data:"))], [])
+    finally:
+        browser.close()
+
+
 def main():
-    if len(sys.argv) > 2 or any(it.startswith("-") for it in sys.argv[1:]):
+    words = sys.argv[1:]
+    if len(words) > 1 or any(it.startswith("-") and it != "--write" for it in words):
         sys.exit(__doc__)
     program = shutil.which("chromium")
     if not program:
-        print("tools/page_test.py: no Chromium, so the page is not opened")
-        return
-    folder = pathlib.Path(sys.argv[1]) if len(sys.argv) > 1 else PICTURES
-    folder.mkdir(parents=True, exist_ok=True)
+        sys.exit("tools/page_test.py: there is no chromium: install Debian's package chromium")
     with tempfile.TemporaryDirectory(ignore_cleanup_errors=True) as work:
-        file = pathlib.Path(work) / "page.html"
-        file.write_text(page.page(), encoding="utf-8")
-        browser = Browser(program, pathlib.Path(work) / "profile")
-        try:
-            browser.size(1280, 860)
-            browser.do("Page.navigate", url=file.as_uri())
-            for step in (good, broken, call):
-                step(browser, folder)
-            linked(browser, file)
-            browser.picture(folder / "page-dark.png")
-            same(browser.faults, [])
-            same([it for it in browser.requests if not it.startswith(("file:", "about:", "data:"))], [])
-        finally:
-            browser.close()
+        work = pathlib.Path(work)
+        folder = PICTURES if words == ["--write"] else pathlib.Path(words[0]) if words else work / "pictures"
+        folder.mkdir(parents=True, exist_ok=True)
+        test(program, work, folder)
     print("the page opens packages, marks a fault, makes a call, and asks for nothing else")
 
 
