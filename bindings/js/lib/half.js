@@ -20,6 +20,14 @@ const REQUESTS = 3 * ANSWER;
 const BLOCKS = REQUESTS + FEW * REQUEST_SIZE;
 const ARRAYS_SIZE = BLOCKS + FEW * BLOCK_SIZE;
 
+/** Whether a number is one of 32 bits without a sign. */
+const isWord = (value) => Number.isInteger(value) && value >= 0 && value < 2 ** 32;
+
+/** Whether a number is an i32, with a sign or without one. */
+export const isI32 = (value) => Number.isInteger(value) && value >= -(2 ** 31) && value < 2 ** 32;
+
+const isI64 = (value) => typeof value === "bigint" && value >= -(2n ** 63n) && value < 2n ** 64n;
+
 /**
  * @typedef {number | bigint} Flat an i32 or an i64
  * @typedef {{align: number, size: number}} Request
@@ -77,7 +85,7 @@ export class Run {
     let at = start;
     for (const value of values) {
       const isWide = typeof value === "bigint";
-      if (!isWide && !Number.isInteger(value)) throw new TypeError(`${value} is neither an i32 nor an i64`);
+      if (!isI32(value) && !isI64(value)) throw new TypeError(`${String(value)} is neither an i32 nor an i64`);
       view.setUint32(at, isWide ? 1 : 0, true);
       view.setBigUint64(at + 8, isWide ? BigInt.asUintN(64, value) : BigInt(value >>> 0), true);
       at += VALUE_SIZE;
@@ -91,6 +99,7 @@ export class Run {
     const { view } = this.core;
     let place = start;
     for (const { align, size, at } of blocks) {
+      if (![align, size, at].every(isWord)) throw new TypeError(`a block has other numbers than ones of 32 bits: ${[align, size, at].map(String)}`);
       view.setUint32(place, align, true);
       view.setUint32(place + 4, size, true);
       view.setUint32(place + 8, at, true);

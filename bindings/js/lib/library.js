@@ -1,5 +1,6 @@
 import { Core } from "./core.js";
 import { Package, explained, toldBy } from "./package.js";
+import { isWellFormed } from "./values.js";
 
 const encoder = new TextEncoder();
 const decoder = new TextDecoder();
@@ -38,7 +39,17 @@ function viewOf(source) {
 }
 
 const listOf = (inputs) => (Array.isArray(inputs) ? inputs : [inputs]);
-const bytesOf = (input) => (typeof input === "string" ? encoder.encode(input) : viewOf(input));
+const bytesOf = (input) => (typeof input === "string" ? encoded(input) : viewOf(input));
+
+/** The bytes of a surrogate, which are no UTF-8. */
+const bytesOfLone = (code) => [0xe0 | (code >> 12), 0x80 | ((code >> 6) & 0x3f), 0x80 | (code & 0x3f)];
+
+/** The bytes of a text. The library refuses one with a lone surrogate, which has none in UTF-8. */
+function encoded(text) {
+  if (isWellFormed(text)) return encoder.encode(text);
+  const bytesOfPart = (it) => (isWellFormed(it) ? Array.from(encoder.encode(it)) : bytesOfLone(it.charCodeAt(0)));
+  return Uint8Array.from(Array.from(text).flatMap(bytesOfPart));
+}
 
 async function plain(bytes) {
   if (!isGzip(bytes)) return bytes;

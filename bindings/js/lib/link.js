@@ -1,7 +1,7 @@
 // Two core instances, of which the one calls functions of the other. The library carries the values between their
 // memories.
 import { CODE } from "./core.js";
-import { Half } from "./half.js";
+import { Half, isI32 } from "./half.js";
 import { empty, own } from "./own.js";
 
 /** Bytes that the blocks of one half may have together, if `link` is not told another limit. */
@@ -32,6 +32,7 @@ export function granted(instance, asked) {
   for (const { align, size } of asked) {
     const at = ran(instance.exports.cabi_realloc, [0, 0, align, size], () => undefined);
     if (at === undefined) break;
+    if (!isI32(at)) throw new TypeError(`cabi_realloc answered ${String(at)}, which is no i32`);
     blocks.push({ align, size, at: at >>> 0 });
   }
   return blocks;

@@ -1,12 +1,12 @@
 import { CODE, REFUSAL, Space } from "./core.js";
-import { WitError } from "./errors.js";
+import { ModuleFault, WitError } from "./errors.js";
 import { insteadOf } from "./nearest.js";
 import { tableOf } from "./table.js";
 import { worldsOf } from "./worlds.js";
 
 /** The size of a handle, and the room that most names and lines need. */
 const HANDLE_SIZE = 16;
-const ROOM = 256;
+export const ROOM = 256;
 
 const decoder = new TextDecoder();
 
@@ -85,9 +85,9 @@ export function explained(core, texts) {
 /** The bytes that an export writes into an array, which has as much room as it takes. */
 const told = (core, name, ...words) => toldBy(core, (at, room) => core.call(name, ...words, at, room));
 
-/** The bytes that a call writes into an array. */
-export function toldBy(core, call) {
-  for (let room = ROOM; ;) {
+/** The bytes that a call writes into an array. If it has too little room, the call is made again with as much as it takes. */
+export function toldBy(core, call, room = ROOM) {
+  for (;;) {
     const at = core.allocate(room);
     try {
       const status = call(at, room);
@@ -99,6 +99,21 @@ export function toldBy(core, call) {
     }
   }
 }
+
+/** Frees a package of an instance. */
+function freed({ core, handle }) {
+  core.close(handle);
+  core.free(handle);
+}
+
+/** Frees packages that nobody closed, after JavaScript forgot them. If the engine stops that, the instance is lost. */
+const forgotten = new FinalizationRegistry((place) => {
+  try {
+    freed(place);
+  } catch (error) {
+    if (!(error instanceof ModuleFault)) throw error;
+  }
+});
 
 /** A package that is open, with those that it depends on. */
 export class Package {
@@ -123,6 +138,8 @@ export class Package {
   #open() {
     const { core } = this.#library;
     this.#place = { core, handle: opened(core, this.#inputs, this.#isModule) };
+    forgotten.unregister(this);
+    forgotten.register(this, this.#place, this);
   }
 
   /**
@@ -221,9 +238,8 @@ export class Package {
   close() {
     const place = this.#place;
     this.#place = undefined;
-    if (!place) return;
-    place.core.close(place.handle);
-    place.core.free(place.handle);
+    forgotten.unregister(this);
+    if (place) freed(place);
   }
 }
 

@@ -3,11 +3,14 @@ import { CODE, REFUSAL } from "./core.js";
 import { NotThisType } from "./errors.js";
 import { resultFault } from "./faults.js";
 import { MAX_VALUES, NOTHING, Run } from "./half.js";
-import { toldBy } from "./package.js";
+import { ROOM, toldBy } from "./package.js";
 import { argumentsReader, resultReader } from "./reach.js";
 
 const encoder = new TextEncoder();
 const decoder = new TextDecoder();
+
+/** The most room that a text is given before its length is known. */
+const MOST_ROOM = 65536;
 
 /** The exports that ask for the blocks of values, and fill them. */
 const ARGUMENTS = ["witcall_json_requests", "witcall_fill_json"];
@@ -35,6 +38,8 @@ export class Texts {
   #limit;
   #arguments;
   #result;
+  /** Room for texts as long as those before. */
+  #room = ROOM;
 
   /**
    * @param {import("./package.js").Package} pkg
@@ -110,9 +115,12 @@ export class Texts {
     const run = new Run({ core, handle });
     try {
       const values = run.putValues(0, flats);
+      // What is read is copied once, so that a second call with more room has the same answer.
       const read = reader ? run.read(reader, flats, this.#side.bytes, this.#limit) : [0, 0];
-      return decoder.decode(toldBy(core, (at, room) =>
-        core.call(reading, handle, [this.#func.number], ...values, ...read, at, room, this.#limit)));
+      const told = toldBy(core, (at, room) =>
+        core.call(reading, handle, [this.#func.number], ...values, ...read, at, room, this.#limit), this.#room);
+      this.#room = Math.min(Math.max(this.#room, told.length), MOST_ROOM);
+      return decoder.decode(told);
     } finally {
       run.free();
     }

@@ -2,7 +2,7 @@
 // for random types and values, and for values that are changed at random.
 import assert from "node:assert/strict";
 import { test } from "node:test";
-import { link } from "../index.js";
+import { ModuleFault, imports, lift, link } from "../index.js";
 import { CODE, Space } from "../lib/core.js";
 import { Half, MAX_VALUES, Run } from "../lib/half.js";
 import { callee, forwarding } from "./guests.js";
@@ -221,4 +221,104 @@ test("a call within a call has its own copies", () => {
   const found = [300, 400, 500, 600, 700].map((at) => Buffer.from(to.subarray(at + 5000, at + 5010)).toString());
   assert.deepEqual(found, Array(5).fill("a".repeat(10)));
   assert.equal(to.reduce((sum, byte) => sum + (byte ? 1 : 0), 0), 50);
+});
+
+// ---- memories that change while they are read
+
+/** Runs a call. Each byte that is copied out of these memories is another one after that. */
+function changing(memories, run) {
+  const { set } = Uint8Array.prototype;
+  Uint8Array.prototype.set = function changed(array, ...more) {
+    set.call(this, array, ...more);
+    if (memories.some((it) => it.buffer === array.buffer)) array.fill(0xa5);
+  };
+  try {
+    return run();
+  } finally {
+    Uint8Array.prototype.set = set;
+  }
+}
+
+const LINES = Array.from({ length: 100 }, (_, k) => `line ${k} of a text that has more than 256 bytes`);
+const LISTED = "package a:b; interface c { give: func() -> list<string>; take: func(x: list<string>); } world w { import c; }";
+const [AREA, LIST, TEXTS] = [8, 64, 1024];
+
+/** Puts the lines into a memory, one after another, with their list, whose address and length are in the area. */
+function putLines({ buffer }) {
+  const view = new DataView(buffer);
+  let at = TEXTS;
+  for (const [place, line] of LINES.entries()) {
+    new Uint8Array(buffer).set(new TextEncoder().encode(line), at);
+    view.setUint32(LIST + 8 * place, at, true);
+    view.setUint32(LIST + 8 * place + 4, line.length, true);
+    at += line.length;
+  }
+  view.setUint32(AREA, LIST, true);
+  view.setUint32(AREA + 4, LINES.length, true);
+}
+
+test("each byte of a memory is read once, however often the library is asked", () => {
+  const pkg = witcall.open(LISTED);
+  for (const shared of [false, true]) {
+    const memory = new WebAssembly.Memory({ initial: 1, maximum: 1, shared });
+    const guest = { exports: { memory, "a:b/c#give": () => AREA } };
+    const give = lift(pkg, pkg.find("a:b/c", "give"), { callee: guest });
+    for (let count = 0; count < 3; count++) {
+      putLines(memory);
+      assert.deepEqual(changing([memory], give), LINES);
+    }
+    let taken;
+    const host = { give: () => [], take: (lines) => (taken = lines) };
+    const object = imports(pkg, "a:b/w", { "a:b/c": host }, { guest: () => guest });
+    putLines(memory);
+    changing([memory], () => object["a:b/c"].take(LIST, LINES.length));
+    assert.deepEqual(taken, LINES);
+  }
+  pkg.close();
+});
+
+/** A caller with the lines, and a callee that keeps what it takes. */
+function taking(pkg, grantOf = (grant) => grant) {
+  let taken;
+  let bump = TEXTS;
+  const grant = (instance, asked) => asked.map(({ align, size }) => {
+    bump = Math.ceil(bump / align) * align + size;
+    return { align, size, at: bump - size };
+  });
+  const keep = (at, count) => {
+    taken = textsAt(to.exports.memory, at, count);
+  };
+  const to = callee(1, { "a:b/c#give": () => 0, "a:b/c#take": keep });
+  const others = { test: { cabi_realloc: () => 0 } };
+  const caller = link(pkg, { caller: forwarding(pkg.functions, 1), callee: to, imports: others, grant: grantOf(grant) });
+  putLines(caller.exports.memory);
+  return { caller, to, take: () => caller.exports.take(LIST, LINES.length) ?? taken };
+}
+
+function textsAt({ buffer }, at, count) {
+  const view = new DataView(buffer);
+  return Array.from({ length: count }, (_, k) =>
+    new TextDecoder().decode(new Uint8Array(buffer, view.getUint32(at + 8 * k, true), view.getUint32(at + 8 * k + 4, true))));
+}
+
+test("each byte is read once between two instances", () => {
+  const pkg = witcall.open(LISTED);
+  const { caller, to, take } = taking(pkg);
+  assert.deepEqual(changing([caller.exports.memory, to.exports.memory], take), LINES);
+  pkg.close();
+});
+
+test("a memory that changed while the module was stopped is read again, and other blocks are refused", () => {
+  const pkg = witcall.open(LISTED);
+  const stop = (more) => (grant) => (instance, asked) => {
+    assert.throws(() => pkg.place.core.call("witcall_line", 0xfffffff0, 0, 0), ModuleFault);
+    more();
+    return grant(instance, asked);
+  };
+  assert.deepEqual(taking(pkg, stop(() => undefined)).take(), LINES);
+  const longer = taking(pkg, stop(() => new DataView(longer.caller.exports.memory.buffer).setUint32(LIST + 12, 99, true)));
+  assert.throws(longer.take, { number: 73, message: "error 73 other block 2" });
+  const other = taking(pkg, stop(() => new Uint8Array(other.caller.exports.memory.buffer).fill(33, TEXTS, TEXTS + 1)));
+  assert.deepEqual(other.take(), [`!${LINES[0].slice(1)}`, ...LINES.slice(1)]);
+  pkg.close();
 });

@@ -236,7 +236,26 @@ test("values that are none end the call in a trap", () => {
   assert.equal(endOf(linked(UPPER, { upper: () => undefined })).message, "trap K8 coresignature in lift-result");
   assert.equal(endOf(linked(UPPER, { upper: () => 8n })).message, "trap K8 coresignature in lift-result");
   assert.equal(endOf(linked(UPPER, { upper: () => [8, 8] })).message, "trap K8 coresignature in lift-result");
-  assert.ok(endOf(linked(UPPER, { upper: () => 0.5 })) instanceof TypeError);
+  for (const answer of [0.5, 2 ** 32, -(2 ** 31) - 1, 2n ** 64n, -(2n ** 63n) - 1n, NaN, "8", null]) {
+    const { name, message } = endOf(linked(UPPER, { upper: () => answer }));
+    assert.deepEqual([name, message], ["TypeError", `${String(answer)} is neither an i32 nor an i64`]);
+  }
+  const wide = linked("package a:b; interface c { f: func() -> u64; }", { f: () => 2n ** 64n });
+  assert.throws(() => wide.caller.exports.f(), { message: `${2n ** 64n} is neither an i32 nor an i64` });
+});
+
+test("what an allocator answers is an i32, and what else it grants are blocks", () => {
+  for (const answer of [2 ** 32, -(2 ** 31) - 1, 0.5, NaN, null, "1024", 1024n]) {
+    const made = upper();
+    made.callee.exports.cabi_realloc = () => answer;
+    assert.throws(() => calls(made, 100, "abc"), { name: "TypeError", message: `cabi_realloc answered ${answer}, which is no i32` });
+  }
+  for (const at of [2 ** 32, 2 ** 32 + 1024, -1, 0.5, NaN, undefined, null, "1024", 1024n]) {
+    for (const key of ["at", "size", "align"]) {
+      const made = upper({ grant: (instance, asked) => granted(instance, asked).map((it) => ({ ...it, [key]: at })) });
+      assert.throws(() => calls(made, 100, "abc"), { name: "TypeError", message: /^a block has other numbers/ });
+    }
+  }
 });
 
 test("blocks above the limit, and blocks of a wrong allocator, are refused", () => {

@@ -4,6 +4,8 @@ import { cpSync, existsSync, mkdirSync, rmSync, writeFileSync } from "node:fs";
 import { join } from "node:path";
 import { test } from "node:test";
 import { pathToFileURL } from "node:url";
+import { setFlagsFromString } from "node:v8";
+import { runInNewContext } from "node:vm";
 import { gzipSync } from "node:zlib";
 import { ModuleFault, load } from "../index.js";
 import { checkoutIn, fileOf, folderFor, moduleBytes as bytes } from "./support.js";
@@ -118,6 +120,47 @@ test("packages go on after the stack of the engine was too small", async () => {
   };
   assert.equal(deep(), TEXT);
   assert.equal(pkg.toText(), TEXT);
+});
+
+/** Has JavaScript forget what nothing refers to, and gives it the time to say so. */
+async function forgetting() {
+  setFlagsFromString("--expose-gc");
+  runInNewContext("gc")();
+  await new Promise((done) => setTimeout(done, 10));
+}
+
+test("packages that nobody closes are freed after JavaScript forgot them", async () => {
+  const witcall = await load(bytes());
+  const text = `package a:b; interface c { ${Array.from({ length: 400 }, (_, k) => `q${k}: func(x: u32) -> string;`).join(" ")} }`;
+  const opened = (count) => {
+    for (let k = 0; k < count; k++) witcall.open(text).find("a:b/c", "q7");
+  };
+  const kept = witcall.open(text);
+  opened(40);
+  await forgetting();
+  const before = witcall.core.bytes.length;
+  for (let round = 0; round < 12; round++) {
+    opened(40);
+    await forgetting();
+  }
+  assert.ok(witcall.core.bytes.length <= before, `${witcall.core.bytes.length} ${before}`);
+  assert.equal(kept.find("a:b/c", "q7").name, "q7");
+  const two = [witcall.open(text), witcall.open(text)];
+  for (const it of two) it.close();
+  await forgetting();
+  assert.equal(kept.toText(), witcall.open(text).toText());
+});
+
+test("a package that is forgotten after the engine stopped its instance is none of the next one", async () => {
+  const witcall = await load(bytes());
+  const kept = witcall.open(TEXT);
+  witcall.open(TEXT);
+  const lost = witcall.core;
+  assert.throws(() => lost.call("witcall_line", 0xfffffff0, 0, 0), ModuleFault);
+  assert.equal(kept.toText(), TEXT);
+  await forgetting();
+  assert.notEqual(kept.place.core, lost);
+  assert.equal(kept.toText(), TEXT);
 });
 
 test("types of the greatest depth are opened, and their values carried", async () => {

@@ -53,6 +53,15 @@ test("each way of handing over an input opens the same package", () => {
   }
 });
 
+test("a text with a lone surrogate is no UTF-8", () => {
+  const comment = (it) => `package a:b; // 🙂${it}\ninterface c { type t = u8; }`;
+  for (const lone of ["\ud800", "\udfff", "\udbff", "\ude00\ud83d"]) {
+    assert.throws(() => witcall.open(comment(lone)), { number: 60, message: "error 60 not UTF-8 at 20" });
+    assert.equal(witcall.explain([comment(lone)])[0].number, 60);
+  }
+  witcall.open(comment("🙂")).close();
+});
+
 test("no input is refused", () => {
   assert.throws(() => witcall.open([]), { name: "WitError", number: 74, message: "error 74 bad lengths" });
   assert.throws(() => witcall.open(""), { name: "WitError", number: 32 });
