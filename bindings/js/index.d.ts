@@ -230,8 +230,8 @@ export interface LiftOptions {
 }
 
 /**
- * A function that an instance exports, as a function of values. It gives the result, or `undefined` if there is none. It
- * throws a `WitError` if the arguments are none of the function's, and a `Trap` as a linked function does.
+ * A function that an instance exports, as a function of values. It gives the result, or `undefined` if there is none.
+ * It throws a `NotThisType` if the arguments are none of the function's, and a `Trap` as a linked function does.
  */
 export function lift(pkg: Package, func: WitFunction, options: LiftOptions): (...values: Value[]) => Value;
 
@@ -265,8 +265,8 @@ export interface ImportsOptions {
 
 /**
  * The import object of a guest whose imports are functions of values. A function of a world itself is in the module
- * `$root`. The object and its members have no prototype. A call throws a `Trap` if the guest's values are none, a `WitError` if the answer is no value of the
- * result's type, and whatever the function throws.
+ * `$root`. The object and its members have no prototype. A call throws a `Trap` if the guest's values are none, a
+ * `NotThisType` if the answer is no value of the result's type, and whatever the function throws.
  * @throws {TypeError} if the package has no such world, or the implementation lacks a function that it imports
  */
 export function imports(

@@ -14,14 +14,17 @@ const fileOf = (path) => readFileSync(new URL(path, import.meta.url));
 /** What the release is, and what its module says of itself up to the commit. */
 async function versions(module) {
   const { version } = await load(module);
-  return { "release/version": fileOf("../../release/version").toString().trim(), "witcall_version()": version.split("+")[0] };
+  const released = fileOf("../../release/version").toString().trim();
+  return { "release/version": released, "witcall_version()": version.split("+")[0] };
 }
 
 async function pack() {
   const wanted = JSON.parse(fileOf("package.json")).version;
   const module = gunzipSync(fileOf("../../release/witcall.wasm.gz"));
   const others = Object.entries(await versions(module)).filter(([, it]) => it !== wanted);
-  for (const [place, it] of others) console.error(`pack.mjs: package.json is of version ${wanted}, and ${place} is ${it}`);
+  for (const [place, it] of others) {
+    console.error(`pack.mjs: package.json is of version ${wanted}, and ${place} is ${it}`);
+  }
   if (others.length > 0) process.exit(1);
   writeFileSync(MODULE, module);
 }

@@ -1,5 +1,5 @@
-// Writes the guests that the pages use, as modules of WebAssembly: hello.wasm, letters.wasm and caller.wasm. It needs no
-// compiler: each instruction is here as its bytes. A guest is usually written in a language that is compiled.
+// Writes the guests that the pages use, as modules of WebAssembly: hello.wasm, letters.wasm and caller.wasm. It needs
+// no compiler: each instruction is here as its bytes. A guest is usually written in a language that is compiled.
 //
 // usage: node make.mjs [FOLDER]      FOLDER is that of the command, if it is left out
 import { writeFileSync } from "node:fs";
@@ -82,7 +82,7 @@ const HELLO = {
   }],
 };
 
-/** Exports `upper`: it makes a text upper case where it lies, and returns 8, where the text's address and length are. */
+/** Exports `upper`: it makes a text upper case where it lies, and returns 8. There the text's address and length are. */
 const LETTERS = {
   functions: [{
     name: "demo:text/letters#upper",

@@ -19,7 +19,7 @@ export class WitError extends Error {
  */
 const FAULT = /^(\[\S*|result(?:[.[]\S*)?)( of \S+)?: (.+)$/s;
 
-/** A value of another type: 62. `path` is the place among the arguments or in the result, and `fault` what is wrong there. */
+/** A value of another type: 62. `path` is its place in the arguments or in the result, and `fault` what is wrong. */
 export class NotThisType extends WitError {
   name = "NotThisType";
 

@@ -1,5 +1,5 @@
-// What stands where a value of a type has to. The library tells the place and what has to stand there, of arguments. It is
-// asked about a result as of the one argument of a function that takes such a value.
+// What stands where a value of a type has to. Of arguments the library tells the place, and what has to stand there. It
+// is asked about a result as about the one argument of a function that takes such a value.
 import { Space } from "./core.js";
 import { NotThisType, WitError } from "./errors.js";
 import { opened, toldBy } from "./package.js";

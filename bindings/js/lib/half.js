@@ -99,7 +99,8 @@ export class Run {
     const { view } = this.core;
     let place = start;
     for (const { align, size, at } of blocks) {
-      if (![align, size, at].every(isWord)) throw new TypeError(`a block has other numbers than ones of 32 bits: ${[align, size, at].map(String)}`);
+      const numbers = [align, size, at];
+      if (!numbers.every(isWord)) throw new TypeError(`a block is not of numbers of 32 bits: ${numbers.map(String)}`);
       view.setUint32(place, align, true);
       view.setUint32(place + 4, size, true);
       view.setUint32(place + 8, at, true);

@@ -14,7 +14,8 @@ async function fetched(source) {
     return readFile(new URL(source));
   }
   const answer = await fetch(source);
-  if (!answer.ok) throw Object.assign(new Error(`${source}: ${answer.status} ${answer.statusText}`), { code: answer.status });
+  const { ok, status, statusText } = answer;
+  if (!ok) throw Object.assign(new Error(`${source}: ${status} ${statusText}`), { code: status });
   return answer.arrayBuffer();
 }
 
@@ -59,8 +60,8 @@ async function plain(bytes) {
 
 /**
  * Loads the library's module, from its bytes or from a URL. They may be packed by gzip.
- * @param {BufferSource | string | URL | WebAssembly.Module} [source] if it is left out, the module of this package, or of
- * the release if this is a checkout
+ * @param {BufferSource | string | URL | WebAssembly.Module} [source] if it is left out, the module of this package, or
+ * of the release if this is a checkout
  * @returns {Promise<Library>}
  */
 export async function load(source) {
@@ -129,6 +130,7 @@ export class Library {
   explain(texts) {
     const all = listOf(texts).map(bytesOf);
     if (all.length === 0) return [];
-    return explained(this.core, all).map(({ file, error, ...fault }) => ({ text: Number(file), number: error, ...fault }));
+    const faultOf = ({ file, error, ...fault }) => ({ text: Number(file), number: error, ...fault });
+    return explained(this.core, all).map(faultOf);
   }
 }

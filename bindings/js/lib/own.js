@@ -1,4 +1,4 @@
-// Names that a guest chooses are looked up here: in what an object has itself, and never in what JavaScript gives to all.
+// Names that a guest chooses are looked up here: in what an object has itself, and not in what JavaScript gives to all.
 
 /** An object for names that a guest chooses. It has nothing but what is put into it. */
 export const empty = () => Object.create(null);

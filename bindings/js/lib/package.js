@@ -45,7 +45,7 @@ function refusal(core, status, handle) {
   }
 }
 
-/** Copies inputs into the module, one after another, and returns their address, their length, and those of their lengths. */
+/** Copies inputs into the module, one after another. Returns their address and length, and those of their lengths. */
 function putInputs(space, inputs) {
   const { core } = space;
   const length = inputs.reduce((sum, input) => sum + input.length, 0);
@@ -85,7 +85,7 @@ export function explained(core, texts) {
 /** The bytes that an export writes into an array, which has as much room as it takes. */
 const told = (core, name, ...words) => toldBy(core, (at, room) => core.call(name, ...words, at, room));
 
-/** The bytes that a call writes into an array. If it has too little room, the call is made again with as much as it takes. */
+/** The bytes that a call writes into an array. If that has too little room, it is called again with enough. */
 export function toldBy(core, call, room = ROOM) {
   for (;;) {
     const at = core.allocate(room);

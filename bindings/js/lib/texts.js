@@ -61,7 +61,7 @@ export class Texts {
     return this.#put(ARGUMENTS, text);
   }
 
-  /** Puts the result of an import's call into the memory, and returns its core values. `flats` are those of the call. */
+  /** Puts the result of an import's call into the memory, and returns its core values. `flats` are the call's. */
   putResult(text, flats) {
     const { result, lowered } = this.#func;
     const hasArea = result !== null && lowered.results.length === 0;

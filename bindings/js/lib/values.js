@@ -1,5 +1,5 @@
-// JavaScript's values of a type, as texts of JSON (docs/FORMATS.md) and back. The library tests them, so that a value of
-// another type becomes a text that it refuses.
+// JavaScript's values of a type, as texts of JSON (docs/FORMATS.md) and back. The library tests them, so that a value
+// of another type becomes a text that it refuses.
 
 import { meant } from "./reach.js";
 
@@ -9,7 +9,7 @@ const NARROW = new Set(["s8", "u8", "s16", "u16", "s32", "u32"]);
 
 export const memberOf = (type, name) => type.members.find((it) => it.name === name)?.type;
 
-/** Whether a value of an option is `undefined` or the value itself. An option of an option is written with its cases. */
+/** Whether a value of an option is `undefined` or the value itself. An option of an option has its cases. */
 export const isPlain = (type) => type.kind === "option" && meant(memberOf(type, "some")).kind !== "option";
 
 const isList = (value) => Array.isArray(value) || (ArrayBuffer.isView(value) && !(value instanceof DataView));

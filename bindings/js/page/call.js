@@ -102,7 +102,7 @@ function result(pkg, func, call) {
   steps.push(`Read there, it is ${done.result}, of type ${nameOf(func.result.type)}.`);
 }
 
-/** Puts an answer into the callee's memory, as the result of a call whose return area is there. Returns its core values. */
+/** Puts an answer into the callee's memory, as the result of a call whose return area is there. */
 function answered(func, texts, given, { reply, callee }) {
   if (!func.result) return [];
   if (func.lowered.results.length > 0) return texts.putResult(reply, given);

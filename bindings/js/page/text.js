@@ -8,7 +8,7 @@ export function packagesOf(text) {
   return starts.map((start, place) => ({ start, text: text.slice(start, starts[place + 1]) }));
 }
 
-/** The index of a line and a column, which count from 1. A column is a character of Unicode, which may be two of a text. */
+/** The index of a line and a column, which count from 1. A column is a character, which may be two of a text. */
 function indexAt(text, line, column) {
   const lines = text.split("\n");
   const before = lines.slice(0, line - 1).reduce((sum, it) => sum + it.length + 1, 0);

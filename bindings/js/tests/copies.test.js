@@ -240,7 +240,8 @@ function changing(memories, run) {
 }
 
 const LINES = Array.from({ length: 100 }, (_, k) => `line ${k} of a text that has more than 256 bytes`);
-const LISTED = "package a:b; interface c { give: func() -> list<string>; take: func(x: list<string>); } world w { import c; }";
+const LISTED = `package a:b; interface c { give: func() -> list<string>; take: func(x: list<string>); }
+world w { import c; }`;
 const [AREA, LIST, TEXTS] = [8, 64, 1024];
 
 /** Puts the lines into a memory, one after another, with their list, whose address and length are in the area. */
@@ -289,16 +290,16 @@ function taking(pkg, grantOf = (grant) => grant) {
     taken = textsAt(to.exports.memory, at, count);
   };
   const to = callee(1, { "a:b/c#give": () => 0, "a:b/c#take": keep });
-  const others = { test: { cabi_realloc: () => 0 } };
-  const caller = link(pkg, { caller: forwarding(pkg.functions, 1), callee: to, imports: others, grant: grantOf(grant) });
+  const options = { callee: to, imports: { test: { cabi_realloc: () => 0 } }, grant: grantOf(grant) };
+  const caller = link(pkg, { caller: forwarding(pkg.functions, 1), ...options });
   putLines(caller.exports.memory);
   return { caller, to, take: () => caller.exports.take(LIST, LINES.length) ?? taken };
 }
 
 function textsAt({ buffer }, at, count) {
-  const view = new DataView(buffer);
-  return Array.from({ length: count }, (_, k) =>
-    new TextDecoder().decode(new Uint8Array(buffer, view.getUint32(at + 8 * k, true), view.getUint32(at + 8 * k + 4, true))));
+  const pairs = new Uint32Array(buffer, at, 2 * count);
+  const textOf = (_, k) => new TextDecoder().decode(new Uint8Array(buffer, pairs[2 * k], pairs[2 * k + 1]));
+  return Array.from({ length: count }, textOf);
 }
 
 test("each byte is read once between two instances", () => {
@@ -316,9 +317,11 @@ test("a memory that changed while the module was stopped is read again, and othe
     return grant(instance, asked);
   };
   assert.deepEqual(taking(pkg, stop(() => undefined)).take(), LINES);
-  const longer = taking(pkg, stop(() => new DataView(longer.caller.exports.memory.buffer).setUint32(LIST + 12, 99, true)));
+  const lengthen = () => new DataView(longer.caller.exports.memory.buffer).setUint32(LIST + 12, 99, true);
+  const longer = taking(pkg, stop(lengthen));
   assert.throws(longer.take, { number: 73, message: "error 73 other block 2" });
-  const other = taking(pkg, stop(() => new Uint8Array(other.caller.exports.memory.buffer).fill(33, TEXTS, TEXTS + 1)));
+  const change = () => new Uint8Array(other.caller.exports.memory.buffer).fill(33, TEXTS, TEXTS + 1);
+  const other = taking(pkg, stop(change));
   assert.deepEqual(other.take(), [`!${LINES[0].slice(1)}`, ...LINES.slice(1)]);
   pkg.close();
 });

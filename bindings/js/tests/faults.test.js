@@ -1,4 +1,4 @@
-// Values that are none of their type, in arguments of `lift` and in what a served function gives: where, and what stands
+// Values that are none of their type, in arguments of `lift` and in what a served function gives: where, and what is
 // there.
 import assert from "node:assert/strict";
 import { test } from "node:test";
@@ -26,7 +26,8 @@ function sides({ declared = [], type }) {
   const pkg = witcall.open(`package a:b; interface c { ${declared.join(" ")} ${functions} } world w { import c; }`);
   const guest = callee(4, { "a:b/c#take": () => undefined });
   let value;
-  const object = imports(pkg, "a:b/w", { "a:b/c": { take: () => undefined, give: () => value } }, { guest: () => guest });
+  const host = { "a:b/c": { take: () => undefined, give: () => value } };
+  const object = imports(pkg, "a:b/w", host, { guest: () => guest });
   const taking = lift(pkg, pkg.find("a:b/c", "take"), { callee: guest });
   const { result, lowered } = pkg.find("a:b/c", "give");
   const area = lowered.results.length > 0 ? [] : [64];
@@ -49,8 +50,8 @@ function broken(random, value, other) {
   return copy;
 }
 
-const OTHERS = [null, undefined, true, -1, 1.5, 300, 2n ** 64n, "text", "\ud800", [], [[1]], {}, { a: 1 }, NaN, () => 0, Symbol("s"),
-  Promise.resolve(1), { l0: "\udc00" }, { "\ud800": 1 }];
+const OTHERS = [null, undefined, true, -1, 1.5, 300, 2n ** 64n, "text", "\ud800", [], [[1]], {}, { a: 1 }, NaN, () => 0,
+  Symbol("s"), Promise.resolve(1), { l0: "\udc00" }, { "\ud800": 1 }];
 
 test("a result that is none of its type has the place and the words of an argument", () => {
   const paths = new Set();
@@ -65,7 +66,7 @@ test("a result that is none of its type has the place and the words of an argume
       if (text.length > 3000) continue;
       const value = broken(random, decodedText(text, type), random.of(OTHERS));
       const [argument, result] = [taken(value), given(value)];
-      assert.equal(result instanceof NotThisType, argument instanceof NotThisType, `${argument} ${result} ${made.type}`);
+      assert.equal(result instanceof NotThisType, argument instanceof NotThisType, `${argument} ${result}`);
       if (!argument) continue;
       count++;
       const { path, fault, message } = argument;
@@ -81,10 +82,14 @@ test("a result that is none of its type has the place and the words of an argume
 });
 
 const SHOP = {
-  declared: ["record line { name: string, note: option<string>, count: u64 }", "variant state { open, paid(list<line>) }"],
+  declared: [
+    "record line { name: string, note: option<string>, count: u64 }",
+    "variant state { open, paid(list<line>) }",
+  ],
   type: "state",
 };
-const line = (more) => ({ paid: [{ name: "tea", note: undefined, count: 1n }, { name: "tea", note: "x", count: 1n, ...more }] });
+const TEA = { name: "tea", note: undefined, count: 1n };
+const line = (more) => ({ paid: [TEA, { ...TEA, note: "x", ...more }] });
 
 test("what stands there is named as JavaScript has it", () => {
   const { pkg, taken, given } = sides(SHOP);
@@ -116,13 +121,15 @@ test("what stands there is named as JavaScript has it", () => {
     assert.deepEqual([argument.path, argument.fault, argument.line], [`[0]${path}`, fault, "error 62 not this type"]);
     assert.deepEqual([result.path, result.fault, result.line], [`result${path}`, fault, "error 62 not this type"]);
   }
-  for (const value of [line({}), "open", line({ note: "🙂" })]) assert.deepEqual([taken(value), given(value)], [undefined, undefined]);
+  for (const value of [line({}), "open", line({ note: "🙂" })]) {
+    assert.deepEqual([taken(value), given(value)], [undefined, undefined]);
+  }
   pkg.close();
 });
 
 test("a name with a lone surrogate is no label", () => {
   const { pkg, taken, given } = sides(SHOP);
-  for (const it of [taken({ "\ud800": [] }), given({ "\ud800": [] })]) assert.match(it.fault, /, and not `\{"\ufffd":\[\]\}`$/);
+  for (const it of [taken, given]) assert.match(it({ "\ud800": [] }).fault, /, and not `\{"\ufffd":\[\]\}`$/);
   pkg.close();
 });
 
@@ -150,7 +157,8 @@ test("arguments that are too many or too few have no place", () => {
 test("a promise of a function without a result is named", () => {
   const pkg = witcall.open("package a:b; interface c { f: func(); } world w { import c; import g: func(); }");
   let value;
-  const object = imports(pkg, "a:b/w", { "a:b/c": { f: () => value }, g: async () => undefined }, { guest: () => undefined });
+  const host = { "a:b/c": { f: () => value }, g: async () => undefined };
+  const object = imports(pkg, "a:b/w", host, { guest: () => undefined });
   for (const it of [undefined, 1, "text", {}, null, { then: 1 }]) {
     value = it;
     assert.equal(object["a:b/c"].f(), undefined);
@@ -158,7 +166,8 @@ test("a promise of a function without a result is named", () => {
   value = Promise.resolve();
   const fault = "the function has none, and gave a promise: a function of values can't be asynchronous";
   const message = (of) => `error 62 not this type at result of ${of}: ${fault}`;
-  assert.throws(() => object["a:b/c"].f(), { name: "NotThisType", number: 62, path: "result", fault, message: message("a:b/c#f") });
+  const wanted = { name: "NotThisType", number: 62, path: "result", fault, message: message("a:b/c#f") };
+  assert.throws(() => object["a:b/c"].f(), wanted);
   assert.throws(() => object.$root.g(), { message: message("a:b/w#g") });
   pkg.close();
 });

@@ -94,7 +94,8 @@ export function relaying(pairs) {
 }
 
 /** The names of a module's functions from a place on. */
-const exportsFrom = (first, functions) => functions.map(({ name }, k) => [...text(name), KIND.FUNCTION, ...leb(first + k)]);
+const exportsFrom = (first, functions) =>
+  functions.map(({ name }, k) => [...text(name), KIND.FUNCTION, ...leb(first + k)]);
 
 /**
  * A module of a stranger: it imports functions, and exports its own ones, each of which has these instructions.

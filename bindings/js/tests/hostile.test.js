@@ -2,7 +2,9 @@
 // asks for their blocks within a limit, and the lines are those of examples/c/hostile.expected.
 import assert from "node:assert/strict";
 import { test } from "node:test";
+import { lift } from "../index.js";
 import { Half } from "../lib/half.js";
+import { callee } from "./guests.js";
 import { fileOf, loaded } from "./support.js";
 
 const witcall = await loaded();
@@ -131,4 +133,18 @@ test("a half ends at the first block that is not granted", () => {
   const to = { bytes: new Uint8Array(LIMIT), grant: (asked) => asked.slice(0, 1).map((it) => ({ ...it, at: 0 })) };
   const half = new Half(pkg, pkg.find("a:b/c", "take4"), "witcall_enter", 2 ** 25);
   assert.throws(() => half.carry([[0, 64]], { bytes }, to), { message: "trap K6 full in lower-args" });
+});
+
+test("a list of small records takes memory by its bytes, and not above the limit", () => {
+  const count = 20000;
+  const small = witcall.open("package t:t; interface i { record r { a: u8 } f: func() -> list<r>; }");
+  const from = callee(1, { "t:t/i#f": () => 0 });
+  new Uint32Array(from.exports.memory.buffer, 0, 2).set([8, count]);
+  const read = (limit) => lift(small, small.functions[0], { callee: from, limit })();
+  const before = witcall.core.bytes.length;
+  assert.throws(() => read(count - 1), { number: 76, message: "error 76 above the limit" });
+  assert.ok(witcall.core.bytes.length - before < 2 ** 20);
+  assert.equal(read(count).length, count);
+  assert.ok(witcall.core.bytes.length - before < 1500 * count, `${witcall.core.bytes.length - before}`);
+  small.close();
 });

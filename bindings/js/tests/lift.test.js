@@ -58,10 +58,13 @@ test("a core function's answer is an i32 or an i64", () => {
     return lift(pkg, pkg.functions[0], { callee: callee(1, { "a:b/c#f": () => answer }) })();
   };
   for (const answer of [0, 1, -1, 2 ** 31, 2 ** 32 - 1, -(2 ** 31)]) assert.equal(answers("u32", answer), answer >>> 0);
-  for (const answer of [0n, -1n, 2n ** 64n - 1n, -(2n ** 63n)]) assert.equal(answers("u64", answer), BigInt.asUintN(64, answer));
+  for (const answer of [0n, -1n, 2n ** 64n - 1n, -(2n ** 63n)]) {
+    assert.equal(answers("u64", answer), BigInt.asUintN(64, answer));
+  }
   for (const answer of [2 ** 32, -(2 ** 31) - 1, 2 ** 53, 0.5, 2n ** 64n, -(2n ** 63n) - 1n, true, "1", {}]) {
     for (const type of ["u32", "u64", "bool", "list<u8>"]) {
-      assert.throws(() => answers(type, answer), { name: "TypeError", message: `${answer} is neither an i32 nor an i64` });
+      const message = `${answer} is neither an i32 nor an i64`;
+      assert.throws(() => answers(type, answer), { name: "TypeError", message });
     }
   }
 });

@@ -1,6 +1,7 @@
 import assert from "node:assert/strict";
 import { spawnSync } from "node:child_process";
 import { cpSync, existsSync, mkdirSync, rmSync, writeFileSync } from "node:fs";
+import { createServer } from "node:http";
 import { join } from "node:path";
 import { test } from "node:test";
 import { pathToFileURL } from "node:url";
@@ -85,6 +86,18 @@ test("a module without imports", async () => {
   assert.deepEqual(names.sort(), [...functions.map((it) => it[1]), "free", "malloc", "memory"].sort());
 });
 
+test("the module is loaded over the network, and a page that is not there has its status", async (it) => {
+  const server = createServer((request, answer) => {
+    answer.statusCode = request.url === "/witcall.wasm" ? 200 : 404;
+    answer.end(answer.statusCode === 200 ? bytes() : "");
+  });
+  await new Promise((done) => server.listen(0, "127.0.0.1", done));
+  it.after(() => server.close());
+  const url = `http://127.0.0.1:${server.address().port}`;
+  assert.equal((await load(`${url}/witcall.wasm`)).version, (await load(bytes())).version);
+  await assert.rejects(load(`${url}/none`), { code: 404, message: `${url}/none: 404 Not Found` });
+});
+
 test("what is no module is refused", async () => {
   await assert.rejects(load(new Uint8Array([1, 2, 3])), WebAssembly.CompileError);
   await assert.rejects(load(new URL("file:///no/module")), { code: "ENOENT" });
@@ -131,7 +144,8 @@ async function forgetting() {
 
 test("packages that nobody closes are freed after JavaScript forgot them", async () => {
   const witcall = await load(bytes());
-  const text = `package a:b; interface c { ${Array.from({ length: 400 }, (_, k) => `q${k}: func(x: u32) -> string;`).join(" ")} }`;
+  const functions = Array.from({ length: 400 }, (_, k) => `q${k}: func(x: u32) -> string;`);
+  const text = `package a:b; interface c { ${functions.join(" ")} }`;
   const opened = (count) => {
     for (let k = 0; k < count; k++) witcall.open(text).find("a:b/c", "q7");
   };

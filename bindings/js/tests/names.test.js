@@ -73,7 +73,8 @@ test("a module with its world gets none of them either", async () => {
   const section = worldOf(ECHO);
   const refused = (module, name) => {
     const bytes = stranger([nothing(module, name)], [], section);
-    return assert.rejects(instantiate(witcall, bytes, SERVED, { imports: { host: {} } }), /Import #0/, `${module} ${name}`);
+    const made = instantiate(witcall, bytes, SERVED, { imports: { host: {} } });
+    return assert.rejects(made, /Import #0/, `${module} ${name}`);
   };
   for (const name of BUILT_IN) {
     for (const module of [name, "constructor", "__proto__", "host", HOST, "$root"]) await refused(module, name);
@@ -102,8 +103,8 @@ test("modules that are named as what objects inherit get what is handed in for t
   const names = ["demo:echo/echo@1.0.0#upper", "tell"];
   const exported = names.map((name) => ({ name, parameters: [], results: [], code: [] }));
   await instantiate(witcall, stranger(asked, [run, ...exported], worldOf(ECHO)), SERVED, { imports: others });
-  link(witcall.open(NUMBERS), { caller: new WebAssembly.Module(stranger(asked, [run])), callee: PLUS_ONE, imports: others })
-    .exports._initialize();
+  const caller = new WebAssembly.Module(stranger(asked, [run]));
+  link(witcall.open(NUMBERS), { caller, callee: PLUS_ONE, imports: others }).exports._initialize();
   assert.deepEqual(seen, ["__proto__", "constructor", "__proto__", "constructor"]);
 });
 
@@ -137,7 +138,8 @@ function named(implementation) {
 const forAll = (make) => Object.fromEntries(NAMES.map((it, place) => [it, make(it, place)]));
 
 test("functions, fields and cases may have these names", () => {
-  const { pkg, guest, functions } = named({ [OWNER]: forAll(() => (...values) => values), ...forAll((_, place) => () => place) });
+  const places = forAll((_, place) => () => place);
+  const { pkg, guest, functions } = named({ [OWNER]: forAll(() => (...values) => values), ...places });
   assert.equal(functions.length, 2 * NAMES.length);
   const record = forAll((_, place) => place);
   for (const func of functions) {
@@ -173,7 +175,8 @@ test("an implementation that lacks a function does not inherit it", () => {
     const message = (of) => ({ name: "TypeError", message: `the implementation has no function ${of}${name}` });
     assert.throws(() => named(lessOwn), message(""));
     assert.throws(() => named({ ...all, [OWNER]: less }), message(`${OWNER}#`));
-    assert.throws(() => named({ ...all, [OWNER]: Object.defineProperties(() => 0, Object.getOwnPropertyDescriptors(less)) }), message(`${OWNER}#`));
+    const func = Object.defineProperties(() => 0, Object.getOwnPropertyDescriptors(less));
+    assert.throws(() => named({ ...all, [OWNER]: func }), message(`${OWNER}#`));
     assert.throws(() => named(Object.assign(Object.create({ [name]: () => 0 }), lessOwn)), message(""));
   }
 });
@@ -182,7 +185,9 @@ test("exports that a callee lacks are not those that it inherits", () => {
   const pkg = witcall.open(NAMED);
   const callees = [callee(1, {}), { exports: () => undefined }, { exports: class {} }, { exports: [] }];
   for (const func of pkg.worlds[0].imports) {
-    for (const it of callees) assert.throws(() => lift(pkg, func, { callee: it }), /^TypeError: the callee exports no function/);
+    for (const it of callees) {
+      assert.throws(() => lift(pkg, func, { callee: it }), /^TypeError: the callee exports no function/);
+    }
   }
   const other = witcall.open("package a:b; interface c { f: func(); }");
   const inherited = Object.create({ "cabi_post_a:b/c#f": () => assert.fail("it is inherited") });
@@ -212,10 +217,12 @@ test("methods of a class are an implementation's, and its constructor and the en
   const object = imports(pkg, "a:b/w", { "a:b/c": new Host() }, { guest: () => assert.fail("no memory is needed") });
   assert.deepEqual([object["a:b/c"].now(), object["a:b/c"].ask(7)], [4n, 7]);
   assert.deepEqual([given(new Host(), "ask"), given(new Host(), "now")], [Host.prototype.ask, Base.prototype.now]);
-  for (const name of ["constructor", "toString", "__proto__", "hasOwnProperty"]) assert.equal(given(new Host(), name), undefined);
-  for (const [object_, name] of [[new Map(), "get"], [[], "map"], [() => 0, "call"], ["text", "length"], [null, "x"], [Object.create({ x: 1 }), "x"]]) {
-    assert.equal(given(object_, name), undefined);
+  for (const name of ["constructor", "toString", "__proto__", "hasOwnProperty"]) {
+    assert.equal(given(new Host(), name), undefined);
   }
+  const others = [[new Map(), "get"], [[], "map"], [() => 0, "call"], ["text", "length"], [null, "x"],
+    [Object.create({ x: 1 }), "x"]];
+  for (const [it, name] of others) assert.equal(given(it, name), undefined);
   class More extends Map {
     more() { return 1; }
   }

@@ -124,7 +124,8 @@ test("a function that is not there is named, and the nearest one", () => {
   const pkg = witcall.open([
     "package a:b@1.0.0; interface c { total: func(); sum: func(); } interface types { type t = u8; }",
     `package d:e; interface f { total-of-all: func(); next: func(); }
-    world w { import f; import ask: func(); export tell: func(); export sum: func(); } world v { export next: func(); }`,
+    world w { import f; import ask: func(); export tell: func(); export sum: func(); }
+    world v { export next: func(); }`,
   ]);
   const told = (way, ...names) => {
     try {
@@ -154,10 +155,12 @@ test("a function that is not there is named, and the nearest one", () => {
   }
   const long = "x".repeat(1000000);
   const cut = told("find", long, "a\n`\u202e\ud800");
-  assert.ok(cut.startsWith(`no \`a\\u{a}\\u{60}\\u{202e}\\u{d800}\` in \`${"x".repeat(100)}..\`; the nearest is `), cut);
+  const name = "`a\\u{a}\\u{60}\\u{202e}\\u{d800}`";
+  assert.ok(cut.startsWith(`no ${name} in \`${"x".repeat(100)}..\`; the nearest is `), cut);
   const none = witcall.open("package a:b; interface c { type t = u8; } world w { import c; }");
   for (const way of ["find", "findImport", "findExport"]) {
-    assert.throws(() => none[way]("a:b/c", "f"), { message: "error 63 no function: no `f` in `a:b/c`; there is no other" });
+    const message = "error 63 no function: no `f` in `a:b/c`; there is no other";
+    assert.throws(() => none[way]("a:b/c", "f"), { message });
   }
   pkg.close();
   none.close();

@@ -1,5 +1,5 @@
-// The programs of the pages, to the letter: each block of JavaScript is run in a project of its own, in which the package
-// is installed as the page says, beside the guests that examples/make.mjs writes.
+// The programs of the pages, to the letter: each block of JavaScript is run in a project of its own. The package is
+// installed in it as the page says, beside the guests that examples/make.mjs writes.
 import assert from "node:assert/strict";
 import { spawnSync } from "node:child_process";
 import { mkdirSync, readdirSync, writeFileSync } from "node:fs";
@@ -10,14 +10,21 @@ import { checkoutIn, fileOf, folderFor, needs } from "./support.js";
 const PAGES = ["bindings/js/README.md", "docs/JAVASCRIPT.md", "docs/LANGUAGES.md"];
 
 /** The blocks of a language on a page. */
-const blocks = (page, language) =>
-  [...fileOf(page).toString().matchAll(new RegExp(`^\`\`\`${language}\\n([^]*?)^\`\`\`$`, "gm"))].map(([, block]) => block);
+function blocks(page, language) {
+  const block = new RegExp(`^\`\`\`${language}\\n([^]*?)^\`\`\`$`, "gm");
+  return [...fileOf(page).toString().matchAll(block)].map(([, code]) => code);
+}
 
 /** The lines of the page that installs the package: each without its comment. */
 const COMMANDS = blocks(PAGES[0], "sh").join("").trim().split("\n").map((line) => line.split(/ +# /)[0]);
 
 /** npm without a network, and with a cache of the test's own. */
-const OFFLINE = { npm_config_offline: "true", npm_config_audit: "false", npm_config_fund: "false", npm_config_update_notifier: "false" };
+const OFFLINE = {
+  npm_config_offline: "true",
+  npm_config_audit: "false",
+  npm_config_fund: "false",
+  npm_config_update_notifier: "false",
+};
 
 /** Runs a line in a folder, and returns what it prints. */
 function run(line, cwd, folder) {
@@ -54,8 +61,8 @@ test("the package is packed and installed as its page says", () => {
   run(make, host, folder);
   const made = readdirSync(host).filter((name) => name.endsWith(".wasm"));
   assert.deepEqual(made.sort(), ["caller.wasm", "hello.wasm", "letters.wasm"]);
-  const all = readdirSync(join(host, "node_modules/witcall"));
-  assert.deepEqual(all.sort(), ["README.md", "examples", "index.d.ts", "index.js", "lib", "package.json", "witcall.wasm"]);
+  const all = readdirSync(join(host, "node_modules/witcall")).sort().join(" ");
+  assert.equal(all, "README.md examples index.d.ts index.js lib package.json witcall.wasm");
   assert.equal(readdirSync(join(folder, "bindings/js")).includes("witcall.wasm"), false);
 });
 
