@@ -82,7 +82,7 @@ const HELLO = {
   }],
 };
 
-/** Exports `upper`: it makes a text upper case where it lies, and returns 8. There the text's address and length are. */
+/** Exports `upper`: it makes a text upper case where it lies, and returns 8, where the pair of the text is. */
 const LETTERS = {
   functions: [{
     name: "demo:text/letters#upper",

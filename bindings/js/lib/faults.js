@@ -136,8 +136,9 @@ const FIRST = /^\[0\](\S*): (.+)$/s;
  */
 export function resultFault(core, func, json, error) {
   try {
-    const [, path, fault] = FIRST.exec(toldOf(core, func.result.type, json));
-    return new NotThisType(error.number, error.line, `result${path} of ${nameOf(func)}: ${fault}`);
+    const found = FIRST.exec(toldOf(core, func.result.type, json));
+    if (!found) return error;
+    return new NotThisType(error.number, error.line, `result${found[1]} of ${nameOf(func)}: ${found[2]}`);
   } catch (other) {
     if (other instanceof WitError) return error;
     throw other;

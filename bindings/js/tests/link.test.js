@@ -254,7 +254,7 @@ test("what an allocator answers is an i32, and what else it grants are blocks", 
   for (const at of [2 ** 32, 2 ** 32 + 1024, -1, 0.5, NaN, undefined, null, "1024", 1024n]) {
     for (const key of ["at", "size", "align"]) {
       const made = upper({ grant: (instance, asked) => granted(instance, asked).map((it) => ({ ...it, [key]: at })) });
-      assert.throws(() => calls(made, 100, "abc"), { name: "TypeError", message: /^a block is not of numbers of 32 bits: / });
+      assert.throws(() => calls(made, 100, "abc"), /^TypeError: a block is not of numbers of 32 bits: /);
     }
   }
 });

@@ -1,6 +1,7 @@
 // Uses of the package, which `tsc --strict` takes. Nothing here is run.
 import {
-  Block, Grant, Kind, Library, Member, ModuleFault, Package, Trap, Type, Value, WitError, WitFunction, granted, imports, lift, link, load,
+  Block, Grant, Guest, Kind, Library, Member, ModuleFault, NotThisType, Package, Trap, Type, Value, WitError, WitFunction,
+  granted, imports, instantiate, lift, link, load,
 } from "../index.js";
 
 export async function opened(module: WebAssembly.Module): Promise<Package> {
@@ -45,6 +46,7 @@ export function called(pkg: Package, callee: WebAssembly.Instance): Value {
     return f(1, 2n, "text", [true], { some: undefined }, new BigInt64Array(2), undefined);
   } catch (error) {
     if (error instanceof Trap) return `${error.number} ${error.kind === "utf8"} ${error.step === "lift-args"} ${error.cause}`;
+    if (error instanceof NotThisType) return error.path + error.fault;
     if (error instanceof WitError) return error.number + error.line.length;
     if (error instanceof ModuleFault) return error.message;
     throw error;
@@ -56,7 +58,14 @@ export function hosted(pkg: Package, module: WebAssembly.Module): WebAssembly.In
   const log = { say: (text: string) => console.log(text), next: (state: { paid: bigint } | "open") => state };
   // @ts-expect-error a guest has to be told
   imports(pkg, "a:b/w", { "a:b/log": log }, {});
-  const object: WebAssembly.Imports = imports(pkg, "a:b/w", { "a:b/log": log, now: () => 7n }, { guest: () => guest, imports: { host: {} }, limit: 65536 });
+  const options = { guest: () => guest, imports: { host: {} }, limit: 65536 };
+  const object: WebAssembly.Imports = imports(pkg, "a:b/w", { "a:b/log": log, now: () => 7n }, options);
   guest = new WebAssembly.Instance(module, object);
   return guest;
+}
+
+export async function carried(library: Library, bytes: Uint8Array): Promise<unknown> {
+  const guest: Guest = await instantiate(library, bytes, { "a:b/log": {} }, { imports: { host: {} } });
+  guest.pkg.close();
+  return guest.exports["a:b/c"].f(1n, guest.world.name);
 }
