@@ -27,10 +27,10 @@ def library():
     return gzip.decompress((TOP / "release/libwitcall.so.gz").read_bytes())
 
 
-def folder_of(case):
-    """An empty folder."""
+def folder_of(case, add_cleanup=None):
+    """An empty folder, which is removed after a test, or after all tests of a class."""
     folder = pathlib.Path(tempfile.mkdtemp(prefix="witcall-"))
-    case.addCleanup(shutil.rmtree, folder)
+    (add_cleanup or case.addCleanup)(shutil.rmtree, folder)
     return folder
 
 

@@ -74,6 +74,14 @@ class Allocators(unittest.TestCase):
                 with self.assertRaisesRegex(TypeError, "^the address of a block is an int"):
                     run()
 
+    def test_a_number_of_another_class_is_an_address(self):
+        class Address:
+            def __index__(self):
+                return 16
+
+        for run in self.answers(Address()):
+            run()
+
     def test_the_greatest_address_is_refused_by_the_library(self):
         for run in self.answers(2**32 - 1):
             with self.assertRaisesRegex(witcall.Refused, "^error 72 bad block$"):

@@ -133,6 +133,11 @@ def fault_of(run, *words):
     return None
 
 
+def result_path(path):
+    """The path in a result that is that of the first argument."""
+    return f"result{path.removeprefix('[0]')}"
+
+
 def cases():
     """Each name of a type with each value for it."""
     return [(f"f-{name}", it) for name, values in VALUES.items() for it in values]
@@ -168,7 +173,7 @@ class Faults(unittest.TestCase):
         for name, value in cases():
             of_library = fault_of(host.fill, name, value)
             with self.subTest(name=name, value=value):
-                wanted = of_library and (of_library[0].removeprefix("[0]"), of_library[1])
+                wanted = of_library and (result_path(of_library[0]), of_library[1])
                 if "e+" not in str(wanted):
                     self.assertEqual(fault_of(host.answer, name, value), wanted)
 
@@ -177,15 +182,15 @@ class Faults(unittest.TestCase):
         for name, value in cases():
             told = fault_of(host.call, name, value)
             with self.subTest(name=name, value=value):
-                wanted = told and (told[0].removeprefix("[0]"), told[1])
+                wanted = told and (result_path(told[0]), told[1])
                 self.assertEqual(fault_of(host.serve, name, value), wanted)
 
     def test_the_message_names_the_function_whose_result_it_is(self):
         with self.assertRaises(NotThisType) as caught:
             Host().serve("f-row", {"first": 1, "second": [300]})
         error = caught.exception
-        self.assertEqual((error.function, error.path), ("a:b/c#f-row", ".second[0].some"))
-        place = "in the result of a:b/c#f-row at .second[0].some"
+        self.assertEqual((error.function, error.path), ("a:b/c#f-row", "result.second[0].some"))
+        place = "at result.second[0].some of a:b/c#f-row"
         self.assertEqual(str(error), f"{error.line} {place}: {error.fault}")
         self.assertEqual(error.fault, "a `s8` is a whole number from -128 to 127, and not `300`")
         with self.assertRaises(NotThisType) as caught:
@@ -196,7 +201,7 @@ class Faults(unittest.TestCase):
         with self.assertRaises(NotThisType) as caught:
             Host().answer("none", 7)
         fault = "a function without a result gives nothing, and not `7`"
-        self.assertEqual((caught.exception.path, caught.exception.fault), ("", fault))
+        self.assertEqual((caught.exception.path, caught.exception.fault), ("result", fault))
         self.assertIsNone(Host().serve("none", 7))
 
     def test_minus_zero_is_no_number(self):
@@ -213,7 +218,7 @@ class Awaited(unittest.TestCase):
     def assert_told(self, value, name, path, words):
         with self.assertRaises(NotThisType) as caught:
             Host().serve(name, value)
-        self.assertEqual(caught.exception.path, path)
+        self.assertEqual(caught.exception.path, f"result{path}")
         self.assertTrue(caught.exception.fault.endswith(f"and not {words}"), caught.exception)
 
     def test_a_coroutine_is_told(self):
@@ -248,7 +253,7 @@ class Cut(unittest.TestCase):
         for run in (host.call, host.serve):
             with self.subTest(name=name, run=run.__name__):
                 told_path, fault = fault_of(run, name, value)
-                self.assertEqual(told_path, f"[0]{path}" if run == host.call else path)
+                self.assertEqual(told_path, f"[0]{path}" if run == host.call else f"result{path}")
                 self.assertTrue(fault.endswith(f"and not {shown}"), fault)
                 fault.encode()
 

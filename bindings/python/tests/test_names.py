@@ -2,6 +2,7 @@
 
 import time
 import unittest
+from unittest import mock
 
 import witcall
 from witcall import ArrayMemory, Refused
@@ -51,6 +52,13 @@ class NoFunction(unittest.TestCase):
         self.assert_told(lambda: package.find("a:b/c", "f"), hint)
         hint = "no `f` in `a:b/w`: no world here has functions"
         self.assert_told(lambda: package.find_export("a:b/w", "f"), hint)
+
+    def test_without_a_hint_the_error_is_the_same(self):
+        package = witcall.open(TEXT)
+        no_memory = witcall.OutOfMemory(witcall.Status(3, 66, 0, 0), "error 66 no memory")
+        with mock.patch.object(witcall.Package, "describe", side_effect=no_memory):
+            with self.assertRaisesRegex(Refused, "^error 63 no function$"):
+                package.find(C, "uper")
 
     def test_names_of_bodies_and_of_functions_are_told(self):
         package, memory = witcall.open(TEXT), ArrayMemory(0)

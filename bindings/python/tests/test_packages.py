@@ -79,7 +79,7 @@ class Inputs(unittest.TestCase):
 
     def test_another_text_that_is_refused_has_no_hint(self):
         texts = ("", "cart", "package a:b; // cart.wit", "interface c {\n}.wit", str(TOP))
-        for given in (*texts, b"cart.wit", TEXT + "cart.wit"):
+        for given in (*texts, f"{'x' * 5000}.wit", b"cart.wit", TEXT + "cart.wit"):
             with self.subTest(given), self.assertRaises(witcall.Refused) as caught:
                 witcall.open(given)
             error = caught.exception

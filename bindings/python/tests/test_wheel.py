@@ -11,11 +11,11 @@ import zipfile
 import witcall
 
 from . import TOP
-from .checkouts import copied, python, run
+from .checkouts import copied, folder_of, python, run
 
 VERSION = (TOP / "VERSION").read_text().strip()
-MODULES = "setuptools, wheel, pip"
-PACKAGES = "python3-pip python3-setuptools python3-wheel"
+MODULES = "setuptools, wheel, ensurepip"
+PACKAGES = "python3-venv python3-setuptools python3-wheel"
 
 
 def has_modules(program):
@@ -25,7 +25,7 @@ def has_modules(program):
 
 @functools.lru_cache(maxsize=None)
 def builder():
-    """A Python that can build wheels without a network: this one, or the system's."""
+    """A Python whose environments have what a wheel needs: this one, or the system's."""
     programs = [sys.executable, "/usr/bin/python3"]
     return next((it for it in programs if pathlib.Path(it).exists() and has_modules(it)), None)
 
@@ -36,13 +36,19 @@ def needed_glibc(data):
 
 
 class Wheel(unittest.TestCase):
+    @classmethod
+    def setUpClass(cls):
+        """Makes an environment with pip, and with the system's packages."""
+        if builder() is None:
+            raise AssertionError(f"no Python has {MODULES}: apt-get install -y {PACKAGES}")
+        cls.environment = folder_of(cls, cls.addClassCleanup)
+        words = [builder(), "-m", "venv", "--system-site-packages", cls.environment]
+        subprocess.run(words, check=True)
+
     def built(self, folder):
-        """The wheel of a checkout, or of its package alone."""
-        program = builder()
-        if program is None:
-            self.fail(f"no Python has {MODULES}: apt-get install -y {PACKAGES}")
-        words = "-m pip wheel --quiet --no-deps --no-build-isolation --no-index --wheel-dir wheels"
-        done = run([program, *words.split(), folder], folder)
+        """The wheel of the package in a folder."""
+        words = "wheel --quiet --no-deps --no-build-isolation --no-index --wheel-dir wheels"
+        done = run([self.environment / "bin/pip", *words.split(), folder], folder)
         self.assertEqual(done.returncode, 0, done.stdout + done.stderr)
         [wheel] = (folder / "wheels").iterdir()
         return wheel
@@ -53,6 +59,7 @@ class Wheel(unittest.TestCase):
         name = rf"witcall-{VERSION}-(py3-none-manylinux_2_(\d+)_x86_64)\.whl"
         tag = re.fullmatch(name, wheel.name)
         self.assertTrue(tag, wheel.name)
+        self.assertIn(f"`{tag[1]}`", (TOP / "bindings/python/README.md").read_text())
         unpacked = folder / "unpacked"
         zipfile.ZipFile(wheel).extractall(unpacked)
         head = (unpacked / f"witcall-{VERSION}.dist-info/WHEEL").read_text()

@@ -80,9 +80,10 @@ def within(number: int, end: int, what: str) -> int:
     """A number below an end, which the library has room for: ctypes would cut any other."""
     if isinstance(number, bool) or not hasattr(type(number), "__index__"):
         raise TypeError(f"{what} is an int, and not {type(number).__name__}")
-    if not 0 <= number < end:
-        raise ValueError(f"{what} is a number from 0 to {end - 1}, and not {shown(number)}")
-    return operator.index(number)
+    found = operator.index(number)
+    if not 0 <= found < end:
+        raise ValueError(f"{what} is a number from 0 to {end - 1}, and not {shown(found)}")
+    return found
 
 
 def limit_of(limit: int) -> int:
@@ -111,10 +112,9 @@ def blocks_of(granted: Iterable[Block]) -> tuple[Any, int]:
     """An array of blocks, and its length."""
     found = []
     for alignment, size, address in granted:
-        within(address, 2**32, "the address of a block")
-        within(alignment, 2**32, "the alignment of a block")
-        within(size, 2**32, "the size of a block")
-        found.append(CBlock(alignment, size, address))
+        at = within(address, 2**32, "the address of a block")
+        align = within(alignment, 2**32, "the alignment of a block")
+        found.append(CBlock(align, within(size, 2**32, "the size of a block"), at))
     return (CBlock * len(found))(*found), len(found)
 
 

@@ -50,7 +50,7 @@ class NotThisType(Refused):
 
     Attributes:
         path: the first place that is wrong: of arguments as `[0].lines[2].count`, empty if they
-            are not as many as the parameters; of a result as `.lines[2].count`, empty if it is all
+            are not as many as the parameters; of a result as `result.lines[2].count`
         fault: what has to stand there, and what does
         function: the full name of the function whose result it is; empty of arguments
     """
@@ -68,9 +68,9 @@ class NotThisType(Refused):
         return cls(refused, *found.groups()) if found else cls(refused, "", line)
 
     def __str__(self) -> str:
-        result = f" in the result of {self.function}" if self.function else ""
         place = f" at {self.path}" if self.path else ""
-        return f"{self.line}{result}{place}: {self.fault}"
+        function = f" of {self.function}" if self.function else ""
+        return f"{self.line}{place}{function}: {self.fault}"
 
 
 class OutOfMemory(WitcallError, MemoryError):

@@ -9,14 +9,19 @@ _MOST_PAIRS = 1_000_000
 _MOST_SHOWN = 100
 
 
+def _next_row(row: list[int], letter: str, other: str) -> list[int]:
+    """The edits to each beginning of a name, after one letter more of the first name."""
+    made = [row[0] + 1]
+    for place, it in enumerate(other):
+        made.append(min(row[place] + (letter != it), row[place + 1] + 1, made[place] + 1))
+    return made
+
+
 def _edits(one: str, other: str) -> int:
     """How many letters are put in, left out or replaced to make one name of another."""
     row = list(range(len(other) + 1))
     for letter in one:
-        before, row[0] = row[0], row[0] + 1
-        for place, it in enumerate(other, 1):
-            fewest = min(before + (letter != it), row[place] + 1, row[place - 1] + 1)
-            before, row[place] = row[place], fewest
+        row = _next_row(row, letter, other)
     return row[-1]
 
 

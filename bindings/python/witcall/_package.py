@@ -2,6 +2,7 @@
 
 from __future__ import annotations
 
+import contextlib
 import json
 import os
 import pathlib
@@ -36,8 +37,9 @@ from ._table import Function, Table, Type
 Input = Union[str, bytes, bytearray, memoryview, "os.PathLike[str]"]
 
 
-# The names that files of packages have.
+# The names that files of packages have, and the most bytes that a path has.
 _ENDINGS = (".wit", ".wasm")
+_LONGEST_PATH = 4096
 
 _PATH = "the path of a file as `pathlib.Path`"
 _TAKEN = f"a package is a text as `str`, bytes, or {_PATH}"
@@ -155,7 +157,8 @@ class Package:
             number = checked(self.ask(call, *words))
         except Refused as error:
             if error.number == NO_FUNCTION:
-                error.hint = self._hint(call, owner, name)
+                with contextlib.suppress(WitcallError):  # the library is out of memory
+                    error.hint = self._hint(call, owner, name)
             raise
         return next(it for it in self.functions if it.number == number)
 
@@ -245,7 +248,9 @@ class Package:
 
 def _is_path(source: Input) -> bool:
     """Whether a text is surely meant as the path of a file."""
-    if not isinstance(source, str) or any(mark in source for mark in ";{\n"):
+    if not isinstance(source, str) or len(source) > _LONGEST_PATH:
+        return False
+    if any(mark in source for mark in ";{\n"):
         return False
     return source.endswith(_ENDINGS) or os.path.isfile(source)
 

@@ -76,7 +76,9 @@ def read(
 def not_this_type(wrong: Wrong, function: Optional[Function] = None) -> NotThisType:
     """The error for a value that is not of its type: of a function's result, or of arguments."""
     refused = Refused(*refusal(NOT_THIS_TYPE))
-    return NotThisType(refused, wrong.path, wrong.fault, function.full_name if function else "")
+    if function is None:
+        return NotThisType(refused, wrong.path, wrong.fault)
+    return NotThisType(refused, f"result{wrong.path}", wrong.fault, function.full_name)
 
 
 def arguments_text(function: Function, arguments: Sequence[Any]) -> str:

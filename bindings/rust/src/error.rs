@@ -100,7 +100,7 @@ pub enum Error {
     /// JSON that is no array of a function's arguments, or no result of it: 62.
     NotThisType {
         /// the first place that is wrong, as `[0].lines[2].count`; empty if the JSON is no array of as many values. That
-        /// of a result is as `.lines[2].count`, and empty if it is all of it
+        /// of a result is as `result.lines[2].count`
         path: String,
         /// what has to stand there, and what does
         fault: String,
@@ -134,13 +134,12 @@ impl Error {
         }
     }
 
-    /// The same error, with what to do if no function has a name.
+    /// The same error, with what to do if no function has a name, and that can be told.
     pub(crate) fn with_hint(self, hint_of: impl FnOnce() -> Result<String, Error>) -> Error {
         match self {
-            Error::Refused { number: sys::NO_FUNCTION, line, .. } => match hint_of() {
-                Ok(hint) => Error::Refused { number: sys::NO_FUNCTION, line, hint: Some(hint) },
-                Err(other) => other,
-            },
+            Error::Refused { number: sys::NO_FUNCTION, line, .. } => {
+                Error::Refused { number: sys::NO_FUNCTION, line, hint: hint_of().ok() }
+            }
             other => other,
         }
     }

@@ -227,15 +227,15 @@ impl Walk<'_> {
     }
 }
 
-/// The error for a value that is not of a type, which names the first part that is wrong.
+/// The error for a result that is not of a type, which names the first part that is wrong.
 pub(crate) fn not_this_type(package: &Package, ty: Type, value: &Json) -> Result<Option<Error>, Error> {
     let wrong = Walk { package, known: HashMap::new() }.wrong(ty, value)?;
-    let error = |it: Wrong| Error::NotThisType { path: it.steps.into_iter().rev().collect(), fault: it.fault };
-    Ok(wrong.map(error))
+    let path = |steps: Vec<String>| format!("result{}", steps.into_iter().rev().collect::<String>());
+    Ok(wrong.map(|it| Error::NotThisType { path: path(it.steps), fault: it.fault }))
 }
 
 /// The error for the text of a result of a function that has none.
 pub(crate) fn no_result(text: &str) -> Error {
     let fault = format!("a function without a result gives nothing, and not {}", quoted(text, MOST_SHOWN));
-    Error::NotThisType { path: String::new(), fault }
+    Error::NotThisType { path: "result".to_owned(), fault }
 }

@@ -65,10 +65,7 @@ impl<'package> Import<'package> {
         let Error::Refused { number: sys::NOT_THIS_TYPE, .. } = error else { return error };
         let Some(ty) = self.function.result else { return fits::no_result(json) };
         let Ok(value) = json.parse() else { return error };
-        match fits::not_this_type(self.package, ty, &value) {
-            Ok(located) => located.unwrap_or(error),
-            Err(other) => other,
-        }
+        fits::not_this_type(self.package, ty, &value).ok().flatten().unwrap_or(error)
     }
 
     /// Puts the same result into the blocks and the return area: the one value that the component gets, if there is one.

@@ -10,19 +10,20 @@ const MOST_SHOWN: usize = 100;
 /// A function's owner, and its own name.
 pub(crate) type Named = (String, String);
 
+/// The edits to each beginning of a name, after one letter more of the other one.
+fn next_row(row: &[usize], letter: char, name: &[char]) -> Vec<usize> {
+    let mut made = vec![row[0] + 1];
+    for (place, it) in name.iter().enumerate() {
+        let replaced = row[place] + usize::from(letter != *it);
+        made.push(replaced.min(row[place + 1] + 1).min(made[place] + 1));
+    }
+    made
+}
+
 /// How many letters are put in, left out or replaced to make one name of another.
 fn edits(one: &[char], other: &str) -> usize {
-    let mut row: Vec<usize> = (0..=one.len()).collect();
-    for letter in other.chars() {
-        let mut before = row[0];
-        row[0] += 1;
-        for (place, it) in one.iter().enumerate() {
-            let replaced = before + usize::from(letter != *it);
-            before = row[place + 1];
-            row[place + 1] = replaced.min(before + 1).min(row[place] + 1);
-        }
-    }
-    row[one.len()]
+    let first = (0..=one.len()).collect();
+    other.chars().fold(first, |row: Vec<usize>, letter| next_row(&row, letter, one))[one.len()]
 }
 
 /// The first of the names that needs the fewest edits, of as many as are compared at most.

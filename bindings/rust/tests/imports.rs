@@ -161,7 +161,7 @@ fn a_result_of_another_type_is_told_as_arguments_are() {
             let told = place_and_words(import.result_requests(text).err());
             assert_eq!(told.is_none(), place == 0, "{ty}: {text}");
             let arguments = package.json_requests(&function, &format!("[{text}]"), 256).err();
-            let wanted = place_and_words(arguments).map(|(path, fault)| (path.replacen("[0]", "", 1), fault));
+            let wanted = place_and_words(arguments).map(|(path, fault)| (path.replacen("[0]", "result", 1), fault));
             let is_shown_as_another = told.as_ref().is_some_and(|(_, fault)| fault.contains("9223372036854775808`"));
             assert!(told == wanted || is_shown_as_another, "{ty}: {told:?} {wanted:?}");
         }
@@ -173,10 +173,11 @@ fn a_served_result_of_another_type_is_told_with_its_place() {
     let lines = Json::Array(vec![line("tea", 1), line("tea", 256)]);
     let error = served("lines", &LINES, &mut memory(), |_| Some(lines)).unwrap_err();
     let fault = "a `u8` is a whole number from 0 to 255, and not `256`";
-    assert_eq!(error, Error::NotThisType { path: "[1].count".to_owned(), fault: fault.to_owned() });
-    assert_eq!(error.to_string(), format!("error 62 not this type at [1].count: {fault}"));
+    assert_eq!(error, Error::NotThisType { path: "result[1].count".to_owned(), fault: fault.to_owned() });
+    assert_eq!(error.to_string(), format!("error 62 not this type at result[1].count: {fault}"));
     let error = served("note", &[Value::I32(8), Value::I32(5)], &mut memory(), |_| Some(7.into())).unwrap_err();
-    assert_eq!(error.to_string(), "error 62 not this type: a function without a result gives nothing, and not `7`");
+    let fault = "a function without a result gives nothing, and not `7`";
+    assert_eq!(error.to_string(), format!("error 62 not this type at result: {fault}"));
     // what no Json says has no place
     let package = Package::open(SHOP).unwrap();
     let sum = package.find("demo:shop/desk", "sum").unwrap();

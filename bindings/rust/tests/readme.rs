@@ -1,6 +1,6 @@
 //! The commands and the program of `README.md` run, in their order and in a folder of their own.
 
-use std::os::unix::fs::{symlink, PermissionsExt};
+use std::os::unix::fs::symlink;
 use std::path::{Path, PathBuf};
 use std::process::Command;
 use std::{env, fs, process};
@@ -11,22 +11,6 @@ const PAGE: &str = include_str!("../README.md");
 fn blocks(language: &str) -> Vec<&'static str> {
     let block = |part: &'static str| part.strip_prefix(language)?.strip_prefix('\n');
     PAGE.split("```").skip(1).step_by(2).filter_map(block).collect()
-}
-
-/// Puts a checkout into a folder, whose tools install the release.
-fn put_checkout(folder: &Path) {
-    let top = Path::new(env!("CARGO_MANIFEST_DIR")).join("../..").canonicalize().unwrap();
-    let tools = folder.join("tools");
-    fs::create_dir_all(&tools).unwrap();
-    for name in fs::read_dir(&top).unwrap().map(|it| it.unwrap().file_name()).filter(|it| it != "tools") {
-        symlink(top.join(&name), folder.join(&name)).unwrap();
-    }
-    let install = top.join("tools/install.sh");
-    let takes_word = fs::read_to_string(&install).unwrap().contains("--released");
-    let word = if takes_word { "--released" } else { "" };
-    let own = tools.join("install.sh");
-    fs::write(&own, format!("#!/bin/sh\nexec '{}' {word} \"$@\"\n", install.display())).unwrap();
-    fs::set_permissions(&own, fs::Permissions::from_mode(0o755)).unwrap();
 }
 
 /// Runs commands in a folder that is the home of their user, and returns what they print.
@@ -58,7 +42,8 @@ fn the_page_runs() {
     assert_eq!(PAGE.matches("```").count(), 6);
     assert!(PAGE.contains("`cargo new host`") && PAGE.contains("`cargo run`"));
     let folder = env::temp_dir().join(format!("witcall-readme-{}", process::id()));
-    put_checkout(&folder.join("witcall"));
+    fs::create_dir(&folder).unwrap();
+    symlink(Path::new(env!("CARGO_MANIFEST_DIR")).join("../.."), folder.join("witcall")).unwrap();
     run(&folder, &format!("{commands}\ncargo new host"));
 
     let host = folder.join("host");
