@@ -18,19 +18,6 @@ sys.path.insert(0, str(ROOT / "tools"))
 sys.dont_write_bytecode = True
 from repository import blocks  # noqa: E402
 
-# the caller of the program in JavaScript: its text is at 16, and its return area at 8
-CALLER = """
-__attribute__((import_module("demo:text/letters"), import_name("upper"))) void upper(int, int, int);
-__attribute__((export_name("run"))) void run(void) {
-    static const char text[] = "two memories";
-    for (int i = 0; i < 12; i++)
-        ((volatile char *)16)[i] = text[i];
-    upper(16, 12, 8);
-}
-__attribute__((export_name("cabi_realloc"))) int cabi_realloc(int old, int old_size, int alignment, int size) {
-    return 64;
-}
-"""
 CARGO = """
 [package]
 name = "upper"
@@ -80,9 +67,7 @@ def run_python(source, prefix, _):
 
 
 def run_js(source, _, folder):
-    (folder / "caller.c").write_text(CALLER)
-    flags = ["--target=wasm32", "-O1", "-nostdlib", "-Wl,--no-entry"]
-    run("clang", *flags, "-o", folder / "caller.wasm", folder / "caller.c")
+    run("node", ROOT / "bindings/js/examples/make.mjs", folder)
     installed = folder / "node_modules/witcall"
     shutil.copytree(ROOT / "bindings/js", installed, dirs_exist_ok=True)
     packed = os.environ.get("WITCALL_MODULE", ROOT / "release/witcall.wasm.gz")
@@ -106,7 +91,8 @@ def main():
         sys.exit(__doc__)
     language = sys.argv[1]
     page = (ROOT / "docs/LANGUAGES.md").read_text(encoding="utf-8")
-    (code,) = [text for _, _, text in blocks(page, language)] or [(ROOT / "examples/cpp/upper.cpp").read_text(encoding="utf-8")]
+    found = [text for _, _, text in blocks(page, language)]
+    (code,) = found or [(ROOT / "examples/cpp/upper.cpp").read_text(encoding="utf-8")]
     runner, name = LANGUAGES[language]
     folder = pathlib.Path(sys.argv[3]).resolve() / language
     folder.mkdir(parents=True, exist_ok=True)

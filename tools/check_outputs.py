@@ -1,14 +1,10 @@
 #!/usr/bin/env python3
-"""Runs the commands of the pages whose output a page shows, and compares the two to the letter.
+"""Compares what pages show of errors, values, rows, runs and sources with what the program prints and what is stored.
 
-usage: tools/check_outputs.py [--program WITCALL] [--verbose]
+usage: tools/check_outputs.py [--program WITCALL]
 
 What is checked:
 
-- Blocks of `sh`. Below a command stands what it prints, each line after `# ` (or `#` alone, if it is empty). The
-  commands of COMMANDS are run, one after another, in a folder that has `examples` and `witcall`, and print just that.
-  The others need a toolchain or change the machine, and --verbose names them. A block in which no command of COMMANDS
-  has a line is not run at all.
 - docs/ERRORS.md: each line of an error, of a trap or of the usage. An example is a row of errors.rows, whose input is
   given to the program, and so is what stands in the page. RUNS has commands for lines without an example. Each other
   line is in a stored answer of ANSWERS.
@@ -17,10 +13,11 @@ What is checked:
   with a space.
 - Blocks without a language of the pages of HOSTS: the lines are those of a stored run of an example, one after
   another.
+- Blocks of `rust` of the pages of RATTLE: their lines are those of a source of crates/, in its order. A block may have
+  lines that are far from each other there, and may be indented less.
 
-Of each command the exit status, standard output and standard error are compared, each by itself. FAILURES has the
-status of a line that a failure writes, which has to be alone on standard error; all else has to be on standard
-output, with status 0.
+Of each command the exit status, standard output and standard error are compared, each by itself (tools/shown.py). The
+commands of pages are run by tools/run_pages.py.
 
 The program is the one that was built, crates/program/out/program, if no other is named. The exit status is 1 if a
 page is wrong, and if one of these has nothing to compare.
@@ -33,14 +30,15 @@ import subprocess
 import sys
 import tempfile
 
-from repository import PROGRAM, ROOT, blocks, columns, pages as all_pages, place
+from pages_programs import RATTLE
+from repository import PROGRAM, ROOT, blocks, columns, pages as all_pages, place, sources
+from shown import done, outcomes
 
 sys.path.insert(0, str(ROOT))
 
 from tools.measure import refused  # noqa: E402
 from tools.models.text_rows import Inputs  # noqa: E402
 
-COMMANDS = ("witcall", "./witcall", "~/.local/bin/witcall", "cd", "cat", "echo", "printf", "wc")
 HOSTS = ("README.md", "docs/LIBRARY.md", "docs/C.md")
 # an example of docs/ERRORS.md: a text or the parts of a call, and the line that answers it
 EXAMPLE = re.compile(r"`(package [^`]*)`( twice)?: `(error [^`]*)`")
@@ -51,8 +49,6 @@ JSON = re.compile(r"`([^`]*)`: ((?:`[^`]*`(?:, )?)+)")
 ROW = re.compile(r"let \w+ = |[^:|]+: .*=>|\{\"", re.M)
 EXAMPLES = "example, and its answer"
 ROWS = ROOT / "crates" / "vectors" / "data"
-# the status of a failure, by how its line begins
-FAILURES = {"error ": 1, "usage: ": 2, "trap ": 3}
 # commands that are answered by lines of docs/ERRORS.md without an example
 RUNS = {
     "error 20 read at P": "witcall show examples",
@@ -70,14 +66,13 @@ TOLD = re.compile(r"(?:error|trap) [^\n\"]+")
 class Pages:
     """The pages as they are checked: the program, a folder to run in, and what was found wrong."""
 
-    def __init__(self, program, folder, verbose):
-        self.folder, self.verbose, self.faults, self.checked = folder, verbose, 0, collections.Counter()
-        home = folder / ".local" / "bin"
-        home.mkdir(parents=True)
-        (home / "witcall").symlink_to(program)
-        (folder / "witcall").symlink_to(program)
+    def __init__(self, program, folder):
+        self.folder, self.faults, self.checked = folder, 0, collections.Counter()
+        commands = folder / "bin"
+        commands.mkdir()
+        (commands / "witcall").symlink_to(program)
         (folder / "examples").symlink_to(ROOT / "examples")
-        self.environment = {"PATH": f"{home}:/usr/bin:/bin", "HOME": str(folder), "LC_ALL": "C.UTF-8"}
+        self.environment = {"PATH": f"{commands}:/usr/bin:/bin", "HOME": str(folder), "LC_ALL": "C.UTF-8"}
 
     def expect(self, kind, where, what, found, said):
         """Counts one comparison of a kind, and prints it if the two differ."""
@@ -88,63 +83,13 @@ class Pages:
 
     def witcall(self, *words):
         """What the program does on these words: its status, and what it prints on each stream."""
-        run = [self.folder / "witcall", *words]
+        run = [self.folder / "bin" / "witcall", *words]
         ran = subprocess.run(run, cwd=self.folder, capture_output=True, text=True, check=False)
         return ran.returncode, ran.stdout, ran.stderr
 
-    def shell(self, commands):
-        """What each of these commands does, run one after another in one shell."""
-        outputs = [self.folder / f"output.{number}" for number in range(len(commands))]
-        script = "".join(
-            f"{{ {command}\n}} >'{output}' 2>'{output}.errors'; echo $? >'{output}.status'\n"
-            for command, output in zip(commands, outputs))
-        run = ["sh", "-c", script]
-        subprocess.run(run, cwd=self.folder, env=self.environment, stdin=subprocess.DEVNULL, check=False)
-        streams = [[pathlib.Path(f"{it}{end}").read_text() for end in (".status", "", ".errors")] for it in outputs]
-        return [(int(status), output, errors) for status, output, errors in streams]
-
-
-def done(*lines):
-    """What a command does that prints these lines: its status, and what it prints on each stream."""
-    text = "".join(f"{line}\n" for line in lines)
-    for begin, status in FAILURES.items():
-        if len(lines) == 1 and text.startswith(begin):
-            return status, "", text
-    return 0, text, ""
-
-
-def commands_of(block):
-    """The commands of a block, each with the lines of output below it."""
-    found, more = [], False
-    for line in block.splitlines():
-        if more:
-            found[-1][0] += "\n" + line
-        elif line.startswith("#"):
-            if found:
-                found[-1][1].append(line[1:].removeprefix(" "))
-        elif line:
-            found.append([line, []])
-        more = not line.startswith("#") and line.endswith("\\")
-    return found
-
-
-def can_run(command):
-    """Whether a command is one of COMMANDS, and proves nothing."""
-    return command.split()[0] in COMMANDS and "--prove" not in command.split("#")[0]
-
-
-def check_shell(pages, name, text):
-    """The blocks of `sh` of a page."""
-    for number, _, block in blocks(text, "sh"):
-        where, commands = f"{name}:{number}", commands_of(block)
-        for command, _ in commands:
-            if pages.verbose and not can_run(command):
-                print(f"{where}: not run: {command.splitlines()[0]}")
-        commands = [it for it in commands if can_run(it[0])]
-        if not any(output for _, output in commands):
-            continue
-        for (command, said), printed in zip(commands, pages.shell([it[0] for it in commands])):
-            pages.expect("sh", where, command, printed, done(*said))
+    def shell(self, command):
+        """What a command of a shell does."""
+        return outcomes([command], self.folder, cwd=self.folder, env=self.environment)[0]
 
 
 def examples(text):
@@ -169,7 +114,7 @@ def check_examples(pages, name, text, answers):
     for number, line, example in examples(text):
         where = f"{name}:{number}"
         if found := SHELL.search(example):
-            pages.expect("errors", where, found[1], pages.shell([found[1]])[0], done(line))
+            pages.expect("errors", where, found[1], pages.shell(found[1]), done(line))
             continue
         if found := EXAMPLE.search(example):
             file.write_text(found[1])
@@ -227,7 +172,7 @@ def check_lines(pages, name, text):
         if head == "step":
             pages.expect("steps", where, "a step of a stored answer", line if line in steps else None, line)
         elif line in RUNS:
-            status, output, errors = pages.shell([RUNS[line]])[0]
+            status, output, errors = pages.shell(RUNS[line])
             told = line if is_line(line, errors.removesuffix("\n")) else errors
             pages.expect("lines", where, RUNS[line], (status, output, f"{told}\n"), done(line))
         else:
@@ -289,18 +234,33 @@ def check_hosts(pages, name, text):
         pages.expect("hosts", where, "a stored run of an example", lines if there else None, lines)
 
 
+def check_code(pages, name, text):
+    """Blocks of `rust`, whose lines are those of a source."""
+    files = [[line.strip() for line in it.read_text().splitlines()] for it in sources(".rt")]
+    for number, _, block in blocks(text, "rust"):
+        lines = [line.strip() for line in block.splitlines() if line.strip()]
+        is_there = any(has_lines(it, lines) for it in files)
+        pages.expect("code", f"{name}:{number}", "lines of a source", lines if is_there else None, lines)
+
+
+def has_lines(text, lines):
+    """Whether a text has these lines, in this order."""
+    left = iter(text)
+    return all(line in left for line in lines)
+
+
 def main():
     parser = argparse.ArgumentParser(description=__doc__.splitlines()[0])
     parser.add_argument("--program", type=pathlib.Path, default=PROGRAM)
-    parser.add_argument("--verbose", action="store_true")
     given = parser.parse_args()
     if not given.program.is_file():
         sys.exit(f"tools/check_outputs.py: there is no {given.program}: build it, or name another by --program")
     with tempfile.TemporaryDirectory() as folder:
-        pages = Pages(given.program.resolve(), pathlib.Path(folder), given.verbose)
+        pages = Pages(given.program.resolve(), pathlib.Path(folder))
         for page in all_pages():
             name, text = place(page), page.read_text()
-            check_shell(pages, name, text)
+            if name in RATTLE:
+                check_code(pages, name, text)
             if name in HOSTS:
                 check_hosts(pages, name, text)
             if page.name == "ERRORS.md":
@@ -308,7 +268,7 @@ def main():
             if page.name == "FORMATS.md":
                 check_json(pages, text)
                 check_rows(pages, name, text)
-    kinds = ("sh", "errors", "rows of errors", "lines", "steps", "json", "rows", "hosts")
+    kinds = ("code", "errors", "rows of errors", "lines", "steps", "json", "rows", "hosts")
     nothing = [kind for kind in kinds if not pages.checked[kind]]
     if nothing:
         print(f"nothing is compared of: {', '.join(nothing)}")
