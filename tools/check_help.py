@@ -28,7 +28,7 @@ from repository import ROOT, finish, parser
 PACKAGING = ROOT / "packaging"
 # what is needed, each with the package of Debian that has it
 NEEDED = {"man": "man-db", "groff": "groff-base", "bash": "bash", "zsh": "zsh", "fish": "fish"}
-# options that no line of usage has
+# options that a line of usage may leave out
 UNTOLD = {"witcall": {"--with"}, "wit-explain": set()}
 OPTION = re.compile(r"(?<![\w-])--?[a-z]+\b")
 VALUES = re.compile(r"(--[a-z]+) ([a-z]+(?:\|[a-z]+)+)")
@@ -97,7 +97,7 @@ def forms_of(name, text):
 
 def help_of_witcall(program):
     """What witcall's usage line says, and the option that it doesn't have."""
-    forms = forms_of("witcall", output([program])[0])
+    forms = {without(UNTOLD["witcall"], form) for form in forms_of("witcall", output([program])[0])}
     options = {command_of(form): UNTOLD["witcall"] for form in sorted(forms)}
     return Help("witcall", forms, options, UNTOLD["witcall"])
 

@@ -109,17 +109,18 @@ wait "$seeds" || fail "no first inputs can be made"
 
 # Runs a harness with options of libFuzzer, over the inputs that were kept. In the gate nothing may depend on what a
 # folder's order is, or where things lie in memory: no operands of comparisons are kept, and leaks are looked for at the
-# end alone.
+# end alone. An input may take a minute there, since the machine may be busy.
 run() {
     harness=$1
     shift
     mkdir -p "$build/kept/$harness" "$build/found"
     if [ -n "$gate" ]; then
-        set -- "$@" -seed=1 -reload=0 -use_cmp=0 -detect_leaks=0 "-seed_inputs=@$build/seeds/$harness.list"
+        set -- "$@" -seed=1 -reload=0 -use_cmp=0 -detect_leaks=0 -timeout=60 \
+            "-seed_inputs=@$build/seeds/$harness.list"
     else
-        set -- "$@" "$build/kept/$harness" "$build/seeds/$harness"
+        set -- "$@" -timeout=10 "$build/kept/$harness" "$build/seeds/$harness"
     fi
-    "$build/$harness" -max_len=4096 -timeout=10 -dict="$build/seeds/words.dict" \
+    "$build/$harness" -max_len=4096 -dict="$build/seeds/words.dict" \
         -artifact_prefix="$build/found/$harness-" -print_final_stats=1 "$@"
 }
 

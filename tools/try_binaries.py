@@ -351,9 +351,8 @@ def main():
             binaries += trial.set(*sets.set(), f"set {number} of seed {given.seed}")
         for _ in range(given.count * 10):
             trial.damaged(*chance.choice(binaries), chance)
-    judged = f"{trial.judged_worlds} worlds made by the judge, {trial.panics} panics of it"
-    judged = "not judged" if given.unjudged else judged
-    print(f"{given.count} sets of seed {given.seed}, {trial.done} binaries, {judged}: {len(trial.faults)} faults")
+    judged = "" if given.unjudged else f", {trial.judged_worlds} worlds made by the judge, {trial.panics} panics of it"
+    print(f"{given.count} sets of seed {given.seed}, {trial.done} binaries{judged}: {len(trial.faults)} faults")
     sys.exit(bool(trial.faults))
 
 
