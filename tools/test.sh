@@ -3,8 +3,7 @@
 # runs over the release.
 #
 # usage: tools/test.sh                   all parts
-#        tools/test.sh --only PART..     these parts, over what out/built has of an earlier run
-#        tools/test.sh --list            the names of the parts
+#        tools/test.sh --only PART..     these parts, over what an earlier run built
 #
 # If the sources are newer than the release, and there is no toolchain, the tests of the release's own commit are run.
 #
@@ -13,67 +12,27 @@
 set -u
 PATH="$PATH:$HOME/.cargo/bin"
 cd "$(dirname "$0")/.." || exit 1
-only='' ran='' failed='' seconds=''
-case "${1-}" in
-    --only)
-        shift
-        only=" $* " ;;
-    --list) only=' - ' ;;
-    '') ;;
-    *)
-        echo "usage: tools/test.sh [--only PART.. | --list]" >&2
-        exit 2 ;;
-esac
-built=$PWD/out/built
+# the parts one after another, of which the last two need the toolchain; and those that run side by side afterwards
+FIRST='setup release copies pages'
+PROVED='proofs build'
+BESIDE='models hosts snippets fuzz bound outputs explain damaged memory install bindings texts binaries page pictures
+    aarch64 help terminal rows'
+logs=out/parts
+mkdir -p "$logs"
 if command -v rt >/dev/null; then
-    toolchain=yes
+    toolchain=yes built=$PWD/out/built
 else
-    toolchain=''
-    built=$PWD/out/released
-    [ "$only" = ' - ' ] || echo "No toolchain of Rattle (rt) is here: no proof is run, and all else is, over the release."
+    toolchain='' built=$PWD/out/released
 fi
-
-# Runs a part, and notes its seconds. The words after its name are its command.
-part() {
-    name=$1
-    shift
-    [ "$only" != ' - ' ] || { echo "$name"; return; }
-    case "${only:-" $name "}" in *" $name "*) ;; *) return ;; esac
-    echo "== $name"
-    began=$(date +%s)
-    "$@" || { echo "== FAILED: $name"; failed="$failed $name"; }
-    ran="$ran $name"
-    seconds="$seconds$(printf '%-13s %5d s' "$name" $(($(date +%s) - began)))
-"
-}
-
-# A part that the toolchain has to be there for, and that all later parts stand on.
-proved_part() {
-    [ -n "$toolchain" ] || return 0
-    part "$@"
-    [ -z "$failed" ] || finish
-}
-
-# Tells how long each part took, and compares the parts that ran with those of the page.
-finish() {
-    [ "$only" != ' - ' ] || exit 0
-    echo "== seconds"
-    printf '%s' "$seconds"
-    wanted=$(sed -n '/^## The parts/,/^## [^T]/p' docs/GATE.md | awk -F ' *[|] *' -v toolchain="$toolchain" '
-        $2 ~ /^`/ && (toolchain || $3 !~ /toolchain/) { gsub(/`/, "", $2); printf " %s", $2 }')
-    if [ -n "$only" ]; then
-        echo "These parts are not the gate:$ran"
-    elif [ -z "$failed" ] && [ "$ran" != "$wanted" ]; then
-        echo "FAILED: docs/GATE.md has the parts$wanted, and these ran:$ran"
-        exit 1
-    fi
-    [ -z "$failed" ] || { echo "FAILED:$failed"; exit 1; }
-    [ -z "$ran" ] && { echo "there is no such part"; exit 2; }
-    echo "all parts passed"
-    exit 0
-}
+WITCALL_LIBRARY="$built/libwitcall.so"
+WITCALL_MODULE="$built/witcall.wasm"
+export WITCALL_LIBRARY WITCALL_MODULE
 
 # ---- what the parts do
+
+setup() { tools/setup.sh; }
+
+release() { tools/check_release.sh; }
 
 # Stored copies are those of examples/.
 copies() {
@@ -84,30 +43,25 @@ copies() {
     cmp examples/c/shop.wit tests/explain/files/bind/shop.wit
 }
 
-# Runs commands, one a line of the input, and fails if one of them does.
-each() {
-    each_failed=0
+pages() {
+    failed=0
     while read -r line; do
         # shellcheck disable=SC2086 # the line is words
-        $line </dev/null || { echo "FAILED: $line"; each_failed=1; }
-    done
-    return $each_failed
-}
-
-pages() {
-    each <<'END'
-python3 -B tools/version.py
-python3 -B tools/check_names.py
-python3 -B tools/check_pages.py
-python3 -B tools/check_numbers.py
-python3 -B tools/check_conditions.py
-python3 -B tools/conditions_page.py --check
-python3 -B tools/check_surface.py
-python3 -B tools/crates_page.py --check
-python3 -B tools/edits_page.py --check
-python3 -B tools/api_pages.py --check
-python3 -B tools/definitions_page.py --check
+        python3 -B $line </dev/null || { echo "FAILED: $line"; failed=1; }
+    done <<'END'
+tools/version.py
+tools/check_names.py
+tools/check_pages.py
+tools/check_numbers.py
+tools/check_conditions.py
+tools/conditions_page.py --check
+tools/check_surface.py
+tools/crates_page.py --check
+tools/edits_page.py --check
+tools/api_pages.py --check
+tools/definitions_page.py --check
 END
+    return $failed
 }
 
 proofs() {
@@ -117,13 +71,24 @@ proofs() {
 }
 
 build() {
-    rm -rf out/built
-    tools/build.sh out/built && tools/check_release.sh out/built
+    rm -rf "$built"
+    tools/build.sh "$built" && tools/check_release.sh "$built"
 }
 
+models() { python3 -B -m tools.models check; }
+
 # The rows that `vectors` answers, each with its stored answer.
-rows() {
-    (cd crates/vectors/data && xargs "$built/vectors" <../args <../stdin) | cmp - crates/vectors/stdout
+# shellcheck disable=SC2046 # the names of files are words
+rows() { (cd crates/vectors/data && "$built/vectors" $(cat ../args) <../stdin) | cmp - crates/vectors/stdout; }
+
+outputs() { python3 -B tools/check_outputs.py --program "$built/witcall"; }
+
+# The commands and programs of the pages, over what was built. Those of an installation work over an older release, too.
+snippets() {
+    [ -n "$toolchain" ] || { python3 -B tools/run_pages.py; return; }
+    rm -rf out/packed
+    tools/pack.sh "$built" out/packed && python3 -B tools/run_pages.py --release out/packed || return 1
+    cmp -s out/packed/sources release/sources || python3 -B tools/run_pages.py --only README.md --only docs/INSTALL.md
 }
 
 # The stored runs of wit-explain, by both builds if they are there.
@@ -135,12 +100,26 @@ explain() {
         python3 -B tools/check_binaries.py --program "$built/wit-explain" $second
 }
 
-# What wit-explain binds: the stored header, the declarations for TypeScript by its compiler, headers by two compilers.
+terminal() { python3 -B tools/terminal_test.py --program "$built/wit-explain"; }
+
+help() { python3 -B tools/check_help.py --witcall "$built/witcall" --wit-explain "$built/wit-explain"; }
+
+# What wit-explain binds: the stored header, and the declarations for TypeScript by its compiler.
 bound() {
     "$built/wit-explain" bind c examples/c/shop.wit | cmp - examples/c/shop.h &&
-        python3 -B tools/check_declarations.py --program "$built/wit-explain" &&
-        python3 -B tools/check_bindings.py --program "$built/wit-explain" 30 1
+        python3 -B tools/check_declarations.py --program "$built/wit-explain"
 }
+
+# Headers of random packages, by two compilers, and called.
+bindings() { python3 -B tools/check_bindings.py --program "$built/wit-explain" 100 1; }
+
+damaged() { python3 -B -m tools.models damaged "$built/witcall" 2000; }
+
+texts() { python3 -B tools/changed_texts.py 5000 "$built/witcall"; }
+
+binaries() { python3 -B tools/try_binaries.py --unjudged --program "$built/wit-explain" 100 1; }
+
+pictures() { python3 -B tools/pictures.py --check --program "$built/witcall"; }
 
 # The programs with memory that is refused or small, and with counts that no input holds.
 memory() {
@@ -149,8 +128,64 @@ memory() {
         python3 -B -m tools.measure largest-request --brief "$built/witcall"
 }
 
+hosts() { examples/run.sh --from "$built"; }
+
+aarch64() { tools/aarch64.sh --test "$built"; }
+
+page() { python3 -B tools/page_test.py; }
+
+fuzz() { tools/fuzz.sh --from "$built" --gate; }
+
+install() { tools/check_install.sh "$built"; }
+
+# ---- how they run
+
+# Runs a part. What it prints goes to a file, and its status and seconds to another.
+run() {
+    began=$(date +%s)
+    "$1" >"$logs/$1.log" 2>&1
+    echo "$? $(($(date +%s) - began))" >"$logs/$1.status"
+}
+
+# Prints what a part printed.
+show() {
+    echo "== $1"
+    cat "$logs/$1.log"
+    read -r status taken <"$logs/$1.status" || status=1 taken=0
+    [ "$status" = 0 ] || { echo "== FAILED: $1"; failures="$failures $1"; }
+    ran="$ran $1"
+    seconds="$seconds$(printf '%-9s %5d s' "$1" "$taken")
+"
+}
+
+# Runs parts one after another, and prints what each does meanwhile. It stops after one that fails.
+one_by_one() {
+    for name; do
+        echo "== $name"
+        began=$(date +%s)
+        "$name" || failures="$failures $name"
+        ran="$ran $name"
+        seconds="$seconds$(printf '%-9s %5d s' "$name" $(($(date +%s) - began)))
+"
+        [ -z "$failures" ] || finish
+    done
+}
+
+# Tells how long each part took, and compares the parts that ran with those of the page.
+finish() {
+    printf '== seconds\n%s' "$seconds"
+    [ -z "$failures" ] || { echo "FAILED:$failures"; exit 1; }
+    sed -n '/^## The parts/,/^## [^T]/p' docs/GATE.md | awk -F ' *[|] *' -v toolchain="$toolchain" '
+        $2 ~ /^`[a-z0-9]+`$/ && (toolchain || $3 !~ /toolchain/) { gsub(/`/, "", $2); print $2 }' | sort >"$logs/wanted"
+    echo "$ran" | tr ' ' '\n' | sed '/^$/d' | sort | diff "$logs/wanted" - ||
+        { echo 'FAILED: docs/GATE.md has other parts (<) than those that ran (>)'; exit 1; }
+    echo "all parts passed"
+    exit 0
+}
+
 # The tests of the release's own commit, in a clone.
 released_tests() {
+    echo "The sources are newer than the release $(cat release/version): the tests of its own commit are run."
     room=$(mktemp -d)
     git clone --quiet . "$room/witcall" &&
         git -C "$room/witcall" checkout --quiet "$(git log -1 --format=%H -- VERSION)" &&
@@ -160,29 +195,43 @@ released_tests() {
     exit $status
 }
 
-# ---- the parts
-
-if [ -z "$toolchain$only" ] && ! tools/sources.sh --shipped | cmp -s - release/sources; then
-    echo "The sources are newer than the release $(cat release/version): the tests of its own commit are run."
-    released_tests
-fi
-part setup tools/setup.sh
-part release tools/check_release.sh
-part copies copies
-part pages pages
-part models python3 -B -m tools.models check
-proved_part proofs proofs
-proved_part build build
+ran='' failures='' seconds=''
+case "${1-}" in
+    --only)
+        shift
+        for name; do
+            case " $(echo $FIRST $PROVED $BESIDE) " in
+                *" $name "*) "$name" || { echo "FAILED: $name"; failures=yes; } ;;
+                *) echo "tools/test.sh: no part $name" >&2; exit 2 ;;
+            esac
+        done
+        [ -z "$failures" ]
+        exit ;;
+    --run) # a part in the background
+        run "$2"
+        exit 0 ;;
+    '') ;;
+    *)
+        echo "usage: tools/test.sh [--only PART..]" >&2
+        exit 2 ;;
+esac
 if [ -z "$toolchain" ]; then
+    echo "There is no toolchain of Rattle (rt) here: no proof is run, and all else is, over the release."
+    tools/sources.sh --shipped | cmp -s - release/sources || released_tests
+fi
+# shellcheck disable=SC2086 # the names are words
+one_by_one $FIRST
+if [ -n "$toolchain" ]; then
+    # shellcheck disable=SC2086 # the names are words
+    one_by_one $PROVED
+else
     tools/unpack.sh "$built" || exit 1
 fi
-part outputs python3 -B tools/check_outputs.py --program "$built/witcall"
-part explain explain
-part bound bound
-part damaged python3 -B -m tools.models damaged "$built/witcall" 2000
-part pictures python3 -B tools/pictures.py --check --program "$built/witcall"
-part memory memory
-part hosts examples/run.sh --from "$built"
-part aarch64 tools/aarch64.sh --test "$built"
-part install tools/check_install.sh "$built"
+for name in $BESIDE; do
+    rm -f "$logs/$name".*
+    echo "$name"
+done | xargs -P "$(tools/jobs.sh)" -I{} tools/test.sh --run {}
+for name in $BESIDE; do
+    show "$name"
+done
 finish

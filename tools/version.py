@@ -21,9 +21,10 @@ from repository import ROOT, finish
 
 NEXT = "next"
 TEXT = re.compile(r"(\d+\.\d+\.\d+)\+([0-9a-f]{12}|next)")
-NUMBER, WHOLE, COMMIT = r"(?P<number>\d+\.\d+\.\d+)", r"(?P<text>\d+\.\d+\.\d+\+\w+)", r"(?P<commit>[0-9a-f]{12})"
+NUMBER, WHOLE = r"(?P<number>\d+\.\d+\.\d+)", r"(?P<text>\d+\.\d+\.\d+\+\w+)"
+MINOR, COMMIT = r"(?P<minor>\d+\.\d+)", r"(?P<commit>[0-9a-f]{12})"
 EXPORTS, SPECS = "crates/witcall_c/src/exports.rt", "crates/witcall_c/specs/Version.antt"
-# each file, and a place in it: the version's number, the text of the library, or the release's commit
+# each file, and a place in it: the version's number, its first two numbers, the library's text, or the release's commit
 PLACES = [
     ("VERSION", rf"^{NUMBER}$"),
     ("include/witcall.h", rf'^#define WITCALL_VERSION "{NUMBER}"$'),
@@ -37,6 +38,10 @@ PLACES = [
     ("bindings/rust/Cargo.toml", rf'^version = "{NUMBER}"$'),
     ("bindings/js/package.json", rf'^  "version": "{NUMBER}",$'),
     ("bindings/js/README.md", rf"\bwitcall-{NUMBER}\.tgz\b"),
+    ("examples/c/CMakeLists.txt", rf"^find_package\(witcall {MINOR} REQUIRED\)$"),
+    ("docs/C.md", rf"`find_package\(witcall {MINOR} REQUIRED\)`"),
+    ("bindings/python/README.md", rf"^# {NUMBER}(?:\+|$)"),
+    ("bindings/python/README.md", rf"^# [0-9.]+\+{COMMIT}$"),
     ("README.md", rf"^# witcall {NUMBER} \("),
     ("README.md", rf"^# witcall [0-9.]+ \({COMMIT}\)"),
     ("docs/INSTALL.md", rf"^# witcall {NUMBER} \("),
@@ -64,6 +69,11 @@ def bytes_of(text):
     return " ∷ ".join(f"{byte:#04x}" for byte in text.encode())
 
 
+def minor_of(number):
+    """The first two numbers of a version."""
+    return number.rpartition(".")[0]
+
+
 def text_of_library():
     """The version that the library tells."""
     return re.search(PLACES[2][1], read(EXPORTS), re.M)["text"]
@@ -78,7 +88,7 @@ def sources_are_released():
 def faults():
     """What is wrong, a line each."""
     number, text, commit = read("VERSION").strip(), text_of_library(), read("release/commit").strip()
-    wanted = {"number": number, "text": text, "commit": commit}
+    wanted = {"number": number, "minor": minor_of(number), "text": text, "commit": commit}
     yield from (f"{path} has {found}, and not {wanted[kind]}" for path, kind, found in places() if found != wanted[kind])
     if not (told := TEXT.fullmatch(text)) or told[1] != number:
         yield f"{EXPORTS} has {text}, which is no version {number}"
@@ -100,7 +110,9 @@ def faults():
 def write(text):
     """Writes a version into all places. The number and the commit stay where it ends in NEXT."""
     number, commit = text.split("+")
-    new = {"text": text} if commit == NEXT else {"number": number, "text": text, "commit": commit}
+    new = {"text": text}
+    if commit != NEXT:
+        new |= {"number": number, "minor": minor_of(number), "commit": commit}
     for path, pattern in PLACES:
         kind = re.search(r"\?P<(\w+)>", pattern)[1]
         if kind in new:
