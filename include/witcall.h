@@ -43,7 +43,7 @@
 
 /* The version of this header, and the number of the binary interface that it declares. witcall_version and witcall_abi return those of the
  * library. A host may use a library whose interface has the same number. */
-#define WITCALL_VERSION "0.2.0"
+#define WITCALL_VERSION "0.3.0"
 #define WITCALL_ABI 2
 
 #ifdef __cplusplus
