@@ -152,7 +152,7 @@ cargo run --quiet --offline --manifest-path examples/rust/Cargo.toml | diff exam
 python3 -m venv --system-site-packages python
 python/bin/pip install --quiet --no-index --no-build-isolation ./bindings/python
 released="$(cat release/version)+$(cat release/commit)"
-[ "$(cd / && "$HOME/witcall/python/bin/python" -c 'import witcall; print(witcall.version())')" = "$released" ]
+[ "$(cd / && "$HOME/witcall/python/bin/python" -c 'import witcall; print(witcall.library_version())')" = "$released" ]
 tools/install.sh --uninstall --prefix "$prefix"
 [ ! -e "$prefix" ]
 END

@@ -12,7 +12,7 @@
 set -u
 PATH="$PATH:$HOME/.cargo/bin"
 cd "$(dirname "$0")/.." || exit 1
-# the parts one after another, of which the last two need the toolchain; and those that run side by side afterwards
+# the parts one after another; those that need the toolchain, as `tried` does; and those that run side by side afterwards
 FIRST='setup release copies pages'
 PROVED='proofs build'
 BESIDE='models hosts snippets fuzz bound outputs explain damaged memory install bindings texts binaries page pictures
@@ -21,6 +21,7 @@ logs=out/parts
 mkdir -p "$logs"
 if command -v rt >/dev/null; then
     toolchain=yes built=$PWD/out/built
+    BESIDE="tried $BESIDE"
 else
     toolchain='' built=$PWD/out/released
 fi
@@ -37,8 +38,8 @@ release() { tools/check_release.sh; }
 # Stored copies are those of examples/.
 copies() {
     cmp examples/c.wit crates/program/data/c.wit || return 1
-    for name in clocks random cli app; do
-        cmp "examples/wasi/$name.wit" "crates/vectors/data/$name.wit" || return 1
+    for file in clocks random cli app; do
+        cmp "examples/wasi/$file.wit" "crates/vectors/data/$file.wit" || return 1
     done
     cmp examples/c/shop.wit tests/explain/files/bind/shop.wit
 }
@@ -89,6 +90,13 @@ snippets() {
     rm -rf out/packed
     tools/pack.sh "$built" out/packed && python3 -B tools/run_pages.py --release out/packed || return 1
     cmp -s out/packed/sources release/sources || python3 -B tools/run_pages.py --only README.md --only docs/INSTALL.md
+}
+
+# The block of docs/INSTALL.md that compiles the program with checks, and proves nothing.
+tried() {
+    block=$(sed -n '/^cd crates\/program$/,/^```$/p' docs/INSTALL.md | sed '$d')
+    wanted=$(echo "$block" | sed -n 's/^# //p')
+    sh -ec "$block" </dev/null >"$logs/tried.out" && grep -qxF "$wanted" "$logs/tried.out"
 }
 
 # The stored runs of wit-explain, by both builds if they are there.
@@ -160,12 +168,12 @@ show() {
 
 # Runs parts one after another, and prints what each does meanwhile. It stops after one that fails.
 one_by_one() {
-    for name; do
-        echo "== $name"
+    for part; do
+        echo "== $part"
         began=$(date +%s)
-        "$name" || failures="$failures $name"
-        ran="$ran $name"
-        seconds="$seconds$(printf '%-9s %5d s' "$name" $(($(date +%s) - began)))
+        "$part" || failures="$failures $part"
+        ran="$ran $part"
+        seconds="$seconds$(printf '%-9s %5d s' "$part" $(($(date +%s) - began)))
 "
         [ -z "$failures" ] || finish
     done
