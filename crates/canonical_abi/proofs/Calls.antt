@@ -9,3 +9,4 @@ pub mod CallKeepsPromise
 pub mod ResultIsHeld
 pub mod TameLinkKeepsPromise
 pub mod TameCallKeepsPromise
+pub mod TameHalvesKeepPromise

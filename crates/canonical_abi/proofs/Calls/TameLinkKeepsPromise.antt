@@ -66,7 +66,7 @@ module _ (parties : Parties) (caller_releases callee_releases : Release) (order 
   arguments-faulty old k done new (inr (inl (kinds, faulty, none, is))) = ap (λ w. w.caller) is
   arguments-faulty old k done new (inr (inr (kinds, es, until, part, begun, caller, body))) = caller
 
-  result-faulty : (answer : List Flat) (answered new : World) (k : TrapKind) (done : List Event) → ResultFaulty parties order f flats answered answer k done new → Goes answered new
+  pub result-faulty : (answer : List Flat) (answered new : World) (k : TrapKind) (done : List Event) → ResultFaulty parties order f flats answered answer k done new → Goes answered new
   result-faulty answer answered new k done (inl (faulty, none, is)) = goes-same answered new (ap (λ w. w.caller) is)
   result-faulty answer answered new k done (inr (tested, es, until, part, begun, callee, body)) =
       let front = granted-part order (InArea results area) done es part
@@ -77,7 +77,7 @@ module _ (parties : Parties) (caller_releases callee_releases : Release) (order 
         leaves-same 0 0 new.caller,
       )
 
-  result-fails : (answer : List Flat) (answered new : World) (k : TrapKind) (done : List Event) → ResultFails parties order f flats answered answer k done new → Goes answered new × ((k ≡ trap.Full) ⊎ ReturnAreaFaulty f flats answered.caller k)
+  pub result-fails : (answer : List Flat) (answered new : World) (k : TrapKind) (done : List Event) → ResultFails parties order f flats answered answer k done new → Goes answered new × ((k ≡ trap.Full) ⊎ ReturnAreaFaulty f flats answered.caller k)
   result-fails answer answered new k done (inl (stands, faulty, none, is)) = (goes-same answered new (ap (λ w. w.caller) is), inr faulty)
   result-fails answer answered new k done (inr (stands, es, script, breaks, is_done, callee, body)) =
       let made = broken parties.caller_allocates caller_releases tame.caller (InArea results area) answered.caller es k new.caller
@@ -104,7 +104,7 @@ module _ (parties : Parties) (caller_releases callee_releases : Release) (order 
   call-goes old (Err (Trap t)) ways new traps = traps-go old t.step t.kind ways new traps
   call-goes old (Err NoMemory) ways new g = gives-up-goes order old ways new g
 
-  goes-outside : (old new : World) → Goes old new → LeavesLive area (area_size f) old.caller new.caller
+  pub goes-outside : (old new : World) → Goes old new → LeavesLive area (area_size f) old.caller new.caller
   goes-outside old new went =
       went-leaves parties.caller_allocates caller_releases tame.caller (InArea results area) old.caller new.caller area (area_size f)
       (λ x i. subst (λ b. IsWithin x area (cond b 0 (size (record_type results)))) (sym i.0) i.1) went
@@ -145,18 +145,18 @@ module _ (parties : Parties) (caller_releases callee_releases : Release) (order 
   fails-ran answer answered k done new (inl (stands, faulty, none, is)) = (ap (λ w. w.callee) is, ap (λ w. w.body) is)
   fails-ran answer answered k done new (inr (stands, es, script, breaks, is_done, callee, body)) = (callee, body)
 
-  answer-denotes-fault : (answer : List Flat) (answered : World) (k : TrapKind) (done : List Event) (new : World) → ResultFaulty parties order f flats answered answer k done new → DenotesFault max_flat_results results answered.callee.bytes answer k
+  pub answer-denotes-fault : (answer : List Flat) (answered : World) (k : TrapKind) (done : List Event) (new : World) → ResultFaulty parties order f flats answered answer k done new → DenotesFault max_flat_results results answered.callee.bytes answer k
   answer-denotes-fault answer answered k done new (inl (faulty, none, is)) = address-denotes-fault max_flat_results results answered.callee.bytes answer k faulty
   answer-denotes-fault answer answered k done new (inr (tested, es, until, part, begun, callee, body)) =
       result-denotes-fault max_flat_results results answered.callee.bytes answer area k es until
 
-  argument-fault : (old : World) (k : TrapKind) (done : List Event) (new : World) → ArgumentsFaulty parties order f flats old k done new → IsArgumentFault f flats old.caller k
+  pub argument-fault : (old : World) (k : TrapKind) (done : List Event) (new : World) → ArgumentsFaulty parties order f flats old k done new → IsArgumentFault f flats old.caller k
   argument-fault old k done new (inl (kinds, is_k, none, is)) = inl (kinds, is_k)
   argument-fault old k done new (inr (inl (kinds, faulty, none, is))) = inr (kinds, address-denotes-fault max_flat_params f.params _ _ k faulty)
   argument-fault old k done new (inr (inr (kinds, es, until, part, begun, caller, same))) = inr (kinds, params-denote-fault max_flat_params f.params _ _ k es until)
 
   module _ (standard : IsStandardFunction f) (old : World) where
-    found : (values : List Value) (handed : List Flat) (there : List Event) (entered : World) → Enters parties f flats old values handed there entered
+    pub found : (values : List Value) (handed : List Flat) (there : List Event) (entered : World) → Enters parties f flats old values handed there entered
         → (answer : Option (List Flat)) (ran : World) → Runs parties f flats entered handed answer ran → FindsLive parties f values old answer ran
     found values handed there entered e answer ran r =
         let aligned = passes-aligned max_flat_params f.params values there handed e.passes in
@@ -178,7 +178,7 @@ module _ (parties : Parties) (caller_releases callee_releases : Release) (order 
     pub answered-found : (answer : List Flat) (there : List Event) (answered : World) (a : Answered parties f flats old answer there answered) → FindsLive parties f a.values old (Some answer) answered
     answered-found answer there answered a = found a.values a.handed there a.entered a.enters (Some answer) answered a.runs
 
-    answered-once : (After : Option (List Flat) → World → Type 0) (answer : List Flat) (there : List Event) (answered : World) → Answered parties f flats old answer there answered → After (Some answer) answered → LinksLive parties f flats old After
+    pub answered-once : (After : Option (List Flat) → World → Type 0) (answer : List Flat) (there : List Event) (answered : World) → Answered parties f flats old answer there answered → After (Some answer) answered → LinksLive parties f flats old After
     answered-once After answer there answered a after = record {
       arguments = a.values;
       held = a.enters.denoted;

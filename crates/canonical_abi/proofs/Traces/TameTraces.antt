@@ -14,7 +14,7 @@ use Rattle.canonical_abi.specs.Tame.{LeavesLive, IsTame}
 use Rattle.canonical_abi.specs.declared.trap.TrapKind.{TrapKind}
 use Rattle.canonical_abi.specs.declared.trap.TrapKind.TheVariants as trap
 use Rattle.canonical_abi.proofs.Traces.BytesWrittenOver.{same_byte, length-overwrite, overwrite-in, overwrite-out, within_or_not, slice-of}
-use Rattle.canonical_abi.proofs.Traces.WhatTracesKeep.{not-both, grant-longer, aligned-first, aligned-second}
+use Rattle.canonical_abi.proofs.Traces.WhatTracesKeep.{not-both, aligned-first, aligned-second}
 use Rattle.canonical_abi.proofs.StoredValues.WritesOwnPlaceAndBlocks.{Confined, confined-front}
 use Rattle.canonical_abi.proofs.Traces.StoppedTracesAreConfined.{confined-left, aligned-left}
 use Rattle.canonical_abi.proofs.Traces.ConfinedTraces.{Fine}
@@ -40,33 +40,6 @@ leaves-more lent size old new k = record { no_shorter = k.no_shorter; live = k.l
 
 byte-left : (old new : Memory) → LeavesLive 0 0 old new → (a : ℕ) → old.live a ≡ true → a < length old.bytes → slice_get new.bytes a ≡ slice_get old.bytes a
 byte-left old new k a is below = k.bytes a is below (inr (omega arith))
-
--- an honest guest is tame
-pub honest-is-tame : (allocates : Allocation) (releases : Release) → IsHonest allocates releases → IsTame allocates releases
-honest-is-tame allocates releases honest = record {
-  granted = λ old align size at new al step.
-      let g = honest.granted old align size at new al step in
-      record {
-        aligned = g.aligned;
-        inside = g.inside;
-        was_free = g.was_free;
-        is_live = g.is_live;
-        leaves = record {
-          no_shorter = grant-longer old new align size at g;
-          live = g.stays_live;
-          bytes = λ a is below out. g.same_outside a below (elim (within_or_not a at size) [ inl w ↦ absurd (not-both is (g.was_free a w)) | inr o ↦ o ]);
-        };
-      };
-  full = λ old align size new step. subst (λ m. LeavesLive 0 0 old m) (sym (honest.full old align size new step)) (leaves-same 0 0 old);
-  taken = λ old at size new step.
-      let r = honest.taken old at size new step in
-      record {
-        no_shorter = subst (λ bs. length old.bytes ≤ length bs) (sym r.same_bytes) (omega arith);
-        stays_live = r.stays_live;
-        bytes = λ a is still below. ap (λ bs. slice_get bs a) r.same_bytes;
-      };
-  not_taken = λ old at size new step. subst (λ m. LeavesLive 0 0 old m) (sym (honest.not_taken old at size new step)) (leaves-same 0 0 old);
-}
 
 -- the weakest honest guest
 pub any-is-honest : IsHonest AnyGrant AnyRelease

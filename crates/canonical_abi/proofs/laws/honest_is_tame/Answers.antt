@@ -1,5 +1,5 @@
-use Rattle.canonical_abi.proofs.Traces.TameTraces.{honest-is-tame}
+use Rattle.canonical_abi.specs.TameLaws.{HonestIsTame}
 use Rattle.canonical_abi.proofs.laws.honest_is_tame.Goals as goal
 
 pub returns : goal.returns
-returns g c = honest-is-tame _ _
+returns g c = HonestIsTame _ _
