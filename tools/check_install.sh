@@ -170,7 +170,8 @@ for folder in /usr /bin /lib /lib64 $rust; do
     mount --bind "$folder" "$to"
     mount -o remount,bind,ro "$to"
 done
-exec chroot --userspec=1000:1000 "$clean" /usr/bin/env -i HOME=/home/user PATH=/opt/rust/bin:/usr/bin:/bin "$@"
+exec chroot --userspec=1000:1000 "$clean" /usr/bin/env -i HOME=/home/user PATH=/opt/rust/bin:/usr/bin:/bin \
+    RUSTFLAGS="${RUSTFLAGS-}" "$@"
 END
 
 # The user's steps.

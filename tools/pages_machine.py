@@ -105,6 +105,7 @@ class Machine:
         there = [it for it in os.environ["PATH"].split(":") if it in SYSTEM or not pathlib.Path(it, "witcall").exists()]
         rust = pathlib.Path(os.environ.get("RUSTUP_HOME", pathlib.Path.home() / ".rustup"))
         kept = {"RUSTUP_HOME": str(rust)} if rust.is_dir() else {}
+        kept["RUSTFLAGS"] = os.environ.get("RUSTFLAGS", "")
         path = ":".join([*map(str, own), *there])
         return {**OFFLINE, **kept, "PATH": path, "HOME": str(home), "LC_ALL": "C.UTF-8", "EXPLAIN": str(self.explain)}
 

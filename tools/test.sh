@@ -27,7 +27,11 @@ else
 fi
 WITCALL_LIBRARY="$built/libwitcall.so"
 WITCALL_MODULE="$built/witcall.wasm"
-export WITCALL_LIBRARY WITCALL_MODULE
+# rust-lld, which newer releases of rustc link with, has stood still for ever with several threads.
+RUSTFLAGS="${RUSTFLAGS-} -C link-arg=-fuse-ld=bfd"
+export WITCALL_LIBRARY WITCALL_MODULE RUSTFLAGS
+# what a part may take, in seconds
+LIMIT=2400
 
 # ---- what the parts do
 
@@ -159,7 +163,8 @@ run() {
 show() {
     echo "== $1"
     cat "$logs/$1.log"
-    read -r status taken <"$logs/$1.status" || status=1 taken=0
+    [ -s "$logs/$1.status" ] || echo "1 $LIMIT" >"$logs/$1.status"
+    read -r status taken <"$logs/$1.status"
     [ "$status" = 0 ] || { echo "== FAILED: $1"; failures="$failures $1"; }
     ran="$ran $1"
     seconds="$seconds$(printf '%-9s %5d s' "$1" "$taken")
@@ -238,7 +243,7 @@ fi
 for name in $BESIDE; do
     rm -f "$logs/$name".*
     echo "$name"
-done | xargs -P "$(tools/jobs.sh)" -I{} tools/test.sh --run {}
+done | xargs -P "$(tools/jobs.sh)" -I{} timeout "$LIMIT" tools/test.sh --run {}
 for name in $BESIDE; do
     show "$name"
 done

@@ -3,7 +3,7 @@
 use std::alloc::{AllocError, Global};
 
 /// The program and its version.
-pub static VERSION: &str = "wit-explain 0.3.0+862b1b05efb8\n";
+pub static VERSION: &str = "wit-explain 0.3.0+next\n";
 
 static PROGRAM: &str = "\
 wit-explain: faults of WIT files with lines, pictures of types, calls step by step, and bindings for C and TypeScript

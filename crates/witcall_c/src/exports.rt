@@ -38,7 +38,7 @@ use std::alloc::Global;
 use tables::Direction;
 
 /// The version of the library, `+`, and the commit that the release was made of, or `next` after a release.
-const VERSION: &[u8] = b"0.3.0+862b1b05efb8";
+const VERSION: &[u8] = b"0.3.0+next";
 
 /// The number of the binary interface that the header declares. Another number means that a host has to be compiled
 /// anew.
