@@ -1,3 +1,4 @@
+pub mod TiledTexts
 pub mod BlankRuns
 pub mod OpenComments
 pub mod IdentifiersAreLabels

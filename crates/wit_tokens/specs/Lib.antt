@@ -7,3 +7,4 @@ pub mod Laws
 pub mod Syntax
 pub mod View
 pub mod FullNames
+pub mod Pieces

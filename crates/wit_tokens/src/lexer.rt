@@ -34,7 +34,7 @@ pub enum Front {
 
 /// A token's kind, and how many bytes it takes.
 #[derive(Clone, Copy)]
-struct Piece {
+struct FrontToken {
     kind: TokenKind,
     len: usize,
 }
@@ -66,7 +66,7 @@ fn is_in_version(byte: u8) -> bool
     letter(byte) || byte.is_ascii_digit() || byte == b'.' || byte == b'+' || byte == b'-'
 }
 
-fn begins_letter(text: &[u8]) -> bool
+pub fn begins_letter(text: &[u8]) -> bool
     ensures { result ≡ begins_letter text.now }
 {
     match text {
@@ -94,7 +94,7 @@ fn begins_pair(text: &[u8], first: u8, second: u8) -> bool
 }
 
 /// Where the run of blanks ends that begins at a place.
-fn blank_end(text: &[u8], from: usize) -> usize
+pub fn blank_end(text: &[u8], from: usize) -> usize
     requires { from ≤ length text.now }
     ensures is { result ≡ from + blank_run (drop from text.now) }
     ensures within { result ≤ length text.now }
@@ -396,8 +396,8 @@ fn front_of(text: &[u8]) -> Front
 }
 
 /// What stands at a place of the text.
-#[cold]
-fn front_at(text: &[u8], at: usize) -> Front
+#[inline(never)]
+pub fn front_at(text: &[u8], at: usize) -> Front
     requires within { at < length text.now }
     requires small { length text.now < 2 ^ 60 }
     ensures is { result ≡ front_of (drop at text.now) }
@@ -407,13 +407,13 @@ fn front_at(text: &[u8], at: usize) -> Front
 }
 
 /// The word at the front, if it is a label of lower-case letters and digits. `None` says nothing.
-fn lower_word(text: &[u8]) -> Option<Piece>
+fn lower_word(text: &[u8]) -> Option<FrontToken>
     requires { IsTrue (begins_lower text.now) }
     ensures is { IfSome result (λ p. token p.kind p.len ≡ front_of text.now) }
     ensures within { IfSome result (λ p. (0 < p.len) × (p.len ≤ length text.now)) }
 {
     match lower_word_len(text) {
-        Some(len) if len <= 255 => Some(Piece {
+        Some(len) if len <= 255 => Some(FrontToken {
             kind: word_kind(&text[..len]),
             len,
         }),
@@ -422,7 +422,7 @@ fn lower_word(text: &[u8]) -> Option<Piece>
 }
 
 /// The token at the front, if it is one of those that most texts are made of. `None` says nothing.
-fn common_front(text: &[u8]) -> Option<Piece>
+fn common_front(text: &[u8]) -> Option<FrontToken>
     ensures is { IfSome result (λ p. token p.kind p.len ≡ front_of text.now) }
     ensures within { IfSome result (λ p. (0 < p.len) × (p.len ≤ length text.now)) }
 {
@@ -433,7 +433,7 @@ fn common_front(text: &[u8]) -> Option<Piece>
         return lower_word(text);
     }
     match mark_of(*first) {
-        Some(mark) => Some(Piece {
+        Some(mark) => Some(FrontToken {
             kind: TokenKind::Punctuation(mark),
             len: 1,
         }),

@@ -9,6 +9,8 @@ mod lanes;
 mod laws;
 mod lexer;
 mod mark;
+mod piece;
+mod tiling;
 mod token;
 pub mod wit_syntax;
 
@@ -17,4 +19,6 @@ pub use keyword::{keyword_of, spelling};
 pub use laws::texts_have_one_lexing;
 pub use lexer::lex;
 pub use mark::mark_text;
+pub use piece::{Piece, PieceKind};
+pub use tiling::pieces;
 pub use token::{Keyword, Punctuation, Span, Token, TokenKind};
