@@ -1,3 +1,4 @@
+pub mod AskedAhead
 pub mod RequestsOfParts
 pub mod RequestsOfWholeWays
 pub mod VisitedNodesAreFew

@@ -1,5 +1,5 @@
 //! The call itself.
-ghost use Rattle.std.specs.Prelude.{◌≡◌, ◌≢◌, ◌+◌, ◌*◌, ◌≤◌, min, [], Err, Some, length, IfOk, OnOk, IfErr};
+ghost use Rattle.std.specs.Prelude.{◌≡◌, ◌≢◌, ◌+◌, ◌*◌, ◌≤◌, min, [], Err, Some, length, map, IfOk, OnOk, IfErr};
 ghost use Rattle.adapter.specs.Asking.{IsToldAhead};
 ghost use Rattle.canonical_abi.specs.Call.{Calls, Ways, exact, AllowsSameRuns, AllowsSamePosts, KindsFit};
 ghost use Rattle.canonical_abi.specs.Few.{AreFewNodes};
@@ -7,13 +7,15 @@ ghost use Rattle.canonical_abi.specs.Flat.{Denotes, DenotesFault};
 ghost use Rattle.canonical_abi.specs.Halves.{as_world, HasEntered, EntryFails, HasReturned, ReturnFails, RunsBetween};
 ghost use Rattle.canonical_abi.specs.Halves.{CallsInHalves};
 ghost use Rattle.canonical_abi.specs.Headline.{IsLinkPromised, AreArguments, IsArgumentFault};
-ghost use Rattle.canonical_abi.specs.Layout.{max_flat_params, max_flat_results, size};
+ghost use Rattle.canonical_abi.specs.Layout.{lifted_signature, max_flat_params, max_flat_results, size};
+ghost use Rattle.canonical_abi.specs.Reading.{kind_of};
 ghost use Rattle.canonical_abi.specs.Requests.{params_requests, fields_requests};
 ghost use Rattle.canonical_abi.specs.Tame.{IsLinkPromisedLive};
 ghost use Rattle.canonical_abi.specs.Types.{record_type, result_fields};
 ghost use Rattle.canonical_abi.specs.declared.trap.Step.TheVariants.{LiftArgs, LiftResult};
 ghost use Rattle.tables.specs.Closed.{function_type, IsFunction};
 ghost use Rattle.layout.specs.Layout.{layouts_of, AreWithin};
+ghost use Rattle.adapter.specs.Ahead.{arguments_asked, result_asked, HalfTellsLimit};
 ghost use Rattle.adapter.specs.Asked.{IsUnasked};
 ghost use Rattle.adapter.specs.Carrying.{listed_answer};
 ghost use Rattle.adapter.specs.Leaving.{LeaveFails};
@@ -221,6 +223,9 @@ impl<'a> Link<'a> {
         ensures fault { let f = function_type self.old.resolve func in
             IfErr result (IsUnasked LiftArgs (AreArguments f flats.now (C.memory caller.now))
             (IsArgumentFault f flats.now (C.memory caller.now)) (params_requests max_flat_params f.params) limit) }
+        ensures limit { let f = function_type self.old.resolve func in
+            KindsFit f flats.now
+            → HalfTellsLimit (arguments_asked f flats.now (C.memory caller.now).bytes) limit result }
         ensures few { self.new.there ≤ 64 * (limit + 16) }
         ensures each { IfOk result (λ count. count ≤ self.new.there + 1) }
         ensures back { self.new.back ≡ self.old.back }
@@ -249,6 +254,10 @@ impl<'a> Link<'a> {
         ensures fault { let fs = result_fields (function_type self.old.resolve func).result in
             IfErr result (IsUnasked LiftResult (Denotes max_flat_results fs (E.memory callee.now).bytes answer.now)
             (DenotesFault max_flat_results fs (E.memory callee.now).bytes answer.now) (fields_requests fs) limit) }
+        ensures limit { let f = function_type self.old.resolve func in
+            map kind_of answer.now ≡ (lifted_signature f).results
+            → HalfTellsLimit (result_asked (result_fields f.result) (E.memory callee.now).bytes answer.now) limit
+            result }
         ensures few { let f = function_type self.old.resolve func in self.new.back
             ≤ 64 * (limit + size (record_type (result_fields f.result)) + 16) }
         ensures each { IfOk result (λ count. count ≤ self.new.back) }

@@ -1,15 +1,17 @@
 //! What the two ways of a call will ask their targets for.
-ghost use Rattle.std.specs.Prelude.{◌≡◌, ◌+◌, ◌*◌, ◌≤◌, IfOk, IfErr};
+ghost use Rattle.std.specs.Prelude.{◌≡◌, ◌+◌, ◌*◌, ◌≤◌, map, IfOk, IfErr};
 ghost use Rattle.adapter.specs.Asking.{IsToldAhead};
 ghost use Rattle.canonical_abi.specs.Call.{KindsFit};
 ghost use Rattle.canonical_abi.specs.Flat.{Denotes, DenotesFault};
 ghost use Rattle.canonical_abi.specs.Headline.{AreArguments, IsArgumentFault};
-ghost use Rattle.canonical_abi.specs.Layout.{max_flat_params, max_flat_results, size};
+ghost use Rattle.canonical_abi.specs.Layout.{lifted_signature, max_flat_params, max_flat_results, size};
+ghost use Rattle.canonical_abi.specs.Reading.{kind_of};
 ghost use Rattle.canonical_abi.specs.Requests.{params_requests, fields_requests};
 ghost use Rattle.canonical_abi.specs.Types.{record_type, result_fields};
 ghost use Rattle.canonical_abi.specs.declared.trap.Step.TheVariants.{LiftArgs, LiftResult};
 ghost use Rattle.layout.specs.Layout.{AreWithin};
 ghost use Rattle.tables.specs.Closed.{IsFunction, function_type};
+ghost use Rattle.adapter.specs.Ahead.{arguments_asked, result_asked, HalfTellsLimit};
 ghost use Rattle.adapter.specs.Asked.{IsUnasked, unasked_in};
 
 use crate::asking::{Request, Untold, Walk};
@@ -53,6 +55,8 @@ pub(crate) fn ask_arguments<C: Guest>(
     ensures fault { let f = function_type table.now func in
         IfErr result (IsUnasked LiftArgs (AreArguments f flats.now (C.memory caller.now))
         (IsArgumentFault f flats.now (C.memory caller.now)) (params_requests max_flat_params f.params) limit) }
+    ensures limit { let f = function_type table.now func in
+        KindsFit f flats.now → HalfTellsLimit (arguments_asked f flats.now (C.memory caller.now).bytes) limit result }
     ensures few { ∥ AreWithin table.now ∥₁ → nodes.new ≤ 64 * (limit + 16) }
     ensures each { IfOk result (λ count. count ≤ nodes.new + 1) }
 {
@@ -94,6 +98,9 @@ pub(crate) fn ask_answer<E: Guest>(
     ensures fault { let fs = result_fields (function_type table.now func).result in
         IfErr result (IsUnasked LiftResult (Denotes max_flat_results fs (E.memory callee.now).bytes answer.now)
         (DenotesFault max_flat_results fs (E.memory callee.now).bytes answer.now) (fields_requests fs) limit) }
+    ensures limit { let f = function_type table.now func in
+        map kind_of answer.now ≡ (lifted_signature f).results
+        → HalfTellsLimit (result_asked (result_fields f.result) (E.memory callee.now).bytes answer.now) limit result }
     ensures few { let f = function_type table.now func in nodes.new
         ≤ 64 * (limit + size (record_type (result_fields f.result)) + 16) }
     ensures each { IfOk result (λ count. count ≤ nodes.new) }

@@ -4,6 +4,7 @@ use Rattle.canonical_abi.specs.Call.{KindsFit, area_of}
 use Rattle.canonical_abi.specs.Headline.{AreArguments, IsArgumentFault, IsLentLive, area_size}
 use Rattle.canonical_abi.specs.Flat.{Denotes, DenotesFault}
 use Rattle.canonical_abi.specs.Requests.{params_requests, fields_requests}
+use Rattle.adapter.specs.Ahead.{arguments_asked, result_asked}
 use Rattle.adapter.specs.Asking.{IsToldAhead, total}
 use Rattle.canonical_abi.specs.Values as Semantic
 use Rattle.adapter.specs.declared.asking.request.Request.{Request}
@@ -147,26 +148,32 @@ ArgumentsCanBeRead f flats caller = KindsFit f (map flat_of flats) × (length ca
 abbrev pub AnswerCanBeRead : FunctionType → List Value → List ℕ → Type 0
 AnswerCanBeRead f answer callee = AnswerFits f (map flat_of answer) × (length callee < 4294967296)
 
--- why the requests of the arguments are not told: the number and kinds of the values come first, and then the length of the memory
+-- Why the requests of the arguments are not told: the number and kinds of the values come first, then the length of the memory, and then the first
+-- fault. The limit is told exactly if the blocks that are asked for before a fault have more bytes, with that of a text which is at fault.
 abbrev pub EnterAsksNot : FunctionType → List Value → List ℕ → ℕ → CallError → Type 0
 EnterAsksNot f flats caller limit (error.Fault fault) =
     (AreTooMany flats LiftArgs (error.Fault fault) ⊎ AreOtherKinds f (map flat_of flats) LiftArgs (error.Fault fault))
-    ⊎ (ArgumentsCanBeRead f flats caller × IsTrapIn LiftArgs (IsArgumentFault f (map flat_of flats) (source caller)) fault)
+    ⊎ (ArgumentsCanBeRead f flats caller × IsTrapIn LiftArgs (IsArgumentFault f (map flat_of flats) (source caller)) fault
+      × (total (arguments_asked f (map flat_of flats) caller) ≤ limit))
 EnterAsksNot f flats caller limit error.BadBlock = KindsFit f (map flat_of flats) × (4294967296 ≤ length caller)
 EnterAsksNot f flats caller limit error.AboveLimit =
     ArgumentsCanBeRead f flats caller
     × ((vs : List Semantic.Value) → AreArguments f (map flat_of flats) (source caller) vs → limit < total (params_requests max_flat_params f.params vs))
+    × (limit < total (arguments_asked f (map flat_of flats) caller))
 EnterAsksNot f flats caller limit _ = ⊥
 
--- why the answer's requests are not given: its number and kinds come first, and then the length of the memory
+-- why the answer's requests are not given: its number and kinds come first, then the length of the memory, and then the first fault or the limit, as
+-- above
 abbrev pub LeaveAsksNot : FunctionType → List Value → List ℕ → ℕ → CallError → Type 0
 LeaveAsksNot f answer callee limit (error.Fault fault) =
     (AreTooMany answer LiftResult (error.Fault fault) ⊎ IsOtherAnswer f (map flat_of answer) (error.Fault fault))
-    ⊎ (AnswerCanBeRead f answer callee × IsTrapIn LiftResult (DenotesFault max_flat_results (result_fields f.result) callee (map flat_of answer)) fault)
+    ⊎ (AnswerCanBeRead f answer callee × IsTrapIn LiftResult (DenotesFault max_flat_results (result_fields f.result) callee (map flat_of answer)) fault
+      × (total (result_asked (result_fields f.result) callee (map flat_of answer)) ≤ limit))
 LeaveAsksNot f answer callee limit error.BadBlock = AnswerFits f (map flat_of answer) × (4294967296 ≤ length callee)
 LeaveAsksNot f answer callee limit error.AboveLimit =
     AnswerCanBeRead f answer callee
     × ((vs : List Semantic.Value) → Denotes max_flat_results (result_fields f.result) callee (map flat_of answer) vs → limit < total (fields_requests (result_fields f.result) vs))
+    × (limit < total (result_asked (result_fields f.result) callee (map flat_of answer)))
 LeaveAsksNot f answer callee limit _ = ⊥
 
 -- what a host gets of the arguments' requests: their number, and as many as fit at the front of its array, whose rest

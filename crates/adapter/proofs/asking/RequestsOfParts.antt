@@ -75,7 +75,7 @@ pub told-one : (xs : List Request) (n l : ℕ) (r : Trace.Request) (c l2 : ℕ) 
 told-one xs n l r c l2 new (inl (less, is)) counts takes = record { told = is ∙ over-one xs n r less; counted = counts; spent = omega (arith, takes) }
 told-one xs n l r c l2 new (inr (past, is)) counts takes = record { told = is ∙ sym (over-past xs n (r ∷ []) past); counted = counts; spent = omega (arith, takes) }
 
-by-or : (a b : ℕ) → (a < b) ⊎ (b ≤ a)
+pub by-or : (a b : ℕ) → (a < b) ⊎ (b ≤ a)
 by-or zero zero = inr (omega arith)
 by-or zero (suc b) = inl (omega arith)
 by-or (suc a) zero = inr (omega arith)
@@ -134,10 +134,10 @@ payload-asks (case_with u cs) (suc n) t w e = payload-asks cs n t w e
 
 -- ---- why it wasn't told
 
-ok-inj : {A : Type 0} {x y : A} → ◌≡◌ {A = Result A TrapKind} (Ok x) (Ok y) → x ≡ y
+pub ok-inj : {A : Type 0} {x y : A} → ◌≡◌ {A = Result A TrapKind} (Ok x) (Ok y) → x ≡ y
 ok-inj e = cc
 
-err-ok : {A : Type 0} {x : A} {y : TrapKind} → ◌≡◌ {A = Result A TrapKind} (Err y) (Ok x) → ⊥
+pub err-ok : {A : Type 0} {x : A} {y : TrapKind} → ◌≡◌ {A = Result A TrapKind} (Err y) (Ok x) → ⊥
 err-ok e = cc
 
 pub bind-ok : {A B : Type 0} (r : Result A TrapKind) (k : A → Result B TrapKind) (b : B) → (r >>= k) ≡ Ok b → (v : A) × (r ≡ Ok v) × (k v ≡ Ok b)
@@ -241,11 +241,11 @@ block-stops t f a n al sz l whole h1 h2 opened less = λ b e. let (vs, p, q) = l
 pub text-length : (m : List ℕ) (a n : ℕ) (v : Value) → TextHolds m a n v → length (text_of_value v) ≡ n
 text-length m a n v h = ap (λ v. length (text_of_value v)) h.2 ∙ omega (arith, length-take (a + n - a) (drop a m), length-drop a m, h.0)
 
-by-bool : (b : Bool) → (b ≡ true) ⊎ (b ≡ false)
+pub by-bool : (b : Bool) → (b ≡ true) ⊎ (b ≡ false)
 by-bool true = inl refl
 by-bool false = inr refl
 
-text-read : (m : List ℕ) (a n : ℕ) (v : Value) → text_at m a n ≡ Ok v → (length m < a + n) ⊎ (a + n ≤ length m) → (is_utf8 (slice_range m a (a + n)) ≡ true) ⊎ (is_utf8 (slice_range m a (a + n)) ≡ false)
+pub text-read : (m : List ℕ) (a n : ℕ) (v : Value) → text_at m a n ≡ Ok v → (length m < a + n) ⊎ (a + n ≤ length m) → (is_utf8 (slice_range m a (a + n)) ≡ true) ⊎ (is_utf8 (slice_range m a (a + n)) ≡ false)
     → length (text_of_value v) ≡ n
 text-read m a n v e (inl h) u = absurd (err-ok (sym (text-fault m a n trap.Bounds (inl (h, refl))) ∙ e))
 text-read m a n v e (inr h) (inr u) = absurd (err-ok (sym (text-fault m a n trap.Utf8 (inr (h, u, refl))) ∙ e))

@@ -3,7 +3,7 @@ use Rattle.std.proofs.Common.{◌≡◌, inl, inr, ℕ, ◌+◌, true, false, Li
 use Rattle.canonical_abi.specs.Flat.{Denotes, DenotesFault}
 use Rattle.canonical_abi.specs.Layout.{align, size, fits_flat, passed_kinds}
 use Rattle.canonical_abi.specs.Memory.{BlockHolds}
-use Rattle.canonical_abi.specs.Reading.{kind_of, number_of, low_bits, lifting_fields, reading_fields}
+use Rattle.canonical_abi.specs.Reading.{kind_of, number_of, low_bits, block_at, lifting_fields, reading_fields}
 use Rattle.canonical_abi.specs.Requests.{request, fields_requests, params_requests}
 use Rattle.canonical_abi.specs.Trace
 use Rattle.canonical_abi.specs.Types.{Fields, record_type}
@@ -11,6 +11,7 @@ use Rattle.canonical_abi.specs.Values.{Value}
 use Rattle.canonical_abi.specs.declared.flat.Flat.{Flat}
 use Rattle.canonical_abi.specs.declared.trap.TrapKind.{TrapKind}
 use Rattle.canonical_abi.proofs.ReadValues.ReadsExactly.{fields-lift, fields-tell}
+use Rattle.adapter.specs.Ahead.{values_asked, flat_fields_asked, fields_asked, MeetsLimit}
 use Rattle.adapter.specs.Asking.{total, IsTold, IsToldAhead, Stops, IsUntold}
 use Rattle.adapter.specs.declared.asking.request.Request.{Request}
 use Rattle.adapter.specs.declared.asking.request.Untold.{Untold}
@@ -58,3 +59,22 @@ spilled-asks limit ts vs fits = rw fits refl
 
 pub told-ahead : (P : List Value → Type 0) (f : List Value → List Trace.Request) (l : ℕ) (old new : List Request) (c l2 : ℕ) (vs : List Value) → P vs → IsTold old 0 l (f vs) new c l2 → IsToldAhead P f l old new c
 told-ahead P f l old new c l2 vs p t = (vs, p, t.told, omega (arith, t.counted), omega (arith, t.spent))
+
+-- ---- the limit
+
+module _ (limit : ℕ) (ts : Fields) (m : List ℕ) (flats : List Flat) (own : List Trace.Request) where
+  pub flat-asked : fits_flat limit ts ≡ true → values_asked limit ts m flats own ≡ flat_fields_asked ts m (map number_of flats)
+  flat-asked fits = rw fits refl
+
+  module _ (fits : fits_flat limit ts ≡ false) (from : ℕ) (is : from ≡ low_bits (map number_of flats) 0 32) where
+    pub spilled-open : block_at m from (align (record_type ts)) (size (record_type ts)) ≡ Ok from → values_asked limit ts m flats own ≡ own ++ fields_asked ts m from 0
+    spilled-open h = rw (fits, ← is, h) refl
+
+    pub spilled-shut : (k : TrapKind) → block_at m from (align (record_type ts)) (size (record_type ts)) ≡ Err k → values_asked limit ts m flats own ≡ []
+    spilled-shut k h = rw (fits, ← is, h) refl
+
+-- a walk that stops behind requests of so many bytes
+pub limit-behind : (before : ℕ) (ps ws : List Trace.Request) (k l : ℕ) → total ws ≡ before + total ps → l ≡ k + before
+    → (e : Untold) → MeetsLimit ps k e → MeetsLimit ws l e
+limit-behind before ps ws k l sum left (untold.Fault j) h = omega (arith, sum, left, h)
+limit-behind before ps ws k l sum left untold.AboveLimit h = omega (arith, sum, left, h)

@@ -1,5 +1,5 @@
 //! The walk over flat values; texts and lists are in memory.
-ghost use Rattle.std.specs.Prelude.{◌≡◌, ◌+◌, ◌^◌, ◌<◌, ◌≤◌, ℕ, List, length, map, drop};
+ghost use Rattle.std.specs.Prelude.{◌≡◌, ◌+◌, ◌^◌, ◌<◌, ◌≤◌, ℕ, List, [], length, map, drop};
 ghost use Rattle.canonical_abi.specs.Types.{prim_type, variant_type, variant_cases, field_count, depth, fields_depth};
 ghost use Rattle.canonical_abi.specs.Types.{cases_depth, IsStandard, AreStandardFields, AreStandardCases};
 ghost use Rattle.canonical_abi.specs.Layout.{flat_kinds, field_kinds, payload_kinds};
@@ -8,6 +8,7 @@ ghost use Rattle.canonical_abi.specs.Requests.{requests, fields_requests};
 ghost use Rattle.values.specs.Members.{AreInside, members_fields};
 ghost use Rattle.values.specs.Types.{IsInside};
 ghost use Rattle.tables.specs.Closed.{prim_of, closed_type};
+ghost use Rattle.adapter.specs.Ahead.{asked_in, flat_fields_asked, flat_case_asked, TellsLimit};
 ghost use Rattle.adapter.specs.Asking.{Asks, IsFew};
 
 use crate::asking::request::{Request, Untold, visit};
@@ -31,6 +32,7 @@ fn ask_flat_primitive(
     ensures asks { let t = prim_type (prim_of primitive) in
         (m : List ℕ) → Asks (lifting t m (map number_of flats.now)) (requests t) slots.old count.old left.old result
         slots.new count.new left.new }
+    ensures limit { TellsLimit [] left.old result }
     ensures left { left.new ≡ left.old }
     ensures count { count.new ≡ count.old }
 {
@@ -59,6 +61,8 @@ impl Walk<'_> {
         ensures asks { let t = closed_type self.now.types.now ty in
             Asks (lifting t self.now.source.now (map number_of flats.now)) (requests t) slots.old count.old left.old
             result slots.new count.new left.new }
+        ensures limit { TellsLimit (asked_in (closed_type self.now.types.now ty) self.now.source.now
+            (map number_of flats.now)) left.old result }
         ensures few { let t = closed_type self.now.types.now ty in
             (d : ℕ) → IsStandard t → depth t ≤ d
             → IsFew d (length (flat_kinds t)) left.old left.new nodes.old nodes.new }
@@ -106,6 +110,8 @@ impl Walk<'_> {
         ensures asks { let fs = members_fields self.now.types.now members.now in
             Asks (lifting_fields fs self.now.source.now (map number_of flats.now)) (fields_requests fs) slots.old
             count.old left.old result slots.new count.new left.new }
+        ensures limit { TellsLimit (flat_fields_asked (members_fields self.now.types.now members.now)
+            self.now.source.now (map number_of flats.now)) left.old result }
         ensures few { let fs = members_fields self.now.types.now members.now in
             (d : ℕ) → AreStandardFields fs → fields_depth fs ≤ d
             → IsFew d (length (field_kinds fs)) left.old left.new nodes.old nodes.new }
@@ -145,6 +151,9 @@ impl Walk<'_> {
             let ns = map number_of flats.now in
             Asks (lifting_case cs self.now.source.now (drop 1 ns) (low_bits ns 0 32) (low_bits ns 0 32))
             (requests (variant_type cs)) slots.old count.old left.old result slots.new count.new left.new }
+        ensures limit { let ns = map number_of flats.now in
+            TellsLimit (flat_case_asked (variant_cases (closed_type self.now.types.now ty)) self.now.source.now
+            (drop 1 ns) (low_bits ns 0 32)) left.old result }
         ensures few { let cs = variant_cases (closed_type self.now.types.now ty) in
             (d : ℕ) → AreStandardCases cs → cases_depth cs ≤ d
             → IsFew d (length (payload_kinds cs)) left.old left.new nodes.old nodes.new }

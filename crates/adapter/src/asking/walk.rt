@@ -1,14 +1,15 @@
 //! The walk over values that a memory holds.
-ghost use Rattle.std.specs.Prelude.{◌≡◌, ◌+◌, ◌-◌, ◌^◌, ◌<◌, ◌≤◌, ℕ, length, min, IsTrue};
+ghost use Rattle.std.specs.Prelude.{◌≡◌, ◌+◌, ◌-◌, ◌^◌, ◌<◌, ◌≤◌, ℕ, [], ◌∷◌, length, min, IsTrue};
 ghost use Rattle.canonical_abi.specs.Types.{prim_type, string_type, list_type, record_type, record_fields};
 ghost use Rattle.canonical_abi.specs.Types.{variant_type, variant_cases, field_count, case_count, depth, fields_depth};
 ghost use Rattle.canonical_abi.specs.Types.{cases_depth, IsStandard, AreStandardFields, AreStandardCases};
 ghost use Rattle.canonical_abi.specs.Layout.{size, align, payload_place, end_from, field_extents, fields_size};
 ghost use Rattle.canonical_abi.specs.Reading.{reading, text_at, list_at, reading_fields, reading_case, case_number};
-ghost use Rattle.canonical_abi.specs.Requests.{requests, fields_requests};
+ghost use Rattle.canonical_abi.specs.Requests.{request, requests, fields_requests};
 ghost use Rattle.values.specs.Members.{AreInside, members_fields};
 ghost use Rattle.values.specs.Types.{IsInside};
 ghost use Rattle.tables.specs.Closed.{prim_of, closed_type};
+ghost use Rattle.adapter.specs.Ahead.{asked_at, list_asked, fields_asked, case_asked, TellsLimit};
 ghost use Rattle.adapter.specs.Asking.{Asks, AsksNothing, IsFew};
 
 use crate::asking::request::{Request, Untold, tell, visit};
@@ -37,6 +38,7 @@ fn ask_primitive(
     requires fits { at + size (prim_type (prim_of primitive)) ≤ length source.now }
     ensures asks { let t = prim_type (prim_of primitive) in
         Asks (reading t source.now at) (requests t) slots.old count.old left.old result slots.new count.new left.new }
+    ensures limit { TellsLimit [] left.old result }
     ensures left { left.new ≡ left.old }
     ensures count { count.new ≡ count.old }
 {
@@ -111,6 +113,7 @@ pub(crate) fn ask_text(
     requires len { len < 2 ^ 32 }
     ensures asks { Asks (text_at source.now start len) (requests string_type) slots.old count.old left.old result
         slots.new count.new left.new }
+    ensures limit { TellsLimit (request 1 len ∷ []) left.old result }
     ensures spent { (s : ℕ) × (left.old ≡ left.new + s) }
     ensures each { (n : ℕ) → min (count.old + 1) (2 ^ 64 - 1) ≤ n → count.old ≤ n → count.new ≤ n }
 {
@@ -144,6 +147,8 @@ impl Walk<'_> {
         ensures asks { let t = closed_type self.now.types.now ty in
             Asks (reading t self.now.source.now at) (requests t) slots.old count.old left.old result slots.new count.new
             left.new }
+        ensures limit { TellsLimit (asked_at (closed_type self.now.types.now ty) self.now.source.now at) left.old
+            result }
         ensures few { let t = closed_type self.now.types.now ty in
             (d : ℕ) → IsStandard t → depth t ≤ d → IsFew d (size t) left.old left.new nodes.old nodes.new }
         ensures each { (e : ℕ) → count.old ≤ nodes.old + e → count.new ≤ nodes.new + e }
@@ -197,6 +202,9 @@ impl Walk<'_> {
             Asks (list_at (reading t self.now.source.now) self.now.source.now (align t) (size t) start len)
             (requests (list_type t))
             slots.old count.old left.old result slots.new count.new left.new }
+        ensures limit { let t = closed_type self.now.types.now element in
+            let m = self.now.source.now in
+            TellsLimit (list_asked (reading t m) (asked_at t m) m (align t) (size t) start len) left.old result }
         ensures few { let t = closed_type self.now.types.now element in
             (d : ℕ) → IsStandard t → depth t ≤ d → IsFew d 0 left.old left.new nodes.old nodes.new }
         ensures each { (e : ℕ) → min (count.old + 1) (2 ^ 64 - 1) ≤ nodes.old + e → count.old ≤ nodes.old + e
@@ -245,6 +253,8 @@ impl Walk<'_> {
         ensures asks { let fs = members_fields self.now.types.now members.now in
             Asks (reading_fields fs self.now.source.now at 0) (fields_requests fs) slots.old count.old left.old result
             slots.new count.new left.new }
+        ensures limit { TellsLimit (fields_asked (members_fields self.now.types.now members.now) self.now.source.now at
+            0) left.old result }
         ensures few { let fs = members_fields self.now.types.now members.now in
             (d : ℕ) → AreStandardFields fs → fields_depth fs ≤ d
             → IsFew d (fields_size fs) left.old left.new nodes.old nodes.new }
@@ -284,6 +294,9 @@ impl Walk<'_> {
             let i = case_number cs self.now.source.now at in
             Asks (reading_case cs self.now.source.now (at + payload_place cs) i i) (requests (variant_type cs))
             slots.old count.old left.old result slots.new count.new left.new }
+        ensures limit { let cs = variant_cases (closed_type self.now.types.now ty) in
+            TellsLimit (case_asked cs self.now.source.now (at + payload_place cs)
+            (case_number cs self.now.source.now at)) left.old result }
         ensures few { let cs = variant_cases (closed_type self.now.types.now ty) in
             (d : ℕ) → AreStandardCases cs → cases_depth cs ≤ d
             → IsFew d (size (variant_type cs)) left.old left.new nodes.old nodes.new }

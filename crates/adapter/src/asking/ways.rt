@@ -8,6 +8,7 @@ ghost use Rattle.canonical_abi.specs.Types.{record_type, record_fields, AreStand
 ghost use Rattle.values.specs.Members.{fields_of_types, AreAllInside};
 ghost use Rattle.values.specs.Types.{IsInside};
 ghost use Rattle.tables.specs.Closed.{closed_type};
+ghost use Rattle.adapter.specs.Ahead.{params_asked, result_asked, TellsLimit};
 ghost use Rattle.adapter.specs.Asking.{IsToldAhead, IsUntold};
 
 use crate::asking::request::{Request, Untold, tell};
@@ -45,6 +46,8 @@ impl Walk<'_> {
             IfErr result (IsUntold (Denotes max_flat_params ts self.now.source.now flats.now)
             (DenotesFault max_flat_params ts self.now.source.now flats.now) (params_requests max_flat_params ts)
             limit) }
+        ensures limit { TellsLimit (params_asked (record_fields (closed_type self.now.types.now params))
+            self.now.source.now flats.now) limit result }
         ensures few { let ts = record_fields (closed_type self.now.types.now params) in
             (d : ℕ) → AreStandardFields ts → fields_depth ts ≤ d → nodes.new ≤ d * (limit + 16) }
         ensures each { IfOk result (λ count. count ≤ nodes.new + 1) }
@@ -96,6 +99,8 @@ impl Walk<'_> {
         ensures fault { let ts = fields_of_types self.now.types.now types.now in
             IfErr result (IsUntold (Denotes max_flat_results ts self.now.source.now flats.now)
             (DenotesFault max_flat_results ts self.now.source.now flats.now) (fields_requests ts) limit) }
+        ensures limit { TellsLimit (result_asked (fields_of_types self.now.types.now types.now) self.now.source.now
+            flats.now) limit result }
         ensures few { let ts = fields_of_types self.now.types.now types.now in
             (d : ℕ) → AreStandardFields ts → fields_depth ts ≤ d
             → nodes.new ≤ d * (limit + size (record_type ts) + 16) }

@@ -6,7 +6,7 @@ use Rattle.values.specs.Members.{fields_of_types, AreAllInside}
 use Rattle.tables.proofs.HasStandardTypes.{function-standard}
 use Rattle.adapter.proofs.ParametersAsTableTypes.{same_types}
 use Rattle.adapter.proofs.FunctionsInLayouts.{function-stands, function-shallow, result-known, result-inside, result-is, result-fields, all-inside, result-small}
-use Rattle.adapter.proofs.WhyNothingIsAsked.{unasked-told}
+use Rattle.adapter.proofs.WhyNothingIsAsked.{unasked-told, half-limit}
 use Rattle.adapter.proofs.requests.ask_answer.Goals as goal
 
 pub lifted_result-result-requires : goal.lifted_result-result-requires
@@ -64,3 +64,22 @@ returns-in-Err-clause-few g c =
     let own : fields_of_types r c.as_slice-types.result.now ≡ result_fields f.result = ap (fields_of_types r) (same_types s.result _ c.as_slice-types.ensures) ∙ result-fields r s.result ∙ ap result_fields (sym is) in
     let few = rw own at c.ask_result.ensures.few in
     few 64 (function-standard r c.args.func c.requires.function).result (function-shallow r c.requires.within c.args.func c.requires.function).result
+
+pub returns-in-Ok-clause-limit : goal.returns-in-Ok-clause-limit
+returns-in-Ok-clause-limit g c = λ _.
+    let r = c.args.table.now in
+    let f = function_type r c.args.func in
+    let s = c.signature.result.now in
+    let is = result-is r c.args.func c.requires.function s (rw c.resolve.ensures at c.signature.ensures) in
+    let own : fields_of_types r c.as_slice-types.result.now ≡ result_fields f.result = ap (fields_of_types r) (same_types s.result _ c.as_slice-types.ensures) ∙ result-fields r s.result ∙ ap result_fields (sym is) in
+    rw (own, c.bytes.ensures) at c.in-Ok.ensures.limit
+
+pub returns-in-Err-clause-limit : goal.returns-in-Err-clause-limit
+returns-in-Err-clause-limit g c = λ _.
+    let r = c.args.table.now in
+    let f = function_type r c.args.func in
+    let s = c.signature.result.now in
+    let is = result-is r c.args.func c.requires.function s (rw c.resolve.ensures at c.signature.ensures) in
+    let own : fields_of_types r c.as_slice-types.result.now ≡ result_fields f.result = ap (fields_of_types r) (same_types s.result _ c.as_slice-types.ensures) ∙ result-fields r s.result ∙ ap result_fields (sym is) in
+    let h = rw (own, c.bytes.ensures) at c.in-Err.ensures.limit in
+    rw c.unasked_of.ensures (half-limit _ _ _ c.in-Err.untold h)

@@ -7,7 +7,7 @@ use Rattle.tables.specs.Closed.{function_type}
 use Rattle.tables.proofs.HasStandardTypes.{function-standard}
 use Rattle.adapter.proofs.FunctionsInLayouts.{function-stands, function-shallow, params-row, params-inside}
 use Rattle.adapter.proofs.CallFromItsWays.{argument-kinds, same-arguments}
-use Rattle.adapter.proofs.WhyNothingIsAsked.{unasked-told}
+use Rattle.adapter.proofs.WhyNothingIsAsked.{unasked-told, half-limit}
 use Rattle.adapter.proofs.requests.ask_arguments.Goals as goal
 
 pub takes-requires : goal.takes-requires
@@ -67,3 +67,22 @@ returns-in-Err-clause-few g c = λ within.
     let row = params-row r c.args.func c.requires.function _ refl in
     let few = rw row at c.ask_params.ensures.few in
     few 64 (function-standard r c.args.func c.requires.function).params (function-shallow r within c.args.func c.requires.function).params
+
+pub returns-in-Ok-clause-limit : goal.returns-in-Ok-clause-limit
+returns-in-Ok-clause-limit g c = λ _.
+    let r = c.args.table.now in
+    let f = function_type r c.args.func in
+    let flats = c.args.flats.now in
+    let row = params-row r c.args.func c.requires.function _ refl in
+    let same = same-arguments f flats _ c.lifted_count-count.result (lifted_signature f) refl (c.lifted_count-count.ensures r c.layouts-layouts.ensures c.requires.function) refl in
+    rw (row, same, c.bytes.ensures) at c.in-Ok.ensures.limit
+
+pub returns-in-Err-clause-limit : goal.returns-in-Err-clause-limit
+returns-in-Err-clause-limit g c = λ _.
+    let r = c.args.table.now in
+    let f = function_type r c.args.func in
+    let flats = c.args.flats.now in
+    let row = params-row r c.args.func c.requires.function _ refl in
+    let same = same-arguments f flats _ c.lifted_count-count.result (lifted_signature f) refl (c.lifted_count-count.ensures r c.layouts-layouts.ensures c.requires.function) refl in
+    let h = rw (row, same, c.bytes.ensures) at c.in-Err.ensures.limit in
+    rw c.unasked_of.ensures (half-limit _ _ _ c.in-Err.untold h)

@@ -1,4 +1,4 @@
-use Rattle.std.proofs.Common.{◌≡◌, ◌+◌, ◌-◌, ◌*◌, ◌≤◌, ℕ, [], ◌∷◌, ◌++◌, Some, None, option_map, length-append, refl, ap, sym, ◌∙◌, subst, arith}
+use Rattle.std.proofs.Common.{◌≡◌, ◌+◌, ◌-◌, ◌*◌, ◌≤◌, ℕ, [], ◌∷◌, ◌++◌, Some, None, Ok, option_map, length-append, refl, ap, sym, ◌∙◌, subst, arith}
 use Rattle.std.proofs.lemmas.Result.{err_from_is_err_and}
 use Rattle.std.proofs.lemmas.Nat.{mul-le}
 use Rattle.std.specs.Int.{next_multiple_of}
@@ -11,10 +11,12 @@ use Rattle.tables.specs.Closed.{closed_type}
 use Rattle.values.specs.Members.{members_fields}
 use Rattle.values.proofs.TypesExtents.{member-depth, case-depth, payload-place, payload-fits}
 use Rattle.lift_lower.proofs.ListsAreLoaded.{listed, list-opened}
-use Rattle.lift_lower.proofs.TextsAndBlocksStand.{block-stands}
+use Rattle.lift_lower.proofs.TextsAndBlocksStand.{block-stands, block-fault}
 use Rattle.lift_lower.proofs.ReadingStepByStep.{with_front, each-more, each-done, fields-more, fields-done, case-none, case-plain, case-payload}
-use Rattle.values.proofs.FieldsFromAPlace.{fields-end, fields-inside, nth_field-some}
-use Rattle.adapter.specs.Asking.{IsFew}
+use Rattle.values.proofs.FieldsFromAPlace.{fields-end, fields-inside, fields-last, nth_field-some}
+use Rattle.adapter.specs.Ahead.{each_asked, list_asked, asked_at, fields_asked, case_asked}
+use Rattle.adapter.specs.Asking.{IsFew, total}
+use Rattle.adapter.proofs.asking.AskedAhead.{asks-at, each-asks-as, each-asked-first, each-asked-next, each-asked-last, fields-asked-next, case-asked-none, case-asked-plain, case-asked-payload, list-asked-open, list-asked-shut, limit-goes-on, limit-stops, limit-as}
 use Rattle.adapter.proofs.asking.VisitedNodesAreFew.{few-none, few-both, few-more, few-block, list-few, record-few, variant-few, member-standard, case-standard, sizes-next}
 use Rattle.adapter.proofs.asking.RequestsOfParts.{told-none, told-both, told-as, each-asks, fields-ask, fields-ask-none, plain-asks, payload-asks, asks-made, list-told, record-told, front-none, each-start, nothing-asked, fields-stop, list-stops, each-stops, block-stops}
 use Rattle.adapter.proofs.asking.walk.Walk.+ask.Goals as goal
@@ -36,6 +38,7 @@ ask_fields-loop-index-init t c =
       ([], front-none (reading_fields fs c.args.self.now.source.now c.args.at 0), refl, told-as _ _ _ [] (fields_requests fs []) _ _ _ (sym (fields-ask-none fs)) (told-none c.args.slots.now c.args.count.now c.args.left.now), refl),
       (λ d h deep. (0, omega arith, few-none d 0 c.args.left.now c.args.nodes.now c.args.nodes.now (omega arith))),
       (λ e covers. covers),
+      refl,
     )
 
 pub ask_fields-unreachable-requires : goal.ask_fields-unreachable-requires
@@ -101,6 +104,10 @@ ask_fields-loop-index-preserved t c =
           let one = c.ask_at.ensures.few d (member-standard fs c.loop-index.index u h found) (omega (arith, deep, member-depth fs c.loop-index.index u found)) in
           (s + size u, omega (arith, is, sizes-next fs c.loop-index.index u found), few-both d s (size u) _ _ _ _ _ _ few one)),
       (λ e covers. c.ask_at.ensures.each e (c.loop-index.invariant.2 e covers)),
+      (let m = c.args.self.now.source.now in
+      let here = c.args.at + next_multiple_of c.loop-index.end (align u) in
+      let read : reading u m here ≡ Ok v = ap (λ x. reading u m (c.args.at + x)) (sym place) ∙ e in
+      limit-goes-on (reading u m here) v (requests u) _ (asked_at u m here) _ _ _ _ _ (fields-asked-next fs m c.args.at c.loop-index.end c.loop-index.index u found) read (asks-at u m here v read) more.spent c.loop-index.invariant.3),
     )
 
 pub ask_fields-returns-clause-asks : goal.ask_fields-returns-clause-asks
@@ -140,6 +147,7 @@ ask_list-loop-index-init t c =
       ([], each-start f c.size_of-step.result c.args.start c.args.len, refl, told-none c.tell.new.slots c.tell.new.count c.tell.new.left),
       (λ d h deep. few-none d (0 * c.size_of-step.result) c.tell.new.left c.args.nodes.now c.args.nodes.now (omega arith)),
       (λ e covers. covers),
+      ap (λ rs. c.tell.new.left + total rs) (sym (each-asked-first f (asked_at (closed_type c.args.self.now.types.now c.args.element) c.args.self.now.source.now) c.size_of-step.result c.args.start c.args.len)),
     )
 
 pub ask_list-returns-in_err-ask_at-clause-asks : goal.ask_list-returns-in_err-ask_at-clause-asks
@@ -173,6 +181,9 @@ ask_list-loop-index-preserved t c =
           let same : c.loop-index.index * c.size_of-step.result + size u ≡ (c.loop-index.index + 1) * c.size_of-step.result = omega (arith, c.size_of-step.ensures.value) in
           subst (λ (s : ℕ). IsFew d s c.tell.new.left c.ask_at.new.left c.args.nodes.now c.ask_at.new.nodes) same (few-both d (c.loop-index.index * c.size_of-step.result) (size u) _ _ _ _ _ _ (c.loop-index.invariant.1 d h deep) one)),
       (λ e covers. c.ask_at.ensures.each e (c.loop-index.invariant.2 e covers)),
+      (let m = c.args.self.now.source.now in
+      let here = c.args.start + c.loop-index.index * c.size_of-step.result in
+      limit-goes-on (f here) v (requests u) _ (asked_at u m here) _ _ _ _ _ (each-asked-next f (asked_at u m) c.size_of-step.result c.args.start c.args.len c.loop-index.index (omega arith)) e (asks-at u m here v e) more.spent c.loop-index.invariant.3),
     )
 
 pub ask_list-returns-clause-asks : goal.ask_list-returns-clause-asks
@@ -310,3 +321,124 @@ ask_list-returns-in_err-ask_at-clause-each t c = λ e first covers. c.ask_at.ens
 
 pub ask_list-returns-clause-each : goal.ask_list-returns-clause-each
 ask_list-returns-clause-each t c = λ e first covers. c.loop-index.invariant.2 e (omega (arith, first, c.tell.ensures.counted))
+
+-- ---- the limit
+
+pub ask_at-returns-in-Record-clause-limit : goal.ask_at-returns-in-Record-clause-limit
+ask_at-returns-in-Record-clause-limit t c =
+    let s = c.in-Record.ensures.shape.0 in
+    let own : record_fields (closed_type c.args.self.now.types.now c.args.ty) ≡ s.0 = ap record_fields s.1 in
+    rw s.1 (rw own at c.ask_fields.ensures.limit)
+
+pub ask_at-returns-in-List-clause-limit : goal.ask_at-returns-in-List-clause-limit
+ask_at-returns-in-List-clause-limit t c = rw (c.in-List.ensures.shape.0, ← c.u32_at-start-in-List.ensures, ← c.u32_at-len-in-List.ensures) c.ask_list.ensures.limit
+
+pub ask_at-returns-in-Flags-clause-limit : goal.ask_at-returns-in-Flags-clause-limit
+ask_at-returns-in-Flags-clause-limit t c = rw c.in-Flags.ensures.shape.0 (omega arith)
+
+pub ask_fields-returns-in_err-ask_at-clause-limit : goal.ask_fields-returns-in_err-ask_at-clause-limit
+ask_fields-returns-in_err-ask_at-clause-limit t c =
+    let fs = members_fields c.args.self.now.types.now c.args.members.now in
+    let u = closed_type c.args.self.now.types.now c.in-Some.member in
+    let m = c.args.self.now.source.now in
+    let place : c.next_multiple_of-place.result ≡ next_multiple_of c.loop-index.end (align u) = c.next_multiple_of-place.ensures.value ∙ ap (next_multiple_of c.loop-index.end) c.align_of.ensures.value in
+    let here = c.args.at + next_multiple_of c.loop-index.end (align u) in
+    let p = err_from_is_err_and c.from_residual.result c.from_residual.ensures.1 in
+    rw (p.1, p.2) (limit-stops (reading u m here) (requests u) (fields_asked fs m c.args.at 0) _ (asked_at u m here) _ _ _ (fields-asked-next fs m c.args.at c.loop-index.end c.loop-index.index u (sym c.in-Some.ensures.found)) c.loop-index.invariant.3
+    c.in_err-ask_at.field-0.0 (rw place at c.in_err-ask_at.ensures.asks) (rw place at c.in_err-ask_at.ensures.limit))
+
+pub ask_fields-returns-clause-limit : goal.ask_fields-returns-clause-limit
+ask_fields-returns-clause-limit t c =
+    let fs = members_fields c.args.self.now.types.now c.args.members.now in
+    let i : c.args.fields ≡ c.loop-index.index = omega arith in
+    let none = fields-last fs c.loop-index.index (c.requires.counted ∙ i) in
+    omega (arith, c.loop-index.invariant.3, ap (λ us. total (fields_asked us c.args.self.now.source.now c.args.at c.loop-index.end)) none)
+
+pub ask_list-returns-in-Err-clause-limit : goal.ask_list-returns-in-Err-clause-limit
+ask_list-returns-in-Err-clause-limit t c =
+    let m = c.args.self.now.source.now in
+    let u = closed_type c.args.self.now.types.now c.args.element in
+    let step = c.size_of-step.result in
+    let al = c.align_of-align.result in
+    let shut = block-fault m c.args.start al (c.args.len * step) c.in-Err.kind (c.in-Err.ensures.fault m refl) in
+    omega (arith, ap total (list-asked-shut (reading u m) (asked_at u m) m c.args.start c.args.len al step _ _ c.in-Err.kind c.align_of-align.ensures.value c.size_of-step.ensures.value shut))
+
+pub ask_list-returns-then-left-size-clause-limit : goal.ask_list-returns-then-left-size-clause-limit
+ask_list-returns-then-left-size-clause-limit t c =
+    let m = c.args.self.now.source.now in
+    let u = closed_type c.args.self.now.types.now c.args.element in
+    let step = c.size_of-step.result in
+    let al = c.align_of-align.result in
+    let stands = block-stands m c.args.start al (c.args.len * step) c.in-Ok.ensures.ok.0 (omega (arith, c.in-Ok.ensures.ok)) in
+    omega (arith, ap total (list-asked-open (reading u m) (asked_at u m) m c.args.start c.args.len al step _ _ c.align_of-align.ensures.value c.size_of-step.ensures.value stands))
+
+pub ask_list-returns-then-asks_nothing-clause-limit : goal.ask_list-returns-then-asks_nothing-clause-limit
+ask_list-returns-then-asks_nothing-clause-limit t c =
+    let m = c.args.self.now.source.now in
+    let u = closed_type c.args.self.now.types.now c.args.element in
+    let step = c.size_of-step.result in
+    let al = c.align_of-align.result in
+    let stands = block-stands m c.args.start al (c.args.len * step) c.in-Ok.ensures.ok.0 (omega (arith, c.in-Ok.ensures.ok)) in
+    let (vs, e, l, none) = nothing-asked u m (c.asks_nothing.ensures c.if-asks_nothing.true) step c.args.start c.args.len in
+    let each = each-asks-as (reading u m) (asked_at u m) (requests u) step (asks-at u m) c.args.start c.args.len vs e ∙ none in
+    omega (arith, c.tell.ensures.told.spent, ap total each, ap total (list-asked-open (reading u m) (asked_at u m) m c.args.start c.args.len al step _ _ c.align_of-align.ensures.value c.size_of-step.ensures.value stands))
+
+pub ask_list-returns-in_err-ask_at-clause-limit : goal.ask_list-returns-in_err-ask_at-clause-limit
+ask_list-returns-in_err-ask_at-clause-limit t c =
+    let m = c.args.self.now.source.now in
+    let u = closed_type c.args.self.now.types.now c.args.element in
+    let f = reading u m in
+    let step = c.size_of-step.result in
+    let al = c.align_of-align.result in
+    let here = c.args.start + c.loop-index.index * step in
+    let stands = block-stands m c.args.start al (c.args.len * step) c.in-Ok.ensures.ok.0 (omega (arith, c.in-Ok.ensures.ok)) in
+    let opened = list-asked-open f (asked_at u m) m c.args.start c.args.len al step _ _ c.align_of-align.ensures.value c.size_of-step.ensures.value stands in
+    let p = err_from_is_err_and c.from_residual.result c.from_residual.ensures.1 in
+    rw (p.1, p.2) (limit-stops (f here) (requests u) (list_asked f (asked_at u m) m (align u) (size u) c.args.start c.args.len) _ (asked_at u m here) _ _ _ (each-asked-next f (asked_at u m) step c.args.start c.args.len c.loop-index.index (omega arith))
+    (omega (arith, c.loop-index.invariant.3, c.tell.ensures.told.spent, ap total opened)) c.in_err-ask_at.field-0.0 c.in_err-ask_at.ensures.asks c.in_err-ask_at.ensures.limit)
+
+pub ask_list-returns-clause-limit : goal.ask_list-returns-clause-limit
+ask_list-returns-clause-limit t c =
+    let m = c.args.self.now.source.now in
+    let u = closed_type c.args.self.now.types.now c.args.element in
+    let f = reading u m in
+    let step = c.size_of-step.result in
+    let al = c.align_of-align.result in
+    let i : c.loop-index.index ≡ c.args.len = omega arith in
+    let stands = block-stands m c.args.start al (c.args.len * step) c.in-Ok.ensures.ok.0 (omega (arith, c.in-Ok.ensures.ok)) in
+    let opened = list-asked-open f (asked_at u m) m c.args.start c.args.len al step _ _ c.align_of-align.ensures.value c.size_of-step.ensures.value stands in
+    let none : each_asked f (asked_at u m) step (c.args.start + c.loop-index.index * step) (c.args.len - c.loop-index.index) ≡ [] =
+    ap (λ n. each_asked f (asked_at u m) step (c.args.start + c.loop-index.index * step) (c.args.len - n)) i ∙ each-asked-last f (asked_at u m) step (c.args.start + c.loop-index.index * step) c.args.len in
+    omega (arith, c.loop-index.invariant.3, c.tell.ensures.told.spent, ap total opened, ap total none)
+
+pub ask_variant-returns-in_default-clause-limit : goal.ask_variant-returns-in_default-clause-limit
+ask_variant-returns-in_default-clause-limit t c =
+    let cs = variant_cases (closed_type c.args.self.now.types.now c.args.ty) in
+    let m = c.args.self.now.source.now in
+    let i = c.number_of_size-case.result in
+    let num : i ≡ case_number cs m c.args.at =
+    c.number_of_size-case.ensures ∙ ap (λ w. number_at m c.args.at (byte_width w)) (c.discriminant_bytes.ensures.value ∙ ap discriminant_size (sym c.requires.counted)) in
+    rw (← num) (omega (arith, ap total (case-asked-none cs m (c.args.at + payload_place cs) i (sym c.in_default.ensures.found))))
+
+pub ask_variant-returns-in_default-payload-clause-limit : goal.ask_variant-returns-in_default-payload-clause-limit
+ask_variant-returns-in_default-payload-clause-limit t c =
+    let cs = variant_cases (closed_type c.args.self.now.types.now c.args.ty) in
+    let m = c.args.self.now.source.now in
+    let i = c.number_of_size-case.result in
+    let num : i ≡ case_number cs m c.args.at =
+    c.number_of_size-case.ensures ∙ ap (λ w. number_at m c.args.at (byte_width w)) (c.discriminant_bytes.ensures.value ∙ ap discriminant_size (sym c.requires.counted)) in
+    let found : nth_case cs i ≡ Some None = sym c.in-Some.ensures.found ∙ ap (λ o. Some (option_map (closed_type c.args.self.now.types.now) o)) c.in_default-payload.is in
+    rw (← num) (omega (arith, ap total (case-asked-plain cs m (c.args.at + payload_place cs) i found)))
+
+pub ask_variant-returns-clause-limit : goal.ask_variant-returns-clause-limit
+ask_variant-returns-clause-limit t c =
+    let cs = variant_cases (closed_type c.args.self.now.types.now c.args.ty) in
+    let m = c.args.self.now.source.now in
+    let i = c.number_of_size-case.result in
+    let num : i ≡ case_number cs m c.args.at =
+    c.number_of_size-case.ensures ∙ ap (λ w. number_at m c.args.at (byte_width w)) (c.discriminant_bytes.ensures.value ∙ ap discriminant_size (sym c.requires.counted)) in
+    let u = closed_type c.args.self.now.types.now c.in-Some-payload.member in
+    let found : nth_case cs i ≡ Some (Some u) = sym c.in-Some.ensures.found ∙ ap (λ o. Some (option_map (closed_type c.args.self.now.types.now) o)) c.in-Some-payload.is in
+    let place : c.align_of-place.result ≡ payload_place cs = c.align_of-place.ensures.value ∙ ap align (sym c.requires.variant) ∙ sym (payload-place cs) in
+    rw (← num, ← place) (limit-as (asked_at u m (c.args.at + c.align_of-place.result)) (case_asked cs m (c.args.at + c.align_of-place.result) i) c.args.left.now
+    (sym (case-asked-payload cs m (c.args.at + c.align_of-place.result) i u found)) c.ask_at.result c.ask_at.ensures.limit)

@@ -8,7 +8,8 @@ use Rattle.tables.specs.Closed.{closed_type}
 use Rattle.values.specs.Members.{members_fields}
 use Rattle.lift_lower.proofs.ReadingStepByStep.{with_front}
 use Rattle.values.proofs.FieldsFromAPlace.{fields_from, fields_end}
-use Rattle.adapter.specs.Asking.{IsTold, IsFew}
+use Rattle.adapter.specs.Ahead.{each_asked, asked_at, fields_asked}
+use Rattle.adapter.specs.Asking.{IsTold, IsFew, total}
 use Rattle.adapter.proofs.asking.walk.Walk.+ask.Given as goal
 
 abbrev pub decreases-ask_at : goal.decreases-ask_at
@@ -31,6 +32,8 @@ invariant-ask_list-loop-index l =
     × (length vs ≡ l.index) × IsTold l.initial.slots l.initial.count l.initial.left (each_request (requests t) vs) l.slots l.count l.left)
     × ((d : ℕ) → IsStandard t → depth t ≤ d → IsFew d (l.index * l.step) l.initial.left l.left l.initial.nodes l.nodes)
     × ((e : ℕ) → l.initial.count ≤ l.initial.nodes + e → l.count ≤ l.nodes + e)
+    × (l.left + total (each_asked f (asked_at t l.self.source.now) l.step l.start l.len)
+      ≡ l.initial.left + total (each_asked f (asked_at t l.self.source.now) l.step (l.start + l.index * l.step) (l.len - l.index)))
 
 abbrev pub invariant-ask_fields-loop-index : goal.invariant-ask_fields-loop-index
 invariant-ask_fields-loop-index l =
@@ -40,3 +43,4 @@ invariant-ask_fields-loop-index l =
     × (fields_end l.end (fields_from l.index fs) ≡ fields_end 0 fs))
     × ((d : ℕ) → AreStandardFields fs → fields_depth fs ≤ d → (s : ℕ) × (s + fields_size (fields_from l.index fs) ≡ fields_size fs) × IsFew d s l.initial.left l.left l.initial.nodes l.nodes)
     × ((e : ℕ) → l.initial.count ≤ l.initial.nodes + e → l.count ≤ l.nodes + e)
+    × (l.left + total (fields_asked fs l.self.source.now l.at 0) ≡ l.initial.left + total (fields_asked (fields_from l.index fs) l.self.source.now l.at l.end))

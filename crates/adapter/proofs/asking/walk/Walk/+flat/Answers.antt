@@ -1,4 +1,4 @@
-use Rattle.std.proofs.Common.{◌≡◌, ◌+◌, length, [], ◌∷◌, ◌++◌, Some, None, map, drop, option_map, length-append, refl, ap, sym, ◌∙◌, arith}
+use Rattle.std.proofs.Common.{◌≡◌, ◌+◌, length, [], ◌∷◌, ◌++◌, Some, None, Ok, map, drop, option_map, length-append, refl, subst, ap, sym, ◌∙◌, arith}
 use Rattle.std.proofs.lemmas.Result.{err_from_is_err_and}
 use Rattle.canonical_abi.specs.Types.{prim_type, boolean, record_type, record_fields, variant_type, variant_cases, nth_case}
 use Rattle.canonical_abi.specs.Values.{values_of, record_value, plain_value, payload_value}
@@ -9,7 +9,10 @@ use Rattle.tables.specs.Closed.{closed_type}
 use Rattle.values.specs.Members.{members_fields}
 use Rattle.values.proofs.TypesExtents.{member-depth, case-depth}
 use Rattle.lift_lower.proofs.LiftingStepByStep.{lifting-more, lifting-done, kinds-next, lifts-none, lifts-plain, lifts-payload, payload-kinds, rest-numbers, rest-length}
-use Rattle.values.proofs.FieldsFromAPlace.{nth_field-some}
+use Rattle.values.proofs.FieldsFromAPlace.{fields-last, nth_field-some}
+use Rattle.adapter.specs.Ahead.{asked_in, flat_fields_asked, flat_case_asked, MeetsLimit}
+use Rattle.adapter.specs.Asking.{total}
+use Rattle.adapter.proofs.asking.AskedAhead.{asks-in, flat-asked-next, flat-case-none, flat-case-plain, flat-case-payload, limit-goes-on, limit-stops, limit-as}
 use Rattle.adapter.proofs.asking.VisitedNodesAreFew.{few-none, few-both, few-more, list-flat-few, record-flat-few, variant-flat-few, member-standard, case-standard}
 use Rattle.adapter.proofs.asking.RequestsOfParts.{told-none, told-both, told-as, fields-ask, fields-ask-none, plain-asks, payload-asks, asks-made, record-told, front-none, lifting-stops}
 use Rattle.adapter.proofs.asking.walk.Walk.+flat.Goals as goal
@@ -41,6 +44,7 @@ ask_flat_fields-loop-index-init t c =
       ),
       (λ d h deep. (0, omega arith, few-none d 0 c.args.left.now c.args.nodes.now c.args.nodes.now (omega arith))),
       (λ e covers. covers),
+      refl,
     )
 
 pub ask_flat_fields-unreachable-requires : goal.ask_flat_fields-unreachable-requires
@@ -98,6 +102,10 @@ ask_flat_fields-loop-index-preserved t c =
           let one = c.ask_flat.ensures.few d (member-standard fs c.loop-index.index u h found) (omega (arith, deep, member-depth fs c.loop-index.index u found)) in
           (s + length (flat_kinds u), omega (arith, is, kinds-next fs c.loop-index.index u found), few-both d s (length (flat_kinds u)) _ _ _ _ _ _ few one)),
       (λ e covers. c.ask_flat.ensures.each e (c.loop-index.invariant.2 e covers)),
+      (let m = c.args.self.now.source.now in
+      let here = drop c.loop-index.used ns in
+      let read : lifting u m here ≡ Ok v = ap (lifting u m) (sym (rest-numbers c.args.flats.now c.loop-index.used)) ∙ e in
+      limit-goes-on (lifting u m here) v (requests u) _ (asked_in u m here) _ _ _ _ _ (flat-asked-next fs m ns c.loop-index.index c.loop-index.used u found) read (asks-in u m here v read) more.spent c.loop-index.invariant.3),
     )
 
 pub ask_flat_fields-returns-clause-asks : goal.ask_flat_fields-returns-clause-asks
@@ -196,3 +204,57 @@ ask_flat-returns-in-Variant-clause-each t c = λ e covers. c.ask_flat_variant.en
 
 pub ask_flat_fields-returns-in_err-ask_flat-clause-each : goal.ask_flat_fields-returns-in_err-ask_flat-clause-each
 ask_flat_fields-returns-in_err-ask_flat-clause-each t c = λ e covers. c.ask_flat.ensures.each e (c.loop-index.invariant.2 e covers)
+
+-- ---- the limit
+
+pub ask_flat-returns-in-Record-clause-limit : goal.ask_flat-returns-in-Record-clause-limit
+ask_flat-returns-in-Record-clause-limit t c =
+    let s = c.in-Record.ensures.shape.0 in
+    let own : record_fields (closed_type c.args.self.now.types.now c.args.ty) ≡ s.0 = ap record_fields s.1 in
+    rw s.1 (rw own at c.ask_flat_fields.ensures.limit)
+
+pub ask_flat-returns-in-Flags-clause-limit : goal.ask_flat-returns-in-Flags-clause-limit
+ask_flat-returns-in-Flags-clause-limit t c = rw c.in-Flags.ensures.shape.0 (omega arith)
+
+pub ask_flat_fields-returns-in_err-ask_flat-clause-limit : goal.ask_flat_fields-returns-in_err-ask_flat-clause-limit
+ask_flat_fields-returns-in_err-ask_flat-clause-limit t c =
+    let fs = members_fields c.args.self.now.types.now c.args.members.now in
+    let u = closed_type c.args.self.now.types.now c.in-Some.member in
+    let m = c.args.self.now.source.now in
+    let ns = map number_of c.args.flats.now in
+    let here = drop c.loop-index.used ns in
+    let p = err_from_is_err_and c.from_residual.result c.from_residual.ensures.1 in
+    rw (p.1, p.2) (limit-stops (lifting u m here) (requests u) (flat_fields_asked fs m ns) _ (asked_in u m here) _ _ _ (flat-asked-next fs m ns c.loop-index.index c.loop-index.used u (sym c.in-Some.ensures.found)) c.loop-index.invariant.3
+    c.in_err-ask_flat.field-0.0 (rw (rest-numbers c.args.flats.now c.loop-index.used) at c.in_err-ask_flat.ensures.asks) (subst (λ fs. MeetsLimit (asked_in u m fs) c.loop-index.left c.in_err-ask_flat.field-0.0) (rest-numbers c.args.flats.now c.loop-index.used) c.in_err-ask_flat.ensures.limit))
+
+pub ask_flat_fields-returns-clause-limit : goal.ask_flat_fields-returns-clause-limit
+ask_flat_fields-returns-clause-limit t c =
+    let fs = members_fields c.args.self.now.types.now c.args.members.now in
+    let ns = map number_of c.args.flats.now in
+    let i : c.args.fields ≡ c.loop-index.index = omega arith in
+    let none = fields-last fs c.loop-index.index (c.requires.counted ∙ i) in
+    omega (arith, c.loop-index.invariant.3, ap (λ us. total (flat_fields_asked us c.args.self.now.source.now (drop c.loop-index.used ns))) none)
+
+pub ask_flat_variant-returns-in_default-clause-limit : goal.ask_flat_variant-returns-in_default-clause-limit
+ask_flat_variant-returns-in_default-clause-limit t c =
+    let cs = variant_cases (closed_type c.args.self.now.types.now c.args.ty) in
+    let i = c.low_word-case.result in
+    rw (← c.low_word-case.ensures) (omega (arith, ap total (flat-case-none cs c.args.self.now.source.now (drop 1 (map number_of c.args.flats.now)) i (sym c.in_default.ensures.found))))
+
+pub ask_flat_variant-returns-in_default-payload-clause-limit : goal.ask_flat_variant-returns-in_default-payload-clause-limit
+ask_flat_variant-returns-in_default-payload-clause-limit t c =
+    let cs = variant_cases (closed_type c.args.self.now.types.now c.args.ty) in
+    let i = c.low_word-case.result in
+    let found : nth_case cs i ≡ Some None = sym c.in-Some.ensures.found ∙ ap (λ o. Some (option_map (closed_type c.args.self.now.types.now) o)) c.in_default-payload.is in
+    rw (← c.low_word-case.ensures) (omega (arith, ap total (flat-case-plain cs c.args.self.now.source.now (drop 1 (map number_of c.args.flats.now)) i found)))
+
+pub ask_flat_variant-returns-clause-limit : goal.ask_flat_variant-returns-clause-limit
+ask_flat_variant-returns-clause-limit t c =
+    let m = c.args.self.now.source.now in
+    let cs = variant_cases (closed_type c.args.self.now.types.now c.args.ty) in
+    let i = c.low_word-case.result in
+    let ns = drop 1 (map number_of c.args.flats.now) in
+    let u = closed_type c.args.self.now.types.now c.in-Some-payload.member in
+    let found : nth_case cs i ≡ Some (Some u) = sym c.in-Some.ensures.found ∙ ap (λ o. Some (option_map (closed_type c.args.self.now.types.now) o)) c.in-Some-payload.is in
+    let kept = rw (rest-numbers c.args.flats.now 1) at c.ask_flat.ensures.limit in
+    rw (← c.low_word-case.ensures) (limit-as (asked_in u m ns) (flat_case_asked cs m ns i) c.args.left.now (sym (flat-case-payload cs m ns i u found)) c.ask_flat.result kept)

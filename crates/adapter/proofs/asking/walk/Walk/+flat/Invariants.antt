@@ -8,7 +8,8 @@ use Rattle.tables.specs.Closed.{closed_type}
 use Rattle.values.specs.Members.{members_fields}
 use Rattle.lift_lower.proofs.ReadingStepByStep.{with_front}
 use Rattle.values.proofs.FieldsFromAPlace.{fields_from}
-use Rattle.adapter.specs.Asking.{IsTold, IsFew}
+use Rattle.adapter.specs.Ahead.{flat_fields_asked}
+use Rattle.adapter.specs.Asking.{IsTold, IsFew, total}
 use Rattle.adapter.proofs.asking.walk.Walk.+flat.Given as goal
 
 abbrev pub decreases-ask_flat : goal.decreases-ask_flat
@@ -29,3 +30,4 @@ invariant-ask_flat_fields-loop-index l =
     × (l.used + length (field_kinds (fields_from l.index fs)) ≤ length l.flats))
     × ((d : ℕ) → AreStandardFields fs → fields_depth fs ≤ d → (s : ℕ) × (s + length (field_kinds (fields_from l.index fs)) ≡ length (field_kinds fs)) × IsFew d s l.initial.left l.left l.initial.nodes l.nodes)
     × ((e : ℕ) → l.initial.count ≤ l.initial.nodes + e → l.count ≤ l.nodes + e)
+    × (l.left + total (flat_fields_asked fs l.self.source.now ns) ≡ l.initial.left + total (flat_fields_asked (fields_from l.index fs) l.self.source.now (drop l.used ns)))
