@@ -15,7 +15,7 @@ cd "$(dirname "$0")/.." || exit 1
 # the parts one after another; those that need the toolchain, as `tried` does; and those that run side by side afterwards
 FIRST='setup release copies pages'
 PROVED='proofs build'
-BESIDE='models hosts snippets fuzz bound outputs explain damaged memory install bindings texts binaries page pictures
+BESIDE='models standard hosts snippets fuzz bound outputs explain damaged memory install bindings texts binaries page pictures
     aarch64 help terminal rows'
 logs=out/parts
 mkdir -p "$logs"
@@ -81,6 +81,8 @@ build() {
 }
 
 models() { python3 -B -m tools.models check; }
+
+standard() { python3 -B tools/check_standard.py; }
 
 # The rows that `vectors` answers, each with its stored answer.
 # shellcheck disable=SC2046 # the names of files are words
