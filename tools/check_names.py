@@ -16,8 +16,7 @@ What is checked of the pages:
   are left out.
 - Clauses that are named beside functions, as `open`: ok, written, have to be ones of such a function.
 - Words in backquotes behind a crate `rows_..` or `vectors` are names of rows. Each has to be a line of the output of
-  that crate, or the name in a line of its input.
-
+  that crate, or the name in a line of its input. So has each behind `row` or `rows` that is named as rows are.
 - The numbers of COUNTS are those of the stored rows and of the laws.
 - Each script of tools/ and bench/ is named on a page, in the gate or in another script. What `python3 -m tools.measure`
   and bench/run.py measure is named in docs/BENCHMARKS.md, and nothing else as such.
@@ -60,6 +59,9 @@ PLACEHOLDER = re.compile(r"[A-Z]_")
 NO_CODE = re.compile(r'"(?:[^"\\\n]|\\.)*"|//.*|/\*.*?\*/', re.S)
 # names of rows behind their crate
 ROWS = re.compile(r"`(rows_[a-z]+|vectors)` ((?:`[^`]+`(?:, )?)+)")
+# the same behind the word, and what names a row by its form
+ROWS_BY_WORD = re.compile(r"\b[Rr]ows?\s+((?:`[^`]+`(?:,?\s+(?:and\s+)?)?)+)")
+ROW_NAME = re.compile(r".*-\d+|[^:]+: .*[^.]", re.S)
 # a cell of docs/guarantees/: functions, and the clauses that all of them have
 GROUP = re.compile(r"((?:`[\w:]+`(?:, )?)+)(?:: ([a-z_0-9]+(?:, [a-z_0-9]+)*))?(?:, parts? (?:`\w+`(?:, )?)+)?")
 NOTE = re.compile(r"\(\d+\)")
@@ -290,6 +292,11 @@ def wrong_rows(text):
     """The names of rows on a page that their crates don't have."""
     for number, line in enumerate(text.splitlines(), 1):
         yield from ((number, fault) for fault in missing_rows(line))
+    there = vectors().keys() | text_rows().keys()
+    for found in ROWS_BY_WORD.finditer(text):
+        names = [" ".join(it.split()) for it in SPAN.findall(found[1])]
+        yield from ((line_at(text, found.start()), f"no row is {name}")
+                    for name in names if ROW_NAME.fullmatch(name) and name not in there)
 
 
 def faults_of(page, words, all_contracts, all_edits):

@@ -13,7 +13,8 @@ usage: tools/check_numbers.py
   `refused by` is a theorem of the crate canonical_abi, or one of its laws or must-fail edits.
 - docs/GATE.md: the sums of the table of seconds, and the seconds of the longest chain. `rt ci` passes each crate and
   each must-fail edit of the gate, of which there are as many as PASSED finds.
-- The numbers that each group of ALIKE finds on several pages are one.
+- The numbers that each group of ALIKE finds on several pages are one. Those that TRIED finds are those that
+  tools/check_standard.py tries.
 - The limits that LIMITS finds on pages are those of the models, and the keywords of docs/FORMATS.md too. The pages of
   docs/api are left out: their numbers are those of sources.
 
@@ -23,6 +24,7 @@ import collections
 import re
 import sys
 
+import check_standard
 from models import opening, tokens
 from repository import (
     ROOT, SPAN, all_crates, blocks, columns, counted, edits, is_reference, pages, place, text_rows, vectors
@@ -52,6 +54,13 @@ ALIKE = (
     {"docs/GATE.md": MINUTES.pattern.replace(r"`(\w+)`", r"`\w+`"),
      "docs/BENCHMARKS.md": r"up to `witcall`, in minutes of processor time \| (\d+) \|"},
 )
+# what docs/STANDARD.md and docs/GATE.md say of the comparison with the standard
+TRIED = {
+    r"([\d,]+) random functions": check_standard.COUNT,
+    r"([\d,]+) call rows": check_standard.TRIED["flats"],
+    r"([\d,]+) rows of steps": check_standard.TRIED["steps"],
+    r"([\d,]+) rows of values": check_standard.TRIED["lift"] + check_standard.TRIED["lower"],
+}
 # limits as pages say them, each with the numbers that it may be
 BYTES_OR_SIZE = (tokens.MOST_BYTES, opening.MOST_SIZE)
 LIMITS = {
@@ -273,6 +282,18 @@ def wrong_limits(counts):
         yield "docs/FORMATS.md: the keywords are not those of tools/models/tokens.py"
 
 
+def wrong_tried(counts):
+    """The numbers of the comparison with the standard that are others than it has."""
+    texts = {name: (ROOT / "docs" / name).read_text() for name in ("STANDARD.md", "GATE.md")}
+    for pattern, number in TRIED.items():
+        found = [(name, it) for name, text in texts.items() for it in re.findall(pattern, text)]
+        counts["numbers of what is tried"] += len(found)
+        yield from (f"docs/{name}: {it}, and {number} are tried: {pattern}" for name, it in found
+                    if counted(it) != number)
+        if not any(name == "STANDARD.md" for name, _ in found):
+            yield f"docs/STANDARD.md has no number for {pattern}"
+
+
 def different(counts):
     """The groups of ALIKE whose numbers are not one, or are missing on a page."""
     for group in ALIKE:
@@ -294,9 +315,9 @@ def main():
     ):
         page = ROOT / "docs" / f"{name}.md"
         faults += [f"{place(page)}:{number}: {fault}" for number, fault in check(page.read_text())]
-    faults += [*wrong_passes(counts), *different(counts), *wrong_limits(counts)]
+    faults += [*wrong_passes(counts), *different(counts), *wrong_limits(counts), *wrong_tried(counts)]
     print("\n".join([*faults, ", ".join(f"{number} {what}" for what, number in counts.items()) + " compared"]))
-    sys.exit(bool(faults) or len(counts) < 9 or not all(counts.values()))
+    sys.exit(bool(faults) or len(counts) < 10 or not all(counts.values()))
 
 
 if __name__ == "__main__":
