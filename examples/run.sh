@@ -23,6 +23,8 @@
 # |                | and its calls, as a host with such values serves  |                                                     |
 # | bindings       | examples/c/shop.h and examples/guest/club.h, anew |                                                     |
 # | engine         | core modules in Node's engine, their traps        | clang, wasm-ld, node with its headers               |
+# | dlmalloc       | random calls over memories whose allocators are   | the same, and wasi-libc with the compiler's library |
+# |                | dlmalloc: examples/engine/heap.mjs                | for wasm32 (libclang-rt-dev-wasm32)                 |
 # | js             | the same modules, linked by bindings/js           | clang, wasm-ld, node                                |
 # | guest          | examples/guest, a guest in C, behind bindings/js  | clang, wasm-ld, node                                |
 # | js-tests       | the tests of bindings/js, and the stored calls    | node, python3, tsc                                  |
@@ -176,6 +178,12 @@ engine_modules() {
     step build-diary wasm_module "$here/engine/diary.c" "$build/diary.wasm" 131072
 }
 
+# The core module whose allocator is that of wasi-libc. Its stack is below its data, and ends at 16384.
+libc_module() {
+    clang --target=wasm32-wasi -O1 -Wall -Wextra -Werror -mexec-model=reactor -Wl,--stack-first -Wl,-z,stack-size=16384 \
+        -Wl,--max-memory=131072 -o "$2" "$1"
+}
+
 node_addon() {
     node_headers=$(dirname "$(dirname "$(command -v node)")")/include/node
     c_program "$here/engine/addon.c" "$1" -shared -fPIC -I"$node_headers"
@@ -239,6 +247,11 @@ if has engine clang wasm-ld node; then
     engine_modules
     step build-addon node_addon "$build/witcall.node"
     same engine "$here/engine/host.expected" node "$here/engine/host.mjs" "$build"
+fi
+if has dlmalloc clang wasm-ld node; then
+    step build-heap libc_module "$here/engine/heap.c" "$build/heap.wasm"
+    [ -f "$build/witcall.node" ] || step build-addon node_addon "$build/witcall.node"
+    same dlmalloc "$here/engine/heap.expected" node "$here/engine/heap.mjs" "$build"
 fi
 if has js clang wasm-ld node; then
     engine_modules

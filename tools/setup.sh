@@ -14,6 +14,8 @@ has() {
         headers-of-node) [ -f "$(dirname "$(dirname "$(command -v node)")")/include/node/node_api.h" ] ;;
         libfuzzer) has_library fuzzer ;;
         sanitizers-of-clang) has_library address ;;
+        libc-for-wasm) [ -f /usr/lib/wasm32-wasi/libc.a ] ;;
+        builtins-for-wasm) [ -f "$(clang --target=wasm32-wasi -print-libgcc-file-name)" ] ;;
         libc-for-aarch64) [ -f /usr/aarch64-linux-gnu/lib/libc.a ] ;;
         module-*) /usr/bin/python3 -c "import ${1#module-}" 2>/dev/null ;;
         *) command -v "$1" >/dev/null ;;
@@ -38,6 +40,8 @@ pkg-config pkg-config
 clang clang
 wasm-ld lld
 libfuzzer libclang-rt-14-dev
+libc-for-wasm wasi-libc
+builtins-for-wasm libclang-rt-dev-wasm32
 valgrind valgrind
 node nodejs
 npm npm
