@@ -6,7 +6,7 @@ import sys
 
 from tools.repository import ROOT
 
-from . import changed, memory, refused, times
+from . import changed, memory, refused, refused_calls, times
 from .harness import INSTRUCTIONS, TIME
 
 # what `python3 -m tools.measure` measures, and the words that each takes
@@ -23,6 +23,7 @@ MEASURES = {
     "small-memory": (memory.small, "brief", "program"),
     "largest-request": (memory.largest, "brief", "program"),
     "refused": (refused.refused, "brief", "witcall", "crates"),
+    "refused-calls": (refused_calls.refused_calls, "brief", "library"),
     "changed": (changed.by_rows, "program", "rows"),
     "changed-behind-sets": (changed.behind_sets, "program"),
 }
@@ -47,6 +48,7 @@ WORDS = {
     "program": ("program", built("program")),
     "witcall": ("--program", {**built("program"), "nargs": None, "metavar": "PROGRAM"}),
     "vectors": ("vectors", built("vectors")),
+    "library": ("library", {"type": lambda word: pathlib.Path(word).resolve(), "help": "the shared library"}),
     "rows": ("rows", built("vectors")),
     "jobs": ("jobs", several("JOB", [*times.JOBS], "call alone by default")),
     "crates": ("crates", several("CRATE", [*refused.WORDS, "program"], "all three by default")),

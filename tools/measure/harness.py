@@ -83,10 +83,10 @@ class Folder:
         path.write_bytes(content.encode() if isinstance(content, str) else content)
         return path
 
-    def compile(self, source, name, *flags):
-        """The path of a program or library in C."""
+    def compile(self, source, name, *flags, after=()):
+        """The path of a program or library in C. What it is linked with comes after its source."""
         path = self.path / name
-        subprocess.run(["cc", "-O2", *flags, "-x", "c", "-", "-o", path], input=source.encode(), check=True)
+        subprocess.run(["cc", "-O2", *flags, "-x", "c", "-", *after, "-o", path], input=source.encode(), check=True)
         return path
 
 
