@@ -21,6 +21,7 @@ export interface Library {
   /**
    * Opens a package, or the last one of several, which may use the packages before it.
    * @throws {WitError} if it is refused
+   * @throws {TypeError} if an input is no text and no bytes
    */
   open(inputs: Input | Input[]): Package;
 

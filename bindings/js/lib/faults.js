@@ -4,7 +4,7 @@ import { Space } from "./core.js";
 import { NotThisType, WitError } from "./errors.js";
 import { opened, toldBy } from "./package.js";
 import { meant } from "./reach.js";
-import { isPlain, isWellFormed, loneOf, memberOf } from "./values.js";
+import { isPlain, isTooGreat, isWellFormed, loneOf, memberOf } from "./values.js";
 
 const encoder = new TextEncoder();
 const decoder = new TextDecoder();
@@ -22,6 +22,7 @@ function wordsOf(value) {
   if (typeof value === "string" && !isWellFormed(value)) {
     return `a text with the lone surrogate \`\\u${loneOf(value).charCodeAt(0).toString(16)}\``;
   }
+  if (isTooGreat(value)) return "a BigInt of more than 1023 bits";
   if (typeof value === "function" || typeof value === "symbol") return `a ${typeof value}`;
   return value === undefined || (typeof value === "number" && !Number.isFinite(value)) ? `\`${value}\`` : undefined;
 }

@@ -33,14 +33,21 @@ async function packaged() {
   }
 }
 
-/** A view of bytes, whatever kind of view or buffer they are given as. */
-function viewOf(source) {
+/** What the buffers of a realm are, also those of another one. */
+const BUFFER = /^\[object (Shared)?ArrayBuffer\]$/;
+
+/** A view of bytes, whatever kind of view or buffer they are given as. An error says what is taken. */
+function viewOf(source, taken) {
   if (ArrayBuffer.isView(source)) return new Uint8Array(source.buffer, source.byteOffset, source.byteLength);
-  return new Uint8Array(source);
+  if (BUFFER.test(Object.prototype.toString.call(source))) return new Uint8Array(source);
+  throw new TypeError(`${taken}, and not ${source === null ? source : typeof source}`);
 }
 
+const A_PACKAGE = "a package is a text or bytes";
+const A_MODULE = "a module is bytes";
+
 const listOf = (inputs) => (Array.isArray(inputs) ? inputs : [inputs]);
-const bytesOf = (input) => (typeof input === "string" ? encoded(input) : viewOf(input));
+const bytesOf = (input) => (typeof input === "string" ? encoded(input) : viewOf(input, A_PACKAGE));
 
 /** The bytes of a surrogate, which are no UTF-8. */
 const bytesOfLone = (code) => [0xe0 | (code >> 12), 0x80 | ((code >> 6) & 0x3f), 0x80 | (code & 0x3f)];
@@ -68,7 +75,7 @@ export async function load(source) {
   if (source instanceof WebAssembly.Module) return instantiated(source);
   const isUrl = typeof source === "string" || source instanceof URL;
   const bytes = source === undefined ? await packaged() : isUrl ? await fetched(source) : source;
-  return instantiated(await WebAssembly.compile(await plain(viewOf(bytes))));
+  return instantiated(await WebAssembly.compile(await plain(viewOf(bytes, A_MODULE))));
 }
 
 /** The library of a module, which is instantiated at once, so that another module is refused. */
@@ -119,7 +126,7 @@ export class Library {
    * @returns {Package}
    */
   openModule(module) {
-    return new Package(this, [viewOf(module).slice()], true);
+    return new Package(this, [viewOf(module, A_MODULE).slice()], true);
   }
 
   /**

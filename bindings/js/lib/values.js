@@ -28,13 +28,28 @@ const keyText = (key) => JSON.stringify(isWellFormed(key) ? key : key.replace(ne
 /** Whether a number is a whole one whose digits in JSON's own text may be others. */
 const isGreat = (value) => Number.isInteger(value) && !Number.isSafeInteger(value);
 
-/** The text of a value without regard to its type. What JSON has no text for is null, which is no value of a type. */
-function bare(value) {
+/** The least number that the library reads none of in JSON, or a smaller one. */
+const TOO_GREAT = 2n ** 1023n;
+export const isTooGreat = (value) => typeof value === "bigint" && (value >= TOO_GREAT || value <= -TOO_GREAT);
+
+/** How deep a value of no type is written. Types nest 64 deep, and JSON 127 deep. */
+const MOST_DEPTH = 32;
+
+/**
+ * The text of a value without regard to its type. What JSON has no text for is null, which is no value of a type. So is
+ * what lies within itself, or too deep.
+ * @param {unknown} value
+ * @param {object[]} outer what it lies within
+ */
+function bare(value, outer = []) {
+  if (isTooGreat(value)) return "null";
   if (typeof value === "bigint" || isGreat(value)) return BigInt(value).toString();
   if (typeof value === "string" && !isWellFormed(value)) return "null";
-  if (isList(value)) return `[${Array.from(value, bare).join()}]`;
-  if (!isObject(value)) return JSON.stringify(value) ?? "null";
-  return `{${Object.entries(value).map(([key, it]) => `${keyText(key)}:${bare(it)}`).join()}}`;
+  if (!isList(value) && !isObject(value)) return JSON.stringify(value) ?? "null";
+  if (outer.length === MOST_DEPTH || outer.includes(value)) return "null";
+  const within = [...outer, value];
+  if (isList(value)) return `[${Array.from(value, (it) => bare(it, within)).join()}]`;
+  return `{${Object.entries(value).map(([key, it]) => `${keyText(key)}:${bare(it, within)}`).join()}}`;
 }
 
 /** The text of a value of a type. */

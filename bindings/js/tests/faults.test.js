@@ -2,7 +2,7 @@
 // there.
 import assert from "node:assert/strict";
 import { test } from "node:test";
-import { NotThisType, WitError, imports, lift } from "../index.js";
+import { NotThisType, imports, lift } from "../index.js";
 import { decodedText } from "../lib/values.js";
 import { callee } from "./guests.js";
 import { Random, randomType } from "./random.js";
@@ -172,14 +172,48 @@ test("a promise of a function without a result is named", () => {
   pkg.close();
 });
 
-test("a result of the greatest depth has its place, and the library's line is left if it can't be told", () => {
-  const nested = (levels) => `${"list<".repeat(levels)}u8${">".repeat(levels)}`;
-  const { pkg, given } = sides({ type: nested(62) });
-  const deep = (levels, value) => (levels === 0 ? value : [deep(levels - 1, value)]);
-  assert.equal(given(deep(62, 256)).path, `result${"[0]".repeat(62)}`);
-  const tooDeep = given(deep(200, 1));
-  assert.ok(tooDeep instanceof WitError && !(tooDeep instanceof NotThisType));
-  assert.equal(tooDeep.message, "error 61 bad JSON");
+/** A value within so many arrays. */
+function within(levels, value) {
+  let found = value;
+  for (let level = 0; level < levels; level++) found = [found];
+  return found;
+}
+
+test("a value of any depth has its place", () => {
+  const { pkg, taken, given } = sides({ type: `${"list<".repeat(62)}u8${">".repeat(62)}` });
+  for (const value of [within(62, 256), within(200, 1), within(100000, 1)]) {
+    assert.equal(taken(value).path, `[0]${"[0]".repeat(62)}`);
+    assert.equal(given(value).path, `result${"[0]".repeat(62)}`);
+  }
+  pkg.close();
+});
+
+test("a value within itself has its place", () => {
+  const { pkg, taken, given } = sides(SHOP);
+  const list = [];
+  list.push(list, list);
+  const object = { name: "tea" };
+  Object.assign(object, { note: object, count: object });
+  const wanted = [
+    [list, "", "`[null,null]`"],
+    [{ paid: list }, ".paid[0]", "`[null,null]`"],
+    [{ paid: [object] }, ".paid[0].note.some", '`{"count":null,"name":"tea","note":null}`'],
+  ];
+  for (const [value, path, shown] of wanted) {
+    for (const [it, root] of [[taken(value), "[0]"], [given(value), "result"]]) {
+      assert.deepEqual([it.number, it.path], [62, root + path]);
+      assert.ok(it.fault.endsWith(`, and not ${shown}`), it.fault);
+    }
+  }
+  pkg.close();
+});
+
+test("a BigInt of any length is told", () => {
+  const { pkg, taken, given } = sides({ type: "s64" });
+  for (const value of [2n ** 63n, -(2n ** 63n) - 1n, 2n ** 1023n - 1n, 2n ** 1023n, -(2n ** 1023n), 10n ** 6000n]) {
+    const shown = /, and not (`-?\d[\d.e+]+`|a BigInt of more than 1023 bits)$/;
+    for (const it of [taken(value), given(value)]) assert.match(it.fault, shown);
+  }
   pkg.close();
 });
 

@@ -76,6 +76,24 @@ test("a release of another version than the package's is not packed", async (it)
   assert.equal(packed().stderr, line("witcall_version()"));
 });
 
+test("what is no text and no bytes is no package", async () => {
+  const witcall = await load(bytes());
+  const isRefused = (call, message) => assert.throws(call, { name: "TypeError", message });
+  for (const it of [5, null, undefined, true, {}, () => 0, 5n, Symbol("s")]) {
+    const what = it === null ? "null" : typeof it;
+    isRefused(() => witcall.open([it]), `a package is a text or bytes, and not ${what}`);
+    isRefused(() => witcall.explain([it]), `a package is a text or bytes, and not ${what}`);
+    isRefused(() => witcall.openModule(it), `a module is bytes, and not ${what}`);
+    if (it !== undefined) await assert.rejects(load(it), { name: "TypeError", message: `a module is bytes, and not ${what}` });
+  }
+  isRefused(() => witcall.openModule("package a:b;"), "a module is bytes, and not string");
+  const text = new TextEncoder().encode("package a:b; interface c { f: func(); }");
+  for (const it of [text, text.buffer, new DataView(text.buffer), runInNewContext("new ArrayBuffer(3)")]) {
+    if (it.byteLength > 3) witcall.open(it).close();
+    else assert.throws(() => witcall.open(it), { number: 30 });
+  }
+});
+
 test("a module without imports", async () => {
   const module = await WebAssembly.compile(bytes());
   assert.deepEqual(WebAssembly.Module.imports(module), []);
