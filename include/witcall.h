@@ -118,7 +118,7 @@ typedef struct {
     uint32_t code;
     uint32_t number;
     uint32_t step;
-    uint32_t count;
+    uint32_t count; /* 4294967295 stands for as many or more */
 } witcall_status;
 
 /* A handle on a package that the library holds, or on why it was refused; WITCALL_NONE stands for nothing. The host doesn't read or change
@@ -261,7 +261,7 @@ witcall_status witcall_describe(witcall_package *package, uint8_t *json, size_t 
 
 /* What is wrong with the packages of WIT texts, or of binaries as of witcall_open_module, in any order, as one JSON array. The texts' bytes stand one after another, as those of
  * witcall_open_set; texts of one package are its files. A fault is an object, as `wit-explain check --json` has it: file is the index of the text,
- * in digits; line, column, endLine and endColumn are its place, if it has one; error is its number, and message its words; hint says what to do.
+ * in digits, of a binary with a colon and the name of its package behind it; line, column, endLine and endColumn are its place, if it has one; error is its number, and message its words; hint says what to do.
  * The array is empty if nothing is wrong. count bytes; if there is no room, this is 71, and count is the length. */
 witcall_status witcall_explain(const uint8_t *bytes, size_t bytes_len, const size_t *lengths, size_t lengths_len, uint8_t *json, size_t json_len);
 

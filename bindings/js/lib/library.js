@@ -137,7 +137,8 @@ export class Library {
   explain(texts) {
     const all = listOf(texts).map(bytesOf);
     if (all.length === 0) return [];
-    const faultOf = ({ file, error, ...fault }) => ({ text: Number(file), number: error, ...fault });
+    // Behind the index of a binary stands the name of its package.
+    const faultOf = ({ file, error, ...fault }) => ({ text: Number.parseInt(file, 10), number: error, ...fault });
     return explained(this.core, all).map(faultOf);
   }
 }

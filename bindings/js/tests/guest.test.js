@@ -44,3 +44,9 @@ test("a module that carries no package is refused, and explained", () => {
   const [fault] = witcall.explain(moduleOf("none"));
   assert.deepEqual(fault, { text: 0, number: undefined, message: "the module has no section `component-type`, at byte 8" });
 });
+
+test("a fault of a package of a module has its index", () => {
+  const [fault, ...others] = witcall.explain(["carrying", "package"].map(moduleOf));
+  assert.deepEqual([fault.text, fault.number, fault.line, fault.column], [1, 48, 1, 9]);
+  assert.deepEqual([fault.message, others], ["error 48 same package demo:greet@0.1.0", []]);
+});

@@ -51,3 +51,8 @@ class Modules(unittest.TestCase):
                 witcall.open_module(module)
         message = "the module has no section `component-type`, at byte 8"
         self.assertEqual(witcall.explain(modules[0]), [witcall.Fault(0, message)])
+
+    def test_a_fault_of_a_package_of_a_module_has_its_index(self):
+        [fault] = witcall.explain(*(FILES / f"{name}.wasm" for name in ("carrying", "package")))
+        self.assertEqual(fault.message, "error 48 same package demo:greet@0.1.0")
+        self.assertEqual((fault.text, fault.number, fault.line, fault.column), (1, 48, 1, 9))

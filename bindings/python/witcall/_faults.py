@@ -38,7 +38,8 @@ _NAMES = {"error": "number", "endLine": "end_line", "endColumn": "end_column"}
 
 
 def _fault(told: dict[str, object]) -> Fault:
-    text = int(str(told.pop("file")))
+    # Behind the index of a binary stands the name of its package.
+    text = int(str(told.pop("file")).partition(":")[0])
     return Fault(text, **{_NAMES.get(name, name): it for name, it in told.items()})  # type: ignore[arg-type]
 
 

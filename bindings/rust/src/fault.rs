@@ -56,7 +56,8 @@ fn place(object: &Json, line: &str, column: &str) -> Option<Place> {
 
 fn fault(object: &Json) -> Option<Fault> {
     Some(Fault {
-        text: text(object, "file")?.parse().ok()?,
+        // Behind the index of a binary stands the name of its package.
+        text: text(object, "file")?.split(':').next()?.parse().ok()?,
         number: object.get("error").and_then(Json::as_number).and_then(|number| number.try_into().ok()),
         message: text(object, "message")?,
         hint: text(object, "hint"),

@@ -51,6 +51,9 @@ fn a_module_has_its_world() -> Result<(), Error> {
     }
     let message = "the module has no section `component-type`, at byte 8";
     assert_eq!(explain(&[module("none")])?[0].message, message);
+    let [fault] = &explain(&[module("carrying"), module("package")])?[..] else { panic!("one fault") };
+    assert_eq!((fault.text, fault.number), (1, Some(48)));
+    assert_eq!(fault.message, "error 48 same package demo:greet@0.1.0");
     Ok(())
 }
 
