@@ -1,8 +1,8 @@
 """The Canonical ABI as its own text says it: a transcription of the Python in CanonicalABI.md, component model 0.2.
 
-It was written from memory of the standard's text (the synchronous one of 2024, with `elem_size`), as no network was at
-hand, and before its writer read a definition or a model of this repository. No line of it is from tools/models, from
-crates/*/specs or from the code, and none may come from there: what is wrong here has to be mended from the standard.
+It was written from memory of the standard's text (the synchronous one of 2024, with `elem_size`), before its writer read
+a definition or a model of this repository. No line of it is from tools/models, from crates/*/specs or from the code, and
+none may come from there: what is wrong here has to be mended from the standard.
 
 Left out: floats, resources, string encodings other than UTF-8, lists of fixed length, streams and futures. Names and
 order of the functions are the standard's, so that a reader can hold both texts side by side."""
