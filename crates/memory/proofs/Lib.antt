@@ -7,6 +7,7 @@ mod FirstFitGrowth
 mod FirstFitSteps
 mod AlikeMemoriesGrowAlike
 mod HolesGivenBack
+mod HeaderLists
 mod HoleLists
 mod HoleRows
 mod HoleSteps
@@ -16,3 +17,4 @@ pub mod LentAllocatesInOneWay
 mod AllocatesInOneWay
 mod PageSteps
 mod SpaceAlike
+mod LiveUnits

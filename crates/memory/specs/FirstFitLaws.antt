@@ -15,7 +15,7 @@ takes_back old at size new step = record {
 }
 
 -- a multiple of eight is one of each alignment
-divides : (align at : ℕ) → IsAlignment align → at % 8 ≡ 0 → at % align ≡ 0
+pub divides : (align at : ℕ) → IsAlignment align → at % 8 ≡ 0 → at % align ≡ 0
 divides align at (inl one) h = rw one (omega arith)
 divides align at (inr (inl two)) h = rw two (omega arith)
 divides align at (inr (inr (inl four))) h = rw four (omega arith)

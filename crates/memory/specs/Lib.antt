@@ -6,6 +6,9 @@ pub mod FirstFit
 pub mod FirstFitLaws
 pub mod Growth
 pub mod GrowthLaws
+pub mod Headers
+pub mod HeadersLaws
+pub mod HeadersView
 pub mod Holes
 pub mod HolesView
 pub mod Lent
@@ -15,3 +18,4 @@ pub mod Scripted
 pub mod Space
 pub mod SpaceLaws
 pub mod SpaceView
+pub mod Units

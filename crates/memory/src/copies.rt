@@ -45,7 +45,7 @@ fn eight_at(source: &[u8], at: usize) -> [u8; 8]
 
 /// Four bytes at a place.
 #[inline(always)]
-fn four_at(source: &[u8], at: usize) -> [u8; 4]
+pub(crate) fn four_at(source: &[u8], at: usize) -> [u8; 4]
     requires { at + 4 ≤ length source.now }
     ensures { result ≡ take 4 (drop at source.now) }
 {

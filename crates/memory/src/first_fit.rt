@@ -100,7 +100,7 @@ impl Guest for FirstFit {
 }
 
 /// A size rounded up to a multiple of eight.
-fn whole_units(size: u32) -> u64
+pub(crate) fn whole_units(size: u32) -> u64
     ensures { result ≡ rounded_to_eight size }
 {
     (u64::from(size) + 7) / 8 * 8

@@ -6,6 +6,7 @@ ghost use Rattle.memory.specs.Alike.{AnswersAlike, ReleasesAlike};
 ghost use Rattle.memory.specs.Bump.{BumpAllocates, BumpReleases};
 ghost use Rattle.memory.specs.FirstFit.{FirstFitAllocates, FirstFitReleases, IsHole};
 ghost use Rattle.memory.specs.Growth.{most_bytes};
+ghost use Rattle.memory.specs.Headers.{HeadersAllocates};
 ghost use Rattle.memory.specs.Holes.{IsListed};
 ghost use Rattle.memory.specs.HolesView.{listed_holes};
 ghost use Rattle.memory.specs.Lent.{LentAllocates};
@@ -13,6 +14,7 @@ ghost use Rattle.memory.specs.Space.{kind_and_most_bytes, SpaceAllocates, SpaceR
 
 use crate::bump::Bump;
 use crate::first_fit::FirstFit;
+use crate::headers::Headers;
 use crate::lent::Lent;
 use crate::space::Space;
 use canonical_abi::Guest;
@@ -71,6 +73,12 @@ pub fn spaces_are_limited(_memory: &Space)
     ensures limited { IsLimited (⟦<Space as Guest>⟧.memory _memory.now) }
 {}
 
+/// Nor is a `Headers`.
+pub fn headers_are_limited(_memory: &Headers)
+    ensures most { length (⟦<Headers as Guest>⟧.memory _memory.now).bytes ≤ 16777216 }
+    ensures limited { IsLimited (⟦<Headers as Guest>⟧.memory _memory.now) }
+{}
+
 /// Nor is a `Lent` past it.
 pub fn lents_are_limited<'a>(_memory: &Lent<'a>)
     ensures { IsLimited (⟦<Lent<'a> as Guest>⟧.memory _memory.now) }
@@ -89,6 +97,11 @@ pub fn first_fits_keep_the_limit()
 /// Nor does one of a `Space`'s.
 pub fn spaces_keep_the_limit()
     ensures { KeepsLimit SpaceAllocates }
+{}
+
+/// Nor does one of a `Headers`'s.
+pub fn headers_keep_the_limit()
+    ensures { KeepsLimit HeadersAllocates }
 {}
 
 /// Nor does one of a `Lent`'s.

@@ -2,11 +2,13 @@
 //! the host.
 ghost use Rattle.std.specs.Prelude.{◌≡◌, ◌+◌, ◌-◌, ◌%◌, ◌≤◌, length, replicate, vec_len, vec_capacity, IfOk, IfErr};
 ghost use Rattle.std.specs.Prelude.{OnOk, OnErr};
+ghost use Rattle.std.specs.Int.{to_le_bytes, w32};
 ghost use Rattle.canonical_abi.specs.Guest.{overwrite};
+ghost use Rattle.canonical_abi.specs.Reading.{number_at};
 ghost use Rattle.memory.specs.Growth.{ArePages, GrowsTo, HasNoGrowth, ReachesEnd};
 ghost use Rattle.memory.specs.Refusals.{RefusesLength};
 
-use crate::copies::write_over;
+use crate::copies::{four_at, write_over};
 use crate::error::{MAX_LEN, MemoryError, PAGE};
 use canonical_abi::Full;
 use std::alloc::Global;
@@ -66,6 +68,25 @@ impl Pages {
         ensures max { self.new.max ≡ self.old.max }
     {
         write_over(self.bytes.as_mut_slice(), at as usize, src);
+    }
+
+    /// The number of four bytes at a place, little-endian.
+    #[tactic(auto, unfolding(canonical_abi::specs::Reading::number_at))]
+    pub(crate) fn word(&self, at: u32) -> u32
+        requires { at + 4 ≤ length self.now.bytes.items }
+        ensures { result ≡ number_at self.now.bytes.items at w32 }
+    {
+        u32::from_le_bytes(four_at(self.bytes.as_slice(), at as usize))
+    }
+
+    /// Writes such a number.
+    pub(crate) fn put_word(&mut self, at: u32, word: u32)
+        requires { at + 4 ≤ length self.old.bytes.items }
+        ensures bytes { self.new.bytes.items ≡ overwrite self.old.bytes.items at (to_le_bytes w32 word) }
+        ensures len { length self.new.bytes.items ≡ length self.old.bytes.items }
+        ensures max { self.new.max ≡ self.old.max }
+    {
+        self.write(at, &word.to_le_bytes());
     }
 
     /// Grows by the least number of pages with which there are `end` bytes, which is none where they are there;
