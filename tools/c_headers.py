@@ -12,7 +12,8 @@ FLAGS = re.compile(r"((?:^#define \w+ \(\(uint\d+_t\)\(UINT32_C\(1\) << \d+\)\)\
 ELEMENT = re.compile(r"^static inline (\w+) \w+\(const uint8_t \*memory, (\w+) list, uint32_t place\) \{", re.M)
 MEMBER = re.compile(r"^ +(\w+) (\w+);$", re.M)
 TEXT = re.compile(r"^static const char \w+\[\] =(?: \{\n(.*?)^\}|\n(.*?));\n", re.M | re.S)
-INTERFACE = re.compile(r"^/\* ---- (\S+) \*/$", re.M)
+# the heading of an interface: a comment by itself, or the last line of the comment that the interface has in WIT
+INTERFACE = re.compile(r"^/\* ---- (\S+) \*/$|^/\*\n(?: \*(?!/).*\n)*? \* ---- (\S+)\n \*/$", re.M)
 FUNCTION = re.compile(
     r'^#define \w+ "([A-Za-z0-9-]+)"\n'
     r"(?:typedef struct \{\n[^}]*\} (\w+);\n(?:static_assert.*\n)+)?"
@@ -109,7 +110,7 @@ class Header:
         """The interfaces: each full name, with the text up to the next."""
         found = list(INTERFACE.finditer(self.text))
         ends = [after.start() for after in found[1:]] + [len(self.text)]
-        return [(start[1], self.text[start.end():end]) for start, end in zip(found, ends)]
+        return [(start[1] or start[2], self.text[start.end():end]) for start, end in zip(found, ends)]
 
     def functions_of(self, full_name, text):
         """The functions of an interface."""

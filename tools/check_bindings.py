@@ -18,7 +18,6 @@ import argparse
 import os
 import pathlib
 import random
-import re
 import shutil
 import subprocess
 import sys
@@ -48,8 +47,6 @@ PACKAGES = {"gcc": ["gcc", "gcc"], "g++": ["g++", "g++"], "clang": ["clang", "li
 SANITIZED = ["-g", "-fsanitize=address,undefined", "-fno-sanitize-recover=all"]
 CALLS = 3
 START, ROOM = 16, 1 << 16
-# the heading of an interface below its comment in WIT
-HEADING = re.compile(r"^/\*\n(?: \*.*\n)*? \* ---- (\S+)\n \*/$", re.M)
 # packages of which two names become one in C, or a name one that C has
 COLLIDING = [
     "package a:b; interface c { record d-e { x: u8, y: u16 } variant v { b-c(u8) } variant v-b { c(u8) } "
@@ -502,7 +499,7 @@ def test_functions(header, packages):
 def check(program, files, folder, number):
     """Checks the header of a set of files; how often it was compiled, and how many calls and values were compared."""
     text = run([program, "bind", "c", str(path_of(files, folder))])
-    header = Header(HEADING.sub(r"/* ---- \1 */", text))
+    header = Header(text)
     (folder / "header.h").write_text(text)
     (folder / "prelude.h").write_text(PRELUDE)
     compiled = compile_alone(folder)

@@ -4,11 +4,13 @@
 usage: tools/stored_names.py [--check]
 
 tests/names has for each file of tests its path, how many it has, and their names in order: the rows of crates/vectors,
-the stored runs of tests/explain, the files of tests/binaries, and the tests of crates and bindings. Names that differ
-in a number alone are one line, `NAME-1 to 9`. Without words the script writes this file. With --check it compares the
+the stored runs of tests/explain, the files of tests/binaries, and the tests of crates and bindings. So it has the
+tables in the scripts of tools/ with their sizes, of which many are exceptions of a check, their limits, and the scripts
+of the part `pages`. Names that differ in a number alone are one line, `NAME-1 to 9`. Without words the script writes this file. With --check it compares the
 two, and the table of rows in docs/guarantees/tests.md: each name there is one of the file beside it, and of rows that
 begin or end as `..` says there are as many as it says. The exit status is 1 if something differs.
 """
+import ast
 import json
 import re
 import sys
@@ -27,10 +29,23 @@ TESTS = {
     ".py": re.compile(r"^ *def (test_\w+)", re.M),
     ".js": re.compile(r"^ *(?:test|it)\(([\"'`].*?[\"'`]),", re.M),
 }
+# a script of the part `pages`, with its words
+PAGES = re.compile(r"^(tools/\w+\.py(?: --check)?)$", re.M)
 FOLDERS = ("crates/*/src", "bindings/python/tests", "bindings/js/tests", "bindings/rust/tests")
-NUMBERED = re.compile(r"(.*[- ])(0|[1-9]\d*)")
+# what is numbered in a row, and not a size
+NUMBERED = re.compile(r"(?![A-Z_]+ (?:is|of) )(.*[- ])(0|[1-9]\d*)")
 RANGE = re.compile(r"`([^`]+-)(\d+)` to `\1(\d+)`")
 ANY = re.compile(r"`(\.\. )?([^`]+?)( \.\.)?` \(([\d,]+)\)")
+
+
+def tables_of(path):
+    """The tables and limits that a script begins with: the size of each table, and each number."""
+    for node in ast.parse(path.read_text()).body:
+        name = node.targets[0].id if isinstance(node, ast.Assign) and isinstance(node.targets[0], ast.Name) else ""
+        if name.isupper() and isinstance(node.value, (ast.Dict, ast.List, ast.Set, ast.Tuple)):
+            yield f"{name} of {len(getattr(node.value, 'elts', getattr(node.value, 'keys', ())))}"
+        elif name.isupper() and isinstance(node.value, ast.Constant) and isinstance(node.value.value, int):
+            yield f"{name} is {node.value.value}"
 
 
 def names_by_file():
@@ -45,6 +60,9 @@ def names_by_file():
     for folder in FOLDERS:
         for path in sorted(it for it in ROOT.glob(f"{folder}/**/*") if it.suffix in TESTS and it.is_file()):
             found[place(path)] = TESTS[path.suffix].findall(path.read_text())
+    scripts = sorted((ROOT / "tools").rglob("*.py"))
+    found.update((place(path), list(tables_of(path))) for path in scripts)
+    found["tools/test.sh"] = PAGES.findall((ROOT / "tools/test.sh").read_text())
     return {path: names for path, names in found.items() if names}
 
 
