@@ -63,6 +63,7 @@ tools/conditions_page.py --check
 tools/check_surface.py
 tools/stored_names.py --check
 tools/page_facts.py --check
+tools/check_header.py
 tools/crates_page.py --check
 tools/edits_page.py --check
 tools/api_pages.py --check
