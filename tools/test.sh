@@ -64,6 +64,7 @@ tools/check_surface.py
 tools/stored_names.py --check
 tools/page_facts.py --check
 tools/check_header.py
+tools/check_formats.py
 tools/crates_page.py --check
 tools/edits_page.py --check
 tools/api_pages.py --check
