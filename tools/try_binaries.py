@@ -30,6 +30,7 @@ sys.path.insert(0, str(ROOT))
 
 from tools.check_binaries import encoded, run, spread  # noqa: E402
 from tools.models.binary import PREAMBLE, label, section  # noqa: E402
+from tools.mutants import with_other_byte  # noqa: E402
 from tools.repository import parser  # noqa: E402
 
 BUILT = ROOT / "crates" / "explain" / "out" / "explain"
@@ -309,13 +310,12 @@ class Trial:
 
     def damaged(self, stem, binary, chance):
         """Decodes a binary with one byte changed."""
-        at, byte = chance.randrange(len(binary)), chance.randrange(256)
-        changed = binary[:at] + bytes([byte]) + binary[at + 1:]
+        at, changed = with_other_byte(binary, chance)
         file = self.room / "changed.wasm"
         file.write_bytes(changed if stem == "package" else module(changed))
         said, status = run(self.program, ["decode", file])
         self.done += 1
-        name = f"byte {at} of {stem} is {byte:02x} in {binary.hex()}"
+        name = f"byte {at} of {stem} is {changed[at]:02x} in {binary.hex()}"
         if status not in (0, 1):
             self.fault(f"{name}: status {status}: {said}")
         if status == 0 and changed != binary:

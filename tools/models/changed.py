@@ -7,6 +7,8 @@ import concurrent.futures
 import functools
 import os
 
+from tools.mutants import with_each_byte
+
 from . import component
 from .faults import Refused
 from .jobs import JOBS
@@ -124,11 +126,6 @@ def binary_fronts(inputs):
 # ---- changes
 
 
-def changed(data, place):
-    """The bytes with each value of one of them."""
-    return (data[:place] + bytes([byte]) + data[place + 1 :] for byte in range(256))
-
-
 def kept_number(earlier, data):
     """The number of the error that a set is refused with, or 0 for a package, which has to be written and opened as
     itself."""
@@ -143,12 +140,12 @@ def kept_number(earlier, data):
 
 def numbers_at(earlier, data, place):
     """How often each answer comes of the values of a byte."""
-    return collections.Counter(kept_number(earlier, other) for other in changed(data, place))
+    return collections.Counter(kept_number(earlier, other) for other in with_each_byte(data, place))
 
 
 def decoded_at(data, place):
     """How often each answer comes of the values of a byte, which are decoded."""
-    return collections.Counter(number_of(component.answer(other)) for other in changed(data, place))
+    return collections.Counter(number_of(component.answer(other)) for other in with_each_byte(data, place))
 
 
 def changes(inputs):
