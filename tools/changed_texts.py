@@ -23,7 +23,7 @@ ROOT = pathlib.Path(__file__).resolve().parent.parent
 sys.path.insert(0, str(ROOT))
 
 from tools.check_help import released  # noqa: E402
-from tools.mutants import changed_text  # noqa: E402
+from tools.models.mutants import changed_text  # noqa: E402
 
 SEED = 5
 LONGEST = 6000

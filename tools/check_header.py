@@ -90,7 +90,7 @@ def differing(what, declared, there):
 
 def main():
     text = HEADER.read_text()
-    text = re.sub(r"/\*.*?\*/", "", text, flags=re.S)
+    text = re.sub(r" */\*.*?\*/", "", text, flags=re.S)
     prototypes = {name: (result, list(parameters_of(given))) for result, name, given in PROTOTYPE.findall(text)}
     fields = {name: [(kind.strip(), label, array) for kind, label, array in C_FIELD.findall(body)]
               for body, name in C_STRUCT.findall(text)}

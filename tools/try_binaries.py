@@ -30,7 +30,7 @@ sys.path.insert(0, str(ROOT))
 
 from tools.check_binaries import encoded, run, spread  # noqa: E402
 from tools.models.binary import PREAMBLE, label, section  # noqa: E402
-from tools.mutants import with_other_byte  # noqa: E402
+from tools.models.mutants import with_other_byte  # noqa: E402
 from tools.repository import parser  # noqa: E402
 
 BUILT = ROOT / "crates" / "explain" / "out" / "explain"

@@ -7,11 +7,10 @@ import concurrent.futures
 import functools
 import os
 
-from tools.mutants import with_each_byte
-
 from . import component
 from .faults import Refused
 from .jobs import JOBS
+from .mutants import with_each_byte
 from .opening import begun, opened_behind
 
 # the bytes that tell a binary from a text

@@ -6,11 +6,10 @@ import random
 import subprocess
 import tempfile
 
-from tools.mutants import changed
-
 from . import text_rows
 from .faults import Refused
 from .jobs import JOBS
+from .mutants import changed
 from .opening import MARK, opened
 
 FILES = ("grammar", "texts", "errors", "sets", "packages")
