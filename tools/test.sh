@@ -140,10 +140,11 @@ binaries() { python3 -B tools/try_binaries.py --unjudged --program "$built/wit-e
 pictures() { python3 -B tools/pictures.py --check --program "$built/witcall"; }
 
 # The programs with memory that is refused or small, and with counts that no input holds; the library with memory that
-# is refused.
+# is refused, and what a byte takes in it.
 memory() {
     python3 -B -m tools.measure refused --brief --program "$built/witcall" program &&
         python3 -B -m tools.measure refused-calls --brief "$built/libwitcall.so" &&
+        python3 -B -m tools.measure amplification --brief "$built/libwitcall.so" &&
         python3 -B -m tools.measure small-memory --brief "$built/witcall" &&
         python3 -B -m tools.measure largest-request --brief "$built/witcall"
 }

@@ -11,6 +11,7 @@
 #include <string.h>
 
 void *__libc_malloc(size_t size);
+void *__libc_calloc(size_t count, size_t size);
 void *__libc_realloc(void *old, size_t size);
 void __libc_free(void *block);
 
@@ -48,6 +49,13 @@ static void left(void *block) {
 
 void *malloc(size_t size) {
     void *block = is_granted() ? __libc_malloc(size) : NULL;
+    if (block)
+        took(block);
+    return block;
+}
+
+void *calloc(size_t count, size_t size) {
+    void *block = is_granted() ? __libc_calloc(count, size) : NULL;
     if (block)
         took(block);
     return block;

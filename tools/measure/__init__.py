@@ -7,6 +7,7 @@
 | `times` | how times grow: tables, sets of packages, JSON, reading, names that collide |
 | `memory` | the most memory of opening and of calls, little memory, the largest request |
 | `refused` | allocations that are refused in turn |
+| `amplification` | what a byte takes in calls of the library: memory and instructions, and how they grow |
 | `refused_calls` | requests that calls of the library make, refused in turn |
 | `changed` | inputs that are cut and changed |
 """

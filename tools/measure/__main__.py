@@ -6,7 +6,7 @@ import sys
 
 from tools.repository import ROOT
 
-from . import changed, memory, refused, refused_calls, times
+from . import amplification, changed, memory, refused, refused_calls, times
 from .harness import INSTRUCTIONS, TIME
 
 # what `python3 -m tools.measure` measures, and the words that each takes
@@ -23,6 +23,7 @@ MEASURES = {
     "small-memory": (memory.small, "brief", "program"),
     "largest-request": (memory.largest, "brief", "program"),
     "refused": (refused.refused, "brief", "witcall", "crates"),
+    "amplification": (amplification.amplification, "brief", "library"),
     "refused-calls": (refused_calls.refused_calls, "brief", "library"),
     "changed": (changed.by_rows, "program", "rows"),
     "changed-behind-sets": (changed.behind_sets, "program"),
