@@ -1,23 +1,29 @@
 #!/usr/bin/env python3
 """Finds what is missing of the public surface, and types that a host of `witcall` can't name.
 
-usage: tools/check_surface.py [--rows | --facade]
+usage: tools/check_surface.py [--rows | --facade | --write]
 
 - tools/surface.txt lists the calls, types, variants and fields that a reader looks for. Each has to be there, a call
   with these parameters: in its crate under its own name, or where the line says. Each word of a form has to be in the
   column `expected` of the table "Public forms that differ" of docs/DECISIONS.md, in a row of that crate. A row of the
   table has such a word, and the rows are in the order of the crates.
+- Below each line of calls, types, variants and fields are indented lines that say what is there: the parameters of a
+  call with their types, its result and the names of its conditions, and what variants and fields hold. They have to be
+  so, and the file has as many things of each kind as its line `count` says. --write writes these lines anew.
 - A type that a public signature, field or variant of what `witcall` gives names has to be given by `witcall` too, or a
   line of tools/surface.txt says which crate gives it. Types of std and of the kit are left out, and implementations of
   traits are not read.
 
-Prints one line with counts. --rows and --facade do one of the two. The exit status is 1 if something is missing.
+Prints one line with counts. --rows and --facade leave out the other. The exit status is 1 if something is missing.
 """
 import collections
+import difflib
 import re
 import sys
 
-from public_items import ROOT, WORD, at_path, files, find, given, members, named, parameters, uses
+from public_items import (
+    ROOT, WORD, at_path, code, files, find, given, head_and_contract, members, named, parameters, uses
+)
 
 DATA = ROOT / "tools" / "surface.txt"
 PAGE = ROOT / "docs" / "DECISIONS.md"
@@ -27,6 +33,8 @@ FACADE = "witcall"
 LINE = re.compile(r"(call|type|trait|variants|fields|outside) ([\w:]+?)(?:\((.*?)\)|: ([\w, ]+?))?"
                   r"(?: = (\w+): ([\w:]+))?(?: \| (.+))?")
 FORM = re.compile(r"form \| (.+)")
+COUNT = "count | "
+CONDITION = re.compile(r"^\s*requires\b ?(\w*)", re.M)
 TYPES = ("struct", "enum", "type", "trait")
 KINDS = {"call": ("fn",), "type": TYPES[:3], "trait": TYPES[3:], "variants": ("variant",), "fields": ("field",),
          "outside": TYPES}
@@ -44,7 +52,7 @@ def expected():
             crate = head[1]
         elif form := FORM.fullmatch(line):
             yield Expected(number, crate, "form", None, None, crate, None, form[1].split(", "))
-        elif line and not line.startswith("#"):
+        elif line and not line.startswith(("#", "  ", COUNT)):
             yield from in_line(number, crate, line)
 
 
@@ -77,6 +85,53 @@ def fault_of(it):
     if there == it.parameters:
         return None
     return f"{it.path} of {it.place} has the parameters ({there}), and not ({it.parameters})"
+
+
+def conditions(item):
+    """The names of a function's conditions."""
+    _, contract = head_and_contract(code(item.path).splitlines(), item.line - 1)
+    return [name or "one without a name" for name in CONDITION.findall("\n".join(contract))]
+
+
+def as_it_is(it):
+    """What is there of a line of calls, types, variants or fields, in a line; nothing of others and of std."""
+    item = named(it.place, it.path) if it.kind not in ("form", "outside") and files(it.place) else None
+    if item is None:
+        return []
+    if it.kind == "call":
+        asked = conditions(item)
+        return [item.text + (f" requires {', '.join(asked)}" if asked else "")]
+    text = " ".join(item.text.split()).rstrip(",")
+    if it.kind == "variants":
+        return [f"{item.name}{text}"] if text else []
+    return [f"{item.name}: {text}" if it.kind == "fields" else text]
+
+
+def counted(surface):
+    """How many things of each kind the file has, as its line says it."""
+    kinds = collections.Counter(it.kind for it in surface)
+    kinds["rows of the table of forms"] = len(list(rows()))
+    return COUNT + ", ".join(f"{number} {kind}" for kind, number in sorted(kinds.items()))
+
+
+def written(surface):
+    """The text of tools/surface.txt with what is there below each line, and its counts."""
+    below = collections.defaultdict(list)
+    for it in surface:
+        below[it.number] += [f"  {line}" for line in as_it_is(it)]
+    lines = []
+    for number, line in enumerate(DATA.read_text().splitlines(), 1):
+        if not line.startswith(("  ", COUNT)):
+            lines += [line, *below[number]]
+    return "".join(f"{line}\n" for line in [*lines, counted(surface)])
+
+
+def faults_of_text(surface):
+    """The lines of tools/surface.txt that say otherwise than it is."""
+    stored, there = DATA.read_text().splitlines(), written(surface).splitlines()
+    for line in difflib.unified_diff(stored, there, lineterm="", n=0):
+        if line.startswith(("+", "-")) and not line.startswith(("+++", "---")):
+            yield f"{DATA.relative_to(ROOT)}: {'it is' if line[0] == '+' else 'it says'} {line[1:].strip()}"
 
 
 def rows():
@@ -161,12 +216,16 @@ def counts(surface):
 
 def main():
     """Prints what is missing, or the counts."""
-    if sys.argv[1:] not in ([], ["--rows"], ["--facade"]):
+    if sys.argv[1:] not in ([], ["--rows"], ["--facade"], ["--write"]):
         sys.exit(__doc__)
     surface, found = list(expected()), []
+    if sys.argv[1:] == ["--write"]:
+        DATA.write_text(written(surface))
+        return
     if sys.argv[1:] != ["--facade"]:
         found += [f"{DATA.relative_to(ROOT)}:{it.number}: {fault}" for it in surface if (fault := fault_of(it))]
         found += dict.fromkeys(faults_of_table(surface))
+        found += faults_of_text(surface)
     if sys.argv[1:] != ["--rows"]:
         found += faults_of_facade(surface)
     for fault in found:
