@@ -12,7 +12,8 @@ usage: tools/check_numbers.py
   section's crates, or of the crate that follows it in parentheses. What stands in the columns `tested by` and
   `refused by` is a theorem of the crate canonical_abi, or one of its laws or must-fail edits.
 - docs/GATE.md: the sums of the table of seconds, and the seconds of the longest chain. `rt ci` passes each crate and
-  each must-fail edit of the gate, of which there are as many as PASSED finds.
+  each must-fail edit of the gate, of which there are as many as PASSED finds. The table of edits of kinds has those that
+  say their kind, and the seconds of their crates; the numbers of both are as EDITS finds them.
 - The numbers that each group of ALIKE finds on several pages are one. Those that TRIED finds are those that
   tools/check_standard.py tries.
 - The limits that LIMITS finds on pages are those of the models, and the keywords of docs/FORMATS.md too. The pages of
@@ -45,6 +46,7 @@ PHRASES = (
     "as `show --with a.wit c.wit`", "`error N WORDS`",
 )
 PASSED = re.compile(r"`(\d+) passed, 0 failed`")
+EDITS = re.compile(r"each of the (\d+) \[kinds.*?tries (\d+) more", re.S)
 SECONDS = re.compile(r"^```\n([a-z_ ]+)\n([\d ]+)\n```$", re.M)
 MINUTES = re.compile(r"Up to `(\w+)` they are (\d+) minutes")
 # what several pages say: of each page a pattern
@@ -267,6 +269,27 @@ def wrong_passes(counts):
                 yield f"{place(page)}: {number} passed, and there are {there} crates and must-fail edits"
 
 
+def wrong_edits(text, counts):
+    """What docs/GATE.md says of the edits of kinds, and of how many others there are, that is not so."""
+    kinds, others = collections.defaultdict(set), 0
+    for path in ROOT.glob("crates/*/must-fail/*.edit"):
+        is_of_kind = path.read_text().split("\n")[1].startswith("# kind: ")
+        kinds[path.parts[-3]] |= {path.stem} if is_of_kind else set()
+        others += not is_of_kind
+    crates, crate, seconds = table_of_seconds(text)[0], "", ""
+    for number, head, cell in columns(text):
+        crate = cell.strip("`") if head == "crate" else crate
+        seconds = cell if head == "proof" else seconds
+        if head == "edits of kinds" and set(cell) != {"-"}:
+            counts["edits of kinds"] += len(SPAN.findall(cell))
+            if kinds.pop(crate, set()) != set(SPAN.findall(cell)) or crates[crate]["proof"] != int(seconds):
+                yield number, f"the edits of kinds of {crate}, or its seconds, are others"
+    yield from ((1, f"the edits of kinds of {crate} are not named") for crate, names in kinds.items() if names)
+    found = EDITS.search(text)
+    if not found or found.groups() != (str(counts["edits of kinds"]), str(others)):
+        yield 1, f"there are {counts['edits of kinds']} edits of kinds and {others} others"
+
+
 def wrong_limits(counts):
     """The limits on pages that are none of the models, and the keywords."""
     for page in (it for it in pages() if not is_reference(it)):
@@ -312,12 +335,13 @@ def main():
         ("DEFINITIONS", lambda text: wrong_theorems(text, counts)),
         ("DEFINITIONS", lambda text: wrong_tests(text, counts)),
         ("GATE", lambda text: ((1, fault) for fault in wrong_times(text, counts))),
+        ("GATE", lambda text: wrong_edits(text, counts)),
     ):
         page = ROOT / "docs" / f"{name}.md"
         faults += [f"{place(page)}:{number}: {fault}" for number, fault in check(page.read_text())]
     faults += [*wrong_passes(counts), *different(counts), *wrong_limits(counts), *wrong_tried(counts)]
     print("\n".join([*faults, ", ".join(f"{number} {what}" for what, number in counts.items()) + " compared"]))
-    sys.exit(bool(faults) or len(counts) < 10 or not all(counts.values()))
+    sys.exit(bool(faults) or len(counts) < 11 or not all(counts.values()))
 
 
 if __name__ == "__main__":

@@ -3,9 +3,10 @@
 
 usage: tools/edits_page.py [--check]
 
-The first line of an edit says what it leaves open, after `# open: `. The crates come in the order of crates.txt. With
---check nothing is written, and the exit status is 1 if the page is not current. It is 1 as well if an edit has no such
-line.
+The first line of an edit says what it leaves open, after `# open: `. The second says the kind of wrong body that it
+serves, after `# kind: `, if it serves one: there are KINDS, of each one edit of crates/*/must-fail. The crates come in
+the order of crates.txt. With --check nothing is written, and the exit status is 1 if the page is not current. It is 1
+as well if an edit has no first line, or a kind not one edit.
 """
 import sys
 
@@ -14,6 +15,8 @@ from repository import ROOT, keep_page
 
 PAGE = ROOT / "docs" / "guarantees" / "edits.md"
 MARK = "# open: "
+KIND = "# kind: "
+KINDS = 25
 HEAD = """\
 # Edits that are refused
 
@@ -21,8 +24,8 @@ This page names every must-fail edit, and what it leaves open in a proof. It is 
 refuses a wrong body. `tools/edits_page.py` makes the page of the first lines of the edits: change these, and run it.
 
 An edit turns the meaning of a crate's code. Those of `productions` in `atoms`, which has no code, are of definitions.
-The prover has to refuse each. The gate tries those of `crates/NAME/must-fail`, one of each kind of wrong body. The
-others are in `edits/NAME` ([GATE.md](../GATE.md#must-fail-edits)).
+The prover has to refuse each. The gate tries those of `crates/NAME/must-fail`, among them one of [each kind of wrong
+body](#kinds-of-wrong-bodies). The others are in `edits/NAME` ([GATE.md](../GATE.md#must-fail-edits)).
 
 An edit is named for what it would let through. Examples are `spills_at_sixteen` in `layout`, `no_post_return` in
 `adapter` and `reply_always_stops` in `witcall`. `tools/try_edits.py` tries them all, or those of the crates named, and
@@ -43,6 +46,16 @@ its own over each state. What stays open is one of these:
 "By hand": the goal was proved by hand, and the edit is refused in that answer.
 
 | crate | what stays open | edits |
+|---|---|---|
+"""
+OF_KINDS = """
+## Kinds of wrong bodies
+
+These are the kinds of wrong body that would break the promise or a layer below it. Each has one edit, in the crate
+whose contract refuses it. The gate tries it. An edit is one body of its kind: where the kind has two sides, the other
+one has an edit in the table above.
+
+| kind | crate | edit |
 |---|---|---|
 """
 
@@ -67,13 +80,29 @@ def rows(crate):
         yield f"| {'' if place else f'`{crate}`'} | {what} | {names} |".replace("|  |", "| |")
 
 
+def kinds(crates):
+    """The rows of the kinds. Stops if they are not KINDS, each with one edit that the gate tries."""
+    found = []
+    for path, crate in sorted(repository.edits(), key=lambda it: (crates.index(it[1]), it[0].stem)):
+        second = path.read_text().split("\n")[1]
+        if second.startswith(KIND):
+            found.append((second.removeprefix(KIND), crate, path))
+    if len(found) != KINDS or len({kind for kind, *_ in found}) != KINDS:
+        sys.exit(f"tools/edits_page.py: {len(found)} edits have a kind, and there are {KINDS} kinds with one edit each")
+    lost = [path for *_, path in found if path.parent.name != "must-fail"]
+    if lost:
+        sys.exit(f"tools/edits_page.py: the gate does not try {lost[0].relative_to(ROOT)}, which has a kind")
+    return [f"| {kind} | `{crate}` | `{path.stem}` |" for kind, crate, path in found]
+
+
 def page():
     """The page's text. Stops if edits/ has a folder of no crate."""
     crates = list(repository.crates())
     lost = {it.name for it in (ROOT / "edits").iterdir()} - set(crates)
     if lost:
         sys.exit(f"tools/edits_page.py: no crate of crates.txt: {', '.join(sorted(lost))}")
-    return HEAD + "".join(f"{row}\n" for crate in crates for row in rows(crate))
+    table = "".join(f"{row}\n" for crate in crates for row in rows(crate))
+    return HEAD + table + OF_KINDS + "".join(f"{row}\n" for row in kinds(crates))
 
 
 if __name__ == "__main__":
