@@ -4,6 +4,7 @@
 #
 # usage: tools/test.sh                   all parts
 #        tools/test.sh --only PART..     these parts, over what an earlier run built
+#        tools/test.sh --edits [CRATE..] all must-fail edits of the crates that changed since their last result, or of these
 #
 # If the sources are newer than the release, and there is no toolchain, the tests of the release's own commit are run.
 #
@@ -67,6 +68,7 @@ tools/check_header.py
 tools/check_formats.py
 tools/crates_page.py --check
 tools/edits_page.py --check
+tools/edit_results.py --check
 tools/api_pages.py --check
 tools/definitions_page.py --check
 END
@@ -229,12 +231,15 @@ case "${1-}" in
         done
         [ -z "$failures" ]
         exit ;;
+    --edits)
+        shift
+        exec python3 -B tools/edit_results.py "$@" ;;
     --run) # a part in the background
         run "$2"
         exit 0 ;;
     '') ;;
     *)
-        echo "usage: tools/test.sh [--only PART..]" >&2
+        echo "usage: tools/test.sh [--only PART.. | --edits [CRATE..]]" >&2
         exit 2 ;;
 esac
 if [ -z "$toolchain" ]; then

@@ -105,12 +105,11 @@ def check(words, folder):
     return ran.stdout + ran.stderr, ran.returncode
 
 
-def tried(name, names, only):
-    """Tries the crate's edits, and answers whether each shows something."""
+def results(name, names, only):
+    """Tries the crate's edits: of each its path, whether it shows something, and what its refusal is told as."""
     asked = edits_of(name, only)
     if not asked:
-        return True
-    well = True
+        return
     with tempfile.TemporaryDirectory(prefix="edits-") as room:
         copied(pathlib.Path(room), name, names)
         folder = pathlib.Path(room) / "crates" / name
@@ -123,8 +122,15 @@ def tried(name, names, only):
             shows, text = told(*check(words, folder)) if texts else (False, "can't be applied")
             for path, whole in before.items():
                 path.write_text(whole)
-            well &= shows
-            print(f"{' ' if shows else '!'} {name}/{edit.stem}: {text}", flush=True)
+            yield edit, shows, text
+
+
+def tried(name, names, only):
+    """Tries the crate's edits, and answers whether each shows something."""
+    well = True
+    for edit, shows, text in results(name, names, only):
+        well &= shows
+        print(f"{' ' if shows else '!'} {name}/{edit.stem}: {text}", flush=True)
     return well
 
 
