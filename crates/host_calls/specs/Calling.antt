@@ -154,7 +154,7 @@ abbrev pub EnterAsksNot : FunctionType → List Value → List ℕ → ℕ → C
 EnterAsksNot f flats caller limit (error.Fault fault) =
     (AreTooMany flats LiftArgs (error.Fault fault) ⊎ AreOtherKinds f (map flat_of flats) LiftArgs (error.Fault fault))
     ⊎ (ArgumentsCanBeRead f flats caller × IsTrapIn LiftArgs (IsArgumentFault f (map flat_of flats) (source caller)) fault
-      × (total (arguments_asked f (map flat_of flats) caller) ≤ limit))
+    × (total (arguments_asked f (map flat_of flats) caller) ≤ limit))
 EnterAsksNot f flats caller limit error.BadBlock = KindsFit f (map flat_of flats) × (4294967296 ≤ length caller)
 EnterAsksNot f flats caller limit error.AboveLimit =
     ArgumentsCanBeRead f flats caller
@@ -168,7 +168,7 @@ abbrev pub LeaveAsksNot : FunctionType → List Value → List ℕ → ℕ → C
 LeaveAsksNot f answer callee limit (error.Fault fault) =
     (AreTooMany answer LiftResult (error.Fault fault) ⊎ IsOtherAnswer f (map flat_of answer) (error.Fault fault))
     ⊎ (AnswerCanBeRead f answer callee × IsTrapIn LiftResult (DenotesFault max_flat_results (result_fields f.result) callee (map flat_of answer)) fault
-      × (total (result_asked (result_fields f.result) callee (map flat_of answer)) ≤ limit))
+    × (total (result_asked (result_fields f.result) callee (map flat_of answer)) ≤ limit))
 LeaveAsksNot f answer callee limit error.BadBlock = AnswerFits f (map flat_of answer) × (4294967296 ≤ length callee)
 LeaveAsksNot f answer callee limit error.AboveLimit =
     AnswerCanBeRead f answer callee

@@ -105,9 +105,9 @@ ask_fields-loop-index-preserved t c =
           (s + size u, omega (arith, is, sizes-next fs c.loop-index.index u found), few-both d s (size u) _ _ _ _ _ _ few one)),
       (λ e covers. c.ask_at.ensures.each e (c.loop-index.invariant.2 e covers)),
       (let m = c.args.self.now.source.now in
-      let here = c.args.at + next_multiple_of c.loop-index.end (align u) in
-      let read : reading u m here ≡ Ok v = ap (λ x. reading u m (c.args.at + x)) (sym place) ∙ e in
-      limit-goes-on (reading u m here) v (requests u) _ (asked_at u m here) _ _ _ _ _ (fields-asked-next fs m c.args.at c.loop-index.end c.loop-index.index u found) read (asks-at u m here v read) more.spent c.loop-index.invariant.3),
+          let here = c.args.at + next_multiple_of c.loop-index.end (align u) in
+          let read : reading u m here ≡ Ok v = ap (λ x. reading u m (c.args.at + x)) (sym place) ∙ e in
+          limit-goes-on (reading u m here) v (requests u) _ (asked_at u m here) _ _ _ _ _ (fields-asked-next fs m c.args.at c.loop-index.end c.loop-index.index u found) read (asks-at u m here v read) more.spent c.loop-index.invariant.3),
     )
 
 pub ask_fields-returns-clause-asks : goal.ask_fields-returns-clause-asks
@@ -182,8 +182,8 @@ ask_list-loop-index-preserved t c =
           subst (λ (s : ℕ). IsFew d s c.tell.new.left c.ask_at.new.left c.args.nodes.now c.ask_at.new.nodes) same (few-both d (c.loop-index.index * c.size_of-step.result) (size u) _ _ _ _ _ _ (c.loop-index.invariant.1 d h deep) one)),
       (λ e covers. c.ask_at.ensures.each e (c.loop-index.invariant.2 e covers)),
       (let m = c.args.self.now.source.now in
-      let here = c.args.start + c.loop-index.index * c.size_of-step.result in
-      limit-goes-on (f here) v (requests u) _ (asked_at u m here) _ _ _ _ _ (each-asked-next f (asked_at u m) c.size_of-step.result c.args.start c.args.len c.loop-index.index (omega arith)) e (asks-at u m here v e) more.spent c.loop-index.invariant.3),
+          let here = c.args.start + c.loop-index.index * c.size_of-step.result in
+          limit-goes-on (f here) v (requests u) _ (asked_at u m here) _ _ _ _ _ (each-asked-next f (asked_at u m) c.size_of-step.result c.args.start c.args.len c.loop-index.index (omega arith)) e (asks-at u m here v e) more.spent c.loop-index.invariant.3),
     )
 
 pub ask_list-returns-clause-asks : goal.ask_list-returns-clause-asks

@@ -33,7 +33,7 @@ invariant-ask_list-loop-index l =
     × ((d : ℕ) → IsStandard t → depth t ≤ d → IsFew d (l.index * l.step) l.initial.left l.left l.initial.nodes l.nodes)
     × ((e : ℕ) → l.initial.count ≤ l.initial.nodes + e → l.count ≤ l.nodes + e)
     × (l.left + total (each_asked f (asked_at t l.self.source.now) l.step l.start l.len)
-      ≡ l.initial.left + total (each_asked f (asked_at t l.self.source.now) l.step (l.start + l.index * l.step) (l.len - l.index)))
+    ≡ l.initial.left + total (each_asked f (asked_at t l.self.source.now) l.step (l.start + l.index * l.step) (l.len - l.index)))
 
 abbrev pub invariant-ask_fields-loop-index : goal.invariant-ask_fields-loop-index
 invariant-ask_fields-loop-index l =

@@ -103,9 +103,9 @@ ask_flat_fields-loop-index-preserved t c =
           (s + length (flat_kinds u), omega (arith, is, kinds-next fs c.loop-index.index u found), few-both d s (length (flat_kinds u)) _ _ _ _ _ _ few one)),
       (λ e covers. c.ask_flat.ensures.each e (c.loop-index.invariant.2 e covers)),
       (let m = c.args.self.now.source.now in
-      let here = drop c.loop-index.used ns in
-      let read : lifting u m here ≡ Ok v = ap (lifting u m) (sym (rest-numbers c.args.flats.now c.loop-index.used)) ∙ e in
-      limit-goes-on (lifting u m here) v (requests u) _ (asked_in u m here) _ _ _ _ _ (flat-asked-next fs m ns c.loop-index.index c.loop-index.used u found) read (asks-in u m here v read) more.spent c.loop-index.invariant.3),
+          let here = drop c.loop-index.used ns in
+          let read : lifting u m here ≡ Ok v = ap (lifting u m) (sym (rest-numbers c.args.flats.now c.loop-index.used)) ∙ e in
+          limit-goes-on (lifting u m here) v (requests u) _ (asked_in u m here) _ _ _ _ _ (flat-asked-next fs m ns c.loop-index.index c.loop-index.used u found) read (asks-in u m here v read) more.spent c.loop-index.invariant.3),
     )
 
 pub ask_flat_fields-returns-clause-asks : goal.ask_flat_fields-returns-clause-asks
