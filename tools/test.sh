@@ -13,7 +13,8 @@
 set -u
 PATH="$PATH:$HOME/.cargo/bin"
 cd "$(dirname "$0")/.." || exit 1
-# the parts one after another; those that need the toolchain, as `tried` does; and those that run side by side afterwards
+# the parts one after another; those that need the toolchain, as `tried` and `trees` do; and those that run side by side
+# afterwards
 FIRST='setup release copies pages'
 PROVED='proofs build'
 BESIDE='models standard hosts snippets fuzz bound outputs explain damaged memory install bindings texts binaries page pictures
@@ -22,7 +23,7 @@ logs=out/parts
 mkdir -p "$logs"
 if command -v rt >/dev/null; then
     toolchain=yes built=$PWD/out/built
-    BESIDE="tried $BESIDE"
+    BESIDE="tried trees $BESIDE"
 else
     toolchain='' built=$PWD/out/released
 fi
@@ -110,6 +111,9 @@ tried() {
     wanted=$(echo "$block" | sed -n 's/^# //p')
     sh -ec "$block" </dev/null >"$logs/tried.out" && grep -qxF "$wanted" "$logs/tried.out"
 }
+
+# The trees of texts beside the program, and their faults beside places that were written down.
+trees() { python3 -B tools/check_tree.py --witcall "$built/witcall" 5000; }
 
 # The stored runs of wit-explain, by both builds if they are there.
 explain() {

@@ -1,5 +1,5 @@
-//! The building of nodes, from the front of the tokens to their end: a node is opened, tokens are taken, and the node is
-//! closed. Its kind may be chosen then.
+//! The building of nodes, from the front of the tokens to their end: a node is opened, tokens are taken, and the node
+//! is closed. Its kind may be chosen then.
 ghost use Rattle.std.specs.Prelude.{◌≡◌, ◌≤◌, ◌+◌, ◌-◌, min, List, [], ◌∷◌, ◌++◌, length, take, reverse};
 ghost use Rattle.std.specs.Prelude.{IfOk, option_to_list};
 ghost use Rattle.std.specs.Bool.{OnTrue};

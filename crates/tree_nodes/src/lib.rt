@@ -1,5 +1,5 @@
 //! Nodes over the tokens of a text, in postorder, and how they are built. `Builder` carries the promise: whatever is
-//! called in whatever order, the nodes nest, and there are at most twice as many as tokens. It stands on no other crate.
+//! called in whatever order, the nodes nest, and are at most twice as many as the tokens. It stands on no other crate.
 #![tactic(auto)]
 
 mod builder;

@@ -1,0 +1,4 @@
+pub mod Faults
+pub mod Told
+pub mod Trees
+pub mod Words
