@@ -7,6 +7,7 @@
 # line of apt-get to run, and the exit status is 1. It is 1 also if a tool is still missing afterwards. The toolchain's
 # rt is no package of Debian, and is not needed here.
 set -eu
+root=$(cd "$(dirname "$0")/.." && pwd)
 
 # Whether there is what a package is for: a program, or what a command finds.
 has() {
@@ -17,6 +18,7 @@ has() {
         libc-for-wasm) [ -f /usr/lib/wasm32-wasi/libc.a ] ;;
         builtins-for-wasm) [ -f "$(clang --target=wasm32-wasi -print-libgcc-file-name)" ] ;;
         libc-for-aarch64) [ -f /usr/aarch64-linux-gnu/lib/libc.a ] ;;
+        new-rustc) has_new_rustc ;;
         module-*) /usr/bin/python3 -c "import ${1#module-}" 2>/dev/null ;;
         *) command -v "$1" >/dev/null ;;
     esac
@@ -28,9 +30,21 @@ has_library() {
         clang -fsanitize="fuzzer,$1" -x c -o /dev/null - 2>/dev/null
 }
 
-# What is needed, each with its package.
+# Whether rustc is as new as the crate asks.
+has_new_rustc() {
+    wanted=$(sed -n 's/^rust-version = "\(.*\)"$/\1/p' "$root/bindings/rust/Cargo.toml")
+    there=$(rustc --version 2>/dev/null | cut -d' ' -f2)
+    [ -n "$there" ] && [ "$(printf '%s\n' "$wanted" "$there" | sort -V | head -n 1)" = "$wanted" ]
+}
+
+# What is needed, each with its package. Debian 12 has a rustc that is too old, and a newer one in packages of its own.
 needed() {
-    cat <<'END'
+    if grep -q '^VERSION_ID="12"' /etc/os-release; then
+        cargo=cargo-web clippy=rust-web-clippy rustfmt=rustfmt-web
+    else
+        cargo=cargo clippy=rust-clippy rustfmt=rustfmt
+    fi
+    cat <<END
 cc gcc
 c++ g++
 ar binutils
@@ -57,9 +71,12 @@ module-ensurepip python3-venv
 module-setuptools python3-setuptools
 module-wheel python3-wheel
 mypy mypy
-cargo cargo
-cargo-clippy rust-clippy
-rustfmt rustfmt
+new-rustc $cargo
+new-rustc $clippy
+new-rustc $rustfmt
+cargo $cargo
+cargo-clippy $clippy
+rustfmt $rustfmt
 fish fish
 zsh zsh
 man man-db
@@ -76,7 +93,7 @@ END
 missing() {
     needed | while read -r tool package; do
         has "$tool" || echo "$package"
-    done
+    done | sort -u
 }
 
 packages=$(missing)
