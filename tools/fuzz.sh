@@ -17,19 +17,24 @@
 # |---------|---------------------------------------------------------|-------------------|-----------|----------|
 # | halves  | types, values and blocks of calls; each half alone,     | half of a process |   120,000 |    3,000 |
 # |         | and what it asks for                                    |                   |           |          |
-# | json    | the same with values as JSON, and texts that are none   | half of a process |    60,000 |    3,000 |
-# | open    | texts and binaries: what is opened is written and opens | half of the other |   200,000 |    3,000 |
-# |         | again                                                   |                   |           |          |
-# | set     | sets of texts and binaries, and their lengths           | three eighths     |   300,000 |          |
+# | json    | the same with values as JSON, and texts that are none;  | half of a process |    60,000 |    3,000 |
+# |         | limits, and arrays of each size                         |                   |           |          |
+# | open    | texts and binaries: what is opened is written and opens | three eighths     |   200,000 |    3,000 |
+# |         | again                                                   | of the other      |           |          |
+# | module  | binaries of other tools, which are changed by their     | two eighths       |    60,000 |          |
+# |         | sections and counts                                     |                   |           |          |
+# | set     | sets of texts and binaries, and their lengths           | one eighth        |   300,000 |          |
+# | explain | the same, and binaries of other tools: what is wrong    | one eighth        |    30,000 |          |
 # | status  | statuses and the room for their lines                   | one eighth        |   100,000 |          |
 #
-# The first inputs are made of the stored rows (tests/fuzz/seeds.py). A line for each harness has the number of its
-# inputs. The exit status is 1 if something is found or missing, or if fewer inputs ran than are stated here.
+# The first inputs are made of the stored rows and of the binaries of tests/ (tests/fuzz/seeds.py). A line for each
+# harness has the number of its inputs. The exit status is 1 if something is found or missing, or if fewer inputs ran
+# than are stated here.
 #
 # It needs clang with libFuzzer, and python3: in Debian `apt-get install -y clang libclang-rt-14-dev python3`.
 set -eu
 root=$(cd "$(dirname "$0")/.." && pwd)
-HARNESSES="halves json open set status"
+HARNESSES="halves json open module set explain status"
 MODELLED="open halves json"
 
 usage() {
@@ -162,13 +167,16 @@ if [ -n "$gate" ]; then
     run_inputs halves 120000 &
     run_inputs json 60000 &
     (run_inputs open 200000; run_inputs set 300000; run_inputs status 100000) &
+    (run_inputs module 60000; run_inputs explain 30000) &
     compare 3000
     wait
 else
     if [ "$seconds" -gt 0 ]; then
         (run_for halves $((seconds / 2)); run_for json $((seconds / 2))) &
-        run_for open $((seconds / 2))
-        run_for set $((seconds * 3 / 8))
+        run_for open $((seconds * 3 / 8))
+        run_for module $((seconds / 4))
+        run_for set $((seconds / 8))
+        run_for explain $((seconds / 8))
         run_for status $((seconds / 8))
         wait
     fi

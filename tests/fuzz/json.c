@@ -6,8 +6,9 @@
  * asked for with any limit from its sum on, and is 76 with any less. The arguments are put into just these blocks. What
  * is put asks for the same blocks again, as the result does whose JSON it is, and has that JSON again, also as the
  * arguments of a guest's call. Then the JSON is put into the same memory as the result of such a call, and is read
- * there. A text that is refused is refused before anything is written. tests/fuzz/compare.py compares the rest with the
- * models.
+ * there. A text that is refused is refused before anything is written. What is read as JSON is read with any limit from
+ * what it asks for on, and is 76 with any less; into an array of any size, and nothing is written beyond that.
+ * tests/fuzz/compare.py compares the rest with the models.
  */
 #include "calls.h"
 
@@ -112,6 +113,35 @@ static size_t record_blocks(call *c) {
     return flat > 16;
 }
 
+/* Reads a value of a call as JSON, with a limit. */
+typedef witcall_status reading(call *c, const memory *m, values flats, uint8_t *text, size_t len, uint64_t limit);
+
+static witcall_status read_result(call *c, const memory *m, values flats, uint8_t *text, size_t len, uint64_t limit) {
+    return witcall_read_json(&c->package, c->func, flats.at, flats.len, m->at, m->len, text, len, limit);
+}
+
+static witcall_status
+read_arguments(call *c, const memory *m, values flats, uint8_t *text, size_t len, uint64_t limit) {
+    return witcall_read_arguments_json(&c->package, c->func, flats.at, flats.len, m->at, m->len, text, len, limit);
+}
+
+/* A value that asks for so many bytes and has this text is read with any limit from these on, and not with less; and
+ * with any room from the text's length on. What there is no room for is not written. */
+static void check_reading(
+    call *c, reading *read, const memory *m, values flats, uint64_t sum, const uint8_t *text, size_t len) {
+    const uint32_t number = hash(text, len);
+    const size_t room = number % (len + 2);
+    uint8_t *few = fenced(10, room, c->at_end);
+    witcall_status told = read(c, m, flats, few, room, number % 3 ? sum : UINT64_MAX);
+    HOLDS(room < len ? is_refused(told, WITCALL_NO_ROOM) : is_done(told));
+    HOLDS(told.count == len && (room < len || memcmp(few, text, len) == 0));
+    if (sum > 0) {
+        HOLDS(is_refused(read(c, m, flats, few, room, sum - 1), WITCALL_ABOVE_LIMIT));
+        HOLDS(is_refused(read(c, m, flats, few, room, number % sum), WITCALL_ABOVE_LIMIT));
+    }
+    mark(28, bits(sum) * 32 + bits(len));
+}
+
 /* What was put is read as the arguments that a guest passes: as the same JSON if the library wrote that, and else as
  * JSON that asks for the same blocks. */
 static void check_received(call *c, const asked *a, values given) {
@@ -128,6 +158,7 @@ static void check_received(call *c, const asked *a, values given) {
     HOLDS(is_same(witcall_json_requests(&c->package, c->func, text, told.count, NULL, 0, LIMIT), a->status));
     if (c->is_same_json)
         HOLDS(told.count == c->json_len && memcmp(text, c->json, told.count) == 0);
+    check_reading(c, read_arguments, m, given, a->sum, text, told.count);
 }
 
 /* What was put asks for the same blocks, as the arguments of a call of its own. */
@@ -334,6 +365,17 @@ static void read_answer(call *c) {
     c->is_same_json = true;
 }
 
+/* The answer is read with each limit and into arrays of each size. */
+static void check_answer(call *c) {
+    static witcall_request back[SLOTS];
+    const witcall_status status = ask_back(c, back, SLOTS, LIMIT);
+    uint64_t sum = 0;
+    HOLDS(is_done(status));
+    for (size_t i = 0; i < status.count; i++)
+        sum += back[i].size;
+    check_reading(c, read_result, &c->source, c->answer, sum, c->json, c->json_len);
+}
+
 /* JSON as the input has it: a length and its bytes. */
 static void take_json(call *c, input *in) {
     input bytes = part(in, take(in, 2));
@@ -369,7 +411,9 @@ static bool is_built(call *c, input *in) {
     builder b = {&c->package, in, c->source.at, (uint32_t)len, below(in, 64)};
     c->answer = make_answer(&b, found.count, c->at_end);
     read_answer(c);
-    if (!c->is_same_json)
+    if (c->is_same_json)
+        check_answer(c);
+    else
         take_json(c, in);
     change_json(c, in);
     return true;
@@ -387,6 +431,8 @@ static bool is_read(call *c, input *in) {
     c->target = read_memory(1, in, c->at_end);
     c->answer = read_values(3, in, c->at_end);
     read_answer(c);
+    if (c->is_same_json)
+        check_answer(c);
     take_json(c, in);
     return true;
 }

@@ -4,7 +4,9 @@
 usage: tests/fuzz/seeds.py FOLDER      a folder for each harness is made in it, and a dictionary of words of WIT
 
 - open: the texts and binaries of crates/vectors/data, of crates/vectors and of examples/, each once.
-- set: the sets of crates/vectors/data, in the form of tests/fuzz/set.c.
+- set: the sets of crates/vectors/data, in the form of tests/fuzz/sets.h.
+- explain: the same, and the binaries of tests/binaries, each alone.
+- module: the binaries of tests/binaries, and the modules of tests/explain.
 - halves: the calls of crates/vectors, in the form of tests/fuzz/halves.c, and pseudorandom bytes that build types and
   values.
 - json: the rows of a host's memory of crates/vectors, in the form of tests/fuzz/json.c, and such bytes.
@@ -84,12 +86,30 @@ def open_seeds():
         yield package_of(row)
 
 
+def set_seed(inputs):
+    """A set: how many inputs, the length of each, and their bytes."""
+    lengths = b"".join(little(len(data), 2) for data in inputs)
+    return little(len(inputs), 1) + lengths + b"".join(inputs)
+
+
 def set_seeds():
-    """Sets: how many inputs, the length of each, and their bytes."""
+    """Sets, and a name that may be in one."""
     for inputs in inputs_of_rows():
         if 1 <= len(inputs) <= 16 and all(len(data) < 65536 for data in inputs):
-            lengths = b"".join(little(len(data), 2) for data in inputs)
-            yield little(len(inputs), 1) + lengths + b"".join(inputs) + b"\5a:b/c\1f"
+            yield set_seed(inputs) + b"\5a:b/c\1f"
+
+
+def module_seeds():
+    """Binaries of other tools, and modules."""
+    for folder in ("tests/binaries", "tests/explain/files/modules", "tests/memory"):
+        for path in sorted((ROOT / folder).rglob("*.wasm")):
+            yield path.read_bytes()
+
+
+def explain_seeds():
+    """Sets, and such binaries."""
+    yield from set_seeds()
+    yield from (set_seed([data]) for data in module_seeds() if len(data) < 65536)
 
 
 def values(flats):
@@ -151,7 +171,8 @@ def status_seeds():
             yield little(code, 4) + little(number, 4) + little(number % 9, 4) + little(number, 4) + b"\x40\0"
 
 
-SEEDS = {"open": open_seeds, "set": set_seeds, "halves": half_seeds, "json": json_seeds, "status": status_seeds}
+SEEDS = {"open": open_seeds, "set": set_seeds, "explain": explain_seeds, "module": module_seeds, "halves": half_seeds,
+         "json": json_seeds, "status": status_seeds}
 
 
 def dictionary():
