@@ -2,11 +2,11 @@
  *
  * usage: amplified        reads lines `CALL FILE OTHER LIMIT`, with tabs between
  *
- * FILE is a text, a binary, or the texts of a set one after another. OTHER is the file of a set's lengths, of JSON, or of
- * a memory, whose first eight bytes are the address and the length of the argument or the result; or `-`. The function is
- * f of a:b/c. It prints a line for each: the code and the number of the status, the bytes given, the most bytes that the
- * library held, and the status's count. What a call is given is said at its function. Under callgrind with
- * --collect-atstart=no each call's instructions are dumped in turn.
+ * FILE is a text, a binary, or the texts of a set one after another. OTHER is the file of a set's lengths, of JSON, or
+ * of a memory, whose first eight bytes are the address and the length of the argument or the result; or `-`. The
+ * function is f of a:b/c. It prints a line for each: the code and the number of the status, the bytes given, the most
+ * bytes that the library held, and the status's count. What a call is given is said at its function. Under callgrind
+ * with --collect-atstart=no each call's instructions are dumped in turn.
  */
 #include "counted.h"
 #include "witcall.h"
@@ -180,8 +180,9 @@ static taken json_requests(const given *g) {
 
 static taken result_json_requests(const given *g) {
     open_function(g);
-    const taken t = MEASURED(
-        witcall_result_json_requests(&package, func, g->other.at + 1, g->other.len - 2, NULL, 0, g->limit), g->other.len);
+    const uint8_t *json = g->other.at + 1;
+    const size_t len = g->other.len - 2;
+    const taken t = MEASURED(witcall_result_json_requests(&package, func, json, len, NULL, 0, g->limit), len);
     witcall_close(&package);
     return t;
 }
@@ -216,7 +217,8 @@ static taken fill_result_json(const given *g) {
     const witcall_value area[] = {{0, 0}, {0, 0}, {0, 0}};
     open_function(g);
     make_requests(witcall_result_json_requests(&package, func, json, len, NULL, 0, UINT64_MAX));
-    const bytes memory = grant(witcall_result_json_requests(&package, func, json, len, requests, requests_len, UINT64_MAX));
+    const bytes memory = grant(
+        witcall_result_json_requests(&package, func, json, len, requests, requests_len, UINT64_MAX));
     const taken t = MEASURED(
         witcall_fill_result_json(
             &package, func, area, 3, json, len, memory.at, memory.len, blocks, blocks_len, back, WITCALL_MAX_VALUES),

@@ -1,10 +1,10 @@
-/* Each call of the library on small inputs, with each request for memory refused once, and with all refused from each on.
+/* Each call of the library on small inputs, with each request for memory refused once, and with all from it on.
  *
  * usage: refused BINARY..      the binaries are of other tools, for witcall_open_module
  *
- * Such a call is out of memory: its code is WITCALL_NO_MEMORY, and its number 66, or 21, 35, 46 or 52 of an opening. Or
- * it does what it does with all memory. A document of witcall_explain may also have `no memory` among its faults. A call
- * leaves no block behind. If no request is refused, it is not out of memory.
+ * Such a call is out of memory: its code is WITCALL_NO_MEMORY, and its number 66, or 21, 35, 46 or 52 of an opening.
+ * Or it does what it does with all memory. A document of witcall_explain may also have `no memory` among its faults. A
+ * call leaves no block behind. If no request is refused, it is not out of memory.
  *
  * A line for each other answer has the call, the input, what it answered, and what it answers with all memory, between
  * tabs. The last line counts calls, requests, and answers of both kinds.
@@ -334,8 +334,10 @@ static const struct {
     {"record r { a: u8, b: list<string> } variant v { p, q(r) }", "list<v>",
      "[\"p\",{\"q\":{\"a\":1,\"b\":[\"x\",\"\\u00e9yz\"]}}]", "[\"p\",{\"q\":{\"a\":1,\"b\":[\"x\",3]}}]"},
     {"flags g { k, l } enum e { x, y }", "tuple<option<string>, list<list<u16>>, result<g, e>, list<e>>",
-     "[{\"some\":\"t\"},[[1,2],[],[3]],{\"ok\":[\"l\"]},[\"y\",\"x\"]]", "[{\"some\":\"t\"},[[1,2],[],[3]],{\"ok\":[\"m\"]},[]]"},
-    {"record big { a: string, b: string, c: string, d: string, e: string, f: string, g: string, h: string, i: u8 }", "big",
+     "[{\"some\":\"t\"},[[1,2],[],[3]],{\"ok\":[\"l\"]},[\"y\",\"x\"]]",
+     "[{\"some\":\"t\"},[[1,2],[],[3]],{\"ok\":[\"m\"]},[]]"},
+    {"record big { a: string, b: string, c: string, d: string, e: string, f: string, g: string, h: string, i: u8 }",
+     "big",
      "{\"a\":\"1\",\"b\":\"2\",\"c\":\"3\",\"d\":\"4\",\"e\":\"5\",\"f\":\"6\",\"g\":\"7\",\"h\":\"8\",\"i\":9}",
      "{\"a\":\"1\",\"b\":\"2\",\"c\":\"3\",\"d\":\"4\",\"e\":\"5\",\"f\":\"6\",\"g\":\"7\",\"h\":\"8\"}"},
 };

@@ -1,6 +1,7 @@
 """What each call of the library for C takes for the bytes that a stranger hands in: memory and instructions.
 
-A family is a function from a size to what a call is given. It is measured at a size, at twice and at four times as much.
+A family is a function from a size to what a call is given. It is measured at a size, at twice and at four times as
+much.
 """
 import collections
 import math
@@ -14,13 +15,11 @@ from dataclasses import dataclass
 
 from tools.models.binary import PREAMBLE, extern, label, section, vector
 from tools.models.component import number
-from tools.repository import ROOT
 
 from . import texts
-from .harness import Folder
+from .harness import Folder, driver
 
-TESTS = ROOT / "tests/memory"
-# the most bytes of memory for a byte that is given, and the most that memory and instructions may grow for twice as much
+# the most bytes of memory for a byte that is given, and the most that memory and instructions may grow for twice that
 BOUNDS = (64, 2.1, 2.1)
 # how much a number may differ from one that is known
 SLACK = 1.03
@@ -165,6 +164,7 @@ MODULES = {
 # ---- values as JSON
 
 LONG = "a" * 200
+LONG_FLAGS = f"flags w {{ {','.join(f'l{n}{LONG}' for n in range(32))} }}"
 # of each kind the items that its type names, the type, and an element as JSON
 ELEMENTS = {
     "numbers": ("", "u8", "1"),
@@ -178,7 +178,7 @@ ELEMENTS = {
     "large records": (
         f"record r {{ {','.join(f'{texts.label(n)}: u64' for n in range(100))} }} variant v {{ p, q(r) }}", "v", '"p"'),
     "flags": ("flags w { a, b }", "w", "[]"),
-    "flags with long labels": (f"flags w {{ {','.join(f'l{n}{LONG}' for n in range(32))} }}", "w", "[]"),
+    "flags with long labels": (LONG_FLAGS, "w", "[]"),
 }
 
 
@@ -228,7 +228,7 @@ MEMORIES = {
     "records": memory("record r { a: u8 }", "r", 1, b"\1"),
     "records of records": memory("record q { a: u8 } record r { a: q } record s { a: r }", "s", 1, b"\1"),
     "records of long labels": memory(f"record r {{ a{LONG}: u8 }}", "r", 1, b"\1"),
-    "flags with long labels": memory(f"flags w {{ {','.join(f'l{n}{LONG}' for n in range(32))} }}", "w", 4, b"\xff" * 4),
+    "flags with long labels": memory(LONG_FLAGS, "w", 4, b"\xff" * 4),
     "no flags": memory("flags w { a, b }", "w", 1, b"\0"),
     "cases": memory("enum e { x, y }", "e", 1, b"\1"),
     "texts": memory("", "string", 8, struct.pack("<II", 0, 1)),
@@ -248,7 +248,8 @@ def some(families, *names):
 
 
 FEW_JSON = some(JSON, "texts", "records", "records of records", "flags with long labels")
-FEW_MEMORIES = some(MEMORIES, "records", "records of records", "flags with long labels", "texts", "lists that share memory")
+FEW_MEMORIES = some(
+    MEMORIES, "records", "records of records", "flags with long labels", "texts", "lists that share memory")
 CALLS = {
     "open": OPENED,
     "open_set": SETS,
@@ -295,11 +296,7 @@ class Measurer:
     """Runs the driver, alone for memory and under callgrind for instructions."""
 
     def __init__(self, folder, library):
-        self.folder = folder
-        shutil.copy(library, folder.path / "libwitcall.so.2")
-        flags = ["-std=gnu11", "-Wall", "-Wextra", "-Werror", f"-I{ROOT}/include", f"-I{TESTS}"]
-        links = ["-x", "none", folder.path / "libwitcall.so.2", f"-Wl,-rpath,{folder.path}"]
-        self.program = folder.compile((TESTS / "amplified.c").read_text(), "amplified", *flags, after=links)
+        self.folder, self.program = folder, driver(folder, library, "amplified")
 
     def line(self, call, given):
         """A line for the driver."""
@@ -364,7 +361,7 @@ KNOWN = {
 
 
 def grew(costs, of, least):
-    """How much a cost grew for twice the bytes given, by the first and the last; 0 if it is too small to be a measure."""
+    """How much a cost grew for twice the bytes given, by the first and the last; 0 if it is too small to measure."""
     first, last = costs[0], costs[-1]
     if of(first) < least:
         return 0.0
@@ -452,5 +449,6 @@ def amplification(given):
     for call, family in KNOWN:
         if not any((it.call, it.family) == (call, family) and it.misses() for it in found):
             print(f"mended, so take it from KNOWN: {call}, {family}")
-    print(f"{len(found)} families of {len(CALLS)} calls: {len(open_ones)} misses are known and open, {len(worse)} are new")
+    told = f"{len(open_ones)} misses are known and open, {len(worse)} are new"
+    print(f"{len(found)} families of {len(CALLS)} calls: {told}")
     return not worse

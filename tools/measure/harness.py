@@ -3,6 +3,7 @@ import os
 import pathlib
 import re
 import resource
+import shutil
 import subprocess
 import sys
 from dataclasses import dataclass, replace
@@ -88,6 +89,17 @@ class Folder:
         path = self.path / name
         subprocess.run(["cc", "-O2", *flags, "-x", "c", "-", *after, "-o", path], input=source.encode(), check=True)
         return path
+
+
+def driver(folder, library, name):
+    """The path of a program of tests/memory, over a shared library, which is copied beside it under its own name."""
+    number = re.search(r"#define WITCALL_ABI (\d+)", (ROOT / "include/witcall.h").read_text())[1]
+    beside = folder.path / f"libwitcall.so.{number}"
+    shutil.copy(library, beside)
+    tests = ROOT / "tests/memory"
+    flags = ["-std=gnu11", "-Wall", "-Wextra", "-Werror", f"-I{ROOT}/include", f"-I{tests}"]
+    links = ["-x", "none", beside, f"-Wl,-rpath,{folder.path}"]
+    return folder.compile((tests / f"{name}.c").read_text(), name, *flags, after=links)
 
 
 # ---- costs

@@ -1,14 +1,13 @@
 """The calls of the library for C, with each request for memory refused once, and with all refused from each on."""
 import collections
 import json
-import shutil
 import subprocess
 import sys
 import tempfile
 
 from tools.repository import ROOT
 
-from .harness import Folder
+from .harness import Folder, driver
 
 TESTS = ROOT / "tests"
 # Wrong answers that are known, by their kind: on how many inputs they come. None may come on more.
@@ -40,12 +39,7 @@ def kind_of(call, found, wanted):
 def ran(library):
     """What the driver prints, built beside the shared library."""
     with tempfile.TemporaryDirectory() as path:
-        folder = Folder(path)
-        shutil.copy(library, folder.path / "libwitcall.so.2")
-        source = (TESTS / "memory/refused.c").read_text()
-        flags = ["-std=gnu11", "-Wall", "-Wextra", "-Werror", f"-I{ROOT}/include", f"-I{TESTS}/memory"]
-        links = ["-x", "none", folder.path / "libwitcall.so.2", f"-Wl,-rpath,{folder.path}"]
-        program = folder.compile(source, "refused", *flags, after=links)
+        program = driver(Folder(path), library, "refused")
         told = subprocess.run([program, *inputs()], capture_output=True, text=True, check=False)
     if told.returncode or told.stderr:
         sys.exit(f"status {told.returncode}: {told.stderr[:500]}")
