@@ -36,7 +36,7 @@ On 2026-11-23 to 30 the edits of this table were tried, some before the last cha
 `returned_value_is_lost` and `every_name_has_the_first_place`. So were `path_version_is_lost`, `version_is_not_judged`
 and `upper_case_package` of `wit_grammar`, those of `package_values`, except `bad_json_is_not_this_type` and
 `fills_no_blocks`, `bytes_are_left_behind` of `c_border` and `fault_is_dropped` of `checked_packages`. The gate tries
-its own over each state. What stays open is one of these:
+its own over each state. `tests/edit-results` has the last result of each. What stays open is one of these:
 
 - `read_up_to`: memory is clause `memory` of `read_up_to`.
 - `is_label` alone is the one clause of `is_label`.
