@@ -1,4 +1,6 @@
 //! Why a file is no package, or can't be read.
+ghost use Rattle.std.specs.Prelude.{◌≡◌, IfOk};
+ghost use Rattle.wit_faults.specs.Wanting.{lacks_memory, IsTold};
 
 use layout::LayoutError;
 use layout_limits::Refused;
@@ -37,6 +39,31 @@ pub enum Cause {
     /// The layouts of a package, with what is above their limits.
     #[error("{0}")]
     Layout(LayoutError, Option<Refused>),
+}
+
+impl Cause {
+    /// Whether an allocation was refused, which is no fault of a file.
+    pub fn lacks_memory(&self) -> bool
+        ensures { result ≡ lacks_memory self.now }
+    {
+        matches!(
+            self,
+            Cause::Read(ReadError::NoMemory)
+                | Cause::Text(TextError::NoMemory)
+                | Cause::Resolve(ResolveError::NoMemory)
+                | Cause::Layout(LayoutError::NoMemory, _)
+        )
+    }
+
+    /// The fault of a file, unless an allocation was refused.
+    pub fn told(self) -> Result<Cause, AllocError>
+        ensures { IfOk result (λ cause. (cause ≡ self) × IsTold cause) }
+    {
+        if self.lacks_memory() {
+            return Err(AllocError);
+        }
+        Ok(self)
+    }
 }
 
 impl From<AllocError> for Cause {

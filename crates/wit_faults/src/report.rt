@@ -1,5 +1,6 @@
 //! What is printed, and the exit status.
 ghost use Rattle.std.specs.Prelude.{◌≡◌, [], Some};
+ghost use Rattle.wit_faults.specs.Wanting.{IsTold};
 
 use crate::cause::Cause;
 use crate::drawing::{Fault, push_fault};
@@ -101,8 +102,9 @@ impl Report {
     }
 
     /// Adds a fault of a file by itself, with its place and its hint. Packages that are known are those that the hint
-    /// may name.
+    /// may name. Want of memory is no fault.
     pub fn add(&mut self, alloc: Global, lexed: &Lexed<'_>, known: &[Known<'_>], cause: &Cause)
+        requires { IsTold cause.now }
         ensures { self.new.status ≡ 1 }
     {
         self.status = 1;

@@ -1,10 +1,11 @@
 //! Packages whose files were read.
-ghost use Rattle.std.specs.Prelude.{◌≡◌, ◌+◌, ◌≤◌, length, IfOk, OnOk};
+ghost use Rattle.std.specs.Prelude.{◌≡◌, ◌+◌, length, IfOk, OnOk};
 ghost use Rattle.std.specs.List.{sum_by};
 
 use crate::sources::Source;
 use crate::texts::{Headers, Text, texts_of};
 use std::alloc::{AllocError, Global};
+use std::collections::BTreeMap;
 use wit_faults::{Lexed, PackageRef, Report};
 use wit_text::Ast;
 use wit_tokens::wit_syntax::Item;
@@ -48,10 +49,40 @@ struct Parts<'a> {
     are_all: bool,
 }
 
+/// The numbers of packages of folders, in the order of their first files.
+#[derive(Drop)]
+struct Numbers {
+    alloc: Global,
+    /// By the words of a package and its folder.
+    list: BTreeMap<String, usize>,
+}
+
+impl Numbers {
+    /// The number of the package of a file, which is a new one if it was not found before.
+    fn of(&mut self, part: &Part<'_>) -> Result<usize, AllocError> {
+        let package = PackageRef::of_tree(&part.tree.package);
+        let folder = part.text.source.folder.as_str();
+        let words = format!(in self.alloc; "{package} {folder}")?;
+        if let Some(number) = self.list.get(words.as_str()) {
+            return Ok(*number);
+        }
+        let number = self.list.len();
+        self.list.insert(words, number)?;
+        Ok(number)
+    }
+}
+
+/// A file with the number of its package.
+#[derive(Drop)]
+struct Numbered<'a> {
+    number: usize,
+    part: Part<'a>,
+}
+
 /// Files of one package, which were found in one folder, and what these have together.
 #[derive(Drop)]
 struct Joined<'a> {
-    folder: &'a str,
+    number: usize,
     is_dependency: bool,
     files: Vec<Lexed<'a>>,
     tree: Ast,
@@ -68,9 +99,10 @@ pub(crate) fn append(tree: &mut Ast, more: Vec<Item>) -> Result<(), AllocError> 
 
 impl<'a> Joined<'a> {
     /// The package of a file.
-    fn of(alloc: Global, part: Part<'a>) -> Result<Joined<'a>, AllocError>
+    fn of(alloc: Global, first: Numbered<'a>) -> Result<Joined<'a>, AllocError>
         ensures { IfOk result (λ joined. length joined.files.items ≡ 1) }
     {
+        let Numbered { number, part } = first;
         let Part {
             text,
             tree,
@@ -80,19 +112,12 @@ impl<'a> Joined<'a> {
         let mut files = Vec::new(alloc);
         files.push(lexed)?;
         Ok(Joined {
-            folder: source.folder.as_str(),
+            number,
             is_dependency: source.is_dependency,
             files,
             tree,
             has_fault,
         })
-    }
-
-    /// Whether a file is of this package.
-    fn has(&self, part: &Part<'_>) -> bool {
-        let own = PackageRef::of_tree(&self.tree.package);
-        self.folder == part.text.source.folder.as_str()
-            && own.is(PackageRef::of_tree(&part.tree.package))
     }
 
     /// Adds what a file has.
@@ -141,28 +166,21 @@ fn parts_of<'a>(
     Ok(Parts { list, are_all })
 }
 
-/// The files of a package, and those of other ones.
-#[derive(Drop)]
-struct Split<'a> {
-    joined: Joined<'a>,
-    others: Vec<Part<'a>>,
-}
-
-/// Joins a file with those of its package among others.
-fn join<'a>(alloc: Global, first: Part<'a>, more: Vec<Part<'a>>) -> Result<Split<'a>, AllocError>
-    ensures some { IfOk result (λ s. 1 ≤ length s.joined.files.items) }
-    ensures all { IfOk result (λ s. length s.joined.files.items + length s.others.items ≡ length more.entry.items + 1) }
+/// Files in the order of their packages.
+fn in_order<'a>(alloc: Global, parts: Vec<Part<'a>>) -> Result<Vec<Numbered<'a>>, AllocError>
+    ensures { IfOk result (λ files. length files.items ≡ length parts.entry.items) }
 {
-    let mut joined = Joined::of(alloc, first)?;
-    let mut others = Vec::new(alloc);
-    for part in more {
-        if joined.has(&part) {
-            joined.add(part)?;
-        } else {
-            others.push(part)?;
-        }
+    let mut numbers = Numbers {
+        alloc,
+        list: BTreeMap::new(alloc),
+    };
+    let mut files = Vec::new(alloc);
+    for part in parts {
+        let number = numbers.of(&part)?;
+        files.push(Numbered { number, part })?;
     }
-    Ok(Split { joined, others })
+    files.sort_by_key(|file| file.number)?;
+    Ok(files)
 }
 
 /// Adds a package.
@@ -171,7 +189,7 @@ fn push_member<'a>(members: &mut Vec<Member<'a>>, joined: Joined<'a>) -> Result<
         ≡ sum_by (λ m. length m.files.items) members.old.items + length joined.entry.files.items) }
 {
     let Joined {
-        folder: _,
+        number: _,
         is_dependency,
         files,
         tree,
@@ -191,13 +209,20 @@ fn packages_of<'a>(alloc: Global, parts: Vec<Part<'a>>) -> Result<Vec<Member<'a>
     ensures { IfOk result (λ members. sum_by (λ m. length m.files.items) members.items ≡ length parts.entry.items) }
 {
     let mut members = Vec::new(alloc);
-    let mut left = parts;
-    'packages: while !left.is_empty() {
-        let first = left.remove(0);
-        let split = join(alloc, first, left)?;
-        left = split.others;
-        push_member(&mut members, split.joined)?;
+    let mut files = in_order(alloc, parts)?;
+    if files.is_empty() {
+        return Ok(members);
     }
+    let mut joined = Joined::of(alloc, files.remove(0))?;
+    for file in files {
+        if file.number == joined.number {
+            joined.add(file.part)?;
+        } else {
+            let next = Joined::of(alloc, file)?;
+            push_member(&mut members, std::mem::replace(&mut joined, next))?;
+        }
+    }
+    push_member(&mut members, joined)?;
     Ok(members)
 }
 

@@ -1,7 +1,7 @@
 //! A package that is read again without items that have faults.
 
 use crate::members::{Member, append};
-use crate::texts::{tokens_of, tree_below};
+use crate::texts::{read_if_whole, tokens_of, tree_below};
 use std::alloc::{AllocError, Global};
 use wit_comments::{Skipped, without_item};
 use wit_faults::Lexed;
@@ -39,8 +39,9 @@ impl<'a> RemainingItems<'a> {
     /// Adds files.
     fn add_files(&mut self, files: &[Lexed<'a>]) -> Result<(), AllocError> {
         for lexed in files {
-            self.files
-                .push(Lexed::new(self.alloc, lexed.path, lexed.text))?;
+            let (path, text) = (lexed.path, lexed.text);
+            let tokens = tokens_of(self.alloc, text)?;
+            self.files.push(Lexed { path, text, tokens })?;
             self.texts.push(String::from_str(self.alloc, lexed.text)?)?;
         }
         Ok(())
@@ -56,20 +57,26 @@ impl<'a> RemainingItems<'a> {
 
     /// Notes the types that an item declares or uses.
     fn note_names(&mut self, item: &'a str) -> Result<(), AllocError> {
-        let lexed = Lexed::new(self.alloc, "", item);
+        let lexed = Lexed {
+            path: "",
+            text: item,
+            tokens: tokens_of(self.alloc, item)?,
+        };
         let mut names = names_of_types(self.alloc, &lexed)?;
         self.names.append(&mut names)?;
         Ok(())
     }
 
     /// Gives a file another text.
-    fn replace(&mut self, file: usize, left: String) {
+    fn replace(&mut self, file: usize, left: String) -> Result<(), AllocError> {
+        let tokens = tokens_of(self.alloc, left.as_str())?;
         if let Some(lexed) = self.files.get_mut(file) {
-            lexed.tokens = tokens_of(self.alloc, left.as_str());
+            lexed.tokens = tokens;
         }
         if let Some(text) = self.texts.get_mut(file) {
             *text = left;
         }
+        Ok(())
     }
 
     /// The text of a file without the item at a place.
@@ -91,7 +98,7 @@ impl<'a> RemainingItems<'a> {
             return Ok(false);
         };
         self.note_names(self.item_at(file, skipped.span))?;
-        self.replace(file, skipped.text);
+        self.replace(file, skipped.text)?;
         Ok(true)
     }
 
@@ -113,7 +120,7 @@ impl<'a> RemainingItems<'a> {
     pub fn tree(&self) -> Result<Option<Ast>, AllocError> {
         let mut whole: Option<Ast> = None;
         for (lexed, text) in self.files.iter().zip(self.texts.iter()) {
-            let Ok(tree) = self.tree_of(lexed, text.as_str()) else {
+            let Some(tree) = read_if_whole(self.tree_of(lexed, text.as_str()))? else {
                 return Ok(None);
             };
             match &mut whole {

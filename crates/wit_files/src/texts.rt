@@ -1,11 +1,14 @@
 //! The texts of files, and their trees.
-ghost use Rattle.std.specs.Prelude.{◌≡◌, length, IfOk, OnOk};
+ghost use Rattle.std.specs.Prelude.{◌≡◌, length, IfOk, OnOk, IfErr};
+ghost use Rattle.wit_files.specs.Shown.{AreShown, IsFault};
+ghost use Rattle.wit_faults.specs.Wanting.{IsTold};
 
 use crate::sources::{MAX_TEXT, Source};
 use std::alloc::{AllocError, Global};
+use std::collections::BTreeMap;
 use wit_comments::without_item;
 use wit_faults::{Cause, Lexed, PackageRef, Report};
-use wit_text::{Ast, Expected, Keyword, Span, TextError, Token, parse};
+use wit_text::{Ast, Expected, Keyword, Span, TextError, Token, lex, parse};
 
 /// The most faults that are told of a text, or of the names of a package.
 pub const MAX_FAULTS: usize = 20;
@@ -20,7 +23,6 @@ pub struct Text<'a> {
 /// What the first line of a text names: its package, and how it is spelled.
 #[derive(Clone, Copy)]
 struct Header<'a> {
-    folder: &'a str,
     package: PackageRef<'a>,
     spelled: &'a str,
 }
@@ -37,16 +39,48 @@ fn front(bytes: &[u8]) -> &str {
     }
 }
 
+/// The tokens of a text. None if it has a fault in them.
+fn whole_tokens(alloc: Global, text: &str) -> Result<Vec<Token>, AllocError> {
+    match lex(alloc, text) {
+        Ok(tokens) => Ok(tokens),
+        Err(TextError::NoMemory) => Err(AllocError),
+        Err(_) => Ok(Vec::new(alloc)),
+    }
+}
+
+/// The tokens before the first fault in those of a text.
+fn tokens_before(alloc: Global, text: &str, fault: &TextError) -> Result<Vec<Token>, AllocError>
+    ensures { IfOk result (λ _. IsFault fault.now) }
+{
+    match fault {
+        TextError::NoMemory => Err(AllocError),
+        TextError::BadChar(span) | TextError::OpenComment(span) => {
+            whole_tokens(alloc, text.get(..span.start).unwrap_or(""))
+        }
+        _ => Ok(Vec::new(alloc)),
+    }
+}
+
+/// The tokens of a text as they can be shown: all of them, unless it has a fault in them.
+pub fn tokens_of(alloc: Global, text: &str) -> Result<Vec<Token>, AllocError>
+    ensures { IfOk result (λ tokens. AreShown text.now tokens.items) }
+{
+    match lex(alloc, text) {
+        Ok(tokens) => Ok(tokens),
+        Err(fault) => tokens_before(alloc, text, &fault),
+    }
+}
+
 /// What can be shown of a file.
-fn shown(alloc: Global, source: &Source) -> Text<'_> {
+fn shown(alloc: Global, source: &Source) -> Result<Text<'_>, AllocError> {
     let text = match &source.bytes {
         Ok(bytes) => front(bytes.as_slice()),
         Err(_) => "",
     };
-    Text {
-        source,
-        lexed: Lexed::new(alloc, source.path.as_str(), text),
-    }
+    let path = source.path.as_str();
+    let tokens = tokens_of(alloc, text)?;
+    let lexed = Lexed { path, text, tokens };
+    Ok(Text { source, lexed })
 }
 
 /// What can be shown of these files.
@@ -55,7 +89,7 @@ pub fn texts_of<'a>(alloc: Global, sources: &'a [Source]) -> Result<Vec<Text<'a>
 {
     let mut texts = Vec::new(alloc);
     for source in sources {
-        texts.push(shown(alloc, source))?;
+        texts.push(shown(alloc, source)?)?;
     }
     Ok(texts)
 }
@@ -96,6 +130,17 @@ fn without_front(error: TextError, front: usize) -> TextError {
     }
 }
 
+/// A tree that was read. None if its text has a fault.
+pub fn read_if_whole(read: Result<Ast, TextError>) -> Result<Option<Ast>, AllocError>
+    ensures { IfErr read (λ e. OnOk result (IsFault e)) }
+{
+    match read {
+        Ok(tree) => Ok(Some(tree)),
+        Err(TextError::NoMemory) => Err(AllocError),
+        Err(_) => Ok(None),
+    }
+}
+
 /// The tree of a text that has so many bytes in front.
 fn tree_behind(alloc: Global, whole: &str, front: usize) -> Result<Ast, TextError> {
     match parse(alloc, whole) {
@@ -121,6 +166,7 @@ struct TextFault<'a> {
     place: Option<usize>,
     cause: Cause,
     lexed: Lexed<'a>,
+    ghost told: { IsTold cause },
 }
 
 /// Whether the line of the package has to come.
@@ -145,24 +191,22 @@ fn place_of(cause: &Cause) -> Option<usize> {
     }
 }
 
-/// The tokens of a text as they can be shown.
-pub fn tokens_of(alloc: Global, text: &str) -> Vec<Token> {
-    let Lexed { tokens, .. } = Lexed::new(alloc, "", text);
-    tokens
-}
-
-/// A fault of a text that is left of a file.
-fn text_fault<'a>(alloc: Global, file: &Text<'a>, left: &str, cause: Cause) -> TextFault<'a> {
+/// A fault of a text that is left of a file. Want of memory is none.
+fn text_fault<'a>(
+    alloc: Global,
+    file: &Text<'a>,
+    left: &str,
+    cause: Cause,
+) -> Result<TextFault<'a>, AllocError> {
+    let cause = cause.told()?;
     let (path, text) = (file.lexed.path, file.lexed.text);
-    TextFault {
+    let tokens = tokens_of(alloc, left)?;
+    let lexed = Lexed { path, text, tokens };
+    Ok(TextFault {
         place: place_of(&cause),
         cause,
-        lexed: Lexed {
-            path,
-            text,
-            tokens: tokens_of(alloc, left),
-        },
-    }
+        lexed,
+    })
 }
 
 /// Skips the item of a text that has the last of these faults. False if the text can't be read on behind it.
@@ -198,38 +242,44 @@ fn report_each(alloc: Global, report: &mut Report, faults: &[TextFault<'_>]) {
 #[derive(Drop)]
 pub struct Headers<'a> {
     alloc: Global,
-    list: Vec<Header<'a>>,
+    /// The first of each folder. None if its files name several packages.
+    folders: BTreeMap<String, Option<Header<'a>>>,
 }
 
 impl<'a> Headers<'a> {
     /// Those of these texts.
     pub fn of(alloc: Global, texts: &[Text<'a>]) -> Result<Headers<'a>, AllocError> {
-        let mut list = Vec::new(alloc);
+        let mut headers = Headers {
+            alloc,
+            folders: BTreeMap::new(alloc),
+        };
         for text in texts {
             if let Some(own) = text.lexed.own_package() {
-                list.push(Header {
-                    folder: text.source.folder.as_str(),
+                let header = Header {
                     package: own.package,
                     spelled: text.lexed.at(own.span),
-                })?;
+                };
+                headers.add(text.source.folder.as_str(), header)?;
             }
         }
-        Ok(Headers { alloc, list })
+        Ok(headers)
+    }
+
+    /// Adds that of a text of a folder.
+    fn add(&mut self, folder: &str, header: Header<'a>) -> Result<(), AllocError> {
+        let shared = match self.folders.get(folder).copied() {
+            None => Some(header),
+            Some(Some(first)) if !first.package.is(header.package) => None,
+            Some(_) => return Ok(()),
+        };
+        self.folders
+            .insert(String::from_str(self.alloc, folder)?, shared)?;
+        Ok(())
     }
 
     /// The first line that names the package of a folder, if its files name one alone.
     fn shared(&self, folder: &str) -> Option<Header<'a>> {
-        let mut found: Option<Header<'a>> = None;
-        for header in self.list.as_slice() {
-            if header.folder == folder {
-                match found {
-                    Some(first) if !first.package.is(header.package) => return None,
-                    Some(_) => {}
-                    None => found = Some(*header),
-                }
-            }
-        }
-        found
+        self.folders.get(folder).copied()?
     }
 
     /// The tree of a file that has this text.
@@ -265,8 +315,9 @@ impl<'a> Headers<'a> {
             }
             match self.tree_with(file, left.as_str()) {
                 Ok(tree) => return Ok(Some(tree)),
+                Err(next) if next.lacks_memory() => return Err(AllocError),
                 Err(next) if wants_package(&next) || faults.len() >= MAX_FAULTS => return Ok(None),
-                Err(next) => faults.push(text_fault(self.alloc, file, left.as_str(), next))?,
+                Err(next) => faults.push(text_fault(self.alloc, file, left.as_str(), next)?)?,
             }
         }
         Ok(None)
@@ -280,19 +331,21 @@ impl<'a> Headers<'a> {
         first: Cause,
         faults: &mut Vec<TextFault<'b>>,
     ) -> Result<Option<Ast>, AllocError> {
-        faults.push(text_fault(self.alloc, file, file.lexed.text, first))?;
+        faults.push(text_fault(self.alloc, file, file.lexed.text, first)?)?;
         let mut left = String::from_str(self.alloc, file.lexed.text)?;
         self.read_on(file, &mut left, faults)
     }
 
     /// The tree of a file's package without any item, if the file names it.
-    fn empty_tree(&self, file: &Text<'_>) -> Option<Ast> {
-        let own = file.lexed.own_package()?;
-        tree_below(self.alloc, file.lexed.at(own.span), "").ok()
+    fn empty_tree(&self, file: &Text<'_>) -> Result<Option<Ast>, AllocError> {
+        match file.lexed.own_package() {
+            Some(own) => read_if_whole(tree_below(self.alloc, file.lexed.at(own.span), "")),
+            None => Ok(None),
+        }
     }
 
     /// Reports the faults of a file, of which the first that was found is known, in the order of their places. It
-    /// answers what can be read of the file without them. None if its package isn't known.
+    /// answers what can be read of the file without them. None if its package isn't known. Want of memory is no fault.
     pub fn rest_of(
         &self,
         report: &mut Report,
@@ -308,7 +361,7 @@ impl<'a> Headers<'a> {
         report.status = 1;
         match tree {
             Some(tree) => Ok(Some(tree)),
-            None => Ok(self.empty_tree(file)),
+            None => self.empty_tree(file),
         }
     }
 }

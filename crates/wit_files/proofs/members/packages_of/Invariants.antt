@@ -1,9 +1,7 @@
-use Rattle.std.proofs.Common.{◌≡◌, ◌+◌, length, vec_len}
+use Rattle.std.proofs.Common.{◌≡◌, ◌+◌, length}
 use Rattle.std.specs.List.{sum_by}
+use Rattle.std.specs.Vec.Iter.{into_iter_len}
 use Rattle.wit_files.proofs.members.packages_of.Given as goal
 
-abbrev pub decreases-packages : goal.decreases-packages
-decreases-packages l = vec_len l.left
-
-abbrev pub invariant-packages : goal.invariant-packages
-invariant-packages l = sum_by (λ m. length m.files.items) l.members.items + length l.left.items ≡ length l.initial.left.items
+abbrev pub invariant-loop-file : goal.invariant-loop-file
+invariant-loop-file l = sum_by (λ m. length m.files.items) l.members.items + length l.joined.files.items + into_iter_len l.file-iterator ≡ length l.fn.parts.items
