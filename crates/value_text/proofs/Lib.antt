@@ -1,0 +1,10 @@
+pub mod Elements
+pub mod FieldsInOrder
+pub mod FlagsInTurn
+pub mod HeldInTurn
+pub mod ItemsInTurn
+pub mod OneFunction
+pub mod PutsInTurn
+pub mod Ranks
+pub mod RowsInOrder
+pub mod TypedValuesStand

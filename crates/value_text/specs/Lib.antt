@@ -1,0 +1,5 @@
+pub mod Function
+pub mod Held
+pub mod Orders
+pub mod Puts
+pub mod Texts

@@ -1,0 +1,11 @@
+//! Values as compact texts of JSON, written where the caller wants them, or only counted. No tree of JSON is made, and
+//! no memory of the host is taken but the stack.
+#![tactic(auto)]
+
+mod held;
+mod puts;
+mod rows;
+mod scalars;
+
+pub use held::Held;
+pub use puts::TooLong;
