@@ -47,8 +47,8 @@ pub struct Held<'a> {
 }
 
 impl Held<'_> {
-    /// Puts the text of the value that the memory holds at an address behind `at` bytes of the array, as far as there is
-    /// room, and answers how many bytes there are then. What the memory holds was tested before.
+    /// Puts the text of the value that the memory holds at an address behind `at` bytes of the array, as far as there
+    /// is room, and answers how many bytes there are then. What the memory holds was tested before.
     #[cycle(held)]
     pub fn write_at(
         &self,
@@ -264,13 +264,15 @@ impl Held<'_> {
         requires labels { HasApartLabels self.now.types.now }
         requires ordered { AreOrders self.now.types.now.definitions self.now.orders.now }
         requires short { length self.now.memory.now < 2 ^ 32 }
-        requires fits { from + size (closed (labelled_tuple (labelled_members (labelled_types self.now.types.now) types.now)))
+        requires fits { from
+            + size (closed (labelled_tuple (labelled_members (labelled_types self.now.types.now) types.now)))
             ≤ length self.now.memory.now }
         requires holds { IsHeld (labelled_tuple (labelled_members (labelled_types self.now.types.now) types.now))
             self.now.memory.now from }
         requires few { at ≤ self.now.limit }
-        ensures { PutsHeld self.now.limit (labelled_tuple (labelled_members (labelled_types self.now.types.now) types.now))
-            self.now.memory.now from room.old at result room.new }
+        ensures { PutsHeld self.now.limit
+            (labelled_tuple (labelled_members (labelled_types self.now.types.now) types.now)) self.now.memory.now from
+            room.old at result room.new }
     {
         let mut end = put(self.limit, room, at, b"[")?;
         for (index, ty) in types.iter().enumerate() {
@@ -294,7 +296,8 @@ impl Held<'_> {
         requires labels { HasApartLabels self.now.types.now }
         requires ordered { AreOrders self.now.types.now.definitions self.now.orders.now }
         requires short { length self.now.memory.now < 2 ^ 32 }
-        requires fits { from + size (closed (labelled_type self.now.types.now field.now.ty)) ≤ length self.now.memory.now }
+        requires fits { from + size (closed (labelled_type self.now.types.now field.now.ty))
+            ≤ length self.now.memory.now }
         requires holds { IsHeld (labelled_type self.now.types.now field.now.ty) self.now.memory.now from }
         requires few { at ≤ self.now.limit }
         ensures { let t = labelled_type self.now.types.now field.now.ty in
@@ -326,13 +329,15 @@ impl Held<'_> {
         requires labels { HasApartLabels self.now.types.now }
         requires ordered { AreOrders self.now.types.now.definitions self.now.orders.now }
         requires short { length self.now.memory.now < 2 ^ 32 }
-        requires fits { from + size (closed (labelled_record (labelled_fields (labelled_types self.now.types.now) fields.now)))
+        requires fits { from
+            + size (closed (labelled_record (labelled_fields (labelled_types self.now.types.now) fields.now)))
             ≤ length self.now.memory.now }
         requires holds { IsHeld (labelled_record (labelled_fields (labelled_types self.now.types.now) fields.now))
             self.now.memory.now from }
         requires few { at ≤ self.now.limit }
-        ensures { PutsHeld self.now.limit (labelled_record (labelled_fields (labelled_types self.now.types.now) fields.now))
-            self.now.memory.now from room.old at result room.new }
+        ensures { PutsHeld self.now.limit
+            (labelled_record (labelled_fields (labelled_types self.now.types.now) fields.now)) self.now.memory.now from
+            room.old at result room.new }
     {
         let order = order_of(self.types.resolve(), self.orders, id, fields);
         let mut end = put(self.limit, room, at, b"{")?;
@@ -385,7 +390,8 @@ impl Held<'_> {
         requires labels { HasApartLabels self.now.types.now }
         requires ordered { AreOrders self.now.types.now.definitions self.now.orders.now }
         requires short { length self.now.memory.now < 2 ^ 32 }
-        requires fits { PayloadFits (labelled_payload (labelled_types self.now.types.now) payload) self.now.memory.now from }
+        requires fits { PayloadFits (labelled_payload (labelled_types self.now.types.now) payload)
+            self.now.memory.now from }
         requires holds { (i : ℕ) × (v : Value)
             × PayloadHolds (labelled_payload (labelled_types self.now.types.now) payload) self.now.memory.now from i v }
         requires few { at ≤ self.now.limit }
@@ -421,17 +427,20 @@ impl Held<'_> {
         requires is { labelled_type self.now.types.now (ValType.Id id)
             ≡ labelled_variant (labelled_cases (labelled_types self.now.types.now) cases.now) }
         requires below { IsTrue (list_all (λ c. option_all (is_below id.0) c.ty) cases.now) }
-        requires types { IsTrue (list_all (λ c. option_all (is_type self.now.types.now.definitions) c.ty) cases.now) }
+        requires types { IsTrue (list_all (λ c. option_all (is_type self.now.types.now.definitions) c.ty)
+            cases.now) }
         requires labels { HasApartLabels self.now.types.now }
         requires ordered { AreOrders self.now.types.now.definitions self.now.orders.now }
         requires short { length self.now.memory.now < 2 ^ 32 }
-        requires fits { from + size (closed (labelled_variant (labelled_cases (labelled_types self.now.types.now) cases.now)))
+        requires fits { from
+            + size (closed (labelled_variant (labelled_cases (labelled_types self.now.types.now) cases.now)))
             ≤ length self.now.memory.now }
         requires holds { IsHeld (labelled_variant (labelled_cases (labelled_types self.now.types.now) cases.now))
             self.now.memory.now from }
         requires few { at ≤ self.now.limit }
-        ensures { PutsHeld self.now.limit (labelled_variant (labelled_cases (labelled_types self.now.types.now) cases.now))
-            self.now.memory.now from room.old at result room.new }
+        ensures { PutsHeld self.now.limit
+            (labelled_variant (labelled_cases (labelled_types self.now.types.now) cases.now)) self.now.memory.now from
+            room.old at result room.new }
     {
         let case = &cases[self.case_at(cases.len(), from) as usize];
         let place = from + self.types.align_of(ValType::Id(id));
@@ -460,8 +469,8 @@ impl Held<'_> {
             ≤ length self.now.memory.now }
         requires holds { IsHeld (labelled_option (labelled_type self.now.types.now ty)) self.now.memory.now from }
         requires few { at ≤ self.now.limit }
-        ensures { PutsHeld self.now.limit (labelled_option (labelled_type self.now.types.now ty)) self.now.memory.now from
-            room.old at result room.new }
+        ensures { PutsHeld self.now.limit (labelled_option (labelled_type self.now.types.now ty))
+            self.now.memory.now from room.old at result room.new }
     {
         if self.case_at(2, from) == 0 {
             return put_quoted(self.limit, room, at, "none");

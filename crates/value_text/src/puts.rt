@@ -214,7 +214,8 @@ pub(crate) fn put_flags(
     bits: u32,
 ) -> Result<usize, TooLong>
     requires { at ≤ limit }
-    ensures { PutsWithin limit (compact_text (array (items_of (flags_json labels.now bits)))) room.old at result room.new }
+    ensures { PutsWithin limit (compact_text (array (items_of (flags_json labels.now bits)))) room.old at
+        result room.new }
 {
     let mut rest = bits;
     let mut count: usize = 0;
