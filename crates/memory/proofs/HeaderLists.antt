@@ -12,15 +12,21 @@ module _ (m : Memory) (size link : ℕ) where
   one_less : (n : ℕ) → suc n - 1 ≡ n
   one_less n = omega arith
 
-  -- a block without room is passed
-  pub passed : (left found : ℕ) → 0 < left → (HasRoom m (word m link) size → ⊥) → Leads m size left link found → Leads m size (left - 1) (word m link) found
-  passed zero found some none leads = absurd (omega arith)
-  passed (suc n) found some none (free, inl (room, is)) = absurd (none room)
-  passed (suc n) found some none (free, inr (other, more)) = subst (λ k. Leads m size k (word m link) found) (sym (one_less n)) more
+  -- a block that is too small by its header is passed
+  pub passed : (left found : ℕ) → 0 < left → word m (word m link - 8) < size → Leads m size left link found → Leads m size (left - 1) (word m link) found
+  passed zero found some less leads = absurd (omega arith)
+  passed (suc n) found some less (free, inl (room, is)) = absurd (omega (arith, less, room.told))
+  passed (suc n) found some less (free, inr (other, more)) = subst (λ k. Leads m size k (word m link) found) (sym (one_less n)) more
 
-  pub passing : (left found : ℕ) → 0 < left → IsFree m (word m link) 8 → (HasRoom m (word m link) size → ⊥) → Leads m size (left - 1) (word m link) found → Leads m size left link found
-  passing zero found some free none more = absurd (omega arith)
-  passing (suc n) found some free none more = (free, inr (none, subst (λ k. Leads m size k (word m link) found) (one_less n) more))
+  pub passing : (left found : ℕ) → 0 < left → IsFree m (word m link) 8 → word m (word m link - 8) < size → Leads m size (left - 1) (word m link) found → Leads m size left link found
+  passing zero found some free less more = absurd (omega arith)
+  passing (suc n) found some free less more = (free, inr (less, subst (λ k. Leads m size k (word m link) found) (one_less n) more))
+
+  -- the list ends at a header that says more than is free
+  pub stuck : (left found : ℕ) → 0 < left → size ≤ word m (word m link - 8) → (IsFree m (word m link) size → ⊥) → Leads m size left link found → ⊥
+  stuck zero found some enough other leads = absurd (omega arith)
+  stuck (suc n) found some enough other (free, inl (room, is)) = other room.block
+  stuck (suc n) found some enough other (free, inr (less, more)) = absurd (omega (arith, less, enough))
 
   -- the list ends at what is not free
   pub ended : (left found : ℕ) → 0 < left → (IsFree m (word m link) 8 → ⊥) → Leads m size left link found → ⊥

@@ -8,6 +8,7 @@ mod FirstFitSteps
 mod AlikeMemoriesGrowAlike
 mod HolesGivenBack
 mod HeaderLists
+mod HeadersAlike
 mod HoleLists
 mod HoleRows
 mod HoleSteps

@@ -60,12 +60,12 @@ pub record HasRoom (m : Memory) (at size : ℕ) : Type 0 where
   pub told : size ≤ word m (at - 8)
   pub block : IsFree m at size
 
--- of the free blocks that the links lead to, one after the other, the first that has so many bytes is behind the link `found`; it is reached from
--- the one at `link` in at most so many steps
+-- of the free blocks that the links lead to, one after the other, the first whose header says so many bytes is behind the link `found`, and has them;
+-- it is reached from the one at `link` in at most so many steps
 abbrev pub Leads : Memory → ℕ → ℕ → ℕ → ℕ → Type 0
 Leads m size zero link found = ⊥
 Leads m size (suc steps) link found =
-    IsFree m (word m link) 8 × ((HasRoom m (word m link) size × (found ≡ link)) ⊎ ((HasRoom m (word m link) size → ⊥) × Leads m size steps (word m link) found))
+    IsFree m (word m link) 8 × ((HasRoom m (word m link) size × (found ≡ link)) ⊎ ((word m (word m link - 8) < size) × Leads m size steps (word m link) found))
 
 -- as many steps as there are units
 abbrev pub LeadsTo : Memory → ℕ → ℕ → Type 0

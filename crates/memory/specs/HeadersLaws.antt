@@ -31,14 +31,10 @@ apart m at size free a live = elim (within_or_not a at size) [
   | inr o ↦ o
 ]
 
--- a link is in the notes or in a free block
-IsLink : Memory → ℕ → Type 0
-IsLink m link = (link ≡ 8) ⊎ IsFree m link 8
-
 pub led : (m : Memory) (size steps link found : ℕ) → Leads m size steps link found → (link ≡ 8) ⊎ IsFree m link 8 → ((found ≡ 8) ⊎ IsFree m found 8) × HasRoom m (word m found) size
 led m size zero link found none from = absurd none
 led m size (suc steps) link found (free, inl (room, is)) from = subst (λ l. ((l ≡ 8) ⊎ IsFree m l 8) × HasRoom m (word m l) size) (sym is) (from, room)
-led m size (suc steps) link found (free, inr (none, more)) from = led m size steps (word m link) found more (inr free)
+led m size (suc steps) link found (free, inr (less, more)) from = led m size steps (word m link) found more (inr free)
 
 -- a note is beside what is live
 beside_notes : (m : Memory) → HasNotes m → (at : ℕ) → at + 4 ≤ 16 → (a : ℕ) → m.live a ≡ true → IsOutside a at 4
@@ -48,7 +44,7 @@ beside_link : (m : Memory) → HasNotes m → (link : ℕ) → (link ≡ 8) ⊎ 
 beside_link m notes link (inl is) = beside_notes m notes link (omega arith)
 beside_link m notes link (inr free) = apart m link 4 (λ a w. free.free a (omega (arith, w.0)) (omega (arith, w.1)))
 
-link_fits : (m : Memory) → HasNotes m → (link : ℕ) → (link ≡ 8) ⊎ IsFree m link 8 → link + 4 ≤ length m.bytes
+pub link_fits : (m : Memory) → HasNotes m → (link : ℕ) → (link ≡ 8) ⊎ IsFree m link 8 → link + 4 ≤ length m.bytes
 link_fits m notes link (inl is) = omega (arith, notes.inside)
 link_fits m notes link (inr free) = omega (arith, free.inside)
 

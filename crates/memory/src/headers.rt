@@ -91,18 +91,8 @@ impl Headers {
                 .are_all(u64::from(at - HEADER), u64::from(at) + size, false)
     }
 
-    /// Whether a free block has so many bytes, by its header too.
-    fn has_room(&self, at: u32, size: u64) -> bool
-        requires place { 24 ≤ at }
-        requires inside { at ≤ length self.now.pages.bytes.items }
-        requires units { size % 8 ≡ 0 }
-        requires small { size < 2 ^ 33 }
-        ensures { IsTrue result ↔ HasRoom (⟦<Headers as Guest>⟧.memory self.now) at size }
-    {
-        size <= u64::from(self.pages.word(at - HEADER)) && self.is_free(at, size)
-    }
-
-    /// The address of the link to the first free block of the list that has so many bytes.
+    /// The address of the link to the first free block of the list that has so many bytes. The list ends at a block whose
+    /// header says more than is free, so that no request looks at an address twice.
     fn link_to(&self, size: u64) -> Option<u32>
         requires units { size % 8 ≡ 0 }
         requires small { size < 2 ^ 33 }
@@ -116,7 +106,10 @@ impl Headers {
             if !self.is_free(at, 8) {
                 return None;
             }
-            if self.has_room(at, size) {
+            if size <= u64::from(self.pages.word(at - HEADER)) {
+                if !self.is_free(at, size) {
+                    return None;
+                }
                 return Some(link);
             }
             link = at;

@@ -1,6 +1,7 @@
 //! Laws of the memories.
 ghost use Rattle.std.specs.Prelude.{ℕ, ◌↔◌, ◌≤◌, length};
 ghost use Rattle.canonical_abi.specs.Guest.{IsLimited, KeepsLimit};
+ghost use Rattle.canonical_abi.specs.TameValues.{IgnoresLive};
 ghost use Rattle.canonical_abi.specs.Told.{AllocatesInOneWay, IgnoresBytes};
 ghost use Rattle.memory.specs.Alike.{AnswersAlike, ReleasesAlike};
 ghost use Rattle.memory.specs.Bump.{BumpAllocates, BumpReleases};
@@ -119,6 +120,12 @@ pub fn bumps_answer_in_one_way()
 pub fn first_fits_answer_in_one_way()
     ensures one_way { AllocatesInOneWay FirstFitAllocates }
     ensures ignores { IgnoresBytes FirstFitAllocates }
+{}
+
+/// So they have of a `Headers`, whatever its bytes are that are live.
+pub fn headers_answer_in_one_way()
+    ensures one_way { AllocatesInOneWay HeadersAllocates }
+    ensures ignores { IgnoresLive HeadersAllocates }
 {}
 
 /// So they have of a `Lent`.

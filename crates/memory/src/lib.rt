@@ -35,9 +35,9 @@ pub use laws::{
     bumps_answer_alike, bumps_answer_in_one_way, bumps_are_limited, bumps_keep_the_limit,
     bumps_release_alike, first_fits_answer_alike, first_fits_answer_in_one_way,
     first_fits_are_limited, first_fits_keep_the_limit, first_fits_release_alike,
-    headers_are_limited, headers_keep_the_limit, holes_are_longest_runs, lents_answer_in_one_way,
-    lents_are_limited, lents_keep_the_limit, spaces_answer_alike, spaces_answer_in_one_way,
-    spaces_are_limited, spaces_keep_the_limit, spaces_release_alike,
+    headers_answer_in_one_way, headers_are_limited, headers_keep_the_limit, holes_are_longest_runs,
+    lents_answer_in_one_way, lents_are_limited, lents_keep_the_limit, spaces_answer_alike,
+    spaces_answer_in_one_way, spaces_are_limited, spaces_keep_the_limit, spaces_release_alike,
 };
 pub use lent::Lent;
 pub use scripted::Scripted;
