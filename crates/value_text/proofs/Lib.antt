@@ -1,3 +1,4 @@
+pub mod Carried
 pub mod Elements
 pub mod FieldsInOrder
 pub mod FlagsInTurn
@@ -7,4 +8,5 @@ pub mod OneFunction
 pub mod PutsInTurn
 pub mod Ranks
 pub mod RowsInOrder
+pub mod Spilled
 pub mod TypedValuesStand

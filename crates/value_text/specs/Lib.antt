@@ -1,3 +1,5 @@
+pub mod Cases
+pub mod Flats
 pub mod Function
 pub mod Held
 pub mod Orders

@@ -2,10 +2,13 @@
 //! no memory of the host is taken but the stack.
 #![tactic(auto)]
 
+mod cases;
+mod flat;
 mod held;
 mod puts;
 mod rows;
 mod scalars;
+mod texts;
 
 pub use held::Held;
 pub use puts::TooLong;
