@@ -5,6 +5,7 @@ pub mod FlagsInTurn
 pub mod HeldInTurn
 pub mod ItemsInTurn
 pub mod OneFunction
+pub mod OrdersSorted
 pub mod PutsInTurn
 pub mod Ranks
 pub mod RowsInOrder

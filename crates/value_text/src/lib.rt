@@ -5,10 +5,12 @@
 mod cases;
 mod flat;
 mod held;
+mod orders;
 mod puts;
 mod rows;
 mod scalars;
 mod texts;
 
 pub use held::Held;
+pub use orders::label_orders;
 pub use puts::TooLong;
