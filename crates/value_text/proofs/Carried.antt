@@ -1,15 +1,14 @@
 -- The values that core values carry, part by part.
-use Rattle.std.proofs.Common.{◌≡◌, ◌<◌, ◌≤◌, ◌+◌, ℕ, zero, suc, Bool, true, false, IsTrue, List, [], ◌∷◌, ◌++◌, map, length, drop, get_or, max, Option, Some, None, Result, refl, sym, ap, ◌∙◌, subst, length-append, append-nil, arith}
+use Rattle.std.proofs.Common.{◌≡◌, ◌<◌, ◌≤◌, ◌+◌, ℕ, zero, suc, Bool, IsTrue, List, [], ◌∷◌, ◌++◌, map, length, drop, get_or, max, Option, Some, None, Result, refl, sym, ap, ◌∙◌, subst, length-append, append-nil, arith}
 use Rattle.std.proofs.lemmas.List.{length-map}
 use Rattle.std.specs.List.{list_all, AllByRecursion}
 use Rattle.canonical_abi.specs.Flat.{Lifts, FieldsLift, CaseLifts}
 use Rattle.canonical_abi.specs.Labelled.{Label, LabelledType, labelled_list, labelled_tuple, labelled_record, LabelledTypes, LabelledFields, Payload, no_payload, payload, closed, closed_members, closed_fields, closed_payload, closed_cases, plain_cases, none_label, some_label, ok_label, error_label}
 use Rattle.canonical_abi.specs.Layout.{flat_kinds, field_kinds, payload_kinds}
-use Rattle.canonical_abi.specs.Memory.{PrimIs, PrimFaulty}
+use Rattle.canonical_abi.specs.Memory.{PrimIs}
 use Rattle.canonical_abi.specs.Reading.{low_bits}
 use Rattle.canonical_abi.specs.Types.{Prim, boolean, unsigned, signed, scalar_value, Cases, variant_type}
 use Rattle.canonical_abi.specs.Values.{Value, values_of, list_value, plain_value, payload_value}
-use Rattle.canonical_abi.specs.declared.trap.TrapKind.{TrapKind}
 use Rattle.canonical_abi.proofs.StoredValues.AsksRequests.{items-of}
 use Rattle.layout.proofs.JoinsOfFlatKinds.{length-join}
 use Rattle.lift_lower.proofs.LiftingStepByStep.{drop-more}
@@ -49,12 +48,6 @@ prim-one boolean n v w a b = a ∙ sym b
 prim-one (unsigned x) n v w a b = a ∙ sym b
 prim-one (signed x) n v w a b = a ∙ sym b
 prim-one scalar_value n v w (_, a) (_, b) = a ∙ sym b
-
-pub prim-sound : (p : Prim) (n : ℕ) (v : Value) (k : TrapKind) → PrimIs p n v → PrimFaulty p n k → ⊥
-prim-sound boolean n v k is fault = fault
-prim-sound (unsigned x) n v k is fault = fault
-prim-sound (signed x) n v k is fault = fault
-prim-sound scalar_value n v k (good, is) (bad, trap) = let both : true ≡ false = sym good ∙ bad in absurd (cc)
 
 -- ---- places in the table
 

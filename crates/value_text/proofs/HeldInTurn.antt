@@ -35,9 +35,6 @@ use Rattle.value_text.proofs.FieldsInOrder.{members_in, fields-in-order}
 
 -- ---- one value
 
-pub one-held : (t : ClosedType) (m : List ℕ) (a : ℕ) (v w : Value) → Holds t m a v → Holds t m a w → v ≡ w
-one-held t m a v w h g = (one_outcome (reading t m a) (Holds t m a) (Faulty t m a) (reading-tells t m a)).one_value v w h g
-
 pub not-faulty : (t : ClosedType) (m : List ℕ) (a : ℕ) (v : Value) (k : TrapKind) → Holds t m a v → Faulty t m a k → ⊥
 not-faulty t m a v k h f = (one_outcome (reading t m a) (Holds t m a) (Faulty t m a) (reading-tells t m a)).not_both v k h f
 
@@ -259,9 +256,6 @@ pub option-held : (t : LabelledType) (m : List ℕ) (a n : ℕ) (v : Value) → 
 option-held t m a zero v h = (λ e. h, λ other. absurd (other refl))
 option-held t m a (suc zero) v h = (λ e. absurd (omega (arith, e)), λ other. (refl, h))
 option-held t m a (suc (suc n)) v h = absurd h
-
-pub none-data : (t : LabelledType) (v : Value) → v ≡ plain_value 0 → json_of (labelled_option t) v ≡ string none_label
-none-data t v is = ap (json_of (labelled_option t)) is
 
 pub some-data : (t : LabelledType) (m : List ℕ) (a : ℕ) (v : Value) → PayloadHolds (payload t) m a 1 v → json_of (labelled_option t) v ≡ payload_json (payload t) some_label v
 some-data t m a v h = ap (λ n. if n == 0 then string none_label else one_member some_label (json_of t (inner v))) (index-is (payload t) m a 1 v h)

@@ -1,5 +1,5 @@
 -- Texts put behind one another.
-use Rattle.std.proofs.Common.{◌≡◌, ◌+◌, ◌≤◌, ◌<◌, ℕ, List, ◌++◌, length, take, drop, sym, ap, ◌∙◌, append_assoc, arith, length-append, Result, Ok, Err}
+use Rattle.std.proofs.Common.{◌≡◌, ◌+◌, ◌≤◌, ℕ, List, ◌++◌, length, take, drop, sym, ap, ◌∙◌, append_assoc, arith, length-append, Result, Ok, Err}
 use Rattle.std.proofs.Math.Seq.{take-append_seam}
 use Rattle.std.proofs.lemmas.List.{length-take-le}
 use Rattle.std.proofs.lemmas.Slice.{drop-append-drop}
@@ -28,7 +28,3 @@ pub within-then : {E : Type 0} → (limit : ℕ) (old : List ℕ) (at : ℕ) (a 
     → Puts a old at mid m → PutsWithin limit b mid m done new → PutsWithin limit (a ++ b) old at done new
 within-then limit old at a mid m b new (Ok n) first (second, fits) = (puts-then old at a mid m b new n first second, fits)
 within-then limit old at a mid m b new (Err e) (is_m, rest, more) second = omega (arith, is_m, second, length-append a b)
-
--- a text with a part in front that passes the limit does so too
-pub long-then : (limit at : ℕ) (a b : List ℕ) → limit < at + length a → limit < at + length (a ++ b)
-long-then limit at a b h = omega (arith, h, length-append a b)
