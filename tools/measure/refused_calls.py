@@ -11,11 +11,7 @@ from .harness import Folder, driver
 
 TESTS = ROOT / "tests"
 # Wrong answers that are known, by their kind: on how many inputs they come. None may come on more.
-KNOWN = {
-    "witcall_open_module: error 47 in place of done": 1,
-    "witcall_explain: a fault that the packages don't have": 10,
-    "witcall_explain: another place or hint": 5,
-}
+KNOWN: dict[str, int] = {}
 
 
 def inputs():
