@@ -8,25 +8,18 @@ use Rattle.canonical_abi.specs.Layout.{max_flat_params}
 use Rattle.canonical_abi.specs.Reading.{kind_of, low_bits, number_of}
 use Rattle.canonical_abi.specs.Flat.{Denotes}
 use Rattle.canonical_abi.specs.Guest.{Memory, IsWithin}
-use Rattle.canonical_abi.specs.Call.{Run, PostRun, World, exact}
-use Rattle.canonical_abi.specs.Headline.{AreHonest, KeepsLive, KeepsPromise}
+use Rattle.canonical_abi.specs.Call.{Parties, Run, PostRun, World, exact}
+use Rattle.canonical_abi.specs.Tame.{LeavesLive, KeepsLivePromise}
 use Rattle.canonical_abi.specs.declared.flat.Flat.{Flat}
 use Rattle.canonical_abi.specs.declared.flat.CoreKind.TheVariants.{I32}
 use Rattle.canonical_abi.specs.declared.trap.Fault.{Fault}
 use Rattle.canonical_abi.proofs.ReadValues.FramesReading.{take-same}
 use Rattle.canonical_abi.proofs.Traces.TracesLeaveImages.{slice_get-drop}
-use Rattle.memory.specs.Space.{SpaceReleases, spaces}
-use Rattle.memory.specs.SpaceLaws.{SpaceIsHonest}
 use Rattle.values.specs.declared.val.Val.{Val, String as Text, U32, the_lemmas}
 use Rattle.values.specs.Val.{value_of}
 use Rattle.values.proofs.ValueOfEachVariant.{value_of-String}
 use Rattle.witcall.specs.Session.{typed_answer}
 use Rattle.example_client.specs.Order.{FindsOrder, KeepsLiveRanges, TakesOrder, word}
-
--- ---- the premise holds of two `Space`s
-
-pub honest : (runs : Run) (posts : PostRun) → AreHonest (spaces runs posts) SpaceReleases SpaceReleases
-honest runs posts = record { caller = SpaceIsHonest; callee = SpaceIsHonest }
 
 -- ---- which functions take an order
 
@@ -117,9 +110,9 @@ stands m item count flats (kinds, inl (fits, (v, rest, is, (inside, utf8, text),
     (kinds, inside, same-text _ _ is_text, sym (third (map number_of flats)) ∙ same-number _ _ is_number)
 stands m item count flats (kinds, inr (fits, held)) = absurd (cc)
 
-module _ (runs : Run) (posts : PostRun) (f : FunctionType) (item : List ℕ) (count : ℕ) (old new : World) where
-  pub found : (result : Result (Option Val) Fault) → TakesOrder f → KeepsPromise (spaces runs posts) exact f (string_value item ∷ unsigned_value int32 count ∷ []) old (typed_answer result) new
-      → IfOk result (λ v. FindsOrder item count f (option_map value_of v) runs posts old.body new.body new.callee)
+module _ (parties : Parties) (f : FunctionType) (item : List ℕ) (count : ℕ) (old new : World) where
+  pub found : (result : Result (Option Val) Fault) → TakesOrder f → KeepsLivePromise parties exact f (string_value item ∷ unsigned_value int32 count ∷ []) old (typed_answer result) new
+      → IfOk result (λ v. FindsOrder item count f (option_map value_of v) parties.runs parties.posts old.body new.body new.callee)
   found (Ok v) is promise =
       let ran = promise.lifts.1 in
       let once = promise.lifts.2 in
@@ -135,7 +128,7 @@ module _ (runs : Run) (posts : PostRun) (f : FunctionType) (item : List ℕ) (co
         state_after = ran.body;
         memory_after = ran.callee;
         answer = promise.lifts.0;
-        run = subst (λ s. runs s once.entered.callee once.handed ran.body ran.callee (Some promise.lifts.0)) once.same_body once.run;
+        run = subst (λ s. parties.runs s once.entered.callee once.handed ran.body ran.callee (Some promise.lifts.0)) once.same_body once.run;
         lifted = promise.lifts.3.lifted;
         post = promise.lifts.4;
       }
@@ -143,7 +136,7 @@ module _ (runs : Run) (posts : PostRun) (f : FunctionType) (item : List ℕ) (co
 
 -- ---- what the caller keeps
 
-pub kept : (old new : Memory) → KeepsLive 0 0 old new → KeepsLiveRanges old new
+pub kept : (old new : Memory) → LeavesLive 0 0 old new → KeepsLiveRanges old new
 kept old new keeps at size inside live = (
   λ a within. keeps.live a (live a within),
   take-same (at + size - at) (drop at old.bytes) (drop at new.bytes)

@@ -5,3 +5,4 @@ pub mod Running
 pub mod Session
 pub mod Status
 pub mod Steps
+pub mod TameLaws

@@ -6,11 +6,14 @@ ghost use Rattle.canonical_abi.specs.Few.{VisitsFewNodes};
 ghost use Rattle.canonical_abi.specs.Halves.{HalvesAreACall};
 ghost use Rattle.canonical_abi.specs.Keeping.{CalleeKeepsHeld};
 ghost use Rattle.canonical_abi.specs.OnlyValues.{OnlyValuesCross, TrapsShowValues};
+ghost use Rattle.canonical_abi.specs.TameKeeping.{CalleeKeepsHeldLive};
 ghost use Rattle.memory.specs.Space.{SpaceAllocates, SpaceReleases, spaces};
 ghost use Rattle.tables.specs.Package.{IsClosedByNames};
 ghost use Rattle.package_form.specs.Laws.{HasOneOfEachName};
 ghost use Rattle.value_json.specs.ByNames.{IsLabelledByNames};
 ghost use Rattle.witcall.specs.Laws.{PlacesHeld, StepsKeepHeld, StepsReadHeld, StepsReadPlaced, StepsTellCallee};
+ghost use Rattle.witcall.specs.TameLaws.{PlacesHeldLive, StepsKeepHeldLive, StepsReadHeldLive};
+ghost use Rattle.witcall.specs.TameLaws.{StepsReadPlacedLive, StepsTellCalleeLive};
 
 use crate::reply::Reply;
 use crate::session::Session;
@@ -108,6 +111,78 @@ pub fn keeps_held<C: Guest, E: Guest, B: Body<E>>(_session: &Session<'_, C, E, B
 /// else of a caller is in them, of whatever kind its memory is.
 pub fn tells_callee<C: Guest, D: Guest, E: Guest, B: Body<E>>(_session: &Session<'_, C, E, B>)
     ensures { StepsTellCallee
+        (record {
+          caller_allocates = C.allocates;
+          callee_allocates = E.allocates;
+          runs = B.runs _session.now.body;
+          posts = B.posts _session.now.body;
+        })
+        D.allocates
+        C.releases
+        D.releases
+        E.releases
+        _session.now.package.now.resolve }
+{}
+
+/// Between tame memories the same: what is placed is held in live addresses that were not live, and no live byte is
+/// changed. What a component holds in live addresses stays held and is read as that value, through every list of steps
+/// of a session, traps among them.
+pub fn tame_keeps_held<C: Guest, E: Guest, B: Body<E>>(_session: &Session<'_, C, E, B>)
+    ensures caller { StepsKeepHeldLive
+        (record {
+          caller_allocates = C.allocates;
+          callee_allocates = E.allocates;
+          runs = B.runs _session.now.body;
+          posts = B.posts _session.now.body;
+        })
+        C.releases
+        E.releases
+        _session.now.package.now.resolve }
+    ensures held { StepsReadHeldLive
+        (record {
+          caller_allocates = C.allocates;
+          callee_allocates = E.allocates;
+          runs = B.runs _session.now.body;
+          posts = B.posts _session.now.body;
+        })
+        C.releases
+        E.releases
+        _session.now.package.now.resolve }
+    ensures placed { PlacesHeldLive
+        (record {
+          caller_allocates = C.allocates;
+          callee_allocates = E.allocates;
+          runs = B.runs _session.now.body;
+          posts = B.posts _session.now.body;
+        })
+        C.releases
+        E.releases
+        _session.now.package.now.resolve }
+    ensures read { StepsReadPlacedLive
+        (record {
+          caller_allocates = C.allocates;
+          callee_allocates = E.allocates;
+          runs = B.runs _session.now.body;
+          posts = B.posts _session.now.body;
+        })
+        C.releases
+        E.releases
+        _session.now.package.now.resolve }
+    ensures callee { CalleeKeepsHeldLive
+        (record {
+          caller_allocates = C.allocates;
+          callee_allocates = E.allocates;
+          runs = B.runs _session.now.body;
+          posts = B.posts _session.now.body;
+        })
+        C.releases
+        exact
+        E.releases }
+{}
+
+/// And the callee and its body depend on nothing else of a caller, as `tells_callee` says.
+pub fn tame_tells_callee<C: Guest, D: Guest, E: Guest, B: Body<E>>(_session: &Session<'_, C, E, B>)
+    ensures { StepsTellCalleeLive
         (record {
           caller_allocates = C.allocates;
           callee_allocates = E.allocates;
