@@ -7,8 +7,8 @@ What is checked of the pages:
 
 - A name is a word in backquotes, or words joined by `::`, that could be one of Rust or of a definition: with a
   capital letter before a small one, an underscore, or `::`. So is what stands before the `(` of a call. Each of its
-  parts has to stand in a file of crates/ or in a header of include/, out of comments, or be the name of a crate, of a
-  file, of an edit or of a script. The names in blocks of Rust and C have to as well.
+  parts has to stand in a file of crates/ or in a header of include/, out of comments, or in the transcription of the
+  standard, or be the name of a crate, of a file, of an edit or of a script. The names in blocks of Rust and C have to as well.
 - A function that is named with its type, its module or its crate, as `Package::takes`, has to be one of it. The names
   in the column `expected` of a table need not be there (tools/check_surface.py).
 - A path in backquotes or in a block of `sh` that begins with a folder of FOLDERS has to be there, and `specs/NAME`,
@@ -88,6 +88,8 @@ def known():
         is_binding = ROOT / "bindings" in path.parents and path.suffix in (".js", ".py", ".rs")
         if (is_example or is_binding) and "target" not in path.parts:
             files.append(path.read_text())
+    # the standard's own names
+    files.append((ROOT / "tools/standard.py").read_text())
     return {word for text in files for word in WORD.findall(text)}
 
 

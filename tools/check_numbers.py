@@ -61,7 +61,7 @@ TRIED = {
     r"([\d,]+) random functions": check_standard.COUNT,
     r"([\d,]+) call rows": check_standard.TRIED["flats"],
     r"([\d,]+) rows of steps": check_standard.TRIED["steps"],
-    r"([\d,]+) rows of values": check_standard.TRIED["lift"] + check_standard.TRIED["lower"],
+    r"([\d,]+) rows of values": sum(check_standard.TRIED[key] for key in check_standard.CONVERSIONS),
 }
 # limits as pages say them, each with the numbers that it may be
 BYTES_OR_SIZE = (tokens.MOST_BYTES, opening.MOST_SIZE)

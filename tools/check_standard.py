@@ -482,15 +482,28 @@ def first_parameter(row):
     return t, type_of(t)
 
 
+def tested(guest, t, at):
+    """An address, at which a block of a type has to be."""
+    standard.trap_if(at != standard.align_to(at, standard.alignment(t)))
+    standard.trap_if(at + standard.elem_size(t) > len(guest.memory.bytes))
+    return at
+
+
 def test_value_row(row, answer):
-    """A row that lifts a value or lowers one."""
+    """A row that lifts a value or lowers one, or loads or stores it."""
     caller, callee = map(Guest, calls.guests_of(row))
     model, t = first_parameter(row)
     (stored,) = answer["answers"]
+    given = row.get("lower", row.get("store"))
+    value = None if given is None else value_of(json_values.read(model, calls.line_of(given)), t)
     if "lower" in row:
-        value = value_of(json_values.read(model, calls.line_of(row["lower"])), t)
         found = tried(lambda: {"lowered": list(map(list, zip(standard.flatten_type(t), standard.lower_flat(
             caller.cx, value, t))))})
+    elif "store" in row:
+        found = tried(lambda: standard.store(caller.cx, value, t, tested(caller, t, row["at"])) or "stored")
+    elif "load" in row or "held" in row:
+        key, at = ("loaded", row["load"]) if "load" in row else ("read", row["held"])
+        found = tried(lambda: {key: written(model, standard.load(caller.cx, tested(caller, t, at), t), t)})
     elif [kind for kind, _ in row["lift"]] != standard.flatten_type(t):
         found = TRAP
     else:
@@ -526,9 +539,7 @@ class Session:
     def block(self, t):
         """A block for a value in the caller's memory."""
         at = self.caller.realloc(0, 0, standard.alignment(t), standard.elem_size(t))
-        standard.trap_if(at != standard.align_to(at, standard.alignment(t)))
-        standard.trap_if(at + standard.elem_size(t) > len(self.caller.memory.bytes))
-        return at
+        return tested(self.caller, t, at)
 
     def place(self, name, form):
         """Stores a value in the caller."""
@@ -613,11 +624,13 @@ def test_session_row(row, answer):
     return True
 
 
-TESTS = {"steps": test_session_row, "lift": test_value_row, "lower": test_value_row, "flats": test_call_row}
+# the keys of rows that convert one value
+CONVERSIONS = ("lift", "lower", "load", "store", "held")
+TESTS = {"steps": test_session_row, **dict.fromkeys(CONVERSIONS, test_value_row), "flats": test_call_row}
 # the rows that the standard says nothing of: heads, and blocks that a host grants
 OTHERS = ("host", "head_at", "head_of")
 # how many of each are tried: the others are refused packages, or blocks that meet
-TRIED = {"flats": 377, "steps": 255, "lift": 19, "lower": 8}
+TRIED = {"flats": 401, "steps": 266, "lift": 19, "lower": 8, "load": 12, "store": 9, "held": 4}
 
 
 def test_rows():

@@ -4,7 +4,7 @@ import json
 
 from .crossing import Flat, Stored, Way
 from .faults import Refused, Stopped, Trap
-from .memory import Bump, FirstFit, Memory, Scripted
+from .memory import Bump, FirstFit, Headers, Memory, Scripted
 from .opening import opened
 
 
@@ -118,12 +118,13 @@ def of_side(call, key, side):
 
 def allocator_of(call, side, length):
     """The allocator of a side: it gives the answers of a script, or grants blocks from a top on, or the lowest free
-    ones."""
+    ones, or keeps notes in the memory."""
     script, most = of_side(call, "script", side), of_side(call, "max", side)
     if script is not None:
         return Scripted(length, script)
-    if of_side(call, "kinds", side) == "first-fit":
-        return FirstFit(length, most)
+    kind = of_side(call, "kinds", side)
+    if kind in ("first-fit", "headers"):
+        return {"first-fit": FirstFit, "headers": Headers}[kind](length, most)
     return Bump(length, of_side(call, "tops", side) or 0, most)
 
 

@@ -1,4 +1,4 @@
-"""Memories with their allocators: `Bump`, `FirstFit`, `Scripted` and `Lent`."""
+"""Memories with their allocators: `Bump`, `FirstFit`, `Headers`, `Scripted` and `Lent`."""
 import itertools
 
 from .abi import up
@@ -126,12 +126,103 @@ class FirstFit:
         return True
 
 
+class Headers:
+    """Keeps its notes in the memory itself, as allocators of C programs do; it may grow by pages up to `most`.
+
+    A header of 8 bytes before each block begins with the block's size, a multiple of 8. The free blocks are a list: its
+    first address stands at 8, and each free block begins with the address of the next. At 12 stands the address from
+    which on nothing was granted (16 at least), and at 4 is 48 after a refusal. Programs may write over all of these, so
+    which units of 8 bytes are live is kept apart, and what is noted counts only where it is free.
+    """
+
+    NOTES, HEADER, UNIT = 16, 8, 8
+
+    def __init__(self, length, most=None):
+        self.length, self.most = length, length if most is None else most
+        self.bytes = bytearray(length)
+        self.live = set()
+
+    def word(self, at):
+        """The number that is noted at an address."""
+        return int.from_bytes(self.bytes[at : at + 4], "little")
+
+    def note(self, at, number):
+        """Notes a number at an address."""
+        self.bytes[at : at + 4] = number.to_bytes(4, "little")
+
+    def units(self, start, end):
+        """The units of the addresses of a range that begins and ends between units."""
+        return set(range(start // self.UNIT, end // self.UNIT))
+
+    def is_place(self, at, size):
+        """Whether a block can be there: behind the notes and a header, in whole units, inside."""
+        return at % self.UNIT == 0 and at >= self.NOTES + self.HEADER and at + size <= self.length
+
+    def is_free(self, at, size):
+        """Whether a block and its header can be there, and nothing of them is live."""
+        return self.is_place(at, size) and not self.live & self.units(at - self.HEADER, at + size)
+
+    def alloc(self, _align, size):
+        """The address of the first free block of the list that is large enough, or of one at the top; or None."""
+        if size == 0:
+            return 0
+        size = up(size, self.UNIT)
+        link = self.link_to(size)
+        at = self.at_top(size) if link is None else self.word(link)
+        if at is None:
+            self.note(4, 48)
+            return None
+        if link is not None:
+            self.note(link, self.word(at))
+        self.live |= self.units(at, at + size)
+        return at
+
+    def link_to(self, size):
+        """Where the address of that block stands; None if there is no such block."""
+        link = 8
+        for _ in range(self.length // self.UNIT):
+            at = self.word(link)
+            if not self.is_free(at, self.UNIT):
+                return None
+            if self.word(at - self.HEADER) >= size:
+                return link if self.is_free(at, size) else None
+            link = at
+        return None
+
+    def at_top(self, size):
+        """The address of a block at the top, once there are as many pages as it takes; None where there is no room."""
+        top = max(self.word(12), self.NOTES)
+        end = top + self.HEADER + size
+        if top % self.UNIT or end > self.most or self.live & self.units(top, end):
+            return None
+        self.length = max(self.length, up(end, PAGE))
+        self.bytes += bytes(self.length - len(self.bytes))
+        self.note(top, size)
+        self.note(12, end)
+        return top + self.HEADER
+
+    def free(self, at, size):
+        """Takes a block back, which is the list's first from now on; whether it was live as a whole."""
+        if size == 0:
+            return True
+        size = up(size, self.UNIT)
+        if not self.is_place(at, size) or self.word(at - self.HEADER) < size:
+            return False
+        if not self.units(at, at + size) <= self.live:
+            return False
+        self.note(at, self.word(8))
+        self.note(8, at)
+        self.live -= self.units(at, at + size)
+        return True
+
+
 class Memory:
     """The bytes of a linear memory, its allocator, and a log of requests: alignment, size, and the address or None."""
 
     def __init__(self, allocator, data=b""):
         self.allocator, self.log = allocator, []
-        self.bytes = bytearray(data) + bytes(allocator.length - len(data))
+        self.bytes = getattr(allocator, "bytes", bytearray(allocator.length))
+        self.bytes[: len(data)] = data
 
     def request(self, align, size):
         """What the allocator answers."""

@@ -1,6 +1,6 @@
 """Rows of memories and of numbers with a tree of their maxima (docs/FORMATS.md, "Reading rows")."""
 from .faults import Refused
-from .memory import PAGE, Bump, FirstFit, Lent, Scripted, can_be_lent
+from .memory import PAGE, Bump, FirstFit, Headers, Lent, Scripted, can_be_lent
 
 MOST = 256 * PAGE
 
@@ -25,14 +25,16 @@ def made(kind, length, most=None):
 
 
 def request(memory, words):
-    """What a memory answers to a request. Nothing is written, so that all its bytes are zeros."""
+    """What a memory answers to a request. Nothing is written but notes of its own, so that all other bytes are zeros."""
     word, *given = words.split()
     if word == "alloc":
         at = memory.alloc(*map(int, given))
         return "full" if at is None else str(at)
     if word == "free":
         return "taken" if memory.free(*map(int, given)) else "not taken"
-    return str(memory.length) if word == "length" else "zeros"
+    if word == "zeros":
+        return "not zeros" if any(getattr(memory, "bytes", b"")) else "zeros"
+    return str(memory.length)
 
 
 def in_turn(answer, requests):
@@ -44,6 +46,16 @@ def memory_row(kind, arguments):
     """What a memory of a kind answers."""
     lengths, requests = arguments.split("; ")
     memory = made(kind, *numbers(lengths))
+    return in_turn(lambda words: request(memory, words), requests)
+
+
+def headers_row(arguments):
+    """What a memory that keeps notes in itself answers, which is a page at least."""
+    lengths, requests = arguments.split("; ")
+    length, most = numbers(lengths)
+    if length == 0:
+        raise Refused("55 bad pages")
+    memory = made(Headers, length, most)
     return in_turn(lambda words: request(memory, words), requests)
 
 
@@ -98,6 +110,7 @@ def tree_row(arguments):
 COMMANDS = {
     "first-fit": lambda arguments: memory_row(FirstFit, arguments),
     "bump": lambda arguments: memory_row(Bump, arguments),
+    "headers": headers_row,
     "can-lend": lend_row,
     "lent": lent_row,
     "scripted": scripted_row,

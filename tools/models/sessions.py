@@ -25,6 +25,7 @@ class Session:
 
     def read(self, t, at):
         """The value that the caller has at an address."""
+        self.caller.test(t.align, t.size, at, "take")
         return value_at(t, Stored(self.caller, at, "take"))
 
     def release(self, at, size):
@@ -176,9 +177,17 @@ def told(row):
 
 
 def converted(row, t, memory):
-    """A value of a type that core values denote, or the core values of one."""
+    """A value of a type that core values denote or that is at an address, the core values of one, or that it is
+    stored."""
     flats = [0] * len(t.kinds)
     try:
+        if "load" in row:
+            memory.test(t.align, t.size, row["load"], "take")
+            return {"loaded": written(t, value_at(t, Stored(memory, row["load"], "take")))}
+        if "store" in row:
+            memory.test(t.align, t.size, row["at"], "place")
+            Way().cross(t, Given(json_values.read(t, line_of(row["store"]))), Stored(memory, row["at"], "place"))
+            return "stored"
         if "lower" in row:
             Way().cross(t, Given(json_values.read(t, line_of(row["lower"]))), Flat(memory, flats, 0, "place"))
             return {"lowered": list(zip(t.kinds, flats))}
@@ -188,8 +197,23 @@ def converted(row, t, memory):
         return {"trap": str(trap)}
 
 
+def held_told(row):
+    """What a session reads at an address, whatever is there, and the memories behind it."""
+    caller, callee = guests_of(row)
+    t = package_of(row).function("a:b/c", row["func"]).params.fields[0]
+    return {"answers": [read_at(row["held"], t, Session(caller, callee, None))], **memories_told(caller, callee, True)}
+
+
+def read_at(at, t, session):
+    """The value of a type that a session reads at an address, or its trap."""
+    try:
+        return {"read": written(t, session.read(t, at))}
+    except Trap as trap:
+        return {"trap": str(trap)}
+
+
 def converted_told(row):
-    """What lifting or lowering answers, and the memories behind it."""
+    """What lifting, lowering, loading or storing answers, and the memories behind it."""
     caller, callee = guests_of(row)
     t = package_of(row).function("a:b/c", row["func"]).params.fields[0]
     return {"answers": [converted(row, t, caller)], **memories_told(caller, callee, True)}

@@ -9,11 +9,14 @@ from . import calls, heads, hosts, sessions
 # the key by which a row is known, and its model
 MODELS = [
     ("steps", sessions.told),
+    ("held", sessions.held_told),
     ("host", hosts.row_told),
     ("head_at", heads.row_told),
     ("head_of", heads.row_told),
     ("lift", sessions.converted_told),
     ("lower", sessions.converted_told),
+    ("load", sessions.converted_told),
+    ("store", sessions.converted_told),
     ("flats", calls.told),
 ]
 

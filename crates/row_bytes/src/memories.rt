@@ -1,6 +1,8 @@
 //! Memories, and what is asked of them in turn.
 
-use memory::{Block, Bump, FirstFit, Full, Guest, Lent, MemoryError, Scripted, Space, can_lend};
+use memory::{
+    Block, Bump, FirstFit, Full, Guest, Headers, Lent, MemoryError, Scripted, Space, can_lend,
+};
 use row_inputs::parted;
 use std::alloc::Global;
 use text_builder::TextBuilder;
@@ -129,6 +131,16 @@ fn space(alloc: Global, kind: Kind, lengths: &str) -> anyhow::Result<Space> {
 pub fn push_asked(text: &mut TextBuilder, kind: Kind, line: &str) -> anyhow::Result<()> {
     let (lengths, requests) = parted(line, "; ")?;
     let mut memory = space(text.alloc(), kind, lengths)?;
+    push_answers(text, &mut memory, requests)
+}
+
+/// Writes what a memory that keeps notes in itself answers to requests.
+pub fn push_headers(text: &mut TextBuilder, line: &str) -> anyhow::Result<()> {
+    let (lengths, requests) = parted(line, "; ")?;
+    let Some((length, most)) = pair(lengths) else {
+        return Err(anyhow::anyhow!("no lengths: {lengths}"));
+    };
+    let mut memory = Headers::growing(text.alloc(), length, most)?;
     push_answers(text, &mut memory, requests)
 }
 

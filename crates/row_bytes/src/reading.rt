@@ -132,6 +132,7 @@ fn push_of_memory(text: &mut TextBuilder, word: &str, rest: &str) -> anyhow::Res
     match word {
         "bump" => memories::push_asked(text, Kind::Bump, rest),
         "first-fit" => memories::push_asked(text, Kind::FirstFit, rest),
+        "headers" => memories::push_headers(text, rest),
         "can-lend" => memories::push_lendable(text, rest),
         "lent" => memories::push_lent(text, rest),
         "scripted" => memories::push_scripted(text, rest),

@@ -1,4 +1,4 @@
-//! Values that are lifted from core values or lowered to them, over the caller's memory.
+//! Values over the caller's memory: lifted from core values or lowered to them, loaded from an address or stored there.
 
 ghost use Rattle.std.specs.Prelude.{◌≤◌, [], ◌∷◌, IfOk};
 ghost use Rattle.canonical_abi.specs.Layout.{size};
@@ -6,13 +6,14 @@ ghost use Rattle.canonical_abi.specs.Types.{record_type};
 ghost use Rattle.tables.specs.Standard.{IsTypeOf};
 ghost use Rattle.value_json.specs.Apart.{HasApartLabels};
 ghost use Rattle.values.specs.Members.{fields_of_types};
+ghost use Rattle.values.specs.Types.{IsInside};
 
 use crate::functions::{parameter_of_row, push_fault};
 use crate::vector_sides::{
-    Logged, begin_answer, end_answer, field, flats, list, memories_of, push_flats,
+    Logged, begin_answer, end_answer, field, flats, list, memories_of, number, push_flats,
 };
 use canonical_abi::{Fault, Flat};
-use lift_lower::{Flats, Types, Val, has_type, lift, lower};
+use lift_lower::{Flats, Types, Val, has_type, lift, load, lower, store};
 use serde_json::Value;
 use std::alloc::Global;
 use std::slice;
@@ -147,6 +148,68 @@ fn push_lowered(
     Ok(())
 }
 
+/// The type of the first parameter of the row's function, which is in the table.
+#[tactic(auto, using(crate::proofs::HeadsAreOfTheirTypes::inside))]
+fn stored_type(types: &Types<'_>, row: &Value) -> anyhow::Result<ValType>
+    ensures known { IfOk result (IsTypeOf «types».now) }
+    ensures inside { IfOk result (IsInside «types».now) }
+{
+    let resolve = types.resolve();
+    let ty = parameter_of_row(resolve, row)?;
+    if resolve.is_type(ty) {
+        return Ok(ty);
+    }
+    Err(anyhow::anyhow!("no type"))
+}
+
+/// Writes the value at an address.
+fn push_loaded(
+    text: &mut TextBuilder,
+    at: u32,
+    row: &Value,
+    types: &Types<'_>,
+    guest: &Logged,
+) -> anyhow::Result<()>
+    requires { HasApartLabels «types».now }
+{
+    let ty = stored_type(types, row)?;
+    let (alloc, resolve, layouts) = (text.alloc(), types.resolve(), types.layouts());
+    match load(alloc, resolve, layouts, ty, guest, at) {
+        Err(fault) => push_fault(text, fault),
+        Ok(value) => {
+            let json = json_of_value(alloc, resolve, ty, &value)?;
+            text.push("{\"loaded\":");
+            text.push_made(json.to_string(alloc));
+            text.push("}");
+        }
+    }
+    Ok(())
+}
+
+/// Stores a value at an address, and writes whether it is there.
+fn push_stored(
+    text: &mut TextBuilder,
+    json: &Value,
+    row: &Value,
+    types: &Types<'_>,
+    guest: &mut Logged,
+) -> anyhow::Result<()>
+    requires { HasApartLabels «types».now }
+{
+    let ty = stored_type(types, row)?;
+    let at = number(row.get("at"))?;
+    let value = value_of(text.alloc(), types, ty, json)?;
+    let (resolve, layouts) = (types.resolve(), types.layouts());
+    if !has_type(resolve, layouts, ty, &value) {
+        return Err(anyhow::anyhow!("no value of its type"));
+    }
+    match store(resolve, layouts, ty, &value, guest, at) {
+        Ok(()) => text.push("\"stored\""),
+        Err(fault) => push_fault(text, fault),
+    }
+    Ok(())
+}
+
 /// Writes what is told of a value that is converted over the caller's memory.
 fn push_converted(
     text: &mut TextBuilder,
@@ -156,13 +219,19 @@ fn push_converted(
 ) -> anyhow::Result<()>
     requires { HasApartLabels «types».now }
 {
+    if row.get("load").is_some() {
+        return push_loaded(text, number(row.get("load"))?, row, types, caller);
+    }
+    if let Some(json) = field(row, "store") {
+        return push_stored(text, json, row, types, caller);
+    }
     match field(row, "lower") {
         None => push_lifted(text, row, types, caller),
         Some(json) => push_lowered(text, json, row, types, caller),
     }
 }
 
-/// Writes what is told of a row that lifts or lowers, and of the memories.
+/// Writes what is told of a row that lifts, lowers, loads or stores, and of the memories.
 pub fn push_conversion(text: &mut TextBuilder, row: &Value, types: &Types<'_>) -> anyhow::Result<()>
     requires { HasApartLabels «types».now }
 {

@@ -2,6 +2,7 @@
 //! says both, and how they are told. `vectors` answers rows over them. docs/FORMATS.md has the form of rows.
 
 mod acting;
+mod backing;
 mod logged;
 mod row;
 mod telling;

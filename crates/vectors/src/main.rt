@@ -50,7 +50,7 @@ fn push_calls(text: &mut TextBuilder, row: &Value) -> anyhow::Result<()> {
     Ok(())
 }
 
-/// Writes what is told of a value of a row that is lifted or lowered.
+/// Writes what is told of a value of a row that is lifted or lowered, loaded or stored.
 fn push_value(text: &mut TextBuilder, row: &Value) -> anyhow::Result<()> {
     let package = opened(text.alloc(), row)?;
     has_labels_apart(&package);
@@ -63,15 +63,21 @@ fn push_head(text: &mut TextBuilder, row: &Value) -> anyhow::Result<()> {
     push_head_row(text, row, &package.types())
 }
 
+/// The keys of rows that convert a value.
+const CONVERSIONS: [&str; 4] = ["lift", "lower", "load", "store"];
+
 /// Writes what is told of a row.
 fn push_row(text: &mut TextBuilder, row: &Value) -> anyhow::Result<()> {
     if row.get("steps").is_some() {
         return sessions::push_row(text, row);
     }
+    if row.get("held").is_some() {
+        return sessions::push_held_row(text, row);
+    }
     if row.get("host").is_some() {
         return hosts::push_row(text, row);
     }
-    if row.get("lift").is_some() || row.get("lower").is_some() {
+    if CONVERSIONS.iter().any(|key| row.get(*key).is_some()) {
         return push_value(text, row);
     }
     if row.get("head_at").is_some() || row.get("head_of").is_some() {

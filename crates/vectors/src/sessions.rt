@@ -285,3 +285,42 @@ pub fn push_row(text: &mut TextBuilder, row: &Value) -> anyhow::Result<()> {
     let steps = steps_of(text.alloc(), row, &package, times_of(row)?)?;
     push_steps_taken(text, row, &package, steps.as_slice())
 }
+
+/// The type of the first parameter of the row's function.
+fn type_of(package: &Package, row: &Value) -> anyhow::Result<ValType> {
+    let f = function(package.resolve(), "a:b/c", text(row.get("func"))?)?;
+    parameter(package.resolve(), f)
+}
+
+/// Writes what a session reads at an address, whatever is there.
+fn push_held(
+    text: &mut TextBuilder,
+    package: &Package,
+    session: &Rows<'_>,
+    held: Held,
+) -> anyhow::Result<()>
+    requires { session.now.package.now ≡ «package».now }
+{
+    if !package.is_type(held.ty) {
+        return Err(anyhow::anyhow!("no type"));
+    }
+    match session.read(text.alloc(), &held) {
+        Ok(value) => push_value(text, "read", package, held.ty, &value)?,
+        Err(fault) => push_fault(text, fault),
+    }
+    Ok(())
+}
+
+/// Writes what is told of a value that is read where none was placed.
+pub fn push_held_row(text: &mut TextBuilder, row: &Value) -> anyhow::Result<()> {
+    let package = opened(text.alloc(), row)?;
+    let ty = type_of(&package, row)?;
+    let at = number(row.get("held"))?;
+    let session = session_of(text.alloc(), row, &package)?;
+    text.push("{\"answers\":[");
+    push_held(text, &package, &session, Held { ty, at })?;
+    text.push("],");
+    push_memories(text, session.caller(), session.callee(), true);
+    text.push("}");
+    Ok(())
+}

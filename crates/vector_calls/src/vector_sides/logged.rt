@@ -1,7 +1,7 @@
-//! A memory whose requests are listed, and whose allocator may give answers that were told to it.
+//! A memory whose requests are listed.
 
+use crate::vector_sides::backing::Backing;
 use canonical_abi::{Full, Guest, NotTaken};
-use memory::Space;
 
 /// What an allocator was asked for, alignment and size, and the address that it gave.
 #[derive(Clone, Copy)]
@@ -14,19 +14,16 @@ pub struct Request {
 /// A memory, and what its allocator was asked for.
 #[derive(Drop)]
 pub struct Logged {
-    space: Space,
-    /// What the allocator answers if that is told, the last answer first.
-    script: Option<Vec<Option<u32>>>,
+    backing: Backing,
     requests: Vec<Request>,
     /// Whether the host had memory for all of the list.
     whole: bool,
 }
 
 impl Logged {
-    pub fn new(space: Space, script: Option<Vec<Option<u32>>>, requests: Vec<Request>) -> Logged {
+    pub fn new(backing: Backing, requests: Vec<Request>) -> Logged {
         Logged {
-            space,
-            script,
+            backing,
             requests,
             whole: true,
         }
@@ -43,29 +40,26 @@ impl Logged {
 }
 
 impl Guest for Logged {
-    ghost memory = { λ l. ⟦<Space as Guest>⟧.memory l.space };
+    ghost memory = { λ l. ⟦<Backing as Guest>⟧.memory l.backing };
 
     ghost allocates = { λ _ _ _ _ _. Unit {0} };
 
     ghost releases = { λ _ _ _ _ _. Unit {0} };
 
     fn len(&self) -> u32 {
-        self.space.len()
+        self.backing.len()
     }
 
     fn bytes(&self) -> &[u8] {
-        self.space.bytes()
+        self.backing.bytes()
     }
 
     fn write(&mut self, at: u32, src: &[u8]) {
-        self.space.write(at, src);
+        self.backing.write(at, src);
     }
 
     fn alloc(&mut self, align: u32, size: u32) -> Result<u32, Full> {
-        let answer = match &mut self.script {
-            Some(answers) => answers.pop().flatten().ok_or(Full),
-            None => self.space.alloc(align, size),
-        };
+        let answer = self.backing.alloc(align, size);
         let at = answer.ok();
         if self.requests.push(Request { align, size, at }).is_err() {
             self.whole = false;
@@ -74,6 +68,6 @@ impl Guest for Logged {
     }
 
     fn free(&mut self, at: u32, size: u32) -> Result<(), NotTaken> {
-        self.space.free(at, size)
+        self.backing.free(at, size)
     }
 }

@@ -1,10 +1,11 @@
 //! What a row of JSON says: numbers, texts, core values, memories, and what the body does.
 
 use crate::vector_sides::acting::{Act, Acting, Stop, answered};
+use crate::vector_sides::backing::Backing;
 use crate::vector_sides::logged::Logged;
-use canonical_abi::{Flat, Guest};
+use canonical_abi::{Flat, Full, Guest};
 use lift_lower::FlatResults;
-use memory::{Bump, FirstFit, Space};
+use memory::{Bump, FirstFit, Headers, Scripted, Space};
 use serde_json::Value;
 use std::alloc::Global;
 use std::slice;
@@ -91,47 +92,53 @@ pub fn package_bytes(alloc: Global, row: &Value) -> anyhow::Result<Vec<u8>> {
     Ok(hex::decode(alloc, text(row.get("binary"))?)?)
 }
 
-/// A memory of zeros, which grows if it has a most length.
-fn space(
-    alloc: Global,
-    len: u32,
-    max: Option<&Value>,
-    is_first_fit: bool,
-) -> anyhow::Result<Space> {
-    match max {
-        None if is_first_fit => Ok(Space::FirstFit(FirstFit::new(alloc, len)?)),
-        None => Ok(Space::Bump(Bump::new(alloc, len)?)),
-        Some(_) if is_first_fit => Ok(Space::FirstFit(FirstFit::growing(
-            alloc,
-            len,
-            number(max)?,
-        )?)),
-        Some(_) => Ok(Space::Bump(Bump::growing(alloc, len, number(max)?)?)),
-    }
+/// A memory of zeros of an honest kind, which grows if it has a most length.
+fn space(alloc: Global, kind: Option<&str>, len: u32, most: Option<u32>) -> anyhow::Result<Space> {
+    Ok(match (kind, most) {
+        (Some("first-fit"), None) => Space::FirstFit(FirstFit::new(alloc, len)?),
+        (Some("first-fit"), Some(most)) => Space::FirstFit(FirstFit::growing(alloc, len, most)?),
+        (_, None) => Space::Bump(Bump::new(alloc, len)?),
+        (_, Some(most)) => Space::Bump(Bump::growing(alloc, len, most)?),
+    })
 }
 
-/// What a side's allocator answers if that is told, the last answer first.
-fn script(alloc: Global, answers: Option<&Value>) -> anyhow::Result<Option<Vec<Option<u32>>>> {
-    if answers.is_none() {
-        return Ok(None);
-    }
-    let mut script = Vec::new(alloc);
-    for answer in list(answers).iter().rev() {
-        script.push(match answer {
-            Value::Null => None,
-            _ => Some(number(Some(answer))?),
+/// The answers of an allocator: addresses, and refusals.
+fn answers(alloc: Global, values: &[Value]) -> anyhow::Result<Vec<Result<u32, Full>>> {
+    let mut answers = Vec::new(alloc);
+    for value in values {
+        answers.push(match value {
+            Value::Null => Err(Full),
+            _ => Ok(number(Some(value))?),
         })?;
     }
-    Ok(Some(script))
+    Ok(answers)
+}
+
+/// A memory of zeros with the allocator that a row says for a side.
+fn backing(alloc: Global, row: &Value, side: usize, len: u32) -> anyhow::Result<Backing> {
+    if let Some(script) = of_pair(row, "script", side) {
+        let answers = answers(alloc, list(Some(script)))?;
+        return Ok(Backing::Scripted(Scripted::new(alloc, len, answers)?));
+    }
+    let most = match of_pair(row, "max", side) {
+        None => None,
+        most => Some(number(most)?),
+    };
+    match word(of_pair(row, "kinds", side)) {
+        Some("headers") => Ok(Backing::Headers(Headers::growing(alloc, len, most.unwrap_or(len))?)),
+        kind => Ok(Backing::Space(space(alloc, kind, len, most)?)),
+    }
 }
 
 /// Makes what is live before the call, and writes the bytes.
-fn fill(space: &mut Space, top: u32, bytes: &[u8]) -> anyhow::Result<()> {
-    if top > 0 && space.alloc(1, top).is_err() {
-        return Err(anyhow::anyhow!("a top is above its memory"));
+fn fill(memory: &mut Backing, top: u32, bytes: &[u8]) -> anyhow::Result<()> {
+    if let Backing::Space(space) = memory {
+        if top > 0 && space.alloc(1, top).is_err() {
+            return Err(anyhow::anyhow!("a top is above its memory"));
+        }
     }
-    if bytes.len() <= space.len() as usize {
-        space.write(0, bytes);
+    if bytes.len() <= memory.len() as usize {
+        memory.write(0, bytes);
     }
     Ok(())
 }
@@ -145,26 +152,23 @@ fn number_or(value: Option<&Value>, otherwise: u32) -> anyhow::Result<u32> {
 }
 
 /// The memory of a side, with these bytes and zeros up to its length.
-fn filled(alloc: Global, row: &Value, side: usize, bytes: &[u8]) -> anyhow::Result<Space> {
+fn filled(alloc: Global, row: &Value, side: usize, bytes: &[u8]) -> anyhow::Result<Backing> {
     let length = number_or(of_pair(row, "lens", side), u32::try_from(bytes.len())?)?;
-    let is_first_fit = word(of_pair(row, "kinds", side)) == Some("first-fit");
-    let mut space = space(alloc, length, of_pair(row, "max", side), is_first_fit)?;
-    fill(&mut space, number_or(of_pair(row, "tops", side), 0)?, bytes)?;
-    Ok(space)
-}
-
-/// The memory that a row says for a side.
-fn space_of(alloc: Global, row: &Value, side: usize) -> anyhow::Result<Space> {
-    let key = if side == 0 { "caller" } else { "callee" };
-    let bytes = hex::decode(alloc, text(row.get(key))?)?;
-    filled(alloc, row, side, bytes.as_slice())
+    let mut memory = backing(alloc, row, side, length)?;
+    fill(
+        &mut memory,
+        number_or(of_pair(row, "tops", side), 0)?,
+        bytes,
+    )?;
+    Ok(memory)
 }
 
 /// The memory of a side: its bytes and zeros up to its length, what is live of it, and what its allocator answers.
 pub fn guest(alloc: Global, row: &Value, side: usize) -> anyhow::Result<Logged> {
-    let space = space_of(alloc, row, side)?;
-    let script = script(alloc, of_pair(row, "script", side))?;
-    Ok(Logged::new(space, script, Vec::new(alloc)))
+    let key = if side == 0 { "caller" } else { "callee" };
+    let bytes = hex::decode(alloc, text(row.get(key))?)?;
+    let memory = filled(alloc, row, side, bytes.as_slice())?;
+    Ok(Logged::new(memory, Vec::new(alloc)))
 }
 
 /// The memories of both sides of a row.
