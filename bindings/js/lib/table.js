@@ -16,41 +16,64 @@ const ROW_SIZE = 44;
 const MEMBER_SIZE = 20;
 const MAX_VALUES = 17;
 
+/** Room for each struct, for the kinds of core values, and for most names. */
+const ROOM = 256;
+
 const decoder = new TextDecoder();
 
-/** The words of a struct that an export writes, or nothing if there is none of this number. */
-function words(pkg, size, name, numbers) {
-  const { core, handle } = pkg.place;
-  const at = core.allocate(size);
-  try {
-    const status = core.call(name, handle, numbers, at);
-    if (status.number === REFUSAL.NOT_THERE) return undefined;
-    if (status.code !== CODE.DONE) throw core.error(status);
-    return Array.from({ length: size / 4 }, (_, place) => core.view.getUint32(at + 4 * place, true));
-  } finally {
-    core.free(at);
+/** What exports write about a package, in one block of the module that is used again. */
+class Answers {
+  #pkg;
+  #core;
+  #handle;
+  #at;
+
+  /** @param {import("./package.js").Package} pkg */
+  constructor(pkg) {
+    this.#pkg = pkg;
+    this.#core = pkg.place.core;
+    this.#handle = pkg.place.handle;
+    this.#at = this.#core.allocate(ROOM);
   }
-}
 
-const nameOf = (pkg, name, ...numbers) => decoder.decode(pkg.told(name, numbers));
+  #words(count) {
+    const { view } = this.#core;
+    const words = [];
+    for (let at = this.#at; words.length < count; at += 4) words.push(view.getUint32(at, true));
+    return words;
+  }
 
-/** The kinds of core values that an export tells of a function. */
-function signature(pkg, name, func) {
-  const { core, handle } = pkg.place;
-  const at = core.allocate(4 * MAX_VALUES);
-  try {
-    const status = core.call(name, handle, [func], at, MAX_VALUES);
-    if (status.code !== CODE.DONE) throw core.error(status);
-    return Array.from({ length: status.count }, (_, k) => (core.view.getUint32(at + 4 * k, true) ? "i64" : "i32"));
-  } finally {
-    core.free(at);
+  /** The words of a struct, or nothing if there is none of this number. */
+  struct(size, name, numbers) {
+    const status = this.#core.call(name, this.#handle, numbers, this.#at);
+    if (status.number === REFUSAL.NOT_THERE) return undefined;
+    if (status.code !== CODE.DONE) throw this.#core.error(status);
+    return this.#words(size / 4);
+  }
+
+  /** A name. One that has no room in the block is asked for again. */
+  name(name, ...numbers) {
+    const status = this.#core.call(name, this.#handle, numbers, this.#at, ROOM);
+    if (status.code === CODE.DONE) return this.#core.text(this.#at, status.count);
+    return decoder.decode(this.#pkg.told(name, numbers));
+  }
+
+  /** The kinds of core values that an export tells of a function. */
+  signature(name, func) {
+    const status = this.#core.call(name, this.#handle, [func], this.#at, MAX_VALUES);
+    if (status.code !== CODE.DONE) throw this.#core.error(status);
+    return this.#words(status.count).map((it) => (it ? "i64" : "i32"));
+  }
+
+  free() {
+    this.#core.free(this.#at);
   }
 }
 
 /** Reads the rows of a package, from 0 on. */
-function rowsOf(pkg) {
+function rowsOf(answers) {
   const rows = [];
-  for (let row; (row = words(pkg, ROW_SIZE, "witcall_row", [rows.length])); ) {
+  for (let row; (row = answers.struct(ROW_SIZE, "witcall_row", [rows.length])); ) {
     const [kind, , size, alignment, ...rest] = row;
     const [ownerKind, owner, members] = rest.slice(4);
     rows.push({
@@ -64,13 +87,14 @@ function rowsOf(pkg) {
 }
 
 class Reader {
-  #pkg;
+  #answers;
   #rows;
   #owners = new Map();
 
-  constructor(pkg) {
-    this.#pkg = pkg;
-    this.#rows = rowsOf(pkg);
+  /** @param {Answers} answers */
+  constructor(answers) {
+    this.#answers = answers;
+    this.#rows = rowsOf(answers);
   }
 
   /** A type by its four words: the object of its row, if it has one. */
@@ -81,14 +105,14 @@ class Reader {
 
   #owner([kind, number]) {
     const key = `${kind} ${number}`;
-    if (!this.#owners.has(key)) this.#owners.set(key, nameOf(this.#pkg, "witcall_owner_name", kind, number));
+    if (!this.#owners.has(key)) this.#owners.set(key, this.#answers.name("witcall_owner_name", kind, number));
     return { [OWNERS[kind]]: this.#owners.get(key) };
   }
 
   #members(number, count) {
     return Array.from({ length: count }, (_, index) => {
-      const [kind, row, size, alignment, offset] = words(this.#pkg, MEMBER_SIZE, "witcall_member", [number, index]);
-      const name = nameOf(this.#pkg, "witcall_member_name", number, index);
+      const [kind, row, size, alignment, offset] = this.#answers.struct(MEMBER_SIZE, "witcall_member", [number, index]);
+      const name = this.#answers.name("witcall_member_name", number, index);
       return { name, type: this.#type([kind, row, size, alignment]), size, alignment, offset };
     });
   }
@@ -96,13 +120,13 @@ class Reader {
   #function({ type: { number, size, alignment }, target, owner, members }) {
     const result = this.#type(target);
     const core = (way) => ({
-      parameters: signature(this.#pkg, `witcall_${way}_params`, number),
-      results: signature(this.#pkg, `witcall_${way}_result`, number),
+      parameters: this.#answers.signature(`witcall_${way}_params`, number),
+      results: this.#answers.signature(`witcall_${way}_result`, number),
     });
     return {
       number,
       ...this.#owner(owner),
-      name: nameOf(this.#pkg, "witcall_row_name", number),
+      name: this.#answers.name("witcall_row_name", number),
       size,
       alignment,
       parameters: this.#members(number, members),
@@ -114,7 +138,9 @@ class Reader {
 
   /** Fills in what a type has besides its layout. */
   #filled({ type, target, owner, members }) {
-    if (owner[0]) Object.assign(type, this.#owner(owner), { name: nameOf(this.#pkg, "witcall_row_name", type.number) });
+    if (owner[0]) {
+      Object.assign(type, this.#owner(owner), { name: this.#answers.name("witcall_row_name", type.number) });
+    }
     if (target[0]) type.target = this.#type(target);
     if (members) type.members = this.#members(type.number, members);
     return type;
@@ -133,4 +159,11 @@ class Reader {
  * The functions and the types of a package.
  * @param {import("./package.js").Package} pkg
  */
-export const tableOf = (pkg) => new Reader(pkg).read();
+export function tableOf(pkg) {
+  const answers = new Answers(pkg);
+  try {
+    return new Reader(answers).read();
+  } finally {
+    answers.free();
+  }
+}
