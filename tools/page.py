@@ -10,6 +10,7 @@ two scripts import each other.
 """
 import base64
 import gzip
+import hashlib
 import os
 import pathlib
 import re
@@ -60,8 +61,14 @@ def module():
     return found if found.startswith(b"\x1f\x8b") else gzip.compress(found, mtime=0)
 
 
+def digest(whole, tag):
+    """Returns the digest of what an element has, by which the page's policy allows it."""
+    text = whole.partition(f"<{tag}>")[2].partition("</")[0]
+    return "sha256-" + base64.b64encode(hashlib.sha256(text.encode()).digest()).decode()
+
+
 def page():
-    """Returns the text of the page."""
+    """Returns the text of the page. Its policy allows no style and no script but those that are in it here."""
     bundle = Bundle()
     bundle.add((PAGE / "main.js").resolve())
     script = END.sub(r"<\\/", "".join(bundle.texts))
@@ -72,6 +79,8 @@ def page():
         if whole.count(place) != 1:
             sys.exit(f"tools/page.py: page.html has {place} not once")
         whole = whole.replace(place, part)
+    for place, tag in (("/*style-hash*/", "style"), ("/*script-hash*/", 'script type="module"')):
+        whole = whole.replace(place, digest(whole, tag))
     return whole
 
 

@@ -41,7 +41,7 @@ HUES = (210, 130, 30, 280, 60, 330, 175, 0, 245, 95, 15, 300)
 # pixels of the texts of a class, if not 12
 SIZES = {"small": 11, "crate": 10}
 TESTS = ("Programs that answer rows", "Tests")
-OTHERS = {"shapes.svg", "page.png", "page-call.png", "page-dark.png", "page-fault.png"}
+OTHERS = {"shapes.svg", *(f"page{it}.png" for it in ("", "-call", "-dark", "-fault", "-module", "-world"))}
 ROW = "lists: padding of the target stays too"
 HALVES = "strings: random 5"
 

@@ -5,14 +5,20 @@ import { Texts } from "../lib/texts.js";
 import { nameOf, walkOver } from "./parts.js";
 
 const SIZE = 65536;
-const FIRST = 16;
 const MAX_FLAT = 16;
+
+/** Where the blocks of each memory begin. They begin elsewhere, so that one sees that addresses change. */
+const FIRST = { caller: 64, callee: 2048 };
 
 /** A memory, and an allocator that makes blocks one above another. */
 class Memory {
   bytes = new Uint8Array(SIZE);
   blocks = [];
-  #top = FIRST;
+  #top;
+
+  constructor(first) {
+    this.#top = first;
+  }
 
   take(align, size, what) {
     const at = Math.ceil(this.#top / align) * align;
@@ -26,10 +32,10 @@ class Memory {
 }
 
 const word = (flat) => (typeof flat === "bigint" ? `i64 ${flat}` : `i32 ${flat}`);
-const words = (flats) => flats.map(word).join(", ") || "nothing";
+export const words = (flats) => flats.map(word).join(", ") || "nothing";
 
 /** The parts of arguments: of the record of all, or of what the core values point to. */
-function argumentParts(func, flats, bytes) {
+export function argumentParts(func, flats, bytes) {
   const walk = walkOver(bytes);
   const count = func.parameters.reduce((sum, it) => sum + flatCount(it.type), 0);
   let place = 0;
@@ -42,7 +48,7 @@ function argumentParts(func, flats, bytes) {
 }
 
 /** The parts of a result, at an address or as a core value. */
-function resultParts(func, flats, bytes) {
+export function resultParts(func, flats, bytes) {
   if (!func.result || flatCount(func.result.type) === 1) return [];
   const walk = walkOver(bytes);
   walk.value(func.result.type, flats[0] >>> 0, "result");
@@ -55,20 +61,22 @@ function resultParts(func, flats, bytes) {
  * @param {object} func
  * @param {string} args a JSON array of the arguments
  * @param {string} reply the JSON of the result
- * @returns {{steps: string[], caller: object, callee: object, result?: string, error?: Error}}
+ * @returns {{steps: string[], caller: object, callee: object, result?: string, error?: Error, step?: string,
+ * field?: "args" | "reply"}} if there is an error, `step` is where, and `field` is which text it is about
  */
 export function called(pkg, func, args, reply) {
-  const memories = { caller: new Memory(), callee: new Memory() };
+  const memories = { caller: new Memory(FIRST.caller), callee: new Memory(FIRST.callee) };
   const parts = { caller: [], callee: [] };
   const steps = [];
   const of = (who) => ({ memory: memories[who], parts: parts[who] });
   const done = { steps, caller: of("caller"), callee: of("callee") };
-  const stores = { step: "The arguments are written into the caller's memory" };
+  const stores = { step: "The arguments are written into the caller's memory", field: "args" };
   try {
     result(pkg, func, { args, reply, parts, steps, stores, done, ...memories });
   } catch (error) {
     done.error = error;
     done.step = stores.step;
+    done.field = stores.field;
   }
   return done;
 }
@@ -84,15 +92,15 @@ function result(pkg, func, call) {
   const flats = area ? [...given, area.at] : given;
   parts.caller.push(...argumentParts(func, given, caller.bytes));
   steps.push(`The caller passes ${words(flats)}.`);
-  stores.step = "The arguments go into the callee's memory";
+  Object.assign(stores, { step: "The arguments go into the callee's memory", field: undefined });
   const handed = enter.carry([flats], caller, callee);
   parts.callee.push(...argumentParts(func, handed, callee.bytes));
   steps.push(`The callee's core function gets ${words(handed)}.`);
-  stores.step = "The answer is written into the callee's memory";
+  Object.assign(stores, { step: "The answer is written into the callee's memory", field: "reply" });
   const answer = answered(func, replies, given, { reply, callee });
   parts.callee.push(...resultParts(func, answer, callee.bytes));
   steps.push(`It answers ${words(answer)}.`);
-  stores.step = "The answer goes into the caller's memory";
+  Object.assign(stores, { step: "The answer goes into the caller's memory", field: undefined });
   const back = leave.carry([flats, answer], callee, caller, area);
   const found = area ? [area.at] : back;
   parts.caller.push(...resultParts(func, found, caller.bytes));

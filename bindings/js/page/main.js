@@ -1,338 +1,263 @@
 // The page: the text on the left, and on the right what it is.
 import { WitError } from "../lib/errors.js";
 import { load } from "../lib/library.js";
-import { called } from "./call.js";
+import { CallView } from "./callview.js";
+import { Cards } from "./cards.js";
+import { copied, plural, setText } from "./dom.js";
+import { Editor } from "./editor.js";
 import { EXAMPLES } from "./examples.js";
-import { nameOf, partsOf, sampleOf } from "./parts.js";
-import { Lights, el, narrow, picture } from "./picture.js";
+import { Faults } from "./faults.js";
+import { opened } from "./files.js";
+import { Outputs } from "./outputs.js";
+import { narrow } from "./picture.js";
 import { packagesOf, placed } from "./text.js";
+import { functionItems, namedTypes, typeItems } from "./types.js";
+import { drawWorlds } from "./worlds.js";
 
 const $ = (id) => document.getElementById(id);
-const [text, marks, numbers, fault, state] = ["text", "marks", "numbers", "fault", "state"].map($);
-const TABS = ["types", "functions", "call", "canonical"];
+const [state, right, examples, back, about] = ["state", "right", "examples", "back", "file"].map($);
 
-/** How long the page waits after a key, in milliseconds. */
+/** How long the page waits after a key, and until the address has what is shown, in milliseconds. */
 const WAIT = 150;
+const WAIT_FOR_ADDRESS = 250;
 
-let witcall;
-let pkg;
+/** What is shown: the package, the file that carries it if there is one, and what was there before that. */
+const shown = { witcall: undefined, pkg: undefined, file: undefined, before: undefined };
+/** What the address carries besides the text. */
 const chosen = { tab: "types", func: "", args: undefined, reply: undefined };
 
-// ---- the link: the text and the call
+const editor = new Editor({ text: $("text"), marks: $("marks"), numbers: $("numbers") }, typed);
+const faults = new Faults($("fault"), editor);
+const types = new Cards($("types"), "No type has a name here.");
+const functions = new Cards($("functions"), "There is no function.");
+const calls = new CallView($("call"), chosen, keep);
+const outputs = new Outputs($("outputs"), say);
+
+/** The tabs, with what draws each. */
+const TABS = new Map([
+  ["types", () => types.draw(typeItems(shown.pkg))],
+  ["functions", () => functions.draw(functionItems(shown.pkg, choose))],
+  ["worlds", () => drawWorlds($("worlds"), shown.pkg, choose)],
+  ["call", () => calls.draw(shown.pkg, shown.file)],
+  ["outputs", () => outputs.draw(shown.pkg)],
+]);
+const NAMES = [...TABS.keys()];
+/** The tabs that show an older package. */
+const old = new Set();
+
+// ---- the address: the text and the call
+
+let keeping;
 
 function keep() {
+  clearTimeout(keeping);
+  keeping = setTimeout(kept, WAIT_FOR_ADDRESS);
+}
+
+function kept() {
+  clearTimeout(keeping);
   const words = new URLSearchParams();
-  for (const [name, value] of Object.entries({ wit: text.value, ...chosen })) if (value) words.set(name, value);
+  for (const [name, value] of Object.entries({ wit: editor.value, ...chosen })) if (value) words.set(name, value);
   const hash = `#${words}`;
   if (hash !== location.hash) history.replaceState(null, "", hash);
 }
 
 function restore() {
   const words = new URLSearchParams(location.hash.slice(1));
-  text.value = words.get("wit") ?? Object.values(EXAMPLES)[0];
-  chosen.tab = TABS.includes(words.get("tab")) ? words.get("tab") : "types";
+  chosen.tab = TABS.has(words.get("tab")) ? words.get("tab") : "types";
   chosen.func = words.get("func") ?? "";
   chosen.args = words.get("args") ?? undefined;
   chosen.reply = words.get("reply") ?? undefined;
+  shown.file = undefined;
+  editor.show(words.get("wit") ?? Object.values(EXAMPLES)[0]);
 }
 
-// ---- the left side
-
-function drawNumbers() {
-  numbers.textContent = text.value.split("\n").map((_, place) => place + 1).join("\n");
-}
-
-function scrolled() {
-  marks.scrollTop = numbers.scrollTop = text.scrollTop;
-  marks.scrollLeft = text.scrollLeft;
-}
-
-/** A fault, with its line and what to do about it. */
-function boxOf({ message, hint, start, end, row, column, source }) {
-  const where = row ? `line ${row}, column ${column}: ` : "";
-  const box = el("div", { class: "fault" }, el("strong", {}, `${where}${message}`));
-  if (row) {
-    const length = Math.max(Math.min(end - start, source.length - column + 1), 1);
-    const indent = source.slice(0, column - 1).replace(/[^\t]/g, " ");
-    box.append(el("pre", {}, `${source}\n`, el("span", { class: "caret" }, `${indent}${"^".repeat(length)}`)));
-    const go = () => {
-      text.focus();
-      text.setSelectionRange(start, end);
-    };
-    box.append(el("button", { type: "button", on: { click: go } }, "Go there"));
-  }
-  if (hint) box.append(el("p", {}, `What to do: ${hint}${hint.endsWith("?") ? "" : "."}`));
-  return box;
-}
-
-/** Marks the places of faults in the text. */
-function drawMarks(faults) {
-  let from = 0;
-  for (const { start, end } of faults.filter((it) => it.row).sort((one, other) => one.start - other.start)) {
-    if (start < from) continue;
-    marks.append(text.value.slice(from, start), el("mark", {}, text.value.slice(start, end) || " "));
-    from = end;
-  }
-  if (from > 0) marks.append(`${text.value.slice(from)}\n`);
-}
-
-function drawFaults(faults) {
-  fault.replaceChildren(...faults.map(boxOf));
-  marks.replaceChildren();
-  drawMarks(faults);
-  scrolled();
-}
-
-/** What to do if each package by itself is right, but not this list of them. */
-const ORDER = { 47: "put a package behind those that it uses", 48: "write a package once" };
-
-/** Opens the packages of the text. Throws the error of a text that has faults. */
-function opened(parts) {
-  const texts = parts.map((it) => it.text);
-  const faults = witcall.explain(texts).map((it) => placed(text.value, parts, it));
-  try {
-    const next = witcall.open(texts);
-    drawFaults([]);
-    return next;
-  } catch (error) {
-    if (!(error instanceof WitError)) throw error;
-    const { number, line } = error;
-    drawFaults(faults.length > 0 ? faults : [{ message: line, hint: ORDER[number] }]);
-    throw error;
-  }
-}
-
-function changed() {
-  drawNumbers();
-  const right = document.querySelector(".right");
-  try {
-    const next = opened(packagesOf(text.value));
-    pkg?.close();
-    pkg = next;
-    right.classList.remove("stale");
-    draw();
-  } catch (error) {
-    if (!(error instanceof WitError)) throw error;
-    say(error.line, true);
-    right.classList.add("stale");
-  }
-  keep();
-}
+// ---- what the text or the file is
 
 function say(words, isBad = false) {
-  state.textContent = words;
+  setText(state, words);
   state.classList.toggle("bad", isBad);
 }
 
-// ---- the right side
+/** What to do if each package by itself is right, but not this list of them. */
+const ORDER = new Map([[47, "put a package behind those that it uses"], [48, "write a package once"]]);
 
-const plural = (count, word) => `${count} ${word}${count === 1 ? "" : "s"}`;
-const functionName = (func) => `${func.interface ?? func.world}#${func.name}`;
+/** The faults of a text that was refused. */
+function faultsOf(parts, { number, line }) {
+  const found = shown.witcall.explain(parts.map((it) => it.text)).map((it) => placed(editor.value, parts, it));
+  return found.length > 0 ? found : [{ message: line, hint: ORDER.get(number) }];
+}
 
-function draw() {
-  const named = pkg.types.filter((it) => it.name && it.kind !== "use");
-  say(`${plural(named.length, "type")}, ${plural(pkg.functions.length, "function")} · witcall ${witcall.version}`);
-  drawTypes(named);
-  drawFunctions();
-  drawCall();
-  $("canonical").replaceChildren(el("div", { class: "card" }, el("pre", {}, pkg.toText())));
+function refused(parts, error) {
+  if (!(error instanceof WitError)) throw error;
+  faults.show(faultsOf(parts, error));
+  say(error.line, true);
+  right.classList.add("stale");
+}
+
+/** Shows a package in place of the one before it, which is closed unless a user can go back to it. */
+function use(pkg) {
+  const isKept = shown.pkg === pkg || shown.pkg === shown.before?.file?.pkg;
+  if (!isKept) shown.pkg?.close();
+  shown.pkg = pkg;
+  right.classList.remove("stale");
+  faults.show([]);
+  const count = `${plural(namedTypes(pkg).length, "type")}, ${plural(pkg.functions.length, "function")}`;
+  say(`${count} · witcall ${shown.witcall.version}`);
+  for (const name of NAMES) old.add(name);
   show(chosen.tab);
 }
 
-function layoutCard(title, type, of) {
-  const told = el("p", { class: "told", "aria-live": "polite" });
-  const parts = partsOf(type);
-  const card = el("div", { class: "card" }, el("h3", {}, title), el("p", {}, of));
-  card.append(picture(parts, { from: 0, to: Math.max(type.size, 1), lights: new Lights(told), label: title }), told);
-  return card;
-}
-
-const bytesWord = (count) => plural(count, "byte");
-
-function drawTypes(named) {
-  const cards = named.map((it) => {
-    const kind = it.kind === "alias" ? `type = ${nameOf(it.target)}` : it.kind;
-    const where = `${kind} in ${it.interface ?? it.world}`;
-    return layoutCard(it.name, it, `${where} · ${bytesWord(it.size)}, aligned to ${it.alignment}`);
-  });
-  $("types").replaceChildren(...(cards.length > 0 ? cards : [el("p", { class: "dim" }, "No type has a name here.")]));
-}
-
-const coreText = ({ parameters, results }) =>
-  `(${parameters.join(", ")})${results.length > 0 ? ` -> ${results.join(", ")}` : ""}`;
-
-function signatureOf(func) {
-  const parameters = func.parameters.map((it) => `${it.name}: ${nameOf(it.type)}`).join(", ");
-  return `${func.name}: func(${parameters})${func.result ? ` -> ${nameOf(func.result.type)}` : ""}`;
-}
-
-function drawFunctions() {
-  const cards = pkg.functions.map((func) => {
-    const rows = [["callee exports", coreText(func.lifted)], ["caller imports", coreText(func.lowered)]];
-    const row = ([name, words]) => el("tr", {}, el("th", { scope: "row" }, name), el("td", {}, el("code", {}, words)));
-    const call = el("button", { type: "button", on: { click: () => choose(func) } }, "Call it");
-    const title = el("h3", {}, functionName(func));
-    const signature = el("pre", { class: "signature" }, signatureOf(func));
-    return el("div", { class: "card" }, title, signature, el("table", {}, ...rows.map(row)), call);
-  });
-  $("functions").replaceChildren(...(cards.length > 0 ? cards : [el("p", { class: "dim" }, "There is no function.")]));
-}
-
-function choose(func) {
-  Object.assign(chosen, { func: functionName(func), args: undefined, reply: undefined, tab: "call" });
-  drawCall();
-  show("call");
-  $("tab-call").focus();
-}
-
-/** The functions, of which one is called. */
-function functionChoice(func) {
-  const names = pkg.functions.map(functionName);
-  const select = el("select", { "aria-label": "Function" }, ...names.map((it) => el("option", { value: it }, it)));
-  select.value = functionName(func);
-  select.addEventListener("change", () => {
-    Object.assign(chosen, { func: select.value, args: undefined, reply: undefined });
-    drawCall();
-  });
-  return select;
-}
-
-function drawCall() {
-  const func = pkg.functions.find((it) => functionName(it) === chosen.func) ?? pkg.functions[0];
-  if (!func) {
-    $("call").replaceChildren(el("p", { class: "dim" }, "There is no function."));
-    return;
+/** Opens the packages of the text, and shows what they are. */
+function changed() {
+  const start = performance.now();
+  const parts = packagesOf(editor.value);
+  try {
+    use(shown.witcall.open(parts.map((it) => it.text)));
+  } catch (error) {
+    refused(parts, error);
   }
-  if (functionName(func) !== chosen.func) {
-    Object.assign(chosen, { func: functionName(func), args: undefined, reply: undefined });
-  }
-  const args = area(chosen.args ?? JSON.stringify(func.parameters.map((it) => sampleOf(it.type))), "Arguments");
-  const reply = area(chosen.reply ?? (func.result ? JSON.stringify(sampleOf(func.result.type)) : ""), "Answer");
-  reply.disabled = !func.result;
-  const out = el("div", { id: "call-result", "aria-live": "polite" });
-  const again = () => {
-    drawMemories(out, func, args.value, reply.value);
-    keep();
-  };
-  for (const [name, it] of [["args", args], ["reply", reply]]) {
-    it.addEventListener("input", () => {
-      chosen[name] = it.value;
-      again();
-    });
-  }
-  const pair = [el("label", {}, "Arguments, a JSON array", args), el("label", {}, "Answer, as JSON", reply)];
-  const signature = el("pre", { class: "signature" }, signatureOf(func));
-  const fields = el("div", { class: "fields" }, functionChoice(func), signature, el("div", { class: "pair" }, ...pair));
-  $("call").replaceChildren(fields, out);
-  again();
+  keep();
+  measure(start);
 }
 
-const area = (value, label) => {
-  const it = el("textarea", { rows: "3", spellcheck: "false", "aria-label": label });
-  it.value = value;
-  return it;
-};
-
-/** Colors by paths, so that a field has the same one in both memories. */
-function colored(parts, hues) {
-  return parts.map((part) => {
-    const key = part.path.replace(/\[\d+\]/g, "[]");
-    if (!hues.has(key)) hues.set(key, hues.size);
-    return { ...part, hue: hues.get(key) };
-  });
+/** Measures, for tools of browsers and for tests, how long it took up to the next frame. */
+function measure(start) {
+  performance.clearMeasures("redraw");
+  requestAnimationFrame(() => setTimeout(() => performance.measure("redraw", { start })));
 }
 
-/** What belongs together in both memories. */
-const keyOf = ({ path, kind }) => `${path} ${kind}`;
+let waiting;
 
-function memoryCard(who, { memory, parts }, lights, hues) {
-  const all = memory.blocks.filter((it) => it.size > 0);
-  const card = el("div", { class: "card" }, el("h3", {}, `The ${who}'s memory`));
-  if (all.length === 0) {
-    card.append(el("p", {}, "No byte of it is used."));
-    return card;
+function typed() {
+  clearTimeout(waiting);
+  examples.selectedIndex = -1;
+  waiting = setTimeout(changed, WAIT);
+}
+
+// ---- another text or file in place of this one, and back
+
+const CARRIERS = { module: "a module that carries its package", binary: "the binary of a package" };
+
+function aboutFile({ name, kind, world, reason }) {
+  const runs = kind === "binary" || !world ? "" : reason ? ` It doesn't run here: ${reason}` : " It runs in this page.";
+  return `${name} is ${CARRIERS[kind]}${world ? `, of the world ${world.name}` : ""}.${runs}`;
+}
+
+/** Shows a text or a file, and keeps what was there. */
+function replace({ text, file }) {
+  const { func, args, reply } = chosen;
+  shown.before = { text: editor.value, file: shown.file, call: { func, args, reply } };
+  put({ text, file, call: { func: "", args: undefined, reply: undefined } });
+}
+
+function put({ text, file, call }) {
+  Object.assign(chosen, call);
+  clearTimeout(waiting);
+  shown.file = file;
+  editor.show(text, Boolean(file));
+  back.hidden = shown.before === undefined;
+  about.hidden = !file;
+  setText(about, file ? aboutFile(file) : "");
+  examples.selectedIndex = file ? -1 : Object.values(EXAMPLES).indexOf(text);
+  if (!file) return changed();
+  use(file.pkg);
+  return keep();
+}
+
+/** Goes back to what was there before an example or a file. */
+function undo() {
+  const { before } = shown;
+  if (!before) return;
+  shown.before = undefined;
+  put(before);
+}
+
+async function open(file) {
+  try {
+    const found = await opened(shown.witcall, file);
+    replace(found.text === undefined ? { text: found.pkg.toText(), file: found } : { text: found.text });
+    if (found.world) show("call");
+  } catch (error) {
+    say(`${file.name}: ${error.message}`, true);
   }
-  const from = Math.min(...all.map((it) => it.at)) & ~15;
-  const to = Math.max(...all.map((it) => it.at + it.size));
-  const blocks = all.map(({ at, size, what }) => `${what} at ${at}, ${bytesWord(size)}`).join(" · ");
-  const options = { from, to, bytes: memory.bytes, lights, label: who, keyOf };
-  card.append(el("p", {}, blocks), picture(colored(parts, hues), options));
-  return card;
 }
 
-function drawMemories(out, func, args, reply) {
-  const done = called(pkg, func, args, reply);
-  const told = el("p", { class: "told", "aria-live": "polite" });
-  const lights = new Lights(told);
-  const hues = new Map();
-  const boxes = ["caller", "callee"].map((who) => memoryCard(who, done[who], lights, hues));
-  const steps = el("ol", { class: "steps" }, ...done.steps.map((it) => el("li", {}, el("code", {}, it))));
-  const all = [steps, told, el("div", { class: "memories" }, ...boxes)];
-  if (done.error) {
-    const words = [el("strong", {}, done.error.message), el("p", {}, `${done.step}.`)];
-    all.splice(1, 0, el("div", { class: "fault", role: "alert" }, ...words));
-  }
-  out.replaceChildren(...all);
-}
+// ---- the tabs
 
+/** Shows a tab, and draws it if it shows an older package. */
 function show(tab) {
   chosen.tab = tab;
-  for (const name of TABS) {
+  for (const name of NAMES) {
     $(name).hidden = name !== tab;
     $(`tab-${name}`).setAttribute("aria-selected", String(name === tab));
     $(`tab-${name}`).tabIndex = name === tab ? 0 : -1;
   }
+  if (shown.pkg && old.delete(tab)) TABS.get(tab)();
   keep();
 }
 
-// ---- what a user does
+/** Has a function called. */
+function choose(name) {
+  calls.choose(name);
+  old.add("call");
+  show("call");
+  $("tab-call").focus();
+}
 
-let waiting;
-text.addEventListener("input", () => {
-  clearTimeout(waiting);
-  drawNumbers();
-  marks.replaceChildren();
-  $("examples").selectedIndex = -1;
-  waiting = setTimeout(changed, WAIT);
-});
-text.addEventListener("scroll", scrolled);
-TABS.forEach((name, place) => {
+const KEYS = new Map([["ArrowRight", 1], ["ArrowLeft", -1]]);
+
+NAMES.forEach((name, place) => {
   $(`tab-${name}`).addEventListener("click", () => show(name));
-  $(`tab-${name}`).addEventListener("keydown", (event) => {
-    const step = { ArrowRight: 1, ArrowLeft: -1 }[event.key];
-    if (!step) return;
-    const next = TABS[(place + step + TABS.length) % TABS.length];
+  $(`tab-${name}`).addEventListener("keydown", ({ key }) => {
+    if (!KEYS.has(key)) return;
+    const next = NAMES[(place + KEYS.get(key) + NAMES.length) % NAMES.length];
     show(next);
     $(`tab-${next}`).focus();
   });
 });
-$("examples").append(...Object.keys(EXAMPLES).map((it) => el("option", {}, it)));
-$("examples").addEventListener("change", (event) => {
-  text.value = EXAMPLES[event.target.value];
-  Object.assign(chosen, { func: "", args: undefined, reply: undefined });
-  changed();
+
+// ---- what a user does
+
+examples.append(...Object.keys(EXAMPLES).map((it) => new Option(it)));
+examples.addEventListener("change", () => replace({ text: EXAMPLES[examples.value] }));
+back.addEventListener("click", undo);
+$("open").addEventListener("click", () => $("choose").click());
+$("choose").addEventListener("change", ({ target }) => {
+  if (target.files.length > 0) open(target.files[0]);
+  target.value = "";
 });
 $("link").addEventListener("click", async () => {
-  keep();
-  try {
-    await navigator.clipboard.writeText(location.href);
-    say("The link is copied.");
-  } catch {
-    say("The address of this page is the link.");
-  }
+  kept();
+  say((await copied(location.href)) ? "The link is copied." : "The address of this page is the link.");
 });
-narrow.addEventListener("change", () => pkg && draw());
+
+const hasFiles = ({ dataTransfer }) => dataTransfer?.types.includes("Files");
+const dropping = (isDropping) => document.body.classList.toggle("dropping", isDropping);
+
+window.addEventListener("dragover", (event) => {
+  if (!hasFiles(event)) return;
+  event.preventDefault();
+  dropping(true);
+});
+window.addEventListener("dragleave", ({ relatedTarget }) => relatedTarget ?? dropping(false));
+window.addEventListener("drop", (event) => {
+  if (!hasFiles(event)) return;
+  event.preventDefault();
+  dropping(false);
+  open(event.dataTransfer.files[0]);
+});
+narrow.addEventListener("change", () => shown.pkg && use(shown.pkg));
 window.addEventListener("hashchange", () => {
   restore();
-  changed();
+  put({ text: editor.value, call: {} });
 });
 
 try {
-  const packed = Uint8Array.from(atob(document.getElementById("module").textContent.trim()), (it) => it.charCodeAt(0));
-  witcall = await load(packed);
+  const packed = Uint8Array.from(atob($("module").textContent.trim()), (it) => it.charCodeAt(0));
+  shown.witcall = await load(packed);
   restore();
-  $("examples").selectedIndex = Object.values(EXAMPLES).indexOf(text.value);
-  changed();
+  put({ text: editor.value, call: {} });
 } catch (error) {
   say(`The module doesn't run here: ${error.message}`, true);
 }

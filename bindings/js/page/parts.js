@@ -26,6 +26,16 @@ class Parts {
     if (this.all.length < MOST) this.all.push({ from, to: from + size, path, kind, ...more });
   }
 
+  /** A label, which is a value of the bytes of a part: the one with the number `of`. */
+  label(of, path, kind) {
+    const { from, to } = this.all[of];
+    this.add(from, to - from, path, kind, { isShared: true, isLabel: true, of });
+  }
+
+  get last() {
+    return this.all.length - 1;
+  }
+
   get isFull() {
     return this.all.length >= MOST;
   }
@@ -33,7 +43,19 @@ class Parts {
 
 const memberPath = ({ kind }, path, { name }, place) => (kind === "tuple" ? `${path}[${place}]` : join(path, name));
 
-/** The parts of a layout. A case's payload is a part whose bytes other cases have too. */
+/** The parts of a layout with cases: each case is one. Its payload has bytes that other cases have too. */
+function caseParts(parts, type, named, at, path) {
+  const size = numberSize(type.members.length);
+  parts.add(at, size, path, type.kind === "enum" ? nameOf(named) : "number of the case");
+  const number = parts.last;
+  type.members.forEach((it, place) => {
+    const name = join(path, it.name);
+    if (!it.type) parts.label(number, name, `case ${place}`);
+    else parts.add(at + it.offset, it.size, name, `case ${place}: ${nameOf(it.type)}`, { isShared: true });
+  });
+}
+
+/** The parts of a layout. */
 function layoutParts(parts, named, at, path) {
   const type = meant(named);
   if (parts.isFull) return;
@@ -42,21 +64,19 @@ function layoutParts(parts, named, at, path) {
       layoutParts(parts, it.type, at + it.offset, memberPath(type, path, it, place));
     });
   } else if (CASES.has(type.kind)) {
-    const size = numberSize(type.members.length);
-    parts.add(at, size, path, type.kind === "enum" ? nameOf(named) : "number of the case");
-    type.members.forEach((it, place) => {
-      if (!it.type) return;
-      parts.add(at + it.offset, it.size, join(path, it.name), `case ${place}: ${nameOf(it.type)}`, { isShared: true });
-    });
+    caseParts(parts, type, named, at, path);
   } else if (type.kind === "string" || type.kind === "list") {
     parts.add(at, 4, path, `address of the ${type.kind === "list" ? "elements" : "bytes"}`);
     parts.add(at + 4, 4, path, type.kind === "list" ? `how many ${nameOf(type.target)}` : "how many bytes");
   } else {
     parts.add(at, type.size, path, nameOf(named));
+    if (type.kind !== "flags") return;
+    const bits = parts.last;
+    type.members.forEach((it, bit) => parts.label(bits, join(path, it.name), `bit ${bit}`));
   }
 }
 
-/** The parts of a type's layout. */
+/** The parts of a type's layout, and its labels. */
 export function partsOf(type) {
   const parts = new Parts();
   layoutParts(parts, type, 0, "");
@@ -149,17 +169,74 @@ export const walkOver = (bytes) => new Walk(bytes);
 
 const SAMPLES = { bool: true, char: "x", string: "text" };
 
-/** A value of a type, as JSON. */
-export function sampleOf(named) {
-  const type = meant(named);
-  if (type.kind === "list") return [sampleOf(type.target), sampleOf(type.target)];
-  if (type.kind === "tuple") return type.members.map((it) => sampleOf(it.type));
-  if (type.kind === "flags") return type.members.slice(0, 1).map((it) => it.name);
-  if (type.kind === "record") return Object.fromEntries(type.members.map((it) => [it.name, sampleOf(it.type)]));
-  if (type.kind === "enum") return type.members.at(-1).name;
-  if (CASES.has(type.kind)) {
-    const member = type.members.find((it) => it.type) ?? type.members[0];
-    return member.type ? { [member.name]: sampleOf(member.type) } : member.name;
+/** How many values a sample has: no list of it gets elements after the first number, and none is made at the second. */
+const MOST_VALUES = 64;
+const TOO_MANY = 4096;
+
+/** Makes a sample. It counts its values, since a type of few words may have very many. */
+class Sampler {
+  #count = 0;
+
+  of(named) {
+    const type = meant(named);
+    this.#count++;
+    if (this.#count > TOO_MANY) throw new RangeError("the type has too many values");
+    if (type.kind === "list") return this.#list(type);
+    if (type.kind === "tuple") return type.members.map((it) => this.of(it.type));
+    if (type.kind === "flags") return type.members.slice(0, 1).map((it) => it.name);
+    if (type.kind === "record") return Object.fromEntries(type.members.map((it) => [it.name, this.of(it.type)]));
+    if (type.kind === "enum") return type.members.at(-1).name;
+    return CASES.has(type.kind) ? this.#case(type) : SAMPLES[type.kind] ?? 7;
   }
-  return SAMPLES[type.kind] ?? 7;
+
+  #list({ target }) {
+    const elements = [];
+    while (elements.length < 2 && this.#count < MOST_VALUES) elements.push(this.of(target));
+    return elements;
+  }
+
+  #case({ members }) {
+    const member = members.find((it) => it.type) ?? members[0];
+    return member.type ? { [member.name]: this.of(member.type) } : member.name;
+  }
 }
+
+/** A value of a type, for JSON. Throws a RangeError if each one is too large. */
+export const sampleOf = (named) => new Sampler().of(named);
+
+/** Numbers of shapes: types with the same kinds and labels, also of different packages, have one number. */
+export class Shapes {
+  #numbers = new Map();
+  #known = new WeakMap();
+
+  of(named) {
+    const type = meant(named);
+    if (!type) return -1;
+    if (!this.#known.has(type)) this.#known.set(type, this.#number(type));
+    return this.#known.get(type);
+  }
+
+  /** The shape of what a function takes and gives. */
+  ofFunction({ parameters, result }) {
+    return JSON.stringify([parameters.map((it) => this.of(it.type)), this.of(result?.type)]);
+  }
+
+  #number({ kind, target, members = [] }) {
+    const key = JSON.stringify([kind, this.of(target), members.map((it) => [it.name, this.of(it.type)])]);
+    if (!this.#numbers.has(key)) this.#numbers.set(key, this.#numbers.size);
+    return this.#numbers.get(key);
+  }
+}
+
+/** The full name of a function. */
+export const functionName = (func) => `${func.interface ?? func.world}#${func.name}`;
+
+/** A function as it is written. */
+export function signatureOf(func) {
+  const parameters = func.parameters.map((it) => `${it.name}: ${nameOf(it.type)}`).join(", ");
+  return `${func.name}: func(${parameters})${func.result ? ` -> ${nameOf(func.result.type)}` : ""}`;
+}
+
+/** A core signature as it is written. */
+export const coreText = ({ parameters, results }) =>
+  `(${parameters.join(", ")})${results.length > 0 ? ` -> ${results.join(", ")}` : ""}`;

@@ -1,17 +1,6 @@
 // Bytes as a picture, beside the list of what they are. A byte or a part that the pointer is over, or that has the
 // focus, lights what belongs to it.
-
-/** Makes an element. */
-export function el(tag, options = {}, ...children) {
-  const element = document.createElement(tag);
-  const { style = {}, data = {}, on = {}, ...attributes } = options;
-  for (const [name, value] of Object.entries(attributes)) element.setAttribute(name, value);
-  for (const [name, value] of Object.entries(style)) element.style.setProperty(name, value);
-  Object.assign(element.dataset, data);
-  for (const [name, run] of Object.entries(on)) element.addEventListener(name, run);
-  element.append(...children.filter((it) => it !== undefined));
-  return element;
-}
+import { dim, el, plural } from "./dom.js";
 
 /** The most bytes that are drawn. */
 const MOST_BYTES = 512;
@@ -25,6 +14,11 @@ const hueOf = (place) => (210 + place * 67) % 360;
 
 const rangeOf = ({ from, to }) => (to - from === 1 ? `${from}` : `${from} to ${to - 1}`);
 const hex = (byte) => byte.toString(16).padStart(2, "0");
+const ascii = (byte) => (byte > 31 && byte < 127 ? String.fromCharCode(byte) : ".");
+
+/** The most characters of a value that are listed. */
+const MOST_CHARACTERS = 120;
+const cut = (words) => (words.length > MOST_CHARACTERS ? `${words.slice(0, MOST_CHARACTERS)} ..` : words);
 
 /** Lights and darkens what belongs together: elements by a key. */
 export class Lights {
@@ -36,9 +30,17 @@ export class Lights {
     this.#told = told;
   }
 
-  /** Has an element lit with those of the same keys, and say a text. */
+  /** Has an element lit with those of the same keys. */
+  follow(element, keys) {
+    for (const key of keys) {
+      if (!this.#all.has(key)) this.#all.set(key, []);
+      this.#all.get(key).push(element);
+    }
+  }
+
+  /** Has an element lit with those of the same keys, light them, and say a text. */
   add(element, keys, text) {
-    for (const key of keys) this.#all.set(key, [...(this.#all.get(key) ?? []), element]);
+    this.follow(element, keys);
     const light = (isLit) => () => {
       for (const key of keys) for (const it of this.#all.get(key)) it.classList.toggle("lit", isLit);
       if (this.#told) this.#told.textContent = isLit ? text : "";
@@ -69,6 +71,7 @@ function roving(elements, columns) {
 function owners(parts, from, to) {
   const all = Array.from({ length: to - from }, () => []);
   parts.forEach((part, place) => {
+    if (part.isLabel) return;
     for (let at = Math.max(part.from, from); at < Math.min(part.to, to); at++) all[at - from].push(place);
   });
   return all;
@@ -76,46 +79,74 @@ function owners(parts, from, to) {
 
 function partText(part) {
   const words = [`bytes ${rangeOf(part)}`, part.path, part.kind, part.value];
-  return words.filter((it) => it !== undefined && it !== "").join(" · ");
+  return cut(words.filter((it) => it !== undefined && it !== "").join(" · "));
 }
 
-/** The element of a byte, which has the color of the first part that it is in. */
-function byteOf(at, own, parts, { bytes, keyOf, lights, label }) {
-  const isFree = own.length === 0;
-  const said = isFree ? `byte ${at}: padding` : own.map((it) => partText(parts[it])).join("; ");
-  const hue = isFree ? {} : { style: { "--hue": hueOf(parts[own[0]].hue ?? own[0]) }, data: { hue: "" } };
-  const attributes = { class: isFree ? "byte free" : "byte", title: said, "aria-label": said, role: "img" };
-  const cell = el("span", { ...attributes, ...hue }, bytes ? hex(bytes[at]) : isFree ? "·" : "");
-  const keys = isFree ? [`free ${label} ${at}`] : own.map((it) => keyOf(parts[it], it));
+const colorOf = (part, place) => ({ "--hue": hueOf(part.hue ?? place) });
+
+/** What a byte is, and how its element looks: it has the color of the first part that it is in. */
+function lookOf(at, own, parts, { keyOf, label }) {
+  if (own.length === 0) {
+    return { said: `byte ${at}: padding`, keys: [`free ${label} ${at}`], class: "byte free", data: {} };
+  }
+  const said = cut(own.map((it) => partText(parts[it])).join("; "));
+  const keys = own.map((it) => keyOf(parts[it], it));
+  const data = parts[own[0]].isOdd ? { hue: "", odd: "" } : { hue: "" };
+  return { said, keys, class: "byte", data, style: colorOf(parts[own[0]], own[0]) };
+}
+
+/** The element of a byte. */
+function byteOf(at, look, { bytes, lights }) {
+  const { said, keys, ...options } = look;
+  const isFree = options.class.endsWith("free");
+  const words = bytes ? hex(bytes[at]) : isFree ? "·" : "";
+  const cell = el("span", { ...options, title: said, "aria-label": said, role: "img" }, words);
   lights.add(cell, keys, bytes ? `byte ${at} is ${hex(bytes[at])} · ${said}` : said);
   return cell;
 }
 
-/** The rows of bytes of a range. */
-function bytesOf(parts, options) {
-  const { from, to, label, columns } = options;
-  const grid = el("div", { class: "bytes", role: "group", "aria-label": label, style: { "--columns": columns } });
-  const cells = owners(parts, from, to).map((own, index) => byteOf(from + index, own, parts, options));
-  cells.forEach((cell, index) => {
-    if (index % columns === 0) grid.append(el("span", { class: "address" }, `${from + index}`));
-    grid.append(cell);
+/** A row of bytes as characters, of which each is lit with its byte. */
+function asciiOf(looks, first, { bytes, lights }) {
+  const letters = looks.map(({ keys, data, style }, index) => {
+    const letter = el("span", { data, style }, ascii(bytes[first + index]));
+    lights.follow(letter, keys);
+    return letter;
   });
+  return el("span", { class: "ascii", "aria-hidden": "true" }, ...letters);
+}
+
+/** The rows of bytes of a range, with their characters if they are bytes of a memory. */
+function bytesOf(parts, options) {
+  const { from, to, label, columns, bytes } = options;
+  const looks = owners(parts, from, to).map((own, index) => lookOf(from + index, own, parts, options));
+  const cells = looks.map((look, index) => byteOf(from + index, look, options));
+  const grid = el("div", { class: bytes ? "bytes of-memory" : "bytes", role: "group", "aria-label": label });
+  grid.style.setProperty("--columns", columns);
+  for (let first = 0; first < cells.length; first += columns) {
+    grid.append(el("span", { class: "address" }, `${from + first}`), ...cells.slice(first, first + columns));
+    if (bytes) grid.append(asciiOf(looks.slice(first, first + columns), from + first, options));
+  }
   roving(cells, columns);
   return grid;
 }
 
-function listOf(parts, { keyOf, lights, label }) {
-  const items = parts.map((part, place) => {
-    const item = el("li", {},
-      el("span", { class: "swatch", style: { "--hue": hueOf(part.hue ?? place) } }),
-      part.path ? el("span", { class: "name mono" }, part.path) : undefined,
-      el("span", { class: "kind" }, part.value === undefined ? part.kind : `${part.kind} ${part.value}`),
-      el("span", { class: "range" }, rangeOf(part)));
-    lights.add(item, [keyOf(part, place)], partText(part));
-    return item;
-  });
+/** A row of the list: a part, or a label of one. */
+function rowOf(part, place, parts, { keyOf, lights }) {
+  const kind = part.value === undefined ? part.kind : `${part.kind} ${cut(String(part.value))}`;
+  const item = el("li", part.isLabel ? { class: "label" } : {},
+    el("span", { class: "swatch", style: part.isLabel ? {} : colorOf(part, place) }),
+    part.path ? el("span", { class: "name mono" }, part.path) : undefined,
+    el("span", { class: "kind" }, kind),
+    el("span", { class: "range" }, part.isLabel ? "" : rangeOf(part)));
+  const keys = part.isLabel ? [`${keyOf(part, place)} ${place}`, keyOf(parts[part.of], part.of)] : [keyOf(part, place)];
+  lights.add(item, keys, part.isLabel ? `${part.kind} · ${part.path}` : partText(part));
+  return item;
+}
+
+function listOf(parts, options) {
+  const items = parts.map((part, place) => rowOf(part, place, parts, options));
   roving(items, 1);
-  return el("ul", { class: "parts", "aria-label": label }, ...items);
+  return el("ul", { class: "parts", "aria-label": options.label }, ...items);
 }
 
 /**
@@ -129,6 +160,6 @@ export function picture(parts, options) {
   // As many columns as the value has bytes, if they are few.
   const columns = Math.min(narrow.matches ? NARROW_COLUMNS : COLUMNS, Math.max(to - from, 1));
   const all = { ...options, to: end, keyOf, columns };
-  const more = to > end ? el("p", { class: "dim" }, `and ${to - end} bytes more`) : undefined;
+  const more = to > end ? dim(`and ${plural(to - end, "byte")} more`) : undefined;
   return el("div", { class: "picture" }, el("div", {}, bytesOf(parts, all), more), listOf(parts, all));
 }
