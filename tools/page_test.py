@@ -27,10 +27,11 @@ STORED = ("page.png", "page-fault.png", "page-call.png", "page-dark.png", "page-
 WIDE = (1280, 860)
 LOW = (1280, 480)
 NARROW = (400, 800)
-# the types of a package, how often it is changed at most, and the most milliseconds that one of these redraws takes
+# the types of a package, how often it is changed at most, and the most milliseconds that one of these redraws takes:
+# four times those of a quiet machine, since a gate runs other parts beside
 MANY = 1000
 CHANGES = 20
-MOST_MILLISECONDS = 100
+MOST_MILLISECONDS = 400
 # how much a letter has to differ from what is behind it (WCAG 2.2, 1.4.3)
 CONTRAST = 4.5
 
