@@ -8,6 +8,7 @@ f
 from ._calls import Block, Call, CoreValue, Request
 from ._errors import NotThisType, OutOfMemory, Refused, Status, Trap, WitcallError
 from ._faults import Fault, explain
+from ._instance import Engine, Instance
 from ._library import library_version, version
 from ._link import ArrayMemory, Memory, Stopped, grant, link
 from ._package import Package, World, open, open_module
@@ -22,8 +23,10 @@ __all__ = [
     "Call",
     "CoreSignature",
     "CoreValue",
+    "Engine",
     "Fault",
     "Function",
+    "Instance",
     "Member",
     "Memory",
     "NotThisType",

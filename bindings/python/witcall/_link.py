@@ -19,7 +19,7 @@ if TYPE_CHECKING:
 LIMIT = 2**24
 
 # K7, a component that stops, and the steps in which it can.
-_STOPPED = 7
+STOPPED = 7
 BODY, POST = 4, 7
 
 _POST_RETURN = "cabi_post_"
@@ -127,7 +127,12 @@ def run(
     try:
         return body(*values)
     except stops as error:
-        raise error_of(Status(TRAP, _STOPPED, step, 0)) from error
+        raise error_of(Status(TRAP, STOPPED, step, 0)) from error
+
+
+def post_return_of(name: str) -> str:
+    """The name of the post-return of a core function."""
+    return _POST_RETURN + name
 
 
 def is_post_return(name: str) -> bool:
@@ -145,7 +150,7 @@ def exported(
         if is_post_return(name) and name[len(_POST_RETURN) :] not in bodies:
             raise ValueError(f"{quoted(name)} is the post-return of a function that is not there")
     return {
-        name: (package.find(*_parts(name)), body, bodies.get(_POST_RETURN + name))
+        name: (package.find(*_parts(name)), body, bodies.get(post_return_of(name)))
         for name, body in bodies.items()
         if not is_post_return(name)
     }

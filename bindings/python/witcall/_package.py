@@ -35,6 +35,8 @@ from ._table import Function, Table, Type
 
 # A text, the bytes of a text or a binary, or the path of a file that has them.
 Input = Union[str, bytes, bytearray, memoryview, "os.PathLike[str]"]
+# The bytes of a module, or the path of a file that has them.
+Module = Union[bytes, bytearray, memoryview, "os.PathLike[str]"]
 
 
 # The names that files of packages have, and the most bytes that a path has.
@@ -56,6 +58,11 @@ def bytes_of_input(source: Input, taken: str = _TAKEN) -> bytes:
         return memoryview(source).tobytes()
     except TypeError:
         raise TypeError(f"{taken}, and not {type(source).__name__}") from None
+
+
+def bytes_of_module(module: Module) -> bytes:
+    """The bytes of a module or of its file."""
+    return bytes_of_input(module, _TAKEN_MODULE)
 
 
 Opening = Callable[[Handle], CStatus]
@@ -280,7 +287,7 @@ def open(*inputs: Input) -> Package:
     return _opened(_of_inputs([bytes_of_input(it) for it in inputs]), "open", inputs)
 
 
-def open_module(module: Union[bytes, bytearray, memoryview, "os.PathLike[str]"]) -> Package:
+def open_module(module: Module) -> Package:
     """Opens the package that a module carries, with those that it depends on.
 
     Args:
@@ -290,5 +297,4 @@ def open_module(module: Union[bytes, bytearray, memoryview, "os.PathLike[str]"])
     Raises:
         Refused: `44 not this shape` if it carries no package; `explain` of the same bytes says why
     """
-    data = bytes_of_input(module, _TAKEN_MODULE)
-    return _opened(_of_module(data), "open_module", [module])
+    return _opened(_of_module(bytes_of_module(module)), "open_module", [module])

@@ -3,6 +3,7 @@
 from __future__ import annotations
 
 import inspect
+from dataclasses import dataclass
 from typing import TYPE_CHECKING, Any, Callable, Mapping, Optional, Sequence
 
 from ._calls import Flat, Lent, Writable, blocks_of, core_values, limit_of, numbers_of, requests_of
@@ -117,6 +118,29 @@ def result_text(function: Function, value: Any) -> str:
     return ""
 
 
+@dataclass(frozen=True)
+class Served:
+    """A function over values of Python, as a component imports it.
+
+    Attributes:
+        memory: the component's memory
+        own: the function of the host
+        limit: the greatest size of the memory
+    """
+
+    package: Package
+    function: Function
+    memory: Memory
+    own: Callable[..., Any]
+    limit: int
+
+    def __call__(self, *flats: Flat) -> Optional[int]:
+        package, function, memory, limit = self.package, self.function, self.memory, self.limit
+        given = receive(package, function, flats, memory.data, limit)
+        text = result_text(function, self.own(*arguments_of(function, given)))
+        return answer(package, function, flats, text, memory, limit)
+
+
 def serve(
     package: Package,
     memory: Memory,
@@ -142,17 +166,11 @@ def serve(
         Refused: `63 no function`, if the package does not declare one of them
         ValueError: if a name is that of a post-return, or the limit is none
     """
-
-    def served(function: Function, own: Callable[..., Any]) -> Import:
-        def call(*flats: Flat) -> Optional[int]:
-            given = receive(package, function, flats, memory.data, limit)
-            text = result_text(function, own(*arguments_of(function, given)))
-            return answer(package, function, flats, text, memory, limit)
-
-        return call
-
     limit_of(limit)
     for name in filter(is_post_return, functions):
         raise ValueError(f"{quoted(name)} is a post-return, and a function of the host has none")
     found = exported(package, functions)
-    return {name: served(function, own) for name, (function, own, _) in found.items()}
+    return {
+        name: Served(package, function, memory, own, limit)
+        for name, (function, own, _) in found.items()
+    }

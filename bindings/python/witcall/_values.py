@@ -3,6 +3,7 @@
 from __future__ import annotations
 
 import json
+from dataclasses import dataclass
 from typing import TYPE_CHECKING, Any, Callable, Mapping, Optional, Sequence
 
 from ._calls import Flat, Lent, Writable, blocks_of, core_values, limit_of, numbers_of, requests_of
@@ -99,6 +100,42 @@ def arguments_of(function: Function, text: str) -> Sequence[Any]:
     return [from_json(kind, it) for kind, it in zip(types, json.loads(text))]
 
 
+@dataclass(frozen=True)
+class Bound:
+    """A function over values of Python of a component's core function.
+
+    Attributes:
+        memory: the component's memory
+        body: the core function
+        post_return: what is run after it, once the answer was read
+        stops: classes of what they raise if the component stops
+        limit: the greatest size of the memory
+    """
+
+    package: Package
+    function: Function
+    memory: Memory
+    body: Body
+    post_return: Optional[Body]
+    stops: tuple[type[BaseException], ...]
+    limit: int
+
+    def carry(self, text: str) -> Optional[str]:
+        """Calls the core function with arguments as JSON: its result as JSON, if it has one."""
+        handed = fill(self.package, self.function, text, self.memory, self.limit)
+        answer = values_of(run(self.body, handed, BODY, self.stops))
+        result = read(self.package, self.function, answer, self.memory.data, self.limit)
+        if self.post_return:
+            run(self.post_return, answer, POST, self.stops)
+        return result
+
+    def __call__(self, *arguments: Any) -> Any:
+        text = self.carry(arguments_text(self.function, arguments))
+        if text is None or self.function.result is None:
+            return None
+        return from_json(self.function.result, json.loads(text))
+
+
 def bind(
     package: Package,
     memory: Memory,
@@ -122,20 +159,8 @@ def bind(
         is no value of its type.
     """
     limit_of(limit)
-    stopping: tuple[type[BaseException], ...] = (Stopped, *stops)
-
-    def bound(function: Function, body: Body, post_return: Optional[Body]) -> Callable[..., Any]:
-        def call(*arguments: Any) -> Any:
-            given = arguments_text(function, arguments)
-            handed = fill(package, function, given, memory, limit)
-            answer = values_of(run(body, handed, BODY, stopping))
-            text = read(package, function, answer, memory.data, limit)
-            if post_return:
-                run(post_return, answer, POST, stopping)
-            if text is None or function.result is None:
-                return None
-            return from_json(function.result, json.loads(text))
-
-        return call
-
-    return {name: bound(*found) for name, found in exported(package, bodies).items()}
+    found = exported(package, bodies)
+    return {
+        name: Bound(package, function, memory, body, post_return, (Stopped, *stops), limit)
+        for name, (function, body, post_return) in found.items()
+    }
