@@ -1,4 +1,4 @@
-"""Node's engine for `witcall.Instance`: an instance runs in a process of its own, which node.mjs is.
+"""Node's engine for `witcall.Instance`: an instance runs in a process of its own, which node_adapter.mjs is.
 
 The whole memory goes to Node and comes back with each message. This is for tests, and to show what an engine has to do.
 """
@@ -10,7 +10,7 @@ import subprocess
 
 import witcall
 
-_SCRIPT = pathlib.Path(__file__).with_name("node.mjs")
+_SCRIPT = pathlib.Path(__file__).with_name("node_adapter.mjs")
 
 
 class Node:

@@ -1,7 +1,7 @@
 // An instance of a core module in Node's engine, for a host that talks to it by lines of JSON on stdin and stdout. Each
-// line has the bytes of the instance's memory, if it has one. node.py is such a host.
+// line has the bytes of the instance's memory, if it has one. node_adapter.py is such a host.
 //
-// usage: node --experimental-wasm-type-reflection node.mjs
+// usage: node --experimental-wasm-type-reflection node_adapter.mjs
 import { readSync, writeSync } from "node:fs";
 
 /** What a call ends by if the host says that an import failed. */
