@@ -2,6 +2,7 @@
 
 #![forbid(unsafe_code)]
 
+use crate::names::{self, Named};
 use crate::sys::{self, Status};
 use std::error;
 use std::fmt;
@@ -83,6 +84,11 @@ pub struct Trap {
     pub step: Step,
 }
 
+impl Trap {
+    /// The trap of a component that stopped in its body.
+    pub(crate) const STOPPED: Trap = Trap { kind: TrapKind::Body, step: Step::Body };
+}
+
 /// Why the library did not do what it was asked for. It is displayed as the library's line; of [`Error::NotThisType`] the
 /// place and the rest follow.
 #[derive(Clone, Debug, PartialEq, Eq)]
@@ -109,6 +115,12 @@ pub enum Error {
     Trap(Trap),
     /// The library is out of memory.
     OutOfMemory,
+    /// What a function of the host failed with, which a guest called ([`Imports::try_serve`](crate::Imports::try_serve)).
+    Host(String),
+    /// What an engine failed with, or answered that no engine does.
+    Engine(String),
+    /// What the imports, a guest or its module lack.
+    Lacking(String),
     /// The library that was linked has another binary interface, of this number.
     OtherInterface(u32),
     /// The library wrote this text, and it is no JSON of a value.
@@ -144,9 +156,23 @@ impl Error {
         }
     }
 
+    /// The error for a name that none of these functions has, which are of interfaces and of worlds.
+    pub(crate) fn no_function(owner: &str, name: &str, there: &[Named]) -> Error {
+        let status = Status { code: sys::REFUSED, number: sys::NO_FUNCTION, ..Default::default() };
+        Error::of(status).with_hint(|| Ok(names::hint(owner, name, there, "interface")))
+    }
+
     /// The trap of a component that stopped in a step.
     pub(crate) fn stopped(step: Step) -> Error {
         Error::Trap(Trap { kind: TrapKind::Body, step })
+    }
+
+    /// The trap, if it is one.
+    pub(crate) fn trap(&self) -> Option<Trap> {
+        match self {
+            Error::Trap(trap) => Some(*trap),
+            _ => None,
+        }
     }
 }
 
@@ -186,6 +212,7 @@ impl fmt::Display for Error {
             }
             Error::Trap(trap) => trap.fmt(out),
             Error::OutOfMemory => write!(out, "error {NO_MEMORY} no memory"),
+            Error::Host(text) | Error::Engine(text) | Error::Lacking(text) => out.write_str(text),
             Error::OtherInterface(abi) => {
                 write!(out, "the library's binary interface is {abi}, and this crate needs {}", sys::ABI)
             }

@@ -3,9 +3,11 @@
 #![forbid(unsafe_code)]
 
 use crate::error::{Error, Step};
+use crate::fits;
 use crate::json::Json;
 use crate::link::{granted, Body, Memory};
 use crate::package::Package;
+use crate::sys;
 use crate::table::Function;
 
 /// A function of a component, which the host calls with values as [`Json`].
@@ -65,10 +67,17 @@ impl<'package> Export<'package> {
         memory: &mut M,
         body: &mut impl Body<M>,
     ) -> Result<Option<Json>, Error> {
-        let result = self.call_json(&Json::Array(arguments.to_vec()).to_string(), memory, body)?;
+        let text = Json::Array(arguments.to_vec()).to_string();
+        let result = self.call_json(&text, memory, body).map_err(|error| self.located(error, arguments))?;
         if result.is_empty() {
             return Ok(None);
         }
         result.parse().map(Some).map_err(|_| Error::Unread(result))
+    }
+
+    /// The same error; of values within more others than the library reads the one that says where.
+    fn located(&self, error: Error, arguments: &[Json]) -> Error {
+        let Error::Refused { number: sys::BAD_JSON, .. } = error else { return error };
+        fits::arguments(self.package, &self.function.parameters, arguments).ok().flatten().unwrap_or(error)
     }
 }

@@ -3,7 +3,7 @@
 #![forbid(unsafe_code)]
 
 use crate::error::Error;
-use crate::json::Json;
+use crate::json::{Json, Tree};
 use crate::names::quoted;
 use crate::package::Package;
 use crate::table::{Definition, Kind, Member, Type};
@@ -14,8 +14,11 @@ use std::rc::Rc;
 const MOST_LABELS: usize = 8;
 const MOST_SHOWN: usize = 60;
 
+/// What the path of a result begins with.
+const RESULT: &str = "result";
+
 /// A value inside another one: the step to it, its type, and itself.
-type Part<'value> = (String, Type, &'value Json);
+type Part<'value> = (String, Type, &'value Tree);
 
 /// The least and the greatest number of a type, if it is one of numbers.
 fn range(kind: Kind) -> Option<(i128, i128)> {
@@ -33,7 +36,8 @@ fn range(kind: Kind) -> Option<(i128, i128)> {
     Some((least, most))
 }
 
-fn is_scalar(kind: Kind, value: &Json) -> bool {
+fn is_scalar(kind: Kind, value: &Tree) -> bool {
+    let Tree::Leaf(value) = value else { return false };
     match (kind, value) {
         (Kind::Bool, Json::Bool(_)) | (Kind::String, Json::Text(_)) => true,
         (Kind::Char, Json::Text(text)) => text.chars().count() == 1,
@@ -96,51 +100,49 @@ fn wanted(kind: Kind, definition: Option<&Definition>) -> String {
 }
 
 /// The members of an object by their keys, of which the last of the same ones counts.
-fn keyed(value: &Json) -> Option<BTreeMap<&str, &Json>> {
+fn keyed(value: &Tree) -> Option<BTreeMap<&str, &Tree>> {
     match value {
-        Json::Object(members) => Some(members.iter().map(|(key, it)| (key.as_str(), it)).collect()),
+        Tree::Object(members) => Some(members.iter().map(|(key, it)| (key.as_str(), it)).collect()),
         _ => None,
     }
 }
 
-/// The same value, with its keys in the order in which the library shows them.
-fn sorted(value: &Json) -> Json {
-    match value {
-        Json::Array(elements) => Json::Array(elements.iter().map(sorted).collect()),
-        Json::Object(_) => {
-            let members = keyed(value).unwrap_or_default();
-            Json::object(members.into_iter().map(|(key, it)| (key, sorted(it))))
-        }
-        other => other.clone(),
+/// The text of a value, with its keys in the order in which the library shows them.
+fn sorted(value: &Tree) -> String {
+    if let Tree::Array(elements) = value {
+        return format!("[{}]", elements.iter().map(sorted).collect::<Vec<_>>().join(","));
     }
+    let Some(members) = keyed(value) else { return value.to_string() };
+    let member = |(key, it): (&str, &Tree)| format!("{}:{}", Json::from(key), sorted(it));
+    format!("{{{}}}", members.into_iter().map(member).collect::<Vec<_>>().join(","))
 }
 
-fn item((place, value): (usize, &Json), ty: Type) -> Part<'_> {
+fn item((place, value): (usize, &Tree), ty: Type) -> Part<'_> {
     (format!("[{place}]"), ty, value)
 }
 
-fn items<'value>(definition: &Definition, value: &'value Json) -> Option<Vec<Part<'value>>> {
+fn items<'value>(definition: &Definition, value: &'value Tree) -> Option<Vec<Part<'value>>> {
     let ty = definition.target?;
     Some(value.as_array()?.iter().enumerate().map(|it| item(it, ty)).collect())
 }
 
-fn elements<'value>(definition: &Definition, value: &'value Json) -> Option<Vec<Part<'value>>> {
+fn elements<'value>(definition: &Definition, value: &'value Tree) -> Option<Vec<Part<'value>>> {
     let values = value.as_array().filter(|it| it.len() == definition.members.len())?;
     let types = definition.members.iter().filter_map(|it| it.ty);
     Some(values.iter().enumerate().zip(types).map(|(it, ty)| item(it, ty)).collect())
 }
 
-fn member<'value>(member: &Member, value: &'value Json) -> Option<Part<'value>> {
+fn member<'value>(member: &Member, value: &'value Tree) -> Option<Part<'value>> {
     Some((format!(".{}", member.name), member.ty?, value))
 }
 
-fn fields<'value>(definition: &Definition, value: &'value Json) -> Option<Vec<Part<'value>>> {
+fn fields<'value>(definition: &Definition, value: &'value Tree) -> Option<Vec<Part<'value>>> {
     let values = keyed(value).filter(|it| it.len() == definition.members.len())?;
     definition.members.iter().map(|it| member(it, values.get(it.name.as_str())?)).collect()
 }
 
 /// The payload of a case, if it has one.
-fn payload<'value>(definition: &Definition, value: &'value Json) -> Option<Vec<Part<'value>>> {
+fn payload<'value>(definition: &Definition, value: &'value Tree) -> Option<Vec<Part<'value>>> {
     let case = |label: &str| definition.members.iter().find(|it| it.name == label);
     if let Some(label) = value.as_text() {
         return case(label).filter(|it| it.ty.is_none()).map(|_| Vec::new());
@@ -151,14 +153,14 @@ fn payload<'value>(definition: &Definition, value: &'value Json) -> Option<Vec<P
 }
 
 /// No part, if labels are set in their order, each once.
-fn flags<'value>(definition: &Definition, value: &'value Json) -> Option<Vec<Part<'value>>> {
-    let place = |label: &Json| definition.members.iter().position(|it| Some(it.name.as_str()) == label.as_text());
+fn flags<'value>(definition: &Definition, value: &'value Tree) -> Option<Vec<Part<'value>>> {
+    let place = |label: &Tree| definition.members.iter().position(|it| Some(it.name.as_str()) == label.as_text());
     let places: Option<Vec<usize>> = value.as_array()?.iter().map(place).collect();
     places?.windows(2).all(|pair| pair[0] < pair[1]).then(Vec::new)
 }
 
 /// The parts of a value that has the form of its type.
-fn parts<'value>(definition: &Definition, value: &'value Json) -> Option<Vec<Part<'value>>> {
+fn parts<'value>(definition: &Definition, value: &'value Tree) -> Option<Vec<Part<'value>>> {
     match definition.ty.kind {
         Kind::List => items(definition, value),
         Kind::Tuple => elements(definition, value),
@@ -206,7 +208,7 @@ impl Walk<'_> {
     }
 
     /// The first part of a value that is not of its type.
-    fn wrong(&mut self, ty: Type, value: &Json) -> Result<Option<Wrong>, Error> {
+    fn wrong(&mut self, ty: Type, value: &Tree) -> Result<Option<Wrong>, Error> {
         let (kind, definition) = self.unnamed(ty)?;
         let inner = match &definition {
             Some(it) => parts(it, value),
@@ -214,7 +216,7 @@ impl Walk<'_> {
         };
         let Some(inner) = inner else {
             let wanted = wanted(kind, definition.as_deref());
-            let fault = format!("{wanted}, and not {}", quoted(&sorted(value).to_string(), MOST_SHOWN));
+            let fault = format!("{wanted}, and not {}", quoted(&sorted(value), MOST_SHOWN));
             return Ok(Some(Wrong { steps: Vec::new(), fault }));
         };
         for (step, ty, part) in inner {
@@ -227,15 +229,42 @@ impl Walk<'_> {
     }
 }
 
+fn walk(package: &Package) -> Walk<'_> {
+    Walk { package, known: HashMap::new() }
+}
+
+/// The error for a value, whose path begins with a word.
+fn told(first: &str, Wrong { steps, fault }: Wrong) -> Error {
+    let path = steps.iter().rev().fold(first.to_owned(), |path, step| path + step);
+    Error::NotThisType { path, fault }
+}
+
 /// The error for a result that is not of a type, which names the first part that is wrong.
-pub(crate) fn not_this_type(package: &Package, ty: Type, value: &Json) -> Result<Option<Error>, Error> {
-    let wrong = Walk { package, known: HashMap::new() }.wrong(ty, value)?;
-    let path = |steps: Vec<String>| format!("result{}", steps.into_iter().rev().collect::<String>());
-    Ok(wrong.map(|it| Error::NotThisType { path: path(it.steps), fault: it.fault }))
+pub(crate) fn result(package: &Package, ty: Type, value: &Tree) -> Result<Option<Error>, Error> {
+    Ok(walk(package).wrong(ty, value)?.map(|wrong| told(RESULT, wrong)))
+}
+
+/// The same for arguments, of which there is one for each parameter.
+pub(crate) fn arguments(package: &Package, parameters: &[Member], values: &[Json]) -> Result<Option<Error>, Error> {
+    let mut walk = walk(package);
+    for (place, (parameter, value)) in parameters.iter().zip(values).enumerate() {
+        let Some(ty) = parameter.ty else { continue };
+        if let Some(wrong) = walk.wrong(ty, &value.into())? {
+            return Ok(Some(told(&format!("[{place}]"), wrong)));
+        }
+    }
+    Ok(None)
+}
+
+/// The error for a function that has a result of a type, and gave nothing.
+pub(crate) fn nothing(package: &Package, ty: Type) -> Result<Error, Error> {
+    let (kind, definition) = walk(package).unnamed(ty)?;
+    let fault = format!("{}, and not nothing", wanted(kind, definition.as_deref()));
+    Ok(told(RESULT, Wrong { steps: Vec::new(), fault }))
 }
 
 /// The error for the text of a result of a function that has none.
 pub(crate) fn no_result(text: &str) -> Error {
     let fault = format!("a function without a result gives nothing, and not {}", quoted(text, MOST_SHOWN));
-    Error::NotThisType { path: "result".to_owned(), fault }
+    told(RESULT, Wrong { steps: Vec::new(), fault })
 }

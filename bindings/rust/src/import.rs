@@ -5,7 +5,7 @@
 use crate::call::{self, Block, Request, Value};
 use crate::error::Error;
 use crate::fits;
-use crate::json::Json;
+use crate::json::{Json, NoJson, Tree};
 use crate::link::{granted, Memory};
 use crate::package::Package;
 use crate::sys;
@@ -57,15 +57,18 @@ impl<'package> Import<'package> {
     pub fn result_requests(&self, json: &str) -> Result<Vec<Request>, Error> {
         let func = self.function.number;
         call::requests(|room| self.package.ask(|handle| handle.result_json_requests(func, json, room, self.limit)))
-            .map_err(|error| self.located(json, error))
+            .map_err(|error| self.located(error, json, || Tree::read(json)))
     }
 
-    /// The same error; of JSON that is no result the one that says where.
-    fn located(&self, json: &str, error: Error) -> Error {
-        let Error::Refused { number: sys::NOT_THIS_TYPE, .. } = error else { return error };
-        let Some(ty) = self.function.result else { return fits::no_result(json) };
-        let Ok(value) = json.parse() else { return error };
-        fits::not_this_type(self.package, ty, &value).ok().flatten().unwrap_or(error)
+    /// The same error; of what is no result the one that says where.
+    fn located(&self, error: Error, json: &str, read: impl FnOnce() -> Result<Tree, NoJson>) -> Error {
+        let Error::Refused { number: number @ (sys::NOT_THIS_TYPE | sys::BAD_JSON), .. } = error else { return error };
+        match (self.function.result, read()) {
+            (None, Ok(_)) => fits::no_result(json),
+            (None, Err(_)) if number == sys::NOT_THIS_TYPE => fits::no_result(json),
+            (Some(ty), Ok(tree)) => fits::result(self.package, ty, &tree).ok().flatten().unwrap_or(error),
+            _ => error,
+        }
     }
 
     /// Puts the same result into the blocks and the return area: the one value that the component gets, if there is one.
@@ -81,7 +84,7 @@ impl<'package> Import<'package> {
         let told = |told: &mut _| {
             self.package.ask(|handle| handle.fill_result_json(func, (&flats, json), memory, &blocks, told))
         };
-        Ok(call::values(told).map_err(|error| self.located(json, error))?.first().copied())
+        Ok(call::values(told).map_err(|error| self.located(error, json, || Tree::read(json)))?.first().copied())
     }
 
     /// Puts a result into the component's memory, whose allocator grants the blocks.
@@ -110,9 +113,33 @@ impl<'package> Import<'package> {
         memory: &mut M,
         serve: impl FnOnce(&[Json]) -> Option<Json>,
     ) -> Result<Option<Value>, Error> {
-        let text = self.arguments_json(values, memory.bytes())?;
-        let Ok(Json::Array(arguments)) = text.parse() else { return Err(Error::Unread(text)) };
-        let result = serve(&arguments).map_or_else(String::new, |it| it.to_string());
-        self.put(values, &result, memory)
+        let result = serve(&self.arguments(values, memory.bytes())?);
+        self.answer(values, memory, result)
+    }
+
+    /// The arguments of a call.
+    pub(crate) fn arguments(&self, values: &[Value], memory: &mut [u8]) -> Result<Vec<Json>, Error> {
+        let text = self.arguments_json(values, memory)?;
+        match text.parse() {
+            Ok(Json::Array(arguments)) => Ok(arguments),
+            _ => Err(Error::Unread(text)),
+        }
+    }
+
+    /// Puts what a function of the host gave into the component's memory.
+    pub(crate) fn answer<M: Memory + ?Sized>(
+        &self,
+        values: &[Value],
+        memory: &mut M,
+        result: Option<Json>,
+    ) -> Result<Option<Value>, Error> {
+        let Some(value) = result else {
+            return match self.function.result {
+                Some(ty) => Err(fits::nothing(self.package, ty)?),
+                None => self.put(values, "", memory),
+            };
+        };
+        let text = value.to_string();
+        self.put(values, &text, memory).map_err(|error| self.located(error, &text, || Ok(Tree::from(&value))))
     }
 }

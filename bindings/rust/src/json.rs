@@ -157,6 +157,17 @@ fn write_between<Item>(
     out.write_char(close)
 }
 
+fn write_array<Item: fmt::Display>(out: &mut fmt::Formatter<'_>, elements: &[Item]) -> fmt::Result {
+    write_between(out, ['[', ']'], elements, |out, element| element.fmt(out))
+}
+
+fn write_object<Item: fmt::Display>(out: &mut fmt::Formatter<'_>, members: &[(String, Item)]) -> fmt::Result {
+    write_between(out, ['{', '}'], members, |out, (key, value)| {
+        write_text(out, key)?;
+        write!(out, ":{value}")
+    })
+}
+
 /// The compact text of the value.
 impl fmt::Display for Json {
     fn fmt(&self, out: &mut fmt::Formatter<'_>) -> fmt::Result {
@@ -164,11 +175,8 @@ impl fmt::Display for Json {
             Json::Bool(value) => write!(out, "{value}"),
             Json::Number(number) => write!(out, "{number}"),
             Json::Text(text) => write_text(out, text),
-            Json::Array(elements) => write_between(out, ['[', ']'], elements, |out, element| element.fmt(out)),
-            Json::Object(members) => write_between(out, ['{', '}'], members, |out, (key, value)| {
-                write_text(out, key)?;
-                write!(out, ":{value}")
-            }),
+            Json::Array(elements) => write_array(out, elements),
+            Json::Object(members) => write_object(out, members),
         }
     }
 }
@@ -184,6 +192,96 @@ impl fmt::Display for NoJson {
 }
 
 impl std::error::Error for NoJson {}
+
+/// What a text of JSON says: a value of a package, or what no type has.
+#[derive(Debug)]
+pub(crate) enum Tree {
+    /// a bool, a number or a text
+    Leaf(Json),
+    /// a number with a fraction, one of too many digits, or `null`, as the text has it
+    Other(String),
+    /// an array
+    Array(Vec<Tree>),
+    /// an object; of members with one key the last counts
+    Object(Vec<(String, Tree)>),
+}
+
+impl Tree {
+    /// What a text says.
+    pub(crate) fn read(text: &str) -> Result<Tree, NoJson> {
+        let mut reader = Reader { rest: text.chars() };
+        let tree = reader.value(MAX_DEPTH + 1)?;
+        reader.skip_blanks();
+        reader.rest.as_str().is_empty().then_some(tree).ok_or(NoJson)
+    }
+
+    /// The member under a key.
+    pub(crate) fn get(&self, key: &str) -> Option<&Tree> {
+        match self {
+            Tree::Object(members) => members.iter().rev().find(|(name, _)| name == key).map(|(_, it)| it),
+            _ => None,
+        }
+    }
+
+    /// The elements, if it is an array.
+    pub(crate) fn as_array(&self) -> Option<&[Tree]> {
+        match self {
+            Tree::Array(elements) => Some(elements),
+            _ => None,
+        }
+    }
+
+    /// The number, if it is a whole one.
+    pub(crate) fn as_number(&self) -> Option<i128> {
+        match self {
+            Tree::Leaf(leaf) => leaf.as_number(),
+            _ => None,
+        }
+    }
+
+    /// The text, if it is one.
+    pub(crate) fn as_text(&self) -> Option<&str> {
+        match self {
+            Tree::Leaf(leaf) => leaf.as_text(),
+            _ => None,
+        }
+    }
+
+    /// The value of a package, if it is one.
+    fn json(self) -> Result<Json, NoJson> {
+        match self {
+            Tree::Leaf(leaf) => Ok(leaf),
+            Tree::Other(_) => Err(NoJson),
+            Tree::Array(elements) => elements.into_iter().map(Tree::json).collect::<Result<_, _>>().map(Json::Array),
+            Tree::Object(members) => {
+                let member = |(key, it): (String, Tree)| it.json().map(|it| (key, it));
+                members.into_iter().map(member).collect::<Result<_, _>>().map(Json::Object)
+            }
+        }
+    }
+}
+
+impl From<&Json> for Tree {
+    fn from(value: &Json) -> Tree {
+        match value {
+            Json::Array(elements) => Tree::Array(elements.iter().map(Tree::from).collect()),
+            Json::Object(members) => Tree::Object(members.iter().map(|(key, it)| (key.clone(), it.into())).collect()),
+            leaf => Tree::Leaf(leaf.clone()),
+        }
+    }
+}
+
+/// The compact text of the value.
+impl fmt::Display for Tree {
+    fn fmt(&self, out: &mut fmt::Formatter<'_>) -> fmt::Result {
+        match self {
+            Tree::Leaf(leaf) => leaf.fmt(out),
+            Tree::Other(text) => out.write_str(text),
+            Tree::Array(elements) => write_array(out, elements),
+            Tree::Object(members) => write_object(out, members),
+        }
+    }
+}
 
 /// Reads a text from left to right.
 struct Reader<'text> {
@@ -255,19 +353,23 @@ impl Reader<'_> {
         }
     }
 
-    /// A whole number: `-0` is none, and neither is one with a zero before other digits.
-    fn number(&mut self) -> Result<Json, NoJson> {
+    /// A number, or `null`. Only a whole number is a value: `-0` is none, and neither is one with a zero before other
+    /// digits.
+    fn other(&mut self) -> Result<Tree, NoJson> {
         let text = self.rest.as_str();
-        let end = text.find(|it: char| !it.is_ascii_digit() && it != '-').unwrap_or(text.len());
+        let end = text.find(|it: char| !it.is_ascii_alphanumeric() && !"+-.".contains(it)).unwrap_or(text.len());
         self.rest = text[end..].chars();
-        let digits = text[..end].strip_prefix('-').unwrap_or(&text[..end]);
-        if digits.starts_with('0') && text[..end] != *"0" {
-            return Err(NoJson);
+        let token = &text[..end];
+        let digits = token.strip_prefix('-').unwrap_or(token);
+        let is_written_so = token == "0" || !digits.starts_with(['0', '+']);
+        match token.parse() {
+            Ok(number) if is_written_so => Ok(Tree::Leaf(Json::Number(number))),
+            _ if token == "null" || digits.starts_with(|it: char| it.is_ascii_digit()) => Ok(Tree::Other(token.into())),
+            _ => Err(NoJson),
         }
-        text[..end].parse().map(Json::Number).map_err(|_| NoJson)
     }
 
-    fn array(&mut self, depth: usize) -> Result<Json, NoJson> {
+    fn array(&mut self, depth: usize) -> Result<Tree, NoJson> {
         let mut elements = Vec::new();
         while !self.takes("]") {
             if !elements.is_empty() {
@@ -275,10 +377,10 @@ impl Reader<'_> {
             }
             elements.push(self.value(depth)?);
         }
-        Ok(Json::Array(elements))
+        Ok(Tree::Array(elements))
     }
 
-    fn object(&mut self, depth: usize) -> Result<Json, NoJson> {
+    fn object(&mut self, depth: usize) -> Result<Tree, NoJson> {
         let mut members = Vec::new();
         while !self.takes("}") {
             if !members.is_empty() {
@@ -289,23 +391,23 @@ impl Reader<'_> {
             self.expect(":")?;
             members.push((key, self.value(depth)?));
         }
-        Ok(Json::Object(members))
+        Ok(Tree::Object(members))
     }
 
-    fn value(&mut self, depth: usize) -> Result<Json, NoJson> {
+    fn value(&mut self, depth: usize) -> Result<Tree, NoJson> {
         let depth = depth.checked_sub(1).ok_or(NoJson)?;
         if self.takes("[") {
             self.array(depth)
         } else if self.takes("{") {
             self.object(depth)
         } else if self.takes("\"") {
-            self.text().map(Json::Text)
+            self.text().map(|text| Tree::Leaf(Json::Text(text)))
         } else if self.takes("true") {
-            Ok(Json::Bool(true))
+            Ok(Tree::Leaf(Json::Bool(true)))
         } else if self.takes("false") {
-            Ok(Json::Bool(false))
+            Ok(Tree::Leaf(Json::Bool(false)))
         } else {
-            self.number()
+            self.other()
         }
     }
 }
@@ -315,13 +417,6 @@ impl FromStr for Json {
     type Err = NoJson;
 
     fn from_str(text: &str) -> Result<Json, NoJson> {
-        let mut reader = Reader { rest: text.chars() };
-        let value = reader.value(MAX_DEPTH + 1)?;
-        reader.skip_blanks();
-        if reader.rest.as_str().is_empty() {
-            Ok(value)
-        } else {
-            Err(NoJson)
-        }
+        Tree::read(text)?.json()
     }
 }

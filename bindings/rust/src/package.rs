@@ -7,8 +7,8 @@ use crate::error::{checked, told, told_text, Error};
 use crate::names;
 use crate::sys::{self, Handle, Place, Status};
 use crate::table::{self, Definition, Function, Owner, Type};
-use std::cell::RefCell;
 use std::fmt;
+use std::sync::{Mutex, PoisonError};
 
 /// What the library says of its version, as `0.3.0+0123456789ab`: after the `+` is the beginning of the commit that it was
 /// made of, if the library says it.
@@ -16,8 +16,7 @@ pub fn version() -> Result<String, Error> {
     told_text(sys::version)
 }
 
-/// A package that is open, with those that it depends on. It may go to another thread, and one thread at a time
-/// uses it.
+/// A package that is open, with those that it depends on. Threads may share it. One at a time asks it, and others wait.
 ///
 /// ```
 /// let package = witcall::Package::open("package a:b; interface c { f: func(x: u32) -> u32; }")?;
@@ -26,7 +25,7 @@ pub fn version() -> Result<String, Error> {
 /// # Ok::<(), witcall::Error>(())
 /// ```
 pub struct Package {
-    handle: RefCell<Handle>,
+    handle: Mutex<Handle>,
 }
 
 impl fmt::Debug for Package {
@@ -76,14 +75,14 @@ impl Package {
         }
         let (handle, status) = open();
         match checked(status) {
-            Ok(_) => Ok(Package { handle: RefCell::new(handle) }),
+            Ok(_) => Ok(Package { handle: Mutex::new(handle) }),
             Err(error) => Err(refusal(handle, error)),
         }
     }
 
     /// Makes a call of the library with the handle.
     pub(crate) fn ask<Answer>(&self, ask: impl FnOnce(&mut Handle) -> Answer) -> Answer {
-        ask(&mut self.handle.borrow_mut())
+        ask(&mut self.handle.lock().unwrap_or_else(PoisonError::into_inner))
     }
 
     /// A text that a call of the library writes of this package.
@@ -150,6 +149,25 @@ impl Package {
     /// The full names of the worlds of the package and of those that it depends on. A module has one.
     pub fn worlds(&self) -> Result<Vec<String>, Error> {
         table::worlds(self)
+    }
+
+    /// The functions that a world imports: those of interfaces, and those that it imports itself. The world is given by
+    /// its full name.
+    ///
+    /// ```
+    /// let text = "package a:b; interface c { f: func(); } world w { import c; import g: func(); export h: func(); }";
+    /// let package = witcall::Package::open(text)?;
+    /// let names: Vec<String> = package.imports("a:b/w")?.into_iter().map(|it| it.name).collect();
+    /// assert_eq!(names, ["g", "f"]);
+    /// # Ok::<(), witcall::Error>(())
+    /// ```
+    pub fn imports(&self, world: &str) -> Result<Vec<Function>, Error> {
+        table::world_functions(self, world, "imports")
+    }
+
+    /// The functions that a world exports, in the same ways.
+    pub fn exports(&self, world: &str) -> Result<Vec<Function>, Error> {
+        table::world_functions(self, world, "exports")
     }
 
     /// What a type of this package is made of; none if it is a primitive or `string`.

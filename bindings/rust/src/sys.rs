@@ -16,6 +16,7 @@ pub const MAX_VALUES: usize = 17;
 pub const DONE: u32 = 0;
 pub const REFUSED: u32 = 1;
 pub const TRAP: u32 = 2;
+pub const BAD_JSON: u32 = 61;
 pub const NOT_THIS_TYPE: u32 = 62;
 pub const NO_FUNCTION: u32 = 63;
 pub const NOT_OPEN: u32 = 70;

@@ -3,6 +3,7 @@
 #![forbid(unsafe_code)]
 
 use crate::error::{checked, Error};
+use crate::json::Tree;
 use crate::package::Package;
 use crate::sys::{self, MemberInfo, Name, RowInfo, Side, TypeInfo};
 
@@ -260,6 +261,38 @@ pub(crate) fn worlds(package: &Package) -> Result<Vec<String>, Error> {
         }
     }
     Ok(found)
+}
+
+/// The number under a key.
+fn number_in(tree: &Tree, key: &str) -> Option<u32> {
+    tree.get(key)?.as_number()?.try_into().ok()
+}
+
+/// The numbers of the functions that an item of a world has in a package's document.
+fn functions_of(document: &Tree, item: &Tree) -> Option<Vec<u32>> {
+    if let Some(number) = number_in(item, "function") {
+        return Some(vec![number]);
+    }
+    let interface = document.get("interfaces")?.as_array()?.get(number_in(item, "interface")? as usize)?;
+    let numbers = interface.get("functions")?.as_array()?.iter();
+    numbers.map(|it| it.as_number()?.try_into().ok()).collect()
+}
+
+/// The numbers of the functions that a world has on a side, `imports` or `exports`, as a package's document says.
+fn numbers_of_world(document: &Tree, world: &str, side: &str) -> Option<Vec<u32>> {
+    let worlds = document.get("worlds")?.as_array()?;
+    let found = worlds.iter().find(|it| it.get("name").and_then(Tree::as_text) == Some(world))?;
+    let items = found.get(side)?.as_array()?.iter();
+    Some(items.map(|item| functions_of(document, item)).collect::<Option<Vec<_>>>()?.concat())
+}
+
+/// The functions that a world has on a side.
+pub(crate) fn world_functions(package: &Package, world: &str, side: &str) -> Result<Vec<Function>, Error> {
+    let text = package.describe()?;
+    let Ok(document) = Tree::read(&text) else { return Err(Error::Unread(text)) };
+    let missing = sys::Status { code: sys::REFUSED, number: sys::NOT_THERE, ..Default::default() };
+    let numbers = numbers_of_world(&document, world, side).ok_or_else(|| Error::of(missing))?;
+    numbers.into_iter().map(|number| function(package, number)).collect()
 }
 
 pub(crate) fn functions(package: &Package) -> Result<Vec<Function>, Error> {

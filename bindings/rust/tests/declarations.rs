@@ -88,6 +88,7 @@ fn numbers_are_those_of_the_header() {
         "DONE",
         "REFUSED",
         "TRAP",
+        "BAD_JSON",
         "NOT_THIS_TYPE",
         "NO_FUNCTION",
         "NOT_OPEN",

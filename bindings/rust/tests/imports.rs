@@ -87,7 +87,7 @@ fn what_is_no_result_is_refused() {
             other => panic!("{other:?}"),
         };
     assert_eq!(number_of("lines", &LINES, Some(7.into())), 62);
-    assert_eq!(number_of("lines", &LINES, None), 61);
+    assert_eq!(number_of("lines", &LINES, None), 62);
     assert_eq!(number_of("lines", &LINES, Some(Json::Array(vec![line(&"x".repeat(300), 1)]))), 76);
     assert_eq!(number_of("note", &[Value::I32(8), Value::I32(5)], Some(7.into())), 62);
 }
@@ -178,13 +178,39 @@ fn a_served_result_of_another_type_is_told_with_its_place() {
     let error = served("note", &[Value::I32(8), Value::I32(5)], &mut memory(), |_| Some(7.into())).unwrap_err();
     let fault = "a function without a result gives nothing, and not `7`";
     assert_eq!(error.to_string(), format!("error 62 not this type at result: {fault}"));
-    // what no Json says has no place
+    let error = served("lines", &LINES, &mut memory(), |_| None).unwrap_err();
+    assert_eq!(error.to_string(), "error 62 not this type at result: a list is an array, and not nothing");
+}
+
+#[test]
+fn what_no_json_of_a_value_says_has_its_place_too() {
     let package = Package::open(SHOP).unwrap();
-    let sum = package.find("demo:shop/desk", "sum").unwrap();
-    for text in ["null", "1.5", "-0"] {
-        let error = Import::new(&package, &sum, 256).result_requests(text).unwrap_err();
-        assert_eq!(error.to_string(), "error 62 not this type");
+    let told = |name: &str, text: &str| {
+        let function = package.find("demo:shop/desk", name).unwrap();
+        Import::new(&package, &function, 256).result_requests(text).unwrap_err().to_string()
+    };
+    for text in ["null", "1.5", "-0", "1e300", "-1E-2", "170141183460469231731687303715884105728"] {
+        let wanted =
+            format!("error 62 not this type at result: a `s64` is a whole number of 64 bits, and not `{text}`");
+        assert_eq!(told("sum", text), wanted);
+        let lines = format!(r#"[{{"name":{text},"count":1}}]"#);
+        let wanted = format!("error 62 not this type at result[0].name: a `string` is a text, and not `{text}`");
+        assert_eq!(told("lines", &lines), wanted);
     }
+    let wanted = "error 62 not this type at result: a list is an array, and not `{\"a\":[null,1.5]}`";
+    assert_eq!(told("lines", r#"{"a":[null,1.5]}"#), wanted);
+    for text in ["nul", "1.5.5", "+1", "--1", ".5", "[01]"] {
+        assert_eq!(told("sum", text), "error 61 bad JSON");
+    }
+}
+
+#[test]
+fn a_result_within_too_many_others_has_its_place() {
+    let deep = (0..200).fold(Json::from(1), |inner, _| Json::Array(vec![inner]));
+    let error = served("lines", &LINES, &mut memory(), |_| Some(deep)).unwrap_err();
+    let Error::NotThisType { path, fault } = error else { panic!("{error:?}") };
+    assert_eq!(path, "result[0]");
+    assert!(fault.ends_with(&format!(", and not `{}..`", "[".repeat(60))), "{fault}");
 }
 
 #[test]

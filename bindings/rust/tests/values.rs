@@ -94,6 +94,16 @@ fn an_argument_of_another_type_is_refused_with_its_place() {
 }
 
 #[test]
+fn an_argument_within_too_many_others_has_its_place() {
+    let package = Package::open(SHOP).unwrap();
+    let total = package.find("demo:shop/desk", "total").unwrap();
+    let deep = (0..200).fold(Json::from(1), |inner, _| Json::Array(vec![inner]));
+    let (mut memory, export) = (ArrayMemory::new(64), Export::new(&package, &total, 64));
+    let error = export.call(&[deep, "open".into()], &mut memory, &mut no_core).unwrap_err();
+    assert!(matches!(error, Error::NotThisType { path, .. } if path == "[0][0]"));
+}
+
+#[test]
 fn a_memory_without_room_is_a_trap() {
     let arguments = format!(r#"[[{{"name":"{}","count":1}}],"open"]"#, "x".repeat(1020));
     let trap = Trap { kind: TrapKind::Full, step: Step::Place };
