@@ -5,7 +5,7 @@
 use crate::call::{self, Block, Request, Value};
 use crate::error::Error;
 use crate::fits;
-use crate::json::{Json, NoJson, Tree};
+use crate::json::{Json, Tree};
 use crate::link::{granted, Memory};
 use crate::package::Package;
 use crate::sys;
@@ -57,17 +57,21 @@ impl<'package> Import<'package> {
     pub fn result_requests(&self, json: &str) -> Result<Vec<Request>, Error> {
         let func = self.function.number;
         call::requests(|room| self.package.ask(|handle| handle.result_json_requests(func, json, room, self.limit)))
-            .map_err(|error| self.located(error, json, || Tree::read(json)))
+            .map_err(|error| self.located(error, json, None))
     }
 
-    /// The same error; of what is no result the one that says where.
-    fn located(&self, error: Error, json: &str, read: impl FnOnce() -> Result<Tree, NoJson>) -> Error {
-        let Error::Refused { number: number @ (sys::NOT_THIS_TYPE | sys::BAD_JSON), .. } = error else { return error };
-        match (self.function.result, read()) {
-            (None, Ok(_)) => fits::no_result(json),
-            (None, Err(_)) if number == sys::NOT_THIS_TYPE => fits::no_result(json),
-            (Some(ty), Ok(tree)) => fits::result(self.package, ty, &tree).ok().flatten().unwrap_or(error),
-            _ => error,
+    /// The same error; of what is no result the one that says where. `value` is what the text was made of, if it is no
+    /// text of the host's: the library reads none that nests too deep.
+    fn located(&self, error: Error, json: &str, value: Option<&Json>) -> Error {
+        let tree = match (&error, value) {
+            (Error::Refused { number: sys::NOT_THIS_TYPE, .. }, None) => Tree::read(json).ok(),
+            (Error::Refused { number: sys::BAD_JSON, .. }, Some(value)) => Some(value.into()),
+            _ => return error,
+        };
+        match (self.function.result, tree) {
+            (None, _) => fits::no_result(json),
+            (Some(ty), Some(tree)) => fits::result(self.package, ty, &tree).ok().flatten().unwrap_or(error),
+            (Some(_), None) => error,
         }
     }
 
@@ -84,7 +88,7 @@ impl<'package> Import<'package> {
         let told = |told: &mut _| {
             self.package.ask(|handle| handle.fill_result_json(func, (&flats, json), memory, &blocks, told))
         };
-        Ok(call::values(told).map_err(|error| self.located(error, json, || Tree::read(json)))?.first().copied())
+        Ok(call::values(told).map_err(|error| self.located(error, json, None))?.first().copied())
     }
 
     /// Puts a result into the component's memory, whose allocator grants the blocks.
@@ -140,6 +144,6 @@ impl<'package> Import<'package> {
             };
         };
         let text = value.to_string();
-        self.put(values, &text, memory).map_err(|error| self.located(error, &text, || Ok(Tree::from(&value))))
+        self.put(values, &text, memory).map_err(|error| self.located(error, &text, Some(&value)))
     }
 }

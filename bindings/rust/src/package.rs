@@ -158,7 +158,7 @@ impl Package {
     /// let text = "package a:b; interface c { f: func(); } world w { import c; import g: func(); export h: func(); }";
     /// let package = witcall::Package::open(text)?;
     /// let names: Vec<String> = package.imports("a:b/w")?.into_iter().map(|it| it.name).collect();
-    /// assert_eq!(names, ["g", "f"]);
+    /// assert_eq!(names, ["f", "g"]);
     /// # Ok::<(), witcall::Error>(())
     /// ```
     pub fn imports(&self, world: &str) -> Result<Vec<Function>, Error> {
