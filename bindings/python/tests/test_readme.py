@@ -4,7 +4,7 @@ import re
 import unittest
 
 from . import TOP
-from .checkouts import copied, folder_of, python, run
+from .checkouts import copied, python, run
 
 PAGE = (TOP / "bindings/python/README.md").read_text()
 # Each block with its language.
@@ -23,14 +23,15 @@ class Readme(unittest.TestCase):
 
     def test_code_prints_its_comments(self):
         code = "\n".join(blocks_of("python"))
-        done = python(code, folder_of(self), PYTHONPATH=TOP / "bindings/python")
+        done = python(code, TOP, PYTHONPATH=TOP / "bindings/python")
         self.assertEqual((done.returncode, done.stderr), (0, ""))
         comments = re.findall(r"^ *# (.*)$", code, re.M)
         self.assertEqual(done.stdout.splitlines(), comments)
 
     def test_code_names_what_the_page_is_of(self):
         code = "\n".join(blocks_of("python"))
-        for name in ("open", "link", "bind", "fill", "read", "serve", "receive", "answer"):
+        calls = ("open", "link", "bind", "fill", "read", "serve", "receive", "answer", "Instance")
+        for name in calls:
             self.assertIn(f"witcall.{name}(", code)
 
     def test_commands_run(self):
