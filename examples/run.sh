@@ -28,7 +28,7 @@
 # | js             | the same modules, linked by bindings/js           | clang, wasm-ld, node                                |
 # | guest          | examples/guest, a guest in C, behind bindings/js  | clang, wasm-ld, node                                |
 # | js-tests       | the tests of bindings/js, and the stored calls    | node, python3, tsc                                  |
-# | python         | the tests of bindings/python, both kinds of rows, | python3 3.9 or newer, mypy, node                    |
+# | python         | the tests of bindings/python, both kinds of rows, | python3 3.9 or newer, mypy, node                   |
 # |                | documents of packages by tools/check_document.py  |                                                     |
 # | crate          | the tests of bindings/rust, both kinds of rows    | cargo, cargo-clippy, rustfmt, python3               |
 # | languages      | the programs of docs/LANGUAGES.md                 | all of these                                        |

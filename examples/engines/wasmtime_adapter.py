@@ -1,7 +1,7 @@
 """Wasmtime's engine for `witcall.Instance`, by the package `wasmtime` of the Bytecode Alliance.
 
-It is written for the signatures that `wasmtime` 25 publishes. The tests of this repository have no `wasmtime`, and do not
-run it.
+It is written for the signatures that `wasmtime` 25 publishes. The tests of this repository have no `wasmtime`, and do
+not run it.
 """
 
 from __future__ import annotations

@@ -1,7 +1,7 @@
 //! Wasmtime's engine for [`witcall::Instance`], by the crate `wasmtime`.
 //!
-//! It is written for the signatures that `wasmtime` 25 publishes. The tests of this repository have no such crate, and do
-//! not compile it. In a host's Cargo.toml:
+//! It is written for the signatures that `wasmtime` 25 publishes. The tests of this repository have no such crate, and
+//! do not compile it. In a host's Cargo.toml:
 //!
 //! ```toml
 //! wasmtime = "25"
@@ -9,7 +9,8 @@
 //! ```
 //!
 //! ```ignore
-//! let imports = Imports::new().serve("demo:echo/host@1.0.0", "upper", upper).serve("demo:echo/guest@1.0.0", "ask", ask);
+//! let imports = Imports::new().serve("demo:echo/host@1.0.0", "upper", upper);
+//! let imports = imports.serve("demo:echo/guest@1.0.0", "ask", ask);
 //! let mut instance = witcall::Instance::new(&module, imports, 1 << 24, Wasmtime::new)?;
 //! instance.call("demo:echo/echo@1.0.0", "upper", &["two memories".into()])?;
 //! ```

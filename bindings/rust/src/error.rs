@@ -115,7 +115,8 @@ pub enum Error {
     Trap(Trap),
     /// The library is out of memory.
     OutOfMemory,
-    /// What a function of the host failed with, which a guest called ([`Imports::try_serve`](crate::Imports::try_serve)).
+    /// What a function of the host failed with, which a guest called
+    /// ([`Imports::try_serve`](crate::Imports::try_serve)).
     Host(String),
     /// What an engine failed with, or answered that no engine does.
     Engine(String),

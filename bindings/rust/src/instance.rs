@@ -278,7 +278,8 @@ fn lacking_export(name: &str) -> Error {
 /// let imports = Imports::new()
 ///     .serve("demo:echo/host@1.0.0", "upper", |arguments| Some(arguments[0].as_text()?.to_uppercase().into()))
 ///     .serve(world, "ask", |arguments| Some(Json::Number(arguments[0].as_number()? + 1)));
-/// let engine = |_: &[u8], imports: &[Served]| Ok::<_, String>(Mine { imports: imports.to_vec(), memory: vec![0; 65536] });
+/// let mine = |imports: &[Served]| Mine { imports: imports.to_vec(), memory: vec![0; 65536] };
+/// let engine = |_: &[u8], imports: &[Served]| Ok::<_, String>(mine(imports));
 /// # let module = include_bytes!("../../../tests/explain/files/modules/echo.wasm");
 /// let mut instance = Instance::new(module, imports, 65536, engine)?;
 /// assert_eq!(instance.call(world, "tell", &[41.into()])?, Some(Json::from(42)));
@@ -303,8 +304,9 @@ impl<E> fmt::Debug for Instance<E> {
 impl<E: Engine> Instance<E> {
     /// Makes an instance of a core module that carries its world.
     ///
-    /// `engine` makes the engine's own instance of the module's bytes and of what it imports. `limit` is the greatest size
-    /// of the guest's memory, in bytes. If the module carries no world, this is `44 not this shape`. If `imports` lacks a
+    /// `engine` makes the engine's own instance of the module's bytes and of what it imports. `limit` is the greatest
+    /// size of the guest's memory, in bytes. If the module carries no world, this is `44 not this shape`. If `imports`
+    /// lacks a
     /// function that the world imports, or the guest one that the world exports, this is [`Error::Lacking`]. If the
     /// guest exports `_initialize`, that is called first.
     pub fn new<Failure: fmt::Display>(
@@ -335,7 +337,8 @@ impl<E: Engine> Instance<E> {
     /// Calls a function of the guest with values. `owner` is the full name of the interface, or that of the world which
     /// itself exports the function. If the world exports none of this name, this is `63 no function`.
     ///
-    /// A call that ends after code of the guest ran ends the instance: each later one is the same trap again, or `K7 body`
+    /// A call that ends after code of the guest ran ends the instance: each later one is the same trap again, or
+    /// `K7 body`
     /// if it was no trap, and runs no code.
     pub fn call(&mut self, owner: &str, name: &str, arguments: &[Json]) -> Result<Option<Json>, Error> {
         let place = self.place(owner, name)?;
