@@ -69,6 +69,39 @@ builds() {
         "$work/host" && [ "$(PKG_CONFIG_PATH="$1/lib/pkgconfig" pkg-config --modversion witcall)" = "$version" ]
 }
 
+# Whether a call by witcall_call.h is built in C and in C++, and made. It carries a number through both memories.
+calls_linked() {
+    cat >"$work/linked.c" <<'END'
+#include <witcall_call.h>
+static uint32_t add_one(void *context, const witcall_value *handed, uint32_t count, witcall_value *answer) {
+    (void)context;
+    *answer = handed[0];
+    answer->bits += 1;
+    return count;
+}
+int main(void) {
+    static const char text[] = "package a:b; interface c { f: func(x: u32) -> u32; }";
+    witcall_package package = WITCALL_NONE;
+    witcall_array_memory none = {0, 0, 0}, other = {0, 0, 0};
+    witcall_guest caller = witcall_array_guest(&none), callee = witcall_array_guest(&other);
+    witcall_body body = {0, add_one, 0};
+    witcall_link link = {&package, 0, &caller, &callee, &body};
+    witcall_value flats[] = {{0, 6}}, back = {0, 0};
+    if (witcall_open((const uint8_t *)text, sizeof text - 1, &package).code != WITCALL_DONE)
+        return 1;
+    link.func = witcall_find(&package, (const uint8_t *)"a:b/c", 5, (const uint8_t *)"f", 1).count;
+    witcall_status called = witcall_link_call(&link, flats, 1, &back);
+    witcall_close(&package);
+    return called.code != WITCALL_DONE || back.bits != 7;
+}
+END
+    for compiler in "${CC:-cc} -x c -std=c11" "${CXX:-c++} -x c++ -std=c++17"; do
+        # shellcheck disable=SC2046,SC2086 # the flags are words
+        $compiler -Wall -Wextra -Werror -o "$work/linked" "$work/linked.c" -x none \
+            $(PKG_CONFIG_PATH="$1/lib/pkgconfig" pkg-config --cflags --libs witcall) && "$work/linked" || return 1
+    done
+}
+
 # Whether the shared library has its SONAME, and exports the functions of the header and nothing else.
 is_shared() {
     abi=$(sed -n 's/^#define WITCALL_ABI //p' include/witcall.h)
@@ -117,6 +150,7 @@ check wit-explain-zsh cmp packaging/completions/_wit-explain "$work/prefix/share
 check wit-explain-fish cmp packaging/completions/wit-explain.fish \
     "$work/prefix/share/fish/vendor_completions.d/wit-explain.fish"
 check library builds "$work/prefix"
+check call-header calls_linked "$work/prefix"
 check shared-library is_shared "$work/prefix/lib"
 check shared-library-host builds_shared "$work/prefix"
 check manifest is_listed "$work/prefix"

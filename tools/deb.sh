@@ -64,7 +64,7 @@ Description: typed calls of WebAssembly components between two memories
  the Canonical ABI, and carries typed calls from one linear memory into
  another. wit-explain shows the faults of WIT files and the bytes of types.
  This package has both programs, and the library for hosts in C with its
- header, as an archive and as a shared library. Each contract of its code is
+ headers, as an archive and as a shared library. Each contract of its code is
  proved for all inputs.
 END
 abi=$(sed -n 's/^#define WITCALL_ABI \([0-9]*\)$/\1/p' include/witcall.h)

@@ -1,6 +1,6 @@
 #!/bin/sh
 # Installs witcall: the programs witcall and wit-explain, the library for C in one archive and as a shared library, its
-# header, and what finds and documents them.
+# headers, and what finds and documents them.
 #
 # usage: tools/install.sh [--prefix DIR] [--libdir NAME] [--destdir DIR] [--from FOLDER]
 #        tools/install.sh --uninstall [--prefix DIR] [--destdir DIR]
@@ -155,7 +155,9 @@ done
 put 644 "$work/libwitcall.a" "$libdir/libwitcall.a"
 put 644 "$work/libwitcall.so" "$libdir/libwitcall.so.$abi"
 put_link "libwitcall.so.$abi" "$libdir/libwitcall.so"
-put 644 include/witcall.h include/witcall.h
+for header in witcall.h witcall_call.h; do
+    put 644 "include/$header" "include/$header"
+done
 put 644 "$work/witcall.pc" "$libdir/pkgconfig/witcall.pc"
 put 644 "$work/witcall-shared.pc" "$libdir/pkgconfig/witcall-shared.pc"
 put 644 "$work/witcall-config.cmake" "$libdir/cmake/witcall/witcall-config.cmake"

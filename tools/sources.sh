@@ -54,13 +54,13 @@ of_library() {
 case "${1:?"$usage"} ${2-}" in
     '--shipped ')
         library=$(of_crate witcall_c)
-        shared=$(of_library include tools/build_library.py tools/shared.sh)
+        shared=$(of_library include/witcall.h tools/build_library.py tools/shared.sh)
         echo "$(of_crate program)  witcall"
         echo "$(of_crate explain)  wit-explain"
         echo "$(of_crate vectors)  vectors"
         echo "$library  libwitcall_c.a"
         echo "$shared  libwitcall.so"
-        echo "$(of_library include bindings/js/heap tools/build_library.py tools/wasm.sh)  witcall.wasm"
+        echo "$(of_library include/witcall.h bindings/js/heap tools/build_library.py tools/wasm.sh)  witcall.wasm"
         echo "$(of_library packaging/aarch64 tools/build_library.py tools/aarch64.sh)  libwitcall-aarch64.a" ;;
     -*)
         echo "$usage" >&2
