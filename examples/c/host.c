@@ -1,18 +1,14 @@
 /* A host with two linear memories, each with an allocator of its own, and one call from the one into the other.
  *
- * A call is made in halves, since the host runs the callee's core function itself:
- *   1. witcall_enter_requests tells which blocks the arguments need in the callee, whose allocator grants them.
- *   2. witcall_enter puts the arguments into these blocks, and answers the values for the core function.
- *   3. The core function runs.
- *   4. witcall_leave_requests and witcall_leave carry what it answered into the caller in the same way.
+ * witcall_link_call makes the call. It asks which blocks the arguments need, has the callee's allocator grant them,
+ * puts the arguments there, and runs the callee's core function. What it answers goes into the caller in the same way.
  *
- * shop.h has the package's types as they lie in a memory, and functions for both sides of a call. It is made of shop.wit by
- * wit-explain bind c. Here its names are used without the package's.
+ * shop.h has the package's types as they lie in a memory, and functions for both sides of a call. It is made of
+ * shop.wit by wit-explain bind c. Here its names are used without the package's.
  */
 #define WIT_SHORT_NAMES
 #include "shop.h"
-#include "witcall.h"
-#include <stdbool.h>
+#include "witcall_call.h"
 #include <stdio.h>
 #include <stdlib.h>
 #include <string.h>
@@ -23,30 +19,45 @@
 /* ---- two memories ---- */
 
 #define LENGTH 1024
-#define MOST_BLOCKS 8
 
-static uint8_t caller[LENGTH], callee[LENGTH];
-static uint32_t caller_top = 0, callee_top = LENGTH;
+static uint8_t caller_bytes[LENGTH], callee[LENGTH];
+static witcall_array_memory caller = {caller_bytes, LENGTH, 0};
+static uint32_t callee_top = LENGTH;
 
-static void check_room(bool has_room) {
-    if (has_room)
-        return;
-    printf("a memory is full\n");
-    exit(1);
+static uint8_t *callee_memory(void *context, size_t *len) {
+    (void)context;
+    *len = LENGTH;
+    return callee;
 }
 
-/* The caller's allocator goes up. */
-static uint32_t caller_alloc(uint32_t align, uint32_t size) {
-    size_t at = ((size_t)caller_top + align - 1) / align * align;
-    check_room(at <= LENGTH && size <= LENGTH - at);
-    caller_top = at + size;
+/* Ends the program if a memory has no room. */
+static uint32_t placed(uint32_t at) {
+    if (at == WITCALL_STOPPED) {
+        printf("a memory is full\n");
+        exit(1);
+    }
     return at;
 }
 
-/* The callee's goes down. */
+/* The callee's allocator goes down. */
 static uint32_t callee_alloc(uint32_t align, uint32_t size) {
-    check_room(size <= callee_top);
-    return callee_top = (callee_top - size) / align * align;
+    return size > callee_top ? WITCALL_STOPPED : (callee_top = (callee_top - size) / align * align);
+}
+
+static uint32_t print_block(const char *whose, uint32_t size, uint32_t at) {
+    printf("%s: %u bytes at %u\n", whose, size, at);
+    return at;
+}
+
+static uint32_t callee_realloc(void *context, uint32_t old, uint32_t old_size, uint32_t align, uint32_t size) {
+    (void)context, (void)old, (void)old_size;
+    return print_block("callee", size, callee_alloc(align, size));
+}
+
+/* The caller's allocator goes up. */
+static uint32_t caller_realloc(void *context, uint32_t old, uint32_t old_size, uint32_t align, uint32_t size) {
+    (void)context, (void)old, (void)old_size;
+    return print_block("caller", size, witcall_array_allocate(&caller, align, size));
 }
 
 static void print_text(const uint8_t *memory, wit_string text) {
@@ -66,26 +77,28 @@ static void print_lines(const uint8_t *memory, wit_list_desk_line lines) {
 
 /* Puts a text into a block of the caller's. */
 static wit_string put_text(const char *text) {
-    wit_string put = {.address = caller_alloc(1, strlen(text)), .length = strlen(text)};
-    memcpy(caller + put.address, text, put.length);
-    return put;
+    return (wit_string){.address = placed(witcall_array_put(&caller, text, strlen(text))), .length = strlen(text)};
 }
 
 /* The caller's arguments: a name, and two lines in a block of their own. */
 static desk_order_parameters make_arguments(void) {
     desk_order_parameters made = {.customer = put_text("M\303\274ller"), .lines = {.length = 2}};
-    made.lines.address = caller_alloc(alignof(desk_line), 2 * sizeof(desk_line));
-    wit_list_desk_line_set(caller, made.lines, 0, (desk_line){.item = put_text("tea"), .count = 2});
-    wit_list_desk_line_set(caller, made.lines, 1, (desk_line){.item = put_text("coffee"), .count = 1});
+    made.lines.address = placed(witcall_array_allocate(&caller, alignof(desk_line), 2 * sizeof(desk_line)));
+    wit_list_desk_line_set(caller_bytes, made.lines, 0, (desk_line){.item = put_text("tea"), .count = 2});
+    wit_list_desk_line_set(caller_bytes, made.lines, 1, (desk_line){.item = put_text("coffee"), .count = 1});
     return made;
 }
 
-/* The callee's core function, of customer and lines as they are flat. It returns the address of a receipt, on which each line is
+/* The callee's core function, of customer and lines as they are flat. It returns the address of a receipt, on which
+ * each line is
    there once more. */
-static witcall_value order(const witcall_value *handed) {
+static uint32_t order(void *context, const witcall_value *handed, uint32_t count, witcall_value *answer) {
+    (void)context, (void)count;
     desk_order_parameters given = desk_order_receive(handed);
     uint32_t at = callee_alloc(DESK_ORDER_AREA_ALIGN, DESK_ORDER_AREA_SIZE);
     wit_string note = {callee_alloc(1, 8 + given.customer.length), 8 + given.customer.length};
+    if (at == WITCALL_STOPPED || note.address == WITCALL_STOPPED)
+        return WITCALL_STOPPED;
     memcpy(callee + note.address, "Thanks, ", 8);
     memcpy(callee + note.address + 8, callee + given.customer.address, given.customer.length);
     for (uint32_t i = 0; i < given.lines.length; i++) {
@@ -93,58 +106,19 @@ static witcall_value order(const witcall_value *handed) {
         one.count += 1;
         wit_list_desk_line_set(callee, given.lines, i, one);
     }
-    return desk_order_answer(callee, at, (desk_receipt){.number = 4711, .lines = given.lines, .note = note});
+    *answer = desk_order_answer(callee, at, (desk_receipt){.number = 4711, .lines = given.lines, .note = note});
+    return 1;
 }
 
 /* ---- the host ---- */
 
 /* Ends the program where the library says no. */
 static void check(witcall_status status) {
-    uint8_t line[128];
-    witcall_status told = witcall_status_line(status, line, sizeof line);
+    char line[WITCALL_MAX_STATUS_LINE + 1];
     if (status.code == WITCALL_DONE)
         return;
-    printf("%.*s\n", (int)told.count, line);
+    printf("%s\n", witcall_status_words(status, line));
     exit(1);
-}
-
-/* Has an allocator grant each block that is asked for, in turn. */
-static void grant(
-    const char *whose, uint32_t (*alloc)(uint32_t, uint32_t), const witcall_request *asked, uint32_t count,
-    witcall_block *blocks) {
-    for (uint32_t i = 0; i < count; i++) {
-        blocks[i] = (witcall_block){asked[i].align, asked[i].size, alloc(asked[i].align, asked[i].size)};
-        printf("%s: %u bytes at %u\n", whose, blocks[i].size, blocks[i].at);
-    }
-}
-
-/* The arguments, from the caller into the callee: the values for the core function. */
-static void enter(witcall_package *package, uint32_t func, const witcall_value *flats, witcall_value *handed) {
-    witcall_request asked[MOST_BLOCKS];
-    witcall_block blocks[MOST_BLOCKS];
-    witcall_status status = witcall_enter_requests(
-        package, func, flats, DESK_ORDER_FLATS, caller, LENGTH, asked, MOST_BLOCKS, LENGTH);
-    check(status);
-    check_room(status.count <= MOST_BLOCKS);
-    grant("callee", callee_alloc, asked, status.count, blocks);
-    check(witcall_enter(
-        package, func, flats, DESK_ORDER_FLATS, caller, LENGTH, callee, LENGTH, blocks, status.count, handed,
-        WITCALL_MAX_VALUES));
-}
-
-/* The answer, from the callee into the caller's blocks and its place for the result. */
-static void leave(witcall_package *package, uint32_t func, const witcall_value *flats, witcall_value answer) {
-    witcall_request asked[MOST_BLOCKS];
-    witcall_block blocks[MOST_BLOCKS];
-    witcall_status status = witcall_leave_requests(
-        package, func, &answer, 1, callee, LENGTH, asked, MOST_BLOCKS, LENGTH);
-    check(status);
-    check_room(status.count <= MOST_BLOCKS);
-    grant("caller", caller_alloc, asked, status.count, blocks);
-    witcall_value back[WITCALL_MAX_VALUES];
-    check(witcall_leave(
-        package, func, flats, DESK_ORDER_FLATS, &answer, 1, callee, LENGTH, caller, LENGTH, blocks, status.count,
-        back, WITCALL_MAX_VALUES));
 }
 
 /* Prints how the parameters and the result lie in memory, and the kinds of the callee's core function. */
@@ -173,17 +147,22 @@ int main(void) {
     uint32_t func = found.count;
     print_layout(&package, func);
 
-    desk_order_parameters given = make_arguments();
-    uint32_t area = caller_alloc(DESK_ORDER_AREA_ALIGN, DESK_ORDER_AREA_SIZE);
-    witcall_value flats[DESK_ORDER_FLATS], handed[WITCALL_MAX_VALUES];
-    desk_order_fill(flats, &given, area);
-    enter(&package, func, flats, handed);
-    leave(&package, func, flats, order(handed));
+    witcall_guest to = {.limit = LENGTH, .memory = callee_memory, .realloc = callee_realloc};
+    witcall_guest from = witcall_array_guest(&caller);
+    from.realloc = caller_realloc;
+    witcall_body body = {.run = order};
+    witcall_link link = {&package, func, &from, &to, &body};
 
-    desk_receipt back = desk_order_read(caller, area);
+    desk_order_parameters given = make_arguments();
+    uint32_t area = placed(witcall_array_allocate(&caller, DESK_ORDER_AREA_ALIGN, DESK_ORDER_AREA_SIZE));
+    witcall_value flats[DESK_ORDER_FLATS];
+    desk_order_fill(flats, &given, area);
+    check(witcall_link_call(&link, flats, DESK_ORDER_FLATS, NULL));
+
+    desk_receipt back = desk_order_read(caller_bytes, area);
     printf("number %u\n", back.number);
-    print_lines(caller, back.lines);
-    print_text(caller, back.note);
+    print_lines(caller_bytes, back.lines);
+    print_text(caller_bytes, back.note);
     printf("\n");
     witcall_close(&package);
     return 0;

@@ -1,11 +1,10 @@
 /* A host that serves functions which a component imports, with values as JSON. It keeps the component's memory.
  *
- *   1. witcall_read_arguments_json writes the arguments that the component passed as JSON.
- *   2. The host's function takes them, and has its result as JSON.
- *   3. witcall_result_json_requests tells which blocks the result needs, which the component's allocator grants.
- *   4. witcall_fill_result_json puts the result there, and answers the value that the component gets, if there is one.
+ * witcall_import_serve_json writes the arguments that the component passed as JSON, runs the host's function on them,
+ * has the component's allocator grant the blocks that the result needs, puts the result there, and answers the value
+ * that the component gets, if there is one.
  */
-#include "witcall.h"
+#include "witcall_call.h"
 #include <stdio.h>
 #include <stdlib.h>
 #include <string.h>
@@ -14,7 +13,6 @@
 #define BYTES(text) (const uint8_t *)(text), strlen(text)
 
 #define LENGTH 1024
-#define MOST_BLOCKS 4
 
 static const char TEXT[] =
     "package demo:books;"
@@ -34,15 +32,12 @@ typedef struct {
 /* ---- the component: its memory and its allocator ---- */
 
 static uint8_t memory[LENGTH];
-static uint32_t top = 128;
+static witcall_array_memory blocks = {memory, LENGTH, 128};
 
-static uint32_t alloc(uint32_t align, uint32_t size) {
-    size_t at = ((size_t)top + align - 1) / align * align;
-    if (at > LENGTH || size > LENGTH - at) {
-        printf("the memory is full\n");
-        exit(1);
-    }
-    top = at + size;
+static uint32_t component_realloc(void *context, uint32_t old, uint32_t old_size, uint32_t align, uint32_t size) {
+    uint32_t at = witcall_array_allocate(context, align, size);
+    (void)old, (void)old_size;
+    printf("%u bytes at %u\n", size, at);
     return at;
 }
 
@@ -58,9 +53,8 @@ static witcall_package package = WITCALL_NONE;
 
 /* Prints the line of a status that is not done. */
 static void print_status(witcall_status status) {
-    uint8_t line[WITCALL_MAX_STATUS_LINE];
-    witcall_status told = witcall_status_line(status, line, sizeof line);
-    printf("%.*s\n", (int)told.count, line);
+    char line[WITCALL_MAX_STATUS_LINE + 1];
+    printf("%s\n", witcall_status_words(status, line));
 }
 
 /* The count of a status; ends the program where the library says no. */
@@ -75,55 +69,54 @@ static uint32_t function(const char *name) {
     return done(witcall_find(&package, BYTES("demo:books/shelf"), BYTES(name)));
 }
 
-static witcall_status read_arguments(uint32_t func, const values *flats, uint8_t *json, size_t room) {
-    return witcall_read_arguments_json(&package, func, flats->at, flats->count, memory, LENGTH, json, room, LENGTH);
+/* A function of the host: prints its arguments, and gives this result. */
+typedef struct {
+    const char *name, *result;
+} reply;
+
+static uint32_t give(void *context, const uint8_t *json, size_t json_len, witcall_text *result) {
+    const reply *r = context;
+    if (r->name)
+        printf("%s %.*s\n", r->name, (int)json_len, (const char *)json);
+    return witcall_text_put(result, r->result, strlen(r->result));
 }
 
-/* Puts a result into blocks that the component's allocator grants. */
-static witcall_status answer(uint32_t func, const values *flats, const char *json, values *back) {
-    witcall_request asked[MOST_BLOCKS];
-    witcall_block blocks[MOST_BLOCKS];
-    uint32_t count = done(witcall_result_json_requests(&package, func, BYTES(json), asked, MOST_BLOCKS, LENGTH));
-    if (count > MOST_BLOCKS)
-        exit(1);
-    for (uint32_t i = 0; i < count; i++) {
-        blocks[i] = (witcall_block){asked[i].align, asked[i].size, alloc(asked[i].align, asked[i].size)};
-        printf("%u bytes at %u\n", blocks[i].size, blocks[i].at);
-    }
-    witcall_status filled = witcall_fill_result_json(
-        &package, func, flats->at, flats->count, BYTES(json), memory, LENGTH, blocks, count, back->at,
-        WITCALL_MAX_VALUES);
-    back->count = filled.count;
-    return filled;
+/* Serves a call of the component by a function of the host. */
+static witcall_status serve(uint32_t func, reply r, const values *flats, values *back) {
+    witcall_guest component = witcall_array_guest(&blocks);
+    const witcall_server server = {&r, give};
+    const witcall_import import = {&package, func, &component};
+    component.realloc = component_realloc;
+    witcall_status served = witcall_import_serve_json(&import, &server, flats->at, flats->count, back->at);
+    back->count = served.count;
+    return served;
 }
 
-/* Serves a call of the component: prints its arguments, and gives it this result. */
-static values serve(const char *name, const values *flats, const char *json) {
-    uint8_t text[64];
+static values served(const char *name, const values *flats, const char *json) {
     values back;
-    uint32_t func = function(name), length = done(read_arguments(func, flats, text, sizeof text));
-    printf("%s %.*s\n", name, (int)length, (const char *)text);
-    done(answer(func, flats, json, &back));
+    done(serve(function(name), (reply){name, json}, flats, &back));
     return back;
 }
 
-/* Calls that are refused. */
-static void refuse(uint32_t func, const values *flats) {
-    uint8_t text[64];
+/* Calls that are refused: of other core values, with results that are none, and with return areas that are none. */
+static void refuse(uint32_t func, const values *flats, const values *note) {
+    uint8_t text[8];
     values back, other = *flats;
-    print_status(read_arguments(func, flats, text, 8));
+    const reply empty = {NULL, "[]"}, book = {NULL, "[{\"title\":\"\",\"pages\":[]}]"};
+    print_status(witcall_read_arguments_json(
+        &package, func, flats->at, flats->count, memory, LENGTH, text, sizeof text, LENGTH));
     other.count--;
-    print_status(read_arguments(func, &other, text, sizeof text));
+    print_status(serve(func, empty, &other, &back));
     other = *flats, other.at[0].bits = LENGTH - 2;
-    print_status(read_arguments(func, &other, text, sizeof text));
-    print_status(witcall_result_json_requests(&package, func, BYTES("[7]"), NULL, 0, LENGTH));
-    print_status(witcall_result_json_requests(&package, function("note"), BYTES("7"), NULL, 0, LENGTH));
+    print_status(serve(func, empty, &other, &back));
+    print_status(serve(func, (reply){NULL, "[7]"}, flats, &back));
+    print_status(serve(function("note"), (reply){NULL, "7"}, note, &back));
     other = *flats, other.at[3].bits = 18;
-    print_status(answer(func, &other, "[]", &back));
+    print_status(serve(func, empty, &other, &back));
     other.at[3].bits = LENGTH - 4;
-    print_status(answer(func, &other, "[]", &back));
-    other.at[3].bits = top;
-    print_status(answer(func, &other, "[{\"title\":\"\",\"pages\":[]}]", &back));
+    print_status(serve(func, empty, &other, &back));
+    other.at[3].bits = blocks.top;
+    print_status(serve(func, book, &other, &back));
 }
 
 int main(void) {
@@ -131,15 +124,15 @@ int main(void) {
     /* the component has its word at 64, and its return area at 16 */
     memcpy(memory + 64, "tea", 3);
     const values search = {{{0, 64}, {0, 3}, {0, 2}, {0, 16}}, 4}, none = {.count = 0}, note = {{{0, 64}, {0, 3}}, 2};
-    values back = serve("search", &search, "[{\"title\":\"Tea\",\"pages\":[1,300]}]");
+    values back = served("search", &search, "[{\"title\":\"Tea\",\"pages\":[1,300]}]");
     uint32_t book = number_at(16), title = number_at(book);
     printf("%zu values, %u books\n", back.count, number_at(20));
     printf("%.*s, %u pages\n", (int)number_at(book + 4), (const char *)memory + title, number_at(book + 12));
-    back = serve("count", &none, "18446744073709551615");
+    back = served("count", &none, "18446744073709551615");
     printf("%zu values, %llu\n", back.count, (unsigned long long)back.at[0].bits);
-    back = serve("note", &note, "");
+    back = served("note", &note, "");
     printf("%zu values\n", back.count);
-    refuse(function("search"), &search);
+    refuse(function("search"), &search, &note);
     witcall_close(&package);
     return 0;
 }

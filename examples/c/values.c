@@ -1,14 +1,12 @@
 /* A host that calls a component with values as JSON. It keeps the component's memory, and has no memory of a caller.
  *
- *   1. witcall_json_requests tells which blocks the arguments of a text need, which the component's allocator grants.
- *   2. witcall_fill_json puts the arguments into these blocks, and answers the values for the core function.
- *   3. The core function runs.
- *   4. witcall_read_json writes what it answered as JSON.
+ * witcall_export_call_json asks which blocks the arguments of a text need, has the component's allocator grant them,
+ * puts the arguments there, runs the core function, and writes what it answered as JSON.
  *
  * witcall_json_fault says what is wrong in arguments that are refused, witcall_describe has all of the package in one
  * document, and witcall_explain says what is wrong with texts.
  */
-#include "witcall.h"
+#include "witcall_call.h"
 #include <stdio.h>
 #include <stdlib.h>
 #include <string.h>
@@ -17,7 +15,6 @@
 #define BYTES(text) (const uint8_t *)(text), strlen(text)
 
 #define LENGTH 1024
-#define MOST_BLOCKS 4
 
 static const char TEXT[] =
     "package demo:books;"
@@ -30,31 +27,35 @@ static const char TEXT[] =
 /* ---- the component: its memory, its allocator and its core function ---- */
 
 static uint8_t memory[LENGTH];
-static uint32_t top = 0;
+static witcall_array_memory blocks = {memory, LENGTH, 0};
 
-static uint32_t alloc(uint32_t align, uint32_t size) {
-    size_t at = ((size_t)top + align - 1) / align * align;
-    if (at > LENGTH || size > LENGTH - at) {
-        printf("the memory is full\n");
-        exit(1);
-    }
-    top = at + size;
+static uint32_t component_realloc(void *context, uint32_t old, uint32_t old_size, uint32_t align, uint32_t size) {
+    uint32_t at = witcall_array_allocate(context, align, size);
+    (void)old, (void)old_size;
+    printf("%u bytes at %u\n", size, at);
     return at;
 }
 
-/* Doubles each number of the list where it is, and returns the address of a copy: the text's and the list's addresses
-   and lengths, and the sum. */
-static uint32_t core_double(uint32_t title, uint32_t title_length, uint32_t pages, uint32_t pages_length) {
-    uint32_t copy[5] = {title, title_length, pages, pages_length, 0}, at = alloc(4, sizeof copy);
-    for (uint32_t i = 0; i < pages_length; i++) {
+/* Doubles each number of the list where it is, and answers the address of a copy: the text's and the list's addresses
+ * and lengths, and the sum.
+   The context keeps the answer. */
+static uint32_t core_double(void *context, const witcall_value *handed, uint32_t count, witcall_value *answer) {
+    uint32_t copy[5] = {0}, at = witcall_array_allocate(&blocks, 4, sizeof copy);
+    for (uint32_t i = 0; i < count; i++)
+        copy[i] = handed[i].bits;
+    printf("double(%u, %u, %u, %u)\n", copy[0], copy[1], copy[2], copy[3]);
+    for (uint32_t i = 0; i < copy[3]; i++) {
         uint16_t number;
-        memcpy(&number, memory + pages + 2 * i, 2);
+        memcpy(&number, memory + copy[2] + 2 * i, 2);
         number *= 2;
-        memcpy(memory + pages + 2 * i, &number, 2);
+        memcpy(memory + copy[2] + 2 * i, &number, 2);
         copy[4] += number;
     }
+    if (at == WITCALL_STOPPED)
+        return WITCALL_STOPPED;
     memcpy(memory + at, copy, sizeof copy);
-    return at;
+    *(witcall_value *)context = *answer = (witcall_value){.bits = at};
+    return 1;
 }
 
 /* ---- the host ---- */
@@ -63,9 +64,8 @@ static witcall_package package = WITCALL_NONE;
 
 /* Prints the line of a status that is not done. */
 static void print_status(witcall_status status) {
-    uint8_t line[WITCALL_MAX_STATUS_LINE];
-    witcall_status told = witcall_status_line(status, line, sizeof line);
-    printf("%.*s\n", (int)told.count, line);
+    char line[WITCALL_MAX_STATUS_LINE + 1];
+    printf("%s\n", witcall_status_words(status, line));
 }
 
 /* The count of a status; ends the program where the library says no. */
@@ -76,27 +76,19 @@ static uint32_t done(witcall_status status) {
     exit(1);
 }
 
-/* The arguments, from the text into the memory: the values for the core function. */
-static void fill(uint32_t func, const char *json, witcall_value *handed) {
-    witcall_request asked[MOST_BLOCKS];
-    witcall_block blocks[MOST_BLOCKS];
-    uint32_t count = done(witcall_json_requests(&package, func, BYTES(json), asked, MOST_BLOCKS, LENGTH));
-    if (count > MOST_BLOCKS)
-        exit(1);
-    for (uint32_t i = 0; i < count; i++) {
-        blocks[i] = (witcall_block){asked[i].align, asked[i].size, alloc(asked[i].align, asked[i].size)};
-        printf("%u bytes at %u\n", blocks[i].size, blocks[i].at);
-    }
-    done(witcall_fill_json(&package, func, BYTES(json), memory, LENGTH, blocks, count, handed, WITCALL_MAX_VALUES));
-}
-
-/* The result, from the memory, as a text. */
-static void read_result(uint32_t func, uint32_t answer) {
-    uint8_t json[128];
-    witcall_value value = {.bits = answer};
-    print_status(witcall_read_json(&package, func, &value, 1, memory, LENGTH, json, 8, LENGTH));
-    uint32_t length = done(witcall_read_json(&package, func, &value, 1, memory, LENGTH, json, sizeof json, LENGTH));
-    printf("%.*s\n", (int)length, (const char *)json);
+/* Calls the function, and prints what a text with too little room is, and its result. */
+static void call(uint32_t func, const char *json) {
+    uint8_t few[8];
+    witcall_value answer;
+    witcall_guest component = witcall_array_guest(&blocks);
+    witcall_body body = {.context = &answer, .run = core_double};
+    witcall_export called = {&package, func, &component, &body};
+    witcall_text result = WITCALL_NO_TEXT;
+    component.realloc = component_realloc;
+    done(witcall_export_call_json(&called, BYTES(json), &result));
+    print_status(witcall_read_json(&package, func, &answer, 1, memory, LENGTH, few, sizeof few, LENGTH));
+    printf("%.*s\n", (int)result.len, (const char *)result.bytes);
+    witcall_text_free(&result);
 }
 
 /* Prints why a text is refused, and where it is wrong. */
@@ -123,7 +115,8 @@ static void describe(void) {
 
 /* Prints what is wrong with two texts, of which the first needs the second. */
 static void explain(void) {
-    static const char FIRST[] = "package demo:shop; interface till { use demo:books/desk.{copy}; pay: func(of: copi); }";
+    static const char FIRST[] =
+        "package demo:shop; interface till { use demo:books/desk.{copy}; pay: func(of: copi); }";
     static const char SECOND[] = "package demo:books; interface desk { record copy { sum: u32 } }";
     static const size_t LENGTHS[] = {sizeof FIRST - 1, sizeof SECOND - 1};
     uint8_t texts[sizeof FIRST + sizeof SECOND], json[512];
@@ -136,11 +129,7 @@ static void explain(void) {
 int main(void) {
     done(witcall_open(BYTES(TEXT), &package));
     uint32_t func = done(witcall_find(&package, BYTES("demo:books/desk"), BYTES("double")));
-    witcall_value handed[WITCALL_MAX_VALUES];
-    fill(func, "[{\"title\":\"B\303\274cher\",\"pages\":[7,300,12]}]", handed);
-    printf("double(%u, %u, %u, %u)\n", (uint32_t)handed[0].bits, (uint32_t)handed[1].bits, (uint32_t)handed[2].bits,
-           (uint32_t)handed[3].bits);
-    read_result(func, core_double(handed[0].bits, handed[1].bits, handed[2].bits, handed[3].bits));
+    call(func, "[{\"title\":\"B\303\274cher\",\"pages\":[7,300,12]}]");
     refuse(func, "[{\"title\":\"B\"");
     refuse(func, "[{\"title\":\"B\",\"pages\":[7,70000]}]");
     refuse(func, "[]");

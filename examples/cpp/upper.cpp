@@ -5,19 +5,33 @@
 #include <string>
 #include <string_view>
 #include <vector>
-#include <witcall.h>
-
-using Memory = std::vector<uint8_t>;
+#include <witcall_call.h>
 
 static const uint8_t *bytes(std::string_view text) { return reinterpret_cast<const uint8_t *>(text.data()); }
 
 // The count of a status that is done.
 static uint32_t done(witcall_status status) {
-    if (status.code == WITCALL_DONE)
-        return status.count;
-    uint8_t line[WITCALL_MAX_STATUS_LINE];
-    throw std::runtime_error(std::string(line, line + witcall_status_line(status, line, sizeof line).count));
+    char line[WITCALL_MAX_STATUS_LINE + 1];
+    if (status.code != WITCALL_DONE)
+        throw std::runtime_error(witcall_status_words(status, line));
+    return status.count;
 }
+
+// A component's memory, and its allocator.
+struct Memory {
+    Memory() = default;
+    Memory(const Memory &) = delete;
+
+    std::vector<uint8_t> bytes = std::vector<uint8_t>(65536);
+    witcall_array_memory blocks = {bytes.data(), bytes.size(), 16};
+    witcall_guest guest = witcall_array_guest(&blocks);
+
+    std::string_view text(uint32_t at) const {
+        uint32_t pair[2];
+        std::memcpy(pair, &bytes[at], sizeof pair);
+        return {reinterpret_cast<const char *>(&bytes[pair[0]]), pair[1]};
+    }
+};
 
 class Package {
 public:
@@ -37,37 +51,26 @@ public:
     witcall_package handle = WITCALL_NONE;
 };
 
-// The callee's core function.
-static witcall_value upper(Memory &callee, const witcall_value *handed) {
+// The callee's core function. It answers at 8 where its text is.
+static uint32_t upper(void *context, const witcall_value *handed, uint32_t, witcall_value *answer) {
+    std::vector<uint8_t> &callee = static_cast<Memory *>(context)->bytes;
     uint32_t pair[] = {uint32_t(handed[0].bits), uint32_t(handed[1].bits)};
     for (uint32_t at = pair[0]; at < pair[0] + pair[1]; at++)
         callee[at] = uint8_t(std::toupper(callee[at]));
     std::memcpy(&callee[8], pair, sizeof pair);
-    return {0, 8};
+    *answer = {0, 8};
+    return 1;
 }
 
 int main() {
     Package package("package demo:text; interface letters { upper: func(s: string) -> string; }");
-    Memory caller(65536), callee(65536);
-    std::memcpy(&caller[16], "two memories", 12);
-    witcall_value flats[] = {{0, 16}, {0, 12}, {0, 8}}, handed[WITCALL_MAX_VALUES], back[WITCALL_MAX_VALUES];
-    witcall_call call;
-    done(witcall_begin(&package.handle, package.find("demo:text/letters", "upper"), flats, 3, &call));
+    Memory caller, callee;
+    witcall_body body = {&callee, upper, nullptr};
+    witcall_link link = {&package.handle, package.find("demo:text/letters", "upper"), &caller.guest, &callee.guest,
+   &body};
 
-    witcall_request asked;
-    done(witcall_call_enter_requests(&package.handle, &call, caller.data(), caller.size(), &asked, 1, callee.size()));
-    witcall_block block = {asked.align, asked.size, 16}; // what the callee's allocator grants
-    done(witcall_call_enter(&package.handle, &call, caller.data(), caller.size(), callee.data(), callee.size(), &block, 1,
-                            handed, WITCALL_MAX_VALUES));
-    witcall_value answer = upper(callee, handed);
-
-    done(witcall_call_leave_requests(&package.handle, &call, &answer, 1, callee.data(), callee.size(), &asked, 1,
-                                     caller.size()));
-    block = {asked.align, asked.size, 64}; // what the caller's allocator grants
-    done(witcall_call_leave(&package.handle, &call, &answer, 1, callee.data(), callee.size(), caller.data(), caller.size(),
-                            &block, 1, back, WITCALL_MAX_VALUES));
-
-    uint32_t pair[2];
-    std::memcpy(pair, &caller[8], sizeof pair);
-    std::cout << std::string(&caller[pair[0]], &caller[pair[0]] + pair[1]) << '\n';
+    uint32_t text = witcall_array_put(&caller.blocks, "two memories", 12);
+    witcall_value flats[] = {{0, text}, {0, 12}, {0, 8}};
+    done(witcall_link_call(&link, flats, 3, nullptr));
+    std::cout << caller.text(8) << '\n';
 }

@@ -17,6 +17,8 @@ class Source:
 
     # how many members a definition may have, by its shape
     FEW, MANY = range(1, 6), [1, 3, 8, 9, 16, 17, 26]
+    # how many elements a list may have, and how many bytes an allocator has
+    LENGTHS, ROOM = [0, 1, 2, 3], 400
     COUNTS = {"record": FEW, "variant": FEW, "enum": MANY, "flags": MANY}
 
     def __init__(self, seed, harm):
@@ -120,7 +122,7 @@ class Source:
         """Address and length of a string or a list."""
         if isinstance(t, String):
             return self.string()
-        count = self.random.choice([0, 1, 2, 3])
+        count = self.random.choice(self.LENGTHS)
         size = t.element.size
         at = self.block(t.element.align, count * size)
         for place in range(count):
@@ -234,7 +236,7 @@ class Source:
 
     def room(self):
         """How many bytes an allocator has."""
-        return self.random.randint(0, 40) if self.harmed() else 400
+        return self.random.randint(0, 40) if self.harmed() else self.ROOM
 
     def script(self):
         """What allocators answer, or None."""
@@ -243,11 +245,11 @@ class Source:
         return [[self.random.choice([0, 8, 16, 24, 64, 3, None, 0xFFFFFFF8]) for _ in range(6)] for _ in range(2)]
 
 
-def calls(count, seed=SEED):
+def calls(count, seed=SEED, source=Source):
     """Random calls of values that stand, and calls in which one thing or another is wrong."""
     for number in range(count):
         harm = [0, 0.03, 0.12][number % 3]
-        yield Source(f"{seed}:{number}", harm).call(f"random {number}")
+        yield source(f"{seed}:{number}", harm).call(f"random {number}")
 
 
 def lines(count, seed=SEED):
