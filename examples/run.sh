@@ -18,14 +18,21 @@
 # | lists          | what packages have, beside examples/c/shop.h      | the compiler's sanitizers                           |
 # | values         | a call with values as JSON, in C                  | the compiler's sanitizers                           |
 # | served         | calls of the host's functions with such values    | the compiler's sanitizers                           |
+# | store          | two instances of one store, which lends one       | the compiler's sanitizers                           |
+# |                | memory at a time                                  |                                                     |
+# | call_header    | witcall_call.h as C99 to C++20, with all warnings | gcc, g++, clang                                     |
 # | vectors        | the stored calls of crates/vectors, in C          | python3, the compiler's sanitizers                  |
 # | json_vectors   | its rows of a host's memory, with values as JSON, | the same                                            |
 # |                | and its calls, as a host with such values serves  |                                                     |
+# | linked_vectors | the stored calls through witcall_call.h, and      | the same                                            |
+# |                | 2,000 random calls each way beside those by hand  |                                                     |
 # | bindings       | examples/c/shop.h and examples/guest/club.h, anew |                                                     |
 # | engine         | core modules in Node's engine, their traps        | clang, wasm-ld, node with its headers               |
 # | dlmalloc       | random calls over memories whose allocators are   | the same, and wasi-libc with the compiler's library |
 # |                | dlmalloc: examples/engine/heap.mjs                | for wasm32 (libclang-rt-dev-wasm32)                 |
 # | js             | the same modules, linked by bindings/js           | clang, wasm-ld, node                                |
+# | wasm2c         | examples/wasm2c: two modules that import from     | clang, wasm-ld, wasm2c of Debian's wabt, the        |
+# |                | each other, as C; memories that grow, traps       | compiler's sanitizers                               |
 # | guest          | examples/guest, a guest in C, behind bindings/js  | clang, wasm-ld, node                                |
 # | js-tests       | the tests of bindings/js, and the stored calls    | node, python3, tsc                                  |
 # | python         | the tests of bindings/python, both kinds of rows, | python3 3.9 or newer, mypy, node                   |
@@ -125,6 +132,20 @@ checked_c_program() {
     c_program "$@" -g -fsanitize=address,undefined -fno-sanitize-recover=all
 }
 
+# Compiles witcall_call.h alone, included twice, by each compiler in each dialect.
+strict_header() {
+    flags='-Wall -Wextra -Wconversion -Wsign-conversion -Wpedantic -Wshadow -Wcast-qual -Werror'
+    printf '#include <witcall_call.h>\n#include <witcall_call.h>\n' >"$build/call_header.c"
+    for dialect in c99 c11 c17 c++11 c++17 c++20; do
+        compilers='gcc clang' language=c
+        case $dialect in c++*) compilers='g++ clang++' language=c++ ;; esac
+        for compiler in $compilers; do
+            # shellcheck disable=SC2086 # the flags are words
+            "$compiler" -x $language -std=$dialect $flags -I"$prefix/include" -fsyntax-only "$build/call_header.c" || return 1
+        done
+    done
+}
+
 cmake_program() {
     cmake -S "$here/c" -B "$1" -DCMAKE_BUILD_TYPE=Release -DCMAKE_C_FLAGS="-Wall -Wextra -Werror" && cmake --build "$1"
 }
@@ -136,6 +157,19 @@ rust_host() {
 wasm_module() {
     clang --target=wasm32 -O1 -Wall -Wextra -Werror -mbulk-memory -nostdlib -Wl,--no-entry -Wl,-z,stack-size=16384 \
         -Wl,--initial-memory="$3" -Wl,--max-memory=1048576 -o "$2" "$1"
+}
+
+# The C of both modules, the runtime of wasm2c, and their host. What wasm2c writes has warnings of its own.
+wasm2c_host() {
+    runtime="$(dirname "$(command -v wasm2c)")/../share/wabt/wasm2c"
+    set -- "$1" "$build/writer.c" "$build/printer.c" "$runtime/wasm-rt-impl.c"
+    flags='-DWASM_RT_MEMCHECK_SIGNAL_HANDLER=0 -g -fsanitize=address,undefined'
+    # shellcheck disable=SC2086 # the flags are words
+    "$CC" -std=gnu11 -O2 -w -c $flags -I"$runtime" "$2" -o "$build/writer.o" &&
+        "$CC" -std=gnu11 -O2 -w -c $flags -I"$runtime" "$3" -o "$build/printer.o" &&
+        "$CC" -std=gnu11 -O2 -w -c $flags -I"$runtime" "$4" -o "$build/wasm-rt.o" &&
+        checked_c_program "$here/wasm2c/host.c" "$1" -DWASM_RT_MEMCHECK_SIGNAL_HANDLER=0 -I"$build" -I"$runtime" \
+            "$build/writer.o" "$build/printer.o" "$build/wasm-rt.o"
 }
 
 js_tests() {
@@ -223,12 +257,15 @@ if has hostile; then
     step build-hostile checked_c_program "$here/c/hostile.c" "$build/hostile"
     same hostile "$here/c/hostile.expected" "$build/hostile" 100
 fi
-for host in lists values served; do
+for host in lists values served store; do
     if has $host; then
         step "build-$host" checked_c_program "$here/c/$host.c" "$build/$host"
         same "$host" "$here/c/$host.expected" "$build/$host"
     fi
 done
+if has call_header gcc g++ clang clang++; then
+    step call_header strict_header
+fi
 for rows in vectors json_vectors; do
     if has "$rows" python3; then
         step "build-$rows" c_program "$here/c/$rows.c" "$build/$rows"
@@ -239,6 +276,14 @@ for rows in vectors json_vectors; do
             same import_vectors "$here/c/import_vectors.expected" python3 "$here/c/import_vectors.py" "$build/json_vectors"
     fi
 done
+if has linked_vectors python3; then
+    for program in vectors linked_vectors; do
+        step "build-$program-random" checked_c_program "$here/c/$program.c" "$build/$program-random"
+    done
+    same linked_vectors "$here/c/vectors.expected" python3 "$here/c/vectors.py" "$build/linked_vectors-random"
+    same random_calls "$here/c/random_calls.expected" \
+        python3 "$here/c/random_calls.py" "$build/vectors-random" "$build/linked_vectors-random"
+fi
 if has bindings; then
     same bindings "$here/c/shop.h" "$prefix/bin/wit-explain" bind c "$here/c/shop.wit"
     same bindings-guest "$here/guest/club.h" "$prefix/bin/wit-explain" bind guest "$here/guest/guest.wit"
@@ -256,6 +301,14 @@ fi
 if has js clang wasm-ld node; then
     engine_modules
     same js "$here/engine/host.expected" node "$root/bindings/js/tests/host.mjs" "$build"
+fi
+if has wasm2c clang wasm-ld wasm2c; then
+    for module in writer printer; do
+        step "build-$module" wasm_module "$here/wasm2c/$module.c" "$build/$module.wasm" 131072
+        step "wasm2c-$module" wasm2c -n "$module" -o "$build/$module.c" "$build/$module.wasm"
+    done
+    step build-wasm2c wasm2c_host "$build/mill"
+    same wasm2c "$here/wasm2c/host.expected" "$build/mill" "$here/wasm2c/mill.wit"
 fi
 if has guest clang wasm-ld node; then
     step guest env WIT_EXPLAIN="$prefix/bin/wit-explain" "$here/guest/run.sh" "$build/guest"

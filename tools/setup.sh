@@ -62,6 +62,7 @@ npm npm
 headers-of-node libnode-dev
 tsc node-typescript
 wasm-opt binaryen
+wasm2c wabt
 aarch64-linux-gnu-gcc gcc-aarch64-linux-gnu
 libc-for-aarch64 libc6-dev-arm64-cross
 qemu-aarch64 qemu-user
