@@ -22,6 +22,8 @@ PRINTING = {"js": ("console.log(", "// "), "python": ("print(", "# ")}
 # the file of tests/pages that a block is put into, by what the block begins with, and what the file gives it
 FRAMES = {
     "witcall_package package = WITCALL_NONE;": "halves.c",  # two memories, and what the allocators grant
+    "witcall_guest caller = {.context = one": "linked.c",  # two guests, and a core function
+    "witcall_array_memory own = {": "values.c",  # a guest
     "uint8_t name[WITCALL_MAX_LABEL];": "rows.c",  # a package that is open
     "size_t lengths[] = {clocks_len, app_len};": "sets.c",  # two texts, one after another
     "demo_shop_desk_order_parameters given = {": "caller.c",  # a caller's memory with a result
