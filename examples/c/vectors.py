@@ -3,9 +3,9 @@
 
 usage: examples/c/vectors.py PROGRAM      PROGRAM is examples/c/vectors.c, built
 
-A call whose body asks for blocks is left out, and so are the rows that are no calls. Each call has to do the same: its
-answer or trap, the core values of its runs, the bytes of both memories, and the blocks that were asked for. A call in
-halves differs by its form in four ways, and any other difference is a failure:
+Left out are a call whose body asks for blocks, one whose allocators keep notes in the memories, and the rows that are
+no calls. Each call has to do the same: its answer or trap, the core values of its runs, the bytes of both memories, and
+the blocks that were asked for. A call in halves differs by its form in four ways, and any other difference is a failure:
 
   fault first  the source's fault is told before any block is asked for. The stored call met it on its way, behind
                blocks that were granted and written. The trap is the same; nobody was asked, and the target is as it
@@ -48,9 +48,12 @@ NO_BLOCKS = 72
 # what a row has that is no call over a link, and what it is about
 OTHER_ROWS = {
     "steps": "sessions",
+    "held": "sessions",
     "host": "a host's memory",
     "lift": "a value",
     "lower": "a value",
+    "load": "a value",
+    "store": "a value",
     "head_at": "a head",
     "head_of": "a head",
 }
@@ -156,6 +159,8 @@ def left_out(row):
     for key, what in OTHER_ROWS.items():
         if key in row:
             return what
+    if "headers" in (row.get("kinds") or []):
+        return "an allocator with notes"
     asks = any(body.get("asks") for body in row.get("body") or [])
     return "a body that asks for blocks" if asks else None
 
