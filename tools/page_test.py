@@ -197,7 +197,9 @@ class Page:
         self.until(f"document.getElementById('state')?.textContent.startsWith({json.dumps(words)})")
 
     def type(self, text, words):
-        """Types a text over the one that is there, and waits until it is drawn. The state begins with some words."""
+        """Types a text over the one that is there, and waits until it is drawn. The state begins with some words. What
+        was drawn before is waited for first, so that it is not taken for the text."""
+        self.until("performance.getEntriesByName('redraw').length > 0")
         self.value("performance.clearMeasures('redraw')")
         self.browser.type(text)
         self.until("performance.getEntriesByName('redraw').length > 0")

@@ -20,7 +20,7 @@ test("the module is loaded from bytes and URLs, packed or not", async (it) => {
   const module = await WebAssembly.compile(bytes());
   for (const source of [bytes(), gzipSync(bytes()), new Uint8Array(bytes()).buffer, url, packedUrl, url.href, module]) {
     const witcall = await load(source);
-    assert.match(witcall.version, /^\d+\.\d+\.\d+(\+[0-9a-f]{12})?$/);
+    assert.match(witcall.version, /^\d+\.\d+\.\d+(\+([0-9a-f]{12}|next))?$/);
     const known = ["VERSION", "release/version"].map((name) => fileOf(name).toString().trim());
     assert.ok(known.includes(witcall.version.split("+")[0]), witcall.version);
   }

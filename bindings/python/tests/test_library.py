@@ -79,7 +79,7 @@ class Loading(unittest.TestCase):
 
     def test_the_library_says_its_version_and_may_say_its_commit(self):
         told = witcall.library_version()
-        self.assertRegex(told, r"^\d+\.\d+\.\d+(\+[0-9a-f]{12})?$")
+        self.assertRegex(told, r"^\d+\.\d+\.\d+(\+([0-9a-f]{12}|next))?$")
         self.assertEqual(told.partition("+")[0], witcall.version())
 
     def test_a_library_of_another_version_is_loaded(self):

@@ -16,9 +16,10 @@ fn a_package_is_written_and_opened_again() -> Result<(), Error> {
     let again = Package::open(package.to_binary()?)?;
     assert_eq!([package.to_text()?, again.to_text()?], [TEXT, TEXT]);
     let told = witcall::version()?;
-    let (version, commit) = told.split_once('+').unwrap_or((&told, "0123456789ab"));
+    let (version, commit) = told.split_once('+').unwrap_or((&told, "next"));
+    let is_commit = commit.len() == 12 && commit.bytes().all(|digit| matches!(digit, b'0'..=b'9' | b'a'..=b'f'));
     assert_eq!(version, env!("CARGO_PKG_VERSION"));
-    assert!(commit.len() == 12 && commit.bytes().all(|digit| matches!(digit, b'0'..=b'9' | b'a'..=b'f')), "{told}");
+    assert!(is_commit || commit == "next", "{told}");
     assert_eq!(file("VERSION"), format!("{}\n", env!("CARGO_PKG_VERSION")).as_bytes());
     Ok(())
 }
