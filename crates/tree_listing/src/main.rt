@@ -1,7 +1,11 @@
 //! Lists the faults of WIT texts, and the nodes of their trees, for tests: `tree_listing faults PATH..` and
-//! `tree_listing nodes PATH..`. The gate compares them with what the program answers.
+//! `tree_listing nodes PATH..`. The gate compares them with what the program answers. `tree_listing layouts PATH..`
+//! prints the texts in their layout.
 #![tactic(auto)]
 
+mod formatting;
+
+use formatting::list_layout;
 use std::alloc::{AllocError, Global};
 use std::{env, fs, io};
 use wit_reading::tree_of;
@@ -74,9 +78,13 @@ fn list(rt: &HostRuntime, path: &str, has_nodes: bool) -> io::Result<()> {
 fn main(rt: HostRuntime) -> io::Result<()> {
     let words: Vec<String> = env::args(&rt)?.collect(rt.alloc())?;
     let [_, asked, paths @ ..] = words.as_slice() else {
-        return println!(rt; "usage: tree_listing faults|nodes PATH..");
+        return println!(rt; "usage: tree_listing faults|nodes|layouts PATH..");
     };
     for path in paths {
+        if asked.as_str() == "layouts" {
+            list_layout(&rt, path.as_str())?;
+            continue;
+        }
         list(&rt, path.as_str(), asked.as_str() == "nodes")?;
     }
     Ok(())

@@ -1,0 +1,2 @@
+pub mod SameKinds
+pub mod SameSolids
