@@ -11,8 +11,9 @@ other way round. Each program named is run, by default those that the gate built
 to be there. Each block of `console` of the pages has to be a stored run, and docs/pictures/shapes.svg what the run of
 PICTURE prints. Pictures that runs print of the types of one file have to be to scale, and those of calls have the words
 of the same call without `--svg`, with arrows from each pointer to its block (tools/check_drawings.py). A run of
-BINARIES writes the file `out`, as `witcall` writes it on the words beside it: the one that the gate built, if no other
-is named. Both programs are in release/ too, packed. The exit status is 1 if one of them differs.
+LAID_OUT lays a file out as it is stored. A run of BINARIES writes the file `out`, as `witcall` writes it on the words
+beside it: the one that the gate built, if no other is named. Both programs are in release/ too,
+packed. The exit status is 1 if one of them differs.
 """
 import collections
 import difflib
@@ -41,6 +42,8 @@ BINARIES = {
     "bin --output out wit": "bin --with wit/deps/clocks/wall.wit wit/app.wit",
     "bin --output=out wit": "bin --with wit/deps/clocks/wall.wit wit/app.wit",
 }
+# a run that lays a file out, with the file and the text that it has then
+LAID_OUT = {"format loose": ("loose/stock.wit", "loose/laid-out.txt")}
 WRITTEN = {
     "encode -o out modules/package.wasm": "modules/package.wasm",
     "encode --world guest -o out modules/carrying.wasm": "modules/world.wasm",
@@ -77,6 +80,21 @@ def printed(program, words, folder):
     return f"{said.decode()}{beside}status {done.returncode}"
 
 
+def writes(words):
+    """Whether a run may write a file."""
+    return words[:1] == ["format"] or any(it.startswith(WRITING) for it in words)
+
+
+def has_other_layout(words, folder):
+    """Whether a run of LAID_OUT wrote another text. It is told."""
+    run = " ".join(words)
+    file, wanted = LAID_OUT.get(run, ("", ""))
+    if not file or (folder / file).read_bytes() == (folder / wanted).read_bytes():
+        return False
+    print(f"{PROMPT} {run}: {file} is not {wanted}")
+    return True
+
+
 def has_other_binary(witcall, words, folder):
     """Whether a run of BINARIES or of WRITTEN wrote another binary. It is told."""
     run = " ".join(words)
@@ -98,9 +116,9 @@ def differing(program, witcall):
     with tempfile.TemporaryDirectory() as room:
         shared = copied(pathlib.Path(room) / "files")
         for number, (words, wanted) in enumerate(stored_runs()):
-            files = copied(pathlib.Path(room) / str(number)) if any(it.startswith(WRITING) for it in words) else shared
+            files = copied(pathlib.Path(room) / str(number)) if writes(words) else shared
             said = printed(program, words, files)
-            found += has_other_binary(witcall, words, files)
+            found += has_other_binary(witcall, words, files) + has_other_layout(words, files)
             if said != wanted:
                 found += 1
                 lines = difflib.unified_diff(wanted.split("\n"), said.split("\n"), "stored", "printed", lineterm="")

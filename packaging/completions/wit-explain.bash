@@ -11,13 +11,14 @@ _wit_explain() {
     if [[ $before == --color ]]; then
         mapfile -t COMPREPLY < <(compgen -W 'auto always never' -- "$current")
     elif [ "$COMP_CWORD" -eq 1 ]; then
-        options='check show text bin encode embed decode layout diff call bind --help --version'
+        options='check format show text bin encode embed decode layout diff call bind --help --version'
         mapfile -t COMPREPLY < <(compgen -W "$options" -- "$current")
     elif [[ ${COMP_WORDS[1]} == bind && $COMP_CWORD -eq 2 && $current != -* ]]; then
         mapfile -t COMPREPLY < <(compgen -W 'c guest ts' -- "$current")
     elif [[ $current == -* ]]; then
         case ${COMP_WORDS[1]} in
             check | show) options='--json --color --help' ;;
+            format) options='--check --color --help' ;;
             layout) options='--svg --json --color --help' ;;
             bin) options='-o --output --color --help' ;;
             encode | embed) options='-o --output --world --color --help' ;;

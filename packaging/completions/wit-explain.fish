@@ -1,5 +1,6 @@
 # Completion of wit-explain for fish: the commands, the options, and files.
 complete -c wit-explain -n __fish_use_subcommand -f -a check -d 'show the faults of files'
+complete -c wit-explain -n __fish_use_subcommand -f -a format -d 'lay files out'
 complete -c wit-explain -n __fish_use_subcommand -f -a show -d 'show what packages have'
 complete -c wit-explain -n __fish_use_subcommand -f -a text -d 'print a package as canonical text'
 complete -c wit-explain -n __fish_use_subcommand -f -a bin -d 'write a package as a binary'
@@ -16,6 +17,7 @@ complete -c wit-explain -n __fish_use_subcommand -f -l version -d 'print the ver
 complete -c wit-explain -f -l help -d 'print the help'
 complete -c wit-explain -n 'not __fish_use_subcommand' -l color -x -a 'auto always never' -d 'when faults are colored'
 complete -c wit-explain -n '__fish_seen_subcommand_from check' -l json -d 'print the faults as JSON'
+complete -c wit-explain -n '__fish_seen_subcommand_from format' -l check -d 'write no file'
 complete -c wit-explain -n '__fish_seen_subcommand_from show layout' -l json -d 'print all of it as one JSON document'
 complete -c wit-explain -n '__fish_seen_subcommand_from encode' -l world -x -d 'encode this world alone'
 complete -c wit-explain -n '__fish_seen_subcommand_from embed' -l world -x -d 'the world of the module'

@@ -7,6 +7,7 @@ use crate::options::Options;
 pub enum Verb {
     Version,
     Check,
+    Format,
     Contents,
     Document,
     Text,
@@ -34,33 +35,40 @@ enum Use {
 const MANY: usize = usize::MAX;
 
 /// The words that a command begins with, the second empty if there is one, how many come after them, whether it has
-/// `--json`, `--svg`, `--output` and `--world`, and what it does.
-type Row = (&'static str, &'static str, (usize, usize), [Use; 4], Verb);
+/// `--json`, `--svg`, `--output`, `--world` and `--check`, and what it does.
+type Row = (&'static str, &'static str, (usize, usize), [Use; 5], Verb);
 
 /// A command has none of the options.
-const PLAIN: [Use; 4] = [Use::Never, Use::Never, Use::Never, Use::Never];
+const PLAIN: [Use; 5] = [Use::Never, Use::Never, Use::Never, Use::Never, Use::Never];
 
 /// It has `--json`.
-const AS_JSON: [Use; 4] = [Use::Must, Use::Never, Use::Never, Use::Never];
+const AS_JSON: [Use; 5] = [Use::Must, Use::Never, Use::Never, Use::Never, Use::Never];
 
 /// It may have `--svg`.
-const DRAWN: [Use; 4] = [Use::Never, Use::May, Use::Never, Use::Never];
+const DRAWN: [Use; 5] = [Use::Never, Use::May, Use::Never, Use::Never, Use::Never];
 
 /// The commands.
-static COMMANDS: [Row; 16] = [
+static COMMANDS: [Row; 17] = [
     (
         "--version",
         "",
         (0, 0),
-        [Use::May, Use::May, Use::Never, Use::Never],
+        [Use::May, Use::May, Use::Never, Use::Never, Use::Never],
         Verb::Version,
     ),
     (
         "check",
         "",
         (1, MANY),
-        [Use::May, Use::Never, Use::Never, Use::Never],
+        [Use::May, Use::Never, Use::Never, Use::Never, Use::Never],
         Verb::Check,
+    ),
+    (
+        "format",
+        "",
+        (1, MANY),
+        [Use::Never, Use::Never, Use::Never, Use::Never, Use::May],
+        Verb::Format,
     ),
     ("show", "", (1, MANY), PLAIN, Verb::Contents),
     ("show", "", (1, MANY), AS_JSON, Verb::Document),
@@ -69,21 +77,21 @@ static COMMANDS: [Row; 16] = [
         "bin",
         "",
         (1, MANY),
-        [Use::Never, Use::Never, Use::Must, Use::Never],
+        [Use::Never, Use::Never, Use::Must, Use::Never, Use::Never],
         Verb::Binary,
     ),
     (
         "encode",
         "",
         (1, MANY),
-        [Use::Never, Use::Never, Use::Must, Use::May],
+        [Use::Never, Use::Never, Use::Must, Use::May, Use::Never],
         Verb::Encode,
     ),
     (
         "embed",
         "",
         (2, MANY),
-        [Use::Never, Use::Never, Use::Must, Use::Must],
+        [Use::Never, Use::Never, Use::Must, Use::Must, Use::Never],
         Verb::Embed,
     ),
     ("decode", "", (1, 1), PLAIN, Verb::Decode),
@@ -96,7 +104,7 @@ static COMMANDS: [Row; 16] = [
         "bind",
         "guest",
         (1, MANY),
-        [Use::Never, Use::Never, Use::Never, Use::May],
+        [Use::Never, Use::Never, Use::Never, Use::May, Use::Never],
         Verb::HeaderForGuest,
     ),
     ("bind", "ts", (1, MANY), PLAIN, Verb::DeclarationsForTs),
@@ -154,12 +162,13 @@ fn allows(used: Use, is_given: bool) -> bool {
 }
 
 /// Whether a command has these options.
-fn takes(uses: [Use; 4], options: &Options<'_>) -> bool {
-    let [json, svg, output, world] = uses;
+fn takes(uses: [Use; 5], options: &Options<'_>) -> bool {
+    let [json, svg, output, world, check] = uses;
     allows(json, options.is_json)
         && allows(svg, options.svg.is_some())
         && allows(output, options.output.is_some())
         && allows(world, options.world.is_some())
+        && allows(check, options.is_check)
 }
 
 /// The words after a word. None if they begin with another one.

@@ -9,6 +9,7 @@ static PROGRAM: &str = "\
 wit-explain: faults of WIT files with lines, pictures of types, calls step by step, and bindings for C and TypeScript
 
 usage: wit-explain check [--json] PATH..
+       wit-explain format [--check] PATH..
        wit-explain show [--json] PATH..
        wit-explain text PATH..
        wit-explain bin -o FILE PATH..
@@ -38,6 +39,16 @@ Checks the packages of these files, each after those that it depends on. Prints 
 text has none, those of its names, at most 20: the file, line and column, the error's number and words, the line with
 the place marked, and a hint. Behind a fault, the file is read on at its next item. Prints nothing if all is well.
 With --json, prints the faults as an array of objects.
+";
+
+const FORMAT: &str = "\
+usage: wit-explain format [--check] [--color WHEN] PATH..
+
+Lays out these files and those of these folders, without their `deps`: two spaces a level, an item on each line, and a
+function or a list in one line if it has room in 100 columns. Words and comments stay as they are, with their bytes.
+Writes each file whose text changes, and prints its name. A file with a fault of syntax stays as it is: its faults are
+printed as `check` prints them. What is read from standard input is printed in its layout.
+With --check, writes no file, prints the names of those that would change, and the status is 1 if there are any.
 ";
 
 const SHOW: &str = "\
@@ -133,8 +144,9 @@ package of witcall takes and returns. Of several packages it is the last that is
 ";
 
 /// The commands, each with its help.
-static COMMANDS: [(&str, &str); 11] = [
+static COMMANDS: [(&str, &str); 12] = [
     ("check", CHECK),
+    ("format", FORMAT),
     ("show", SHOW),
     ("text", TEXT),
     ("bin", BIN),

@@ -24,14 +24,16 @@ enum Pending {
 enum Kind {
     Help,
     Json,
+    Check,
     /// The word after it, or after its `=`.
     Valued(Pending),
 }
 
 /// The options.
-static OPTIONS: [(&str, Kind); 6] = [
+static OPTIONS: [(&str, Kind); 7] = [
     ("--help", Kind::Help),
     ("--json", Kind::Json),
+    ("--check", Kind::Check),
     ("--color", Kind::Valued(Pending::Color)),
     ("--svg", Kind::Valued(Pending::Svg)),
     ("--output", Kind::Valued(Pending::Output)),
@@ -55,6 +57,8 @@ pub struct Options<'a> {
     pub words: Vec<&'a str>,
     pub color: ColorChoice,
     pub is_json: bool,
+    /// No file is written.
+    pub is_check: bool,
     pub is_help: bool,
     /// The file for a picture.
     pub svg: Option<&'a str>,
@@ -108,6 +112,7 @@ impl<'a> Options<'a> {
             words: Vec::new(alloc),
             color: ColorChoice::Auto,
             is_json: false,
+            is_check: false,
             is_help: false,
             svg: None,
             output: None,
@@ -135,6 +140,7 @@ impl<'a> Options<'a> {
         match (kind_of(name_of(word)), word.split_once('=')) {
             (Some(Kind::Help), None) => self.is_help = true,
             (Some(Kind::Json), None) => self.is_json = true,
+            (Some(Kind::Check), None) => self.is_check = true,
             (Some(Kind::Valued(option)), None) => self.pending = Some(option),
             (Some(Kind::Valued(option)), Some((_, value))) => {
                 return self.take_value(option, value);

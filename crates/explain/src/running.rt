@@ -2,6 +2,7 @@
 
 use crate::asked::{Asked, Verb, asked_for};
 use crate::commands::run_on;
+use crate::formatting::format_sources;
 use crate::help::{VERSION, help_of, usage};
 use crate::options::{ColorChoice, Options, Parsed};
 use crate::unknown::{refusal_of_option, refusal_of_words};
@@ -104,6 +105,12 @@ fn run_on_paths(
     Ok(())
 }
 
+/// Lays out the files that a command's paths are or have.
+fn format(rt: &HostRuntime, report: &mut Report, asked: &Asked<'_, '_>) -> Result<(), AllocError> {
+    let sources = sources_of(rt, asked.paths())?;
+    format_sources(rt, report, sources.as_slice(), asked.options.is_check)
+}
+
 /// Does what a command asks for.
 fn run_command(
     rt: &HostRuntime,
@@ -112,6 +119,7 @@ fn run_command(
 ) -> Result<(), AllocError> {
     match asked.verb {
         Verb::Version => report.text.push(VERSION),
+        Verb::Format => format(rt, report, asked)?,
         Verb::Decode => decode(rt, report, asked.word(0)),
         Verb::Differences => differences(rt, report, asked.word(0), asked.word(1))?,
         _ => run_on_paths(rt, report, asked)?,

@@ -14,11 +14,18 @@ pub fn refuse<E: Display>(report: &mut Report, path: &str, error: &E) {
     report.text.push("\n");
 }
 
-/// Writes bytes to a file.
-pub fn save(rt: &HostRuntime, report: &mut Report, file: &str, bytes: &[u8]) {
-    if fs::write(rt, file, bytes).is_err() {
+/// Writes bytes to a file. False if it fails, which is reported.
+pub fn is_saved(rt: &HostRuntime, report: &mut Report, file: &str, bytes: &[u8]) -> bool {
+    let is_written = fs::write(rt, file, bytes).is_ok();
+    if !is_written {
         refuse(report, file, &"error 65 write");
     }
+    is_written
+}
+
+/// Writes bytes to a file.
+pub fn save(rt: &HostRuntime, report: &mut Report, file: &str, bytes: &[u8]) {
+    let _is_written = is_saved(rt, report, file, bytes);
 }
 
 /// Prints a text, or reports at the first of a command's paths why there is none.
