@@ -1,4 +1,5 @@
 mod InputsStandInOrder
+mod LinesInArrays
 mod RequestsInArrays
 mod CallsOfFunctions
 mod ArgumentsAsTuples

@@ -6,4 +6,5 @@ pub mod Inputs
 pub mod Json
 pub mod Line
 pub mod Modules
+pub mod Writing
 pub mod Written

@@ -1,6 +1,8 @@
 //! Lines of text in arrays of bytes.
-ghost use Rattle.std.specs.Prelude.{length};
-ghost use Rattle.c_border.specs.Line.{LineDone};
+ghost use Rattle.std.specs.Prelude.{◌≡◌, ◌+◌, ◌-◌, ◌^◌, ◌⊎◌, length, IfSome, Err};
+ghost use Rattle.c_border.specs.Line.{FitsRoom, LineDone, counted};
+ghost use Rattle.c_border.specs.Writing.{put_over};
+ghost use Rattle.host_calls.specs.declared.error.CallError.TheVariants.{NoRoom};
 
 use host_calls::CallError;
 use std::fmt::{self, Display, Write};
@@ -14,25 +16,34 @@ struct Line<'a> {
 }
 
 impl<'a> fmt::Write for Line<'a> {
+    ghost write_str_gives = { λ s bytes t. (t.out.now ≡ put_over s.out.now s.count bytes)
+        × (t.count ≡ counted (s.count + length bytes)) × (t.out.ghost_name ≡ s.out.ghost_name) };
+
     fn write_str(&mut self, text: &str) -> fmt::Result {
-        for byte in text.as_bytes() {
-            if let Some(place) = self.out.get_mut(self.count) {
-                *place = *byte;
-            }
-            self.count = self.count.saturating_add(1);
-        }
+        let bytes = text.as_bytes();
+        let start = self.count.min(self.out.len());
+        let fitting = bytes.len().min(self.out.len() - start);
+        self.out[start..start + fitting].copy_from_slice(&bytes[..fitting]);
+        self.count = self.count.saturating_add(bytes.len());
         Ok(())
     }
 }
 
-/// Tells what is displayed, with no line end, and answers how many bytes it has: 71 where there is no room for them.
+/// Tells what is displayed, with no line end, and answers how many bytes it has. 71 with that count where there is no
+/// room for them, and then those stand in the array for which there is room. 71 with the greatest count where displaying
+/// stops by itself, as none of the library's does.
 pub fn tell_line<T: Display>(shown: &T, out: &mut [u8]) -> Result<usize, CallError>
-    ensures { LineDone (length out.old) result }
+    ensures told { IfSome (T.output shown.now) (λ line. LineDone line out.old result out.new)
+        ⊎ (result ≡ Err (NoRoom (2 ^ 64 - 1))) }
+    ensures room { FitsRoom (length out.old) result }
 {
     let room = out.len();
     let mut line = Line { out, count: 0 };
-    let _written = write!(line, "{shown}");
-    let count = line.count;
+    let has_failed = write!(line, "{shown}").is_err();
+    let Line { out: _out, count } = line;
+    if has_failed {
+        return Err(CallError::NoRoom(usize::MAX));
+    }
     if room < count {
         return Err(CallError::NoRoom(count));
     }

@@ -4,7 +4,7 @@ use Rattle.std.specs.Option.{option_map}
 use Rattle.std.specs.Str.{IsUtf8}
 use Rattle.c_border.specs.Functions.{OfFunction, numbered}
 use Rattle.c_border.specs.Inputs.{ArePieces, AreNoPieces}
-use Rattle.c_border.specs.Line.{LineDone}
+use Rattle.c_border.specs.Line.{FitsRoom}
 use Rattle.c_border.specs.Modules.{OpensCarried}
 use Rattle.canonical_abi.specs.Layout.{lifted_signature, lowered_signature}
 use Rattle.canonical_abi.specs.Types.{FunctionType}
@@ -91,7 +91,7 @@ FindsOfWorld (Some p) world side name done = MatchResult done
 -- of a refusal, a line that fits the array, or how long it is; of a package none, and the array is as it was
 abbrev pub LineIn : Opening → List ℕ → List ℕ → Result ℕ CallError → Type 0
 LineIn (Ok p) old new done = (done ≡ Ok 0) × (new ≡ old)
-LineIn (Err refusal) old new done = LineDone (length old) done
+LineIn (Err refusal) old new done = FitsRoom (length old) done
 
 -- the line of a handle that holds a refusal, or none of a package; 70 not open if it holds neither
 abbrev pub LineOf : Option Held → List ℕ → List ℕ → Result ℕ CallError → Type 0

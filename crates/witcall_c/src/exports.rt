@@ -1,12 +1,14 @@
 //! What the header declares: each export takes what a handle stands for, makes one call of it, and gives it back.
-ghost use Rattle.std.specs.Prelude.{◌≡◌, ◌<◌, ◌∷◌, [], ℕ, None, Result, length};
+ghost use Rattle.std.specs.Prelude.{◌≡◌, ◌⊎◌, ◌<◌, ◌-◌, ◌^◌, ◌∷◌, [], ℕ, None, Result, Err, length};
 ghost use Rattle.canonical_abi.specs.Layout.{lifted_signature, lowered_signature};
 ghost use Rattle.canonical_abi.specs.Types.{result_fields};
 ghost use Rattle.host_calls.specs.Calling.{EnterDone, LeaveDone, EnterAsks, LeaveAsks};
 ghost use Rattle.host_calls.specs.Parts.{PartsDone};
 ghost use Rattle.host_calls.specs.Signatures.{KindsDone};
+ghost use Rattle.host_calls.specs.Lines.{status_words};
 ghost use Rattle.host_calls.specs.Status.{status_of};
 ghost use Rattle.host_calls.specs.declared.error.CallError.{CallError};
+ghost use Rattle.host_calls.specs.declared.error.CallError.TheVariants.{NoRoom};
 ghost use Rattle.host_calls.specs.Members.{member_at};
 ghost use Rattle.host_calls.specs.Names.{member_name_at, row_name_at};
 ghost use Rattle.host_calls.specs.Owners.{owner_name_at};
@@ -16,7 +18,7 @@ ghost use Rattle.opening.specs.Sets.{all_bytes};
 ghost use Rattle.c_border.specs.CallObject.{BeginsCall, flats_of};
 ghost use Rattle.c_border.specs.Explained.{Explains};
 ghost use Rattle.c_border.specs.Json.{JsonAsks, JsonFaults, JsonFills, JsonReads};
-ghost use Rattle.c_border.specs.Line.{LineDone};
+ghost use Rattle.c_border.specs.Line.{FitsRoom, LineDone};
 ghost use Rattle.c_border.specs.Written.{Describes, WritesBinary, WritesText};
 ghost use Rattle.tables.specs.declared.tables.Direction.TheVariants.{Import, Export};
 ghost use Rattle.witcall_c.specs.Calls.{FindsFunction, FindsOfWorld, IsHeld, LineOf, Opens, OpensModule, OpensPieces};
@@ -148,7 +150,8 @@ pub extern "C" fn witcall_line(alloc: Global, handle: &mut Handle, line: &mut [u
 /// The line of a status; 0 bytes of one that is done.
 #[unsafe(no_mangle)]
 pub extern "C" fn witcall_status_line(status: Status, line: &mut [u8]) -> Status
-    ensures { (done : Result ℕ CallError) × (result ≡ status_of done) × LineDone (length line.old) done }
+    ensures { (done : Result ℕ CallError) × (result ≡ status_of done) × FitsRoom (length line.old) done
+        × (LineDone (status_words status) line.old done line.new ⊎ (done ≡ Err (NoRoom (2 ^ 64 - 1)))) }
 {
     Status::of(tell_line(&status, line))
 }
