@@ -21,7 +21,7 @@ import re
 from repository import ROOT, TOP, finish, is_reference, line_at, pages, place, without_blocks
 
 MOST_LINES = 110
-MOST_IN_ALL = 7700
+MOST_IN_ALL = 8000
 MOST_PAGES = {"docs": 17, "docs/guarantees": 8}
 # what a page that a script makes says in its first lines
 MADE = re.compile(r"`tools/\w+\.py`\s+makes\s+(?:it|the\s+page)\b")

@@ -1,14 +1,13 @@
 //! What the commands do with checked packages.
 
 use crate::asked::{Asked, Verb};
-use crate::calling::{CallWords, report_call};
 use crate::writing::{push_written, refuse, save, save_written, show};
 use checked_packages::{Checked, CheckedSet, main_of};
 use layout_picture::Form;
 use module_worlds::EmbedError;
 use package_commands::{
-    Unembedded, binary_of, declarations_for_ts, document_of, embedded, encoded, header_for_c,
-    header_for_guest, picture_of, push_contents, text_of,
+    CallWords, Unembedded, binary_of, declarations_for_ts, document_of, embedded, encoded,
+    header_for_c, header_for_guest, picture_of, push_contents, report_call, text_of,
 };
 use wit_faults::Report;
 

@@ -28,7 +28,7 @@ usage: wit-explain check [--json] PATH..
 A PATH is a file, a folder with `.wit` files and its dependencies in `deps`, or `-` for standard input. A file is a text
 or a binary: a package or a world as other tools write it, or a module that carries a world.
 --color auto|always|never says when faults are colored. `auto` is if standard output is a terminal and the environment
-variable NO_COLOR is empty or not set.
+variable NO_COLOR is empty or not set. No word after `--` is an option. `-h` is `--help`, and so is `help COMMAND`.
 Exit status: 0 if all is well, 1 after a fault or a trap, 2 if the words are no command.
 ";
 
@@ -124,10 +124,10 @@ const CALL: &str = "\
 usage: wit-explain call [--svg FILE] [--color WHEN] PATH INTERFACE FUNCTION ARGUMENTS [ANSWER]
 
 Makes a call as `witcall call` does, and shows what it did: the core values on each side, the blocks that were
-requested, and the bytes in them, field by field. INTERFACE is a full name, as `demo:shop/desk`. ARGUMENTS is a JSON
-array of one value for each parameter. ANSWER is a JSON array of the value that the callee returns; leave it out if
-there is none. With --svg, writes all that to FILE as SVG, with arrows from pointers to blocks, or to standard output if
-FILE is `-`.
+requested, and the bytes in them, field by field. INTERFACE is the full name of an interface, as `demo:shop/desk`, or
+of a world whose own item the function is. ARGUMENTS is a JSON array of one value for each parameter. ANSWER is a JSON
+array of the value that the callee returns; leave it out if there is none. With --svg, writes all that to FILE as SVG,
+with arrows from pointers to blocks, or to standard output if FILE is `-`.
 ";
 
 const BIND: &str = "\

@@ -67,6 +67,8 @@ pub struct Options<'a> {
     /// The name of the world that is wanted.
     pub world: Option<&'a str>,
     pending: Option<Pending>,
+    /// `--` came: no word after it is an option.
+    is_over: bool,
 }
 
 fn color_of(word: &str) -> Option<ColorChoice> {
@@ -118,6 +120,7 @@ impl<'a> Options<'a> {
             output: None,
             world: None,
             pending: None,
+            is_over: false,
         }
     }
 
@@ -156,14 +159,14 @@ impl<'a> Options<'a> {
             self.pending = None;
             return Ok(self.take_value(option, word));
         }
-        if word == "-o" {
-            self.pending = Some(Pending::Output);
-            return Ok(true);
+        match word {
+            _ if self.is_over => self.words.push(word)?,
+            "--" => self.is_over = true,
+            "-o" => self.pending = Some(Pending::Output),
+            "-h" => self.is_help = true,
+            _ if word.starts_with("--") && word != "--version" => return Ok(self.take_option(word)),
+            _ => self.words.push(word)?,
         }
-        if word.starts_with("--") && word != "--version" {
-            return Ok(self.take_option(word));
-        }
-        self.words.push(word)?;
         Ok(true)
     }
 

@@ -160,8 +160,10 @@ fn help(rt: &HostRuntime, words: &[&str]) -> Result<Report, AllocError> {
 /// Does what the options and words ask for.
 fn run_options(rt: &HostRuntime, options: &Options<'_>) -> Result<Report, AllocError> {
     let words = options.words.as_slice();
-    if options.is_help {
-        return help(rt, words);
+    match words {
+        _ if options.is_help => return help(rt, words),
+        [first, command @ ..] if *first == "help" => return help(rt, command),
+        _ => {}
     }
     match asked_for(options) {
         Some(asked) => report_of(rt, &asked),
