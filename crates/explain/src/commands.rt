@@ -2,12 +2,13 @@
 
 use crate::asked::{Asked, Verb};
 use crate::writing::{push_written, refuse, save, save_written, show};
+use call_command::{CallWords, report_call};
 use checked_packages::{Checked, CheckedSet, main_of};
 use layout_picture::Form;
 use module_worlds::EmbedError;
 use package_commands::{
-    CallWords, Unembedded, binary_of, declarations_for_ts, document_of, embedded, encoded,
-    header_for_c, header_for_guest, picture_of, push_contents, report_call, text_of,
+    Unembedded, binary_of, declarations_for_ts, document_of, embedded, encoded, header_for_c,
+    header_for_guest, picture_of, push_contents, text_of,
 };
 use wit_faults::Report;
 

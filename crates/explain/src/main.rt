@@ -3,8 +3,8 @@
 //!
 //! `run` does what the words of a command line ask for. `Options` parts the options from the other words, `asked_for`
 //! finds the command, and an unknown word is told with the nearest one that is known. It reads the files by `wit_files`
-//! and checks their packages by `checked_packages`. What a command does with them is done by `package_commands`. `format`
-//! lays each file out by `wit_format`.
+//! and checks their packages by `checked_packages`. What a command does with them is done by `package_commands`, or by
+//! `call_command`. `format` lays each file out by `wit_format`.
 #![tactic(auto)]
 
 mod asked;

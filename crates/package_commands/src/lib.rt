@@ -1,4 +1,4 @@
-//! What the commands of `wit-explain` do with checked packages.
+//! What the commands of `wit-explain` do with checked packages, but for calls.
 //!
 //! `push_contents` says what packages have, `document_of` all of it as JSON, and `picture_of` draws their types.
 //! `push_differences` tells what changed from one to another. `text_of`, `binary_of` and `encoded` write one,
@@ -7,26 +7,22 @@
 //! module with a world. Texts are those of `package_text`, binaries those of `wit_component` and of
 //! `module_worlds`, as modules are, lines those of `overview`, pictures those of `package_picture`, changes those of
 //! `package_diff`, headers those of `c_header`, and declarations those of `ts_declarations`. Binaries are read by
-//! `checked_packages`. `report_call` makes a call by `call_picture`, and says by `json_faults` where JSON is no value of
-//! its type.
+//! `checked_packages`.
 #![tactic(auto)]
 
 mod binary;
 mod binding;
-mod calling;
 mod canonical_text;
 mod contents;
 mod decoding;
 mod differences;
 mod embedding;
 mod encoding;
-mod missing;
 mod pictures;
 mod refusal;
 
 pub use binary::binary_of;
 pub use binding::{Unbound, declarations_for_ts, header_for_c, header_for_guest};
-pub use calling::{CallWords, report_call};
 pub use canonical_text::text_of;
 pub use contents::{document_of, push_contents};
 pub use decoding::{Undecoded, push_decoded};
