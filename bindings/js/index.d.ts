@@ -203,7 +203,7 @@ export interface LinkOptions {
 
 /**
  * Makes an instance of the caller, whose imports are functions of the callee. The library carries the values between
- * both memories.
+ * both memories. The callee is not entered again while it runs: that call is a `Trap`.
  * @throws {WitError} if the caller imports what neither the package nor `imports` has
  */
 export function link(pkg: Package, options: LinkOptions): WebAssembly.Instance;
@@ -232,7 +232,8 @@ export interface LiftOptions {
 
 /**
  * A function that an instance exports, as a function of values. It gives the result, or `undefined` if there is none.
- * It throws a `NotThisType` if the arguments are none of the function's, and a `Trap` as a linked function does.
+ * It throws a `NotThisType` if the arguments are none of the function's, and a `Trap` as a linked function does. So it
+ * does, and runs nothing, if the instance is in another call of `lift` or `link`.
  */
 export function lift(pkg: Package, func: WitFunction, options: LiftOptions): (...values: Value[]) => Value;
 

@@ -37,8 +37,11 @@ export class NotThisType extends WitError {
   }
 }
 
-/** A line as `trap K5 utf8 in lift-args`: the number of the kind, its word, and the word of the step. */
-const TRAP = /^trap K(\d) (\S+) in (\S+)$/;
+/**
+ * A line as `trap K5 utf8 in lift-args`: the number of the kind, its word, and the word of the step. A colon and a hint
+ * may follow.
+ */
+const TRAP = /^trap K(\d) (\S+) in ([a-z-]+)(?:: .+)?$/;
 
 /** The end of a call between two components. The callee is not run again after it. */
 export class Trap extends Error {

@@ -1,7 +1,8 @@
 // Functions of JavaScript's values as the imports of a guest.
 import { REFUSAL } from "./core.js";
+import { STEP } from "./entering.js";
 import { isPromise, promiseFault, reworded } from "./faults.js";
-import { LIMIT, STEP, Side, granted, limitOf, ran, stopping } from "./link.js";
+import { LIMIT, Side, granted, limitOf, ran, stopping } from "./link.js";
 import { empty, given } from "./own.js";
 import { Texts } from "./texts.js";
 import { decodedAll, encoded } from "./values.js";

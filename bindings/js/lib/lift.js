@@ -1,20 +1,22 @@
 // A component's function as a function of JavaScript's values.
+import { STEP, entered } from "./entering.js";
 import { reworded } from "./faults.js";
-import { LIMIT, STEP, Side, coreOf, granted, limitOf, ran, stopping, valuesOf } from "./link.js";
+import { LIMIT, Side, coreOf, granted, limitOf, ran, stopping, valuesOf } from "./link.js";
 import { Texts } from "./texts.js";
 import { decodedText, encodedAll } from "./values.js";
 
-/** Puts arguments into the component's memory, and returns the values for the core function. */
-function handedOver(texts, values, parameters) {
+/** Puts arguments, and their text, into the component's memory, and returns the values for the core function. */
+function handedOver(texts, text, values, parameters) {
   try {
-    return texts.putArguments(encodedAll(values, parameters));
+    return texts.putArguments(text);
   } catch (error) {
     throw reworded(error, values, { kind: "tuple", members: parameters });
   }
 }
 
 /**
- * A function that an instance exports, as a function of values. The Canonical ABI calls this `lift`.
+ * A function that an instance exports, as a function of values. The Canonical ABI calls this `lift`. An instance is
+ * entered by one call at a time.
  *
  * @param {import("./package.js").Package} pkg
  * @param {object} func one of its functions
@@ -26,11 +28,16 @@ function handedOver(texts, values, parameters) {
 export function lift(pkg, func, { callee, limit = LIMIT, grant = granted }) {
   const { body, post } = coreOf(callee.exports, func);
   const texts = new Texts(pkg, func, new Side(() => callee, grant), limitOf(limit));
-  return (...values) => {
-    const handed = handedOver(texts, values, func.parameters);
+  const call = (given, values) => {
+    const handed = handedOver(texts, given, values, func.parameters);
     const answer = valuesOf(ran(body, handed, stopping(pkg, STEP.BODY)));
     const text = texts.readResult(answer);
     if (post) ran(post, answer, stopping(pkg, STEP.POST));
+    return text;
+  };
+  return (...values) => {
+    const given = encodedAll(values, func.parameters);
+    const text = entered(pkg, callee.exports, () => call(given, values));
     return func.result === null ? undefined : decodedText(text, func.result.type);
   };
 }

@@ -1,15 +1,12 @@
 // Two core instances, of which the one calls functions of the other. The library carries the values between their
 // memories.
 import { CODE } from "./core.js";
+import { STEP, STOPPED, entered } from "./entering.js";
 import { Half, isI32 } from "./half.js";
 import { empty, own } from "./own.js";
 
 /** Bytes that the blocks of one half may have together, if `link` is not told another limit. */
 export const LIMIT = 2 ** 24;
-
-/** K7, a component that stops, and the steps in which it can. */
-const STOPPED = 7;
-export const STEP = { BODY: 4, POST: 7 };
 
 /** Runs code of a component. If the engine traps in it, the result is that of `stopped`. */
 export function ran(core, values, stopped) {
@@ -75,31 +72,22 @@ const coreName = (func) => (func.interface ? `${func.interface}#${func.name}` : 
  * A function as the caller imports it, over the core function of the callee.
  * @param {import("./package.js").Package} pkg
  * @param {object} func one of its functions
- * @param {{caller: Side, callee: Side, body: Function, post?: Function, limit: number}} sides
+ * @param {{caller: Side, callee: Side, exports: WebAssembly.Exports, limit: number}} sides
  */
-function crossed(pkg, func, { caller, callee, body, post, limit }) {
+export function lowered(pkg, func, { caller, callee, exports, limit }) {
+  const { body, post } = coreOf(exports, func);
   const enter = new Half(pkg, func, "witcall_enter", limit);
   const leave = new Half(pkg, func, "witcall_leave", limit);
   // A result that is no core value goes to an address behind the arguments.
   const hasArea = func.result !== null && func.lowered.results.length === 0;
-  return (...flats) => {
+  return (...flats) => entered(pkg, exports, () => {
     const handed = enter.carry([flats], caller, callee);
     const answer = valuesOf(ran(body, handed, stopping(pkg, STEP.BODY)));
     const area = hasArea ? { align: func.result.alignment, size: func.result.size, at: flats.at(-1) >>> 0 } : undefined;
     const [back] = leave.carry([flats, answer], callee, caller, area);
     if (post) ran(post, answer, stopping(pkg, STEP.POST));
     return back;
-  };
-}
-
-/**
- * A function of the callee as the caller imports it.
- * @param {import("./package.js").Package} pkg
- * @param {object} func one of its functions
- * @param {{caller: Side, callee: Side, exports: WebAssembly.Exports, limit: number}} sides
- */
-export function lowered(pkg, func, { caller, callee, exports, limit }) {
-  return crossed(pkg, func, { caller, callee, ...coreOf(exports, func), limit });
+  });
 }
 
 /** The core function of a function, and its post-return, if the callee exports one. */

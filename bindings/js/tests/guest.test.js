@@ -22,6 +22,15 @@ test("a guest is linked without a text", async () => {
   pkg.close();
 });
 
+test("a guest is not entered again while it runs", async () => {
+  const message = "trap K7 body in body: the guest runs, and is not entered again meanwhile";
+  const again = { ask: (x) => exports.tell(x), [HOST]: { upper: (text) => text } };
+  const { pkg, exports } = await instantiate(witcall, moduleOf("echo"), again);
+  assert.throws(() => exports.tell(1), { name: "Trap", message, number: 7, step: "body" });
+  assert.equal(exports[ECHO].upper("afterwards"), "afterwards");
+  pkg.close();
+});
+
 test("what the world imports has to be there", async () => {
   const message = `the implementation has no function ${HOST}#upper`;
   await assert.rejects(instantiate(witcall, moduleOf("echo"), { ask: () => 0 }), { name: "TypeError", message });

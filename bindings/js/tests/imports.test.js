@@ -2,7 +2,7 @@
 // gives what they answer.
 import assert from "node:assert/strict";
 import { test } from "node:test";
-import { ModuleFault, Trap, WitError, imports, lift } from "../index.js";
+import { ModuleFault, Trap, WitError, granted, imports, lift } from "../index.js";
 import { decodedText } from "../lib/values.js";
 import { relaying } from "./guests.js";
 import { Random, randomType } from "./random.js";
@@ -122,18 +122,54 @@ test("the guest's memory grows for arguments and results", () => {
   assert.ok(made.guest.exports.memory.buffer.byteLength > before + 1500000);
 });
 
-test("an implementation may call the guest again", () => {
+// ---- a guest is entered by one call at a time
+
+const REFUSED = {
+  name: "Trap",
+  message: "trap K7 body in body: the guest runs, and is not entered again meanwhile",
+  number: 7,
+  kind: "body",
+  step: "body",
+};
+
+test("a call of the guest while it runs is refused, and the host may go on", () => {
   const made = shop({
-    next: ({ refused }) => {
-      if (refused.length < 2) return { refused };
-      const inner = made.next({ refused: refused.slice(1) });
-      return { refused: `${inner.refused}${made.sum([1n, 2n])}${refused[0]}` };
+    next: (state) => {
+      const now = lift(made.pkg, made.pkg.find(DESK, "now"), { callee: made.guest });
+      for (const again of [() => made.next("open"), () => made.sum([1n]), now]) assert.throws(again, REFUSED);
+      return state;
     },
-    sum: (xs) => BigInt(xs.length),
+    say: (text) => made.say(text.slice(1)),
+    now: () => 5n,
   });
-  // Each call of the relay has its own area at one address, so it gives the last answer that was put there: its own.
-  assert.deepEqual(made.next({ refused: "again" }), { refused: "n2i2a2g2a" });
+  assert.deepEqual(made.next({ refused: "once" }), { refused: "once" });
+  assert.throws(() => made.say("again"), REFUSED);
+  assert.equal(made.now(), 5n);
 });
+
+test("allocators don't enter the guest either", () => {
+  const made = shop({ next: (state) => state });
+  const grant = (instance, asked) => {
+    assert.throws(() => made.tick(), REFUSED);
+    return granted(instance, asked);
+  };
+  const next = lift(made.pkg, made.pkg.find(DESK, "next"), { callee: made.guest, grant });
+  assert.deepEqual(next({ refused: "granted" }), { refused: "granted" });
+});
+
+test("arguments may come of calls", () => {
+  const made = shop({ next: (state) => state });
+  const value = { get refused() { return made.next({ refused: "inner" }).refused; } };
+  assert.deepEqual(made.next(value), { refused: "inner" });
+});
+
+test("two guests call each other through the host", () => {
+  const inner = shop({ next: ({ refused }) => ({ refused: refused.toUpperCase() }) });
+  const outer = shop({ next: (state) => inner.next(state) });
+  assert.deepEqual(outer.next({ refused: "both" }), { refused: "BOTH" });
+});
+
+// ---- wrong values
 
 test("what JavaScript answers is tested", () => {
   const numberOf = (functions, call) => {

@@ -1,6 +1,6 @@
 import assert from "node:assert/strict";
 import { test } from "node:test";
-import { Trap, WitError, granted, link } from "../index.js";
+import { Trap, WitError, granted, lift, link } from "../index.js";
 import { bump, callee, forwarding } from "./guests.js";
 import { loaded } from "./support.js";
 
@@ -149,35 +149,47 @@ test("more blocks than there is room for at first", () => {
   assert.equal(textAt(made.caller, viewOf(made.caller).getUint32(16, true), 14), "t997 t998 t999");
 });
 
-// ---- guests that call again
+// ---- calls within calls
 
-test("a body that has its caller call again", () => {
-  const said = [];
+const REFUSED = { name: "Trap", message: "trap K7 body in body: the guest runs, and is not entered again meanwhile" };
+
+test("a callee is not entered again while it runs, by a link or by the host", () => {
   const made = linked(UPPER, {
     upper: (at, length) => {
-      const text = textAt(made.callee, at, length);
-      said.push(text);
-      const inner = text.length > 1 ? calls(made, 300 + text.length, text.slice(1)) : "";
-      return answerText(made.callee, 8, 512, text[0].toUpperCase() + inner);
+      assert.throws(() => calls(made, 300, "again"), REFUSED);
+      assert.throws(() => lift(made.pkg, made.pkg.functions[0], { callee: made.callee })("again"), REFUSED);
+      return answerText(made.callee, 8, 512, textAt(made.callee, at, length).toUpperCase());
     },
   });
-  assert.equal(calls(made, 100, "again"), "AGAIN");
-  assert.deepEqual(said, ["again", "gain", "ain", "in", "n"]);
+  for (const text of ["once", "twice"]) assert.equal(calls(made, 100, text), text.toUpperCase());
 });
 
-test("an allocator that has the caller call again", () => {
-  let inner;
+test("an allocator doesn't have the callee entered again", () => {
   const made = upper({
     grant: (instance, asked) => {
-      if (!inner) {
-        inner = true;
-        inner = calls(made, 300, "another one");
-      }
+      assert.throws(() => calls(made, 300, "another one"), REFUSED);
       return granted(instance, asked);
     },
   });
   assert.equal(calls(made, 100, "the first one"), "THE FIRST ONE");
-  assert.equal(inner, "ANOTHER ONE");
+});
+
+test("bodies and allocators call other instances", () => {
+  const said = [];
+  const other = upper();
+  const pairs = Array.from({ length: 5 }, (_, depth) => {
+    const made = linked(UPPER, {
+      upper: (at, length) => {
+        const text = textAt(made.callee, at, length);
+        said.push(text);
+        const inner = text.length > 1 ? calls(pairs[depth + 1], 300 + text.length, text.slice(1)) : "";
+        return answerText(made.callee, 8, 512, text[0].toUpperCase() + inner);
+      },
+    }, { grant: (instance, asked) => calls(other, 100, "between") && granted(instance, asked) });
+    return made;
+  });
+  assert.equal(calls(pairs[0], 100, "again"), "AGAIN");
+  assert.deepEqual(said, ["again", "gain", "ain", "in", "n"]);
 });
 
 test("an allocator that closes the package ends the call", () => {
