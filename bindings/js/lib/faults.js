@@ -4,7 +4,7 @@ import { Space } from "./core.js";
 import { NotThisType, WitError } from "./errors.js";
 import { opened, toldBy } from "./package.js";
 import { meant } from "./reach.js";
-import { isPlain, isTooGreat, isWellFormed, loneOf, memberOf } from "./values.js";
+import { isObject, isPlain, isTooGreat, isWellFormed, loneOf, memberOf } from "./values.js";
 
 const encoder = new TextEncoder();
 const decoder = new TextDecoder();
@@ -16,13 +16,24 @@ export const isPromise = (value) =>
 
 // ---- values in the words of JavaScript
 
-/** What a value is that has no JSON, or undefined. */
+/** The most digits of a BigInt that are told. */
+const MOST_DIGITS = 60;
+
+/** What an object is of, if it is none that has fields: `Map`, `Date`, but not `Object` and none of a list. */
+function classOf(value) {
+  const tag = Object.prototype.toString.call(value).slice("[object ".length, -1);
+  return isObject(value) && tag !== "Object" ? tag : undefined;
+}
+
+/** What a value is that has no JSON, or that JSON has in other words, or undefined. */
 function wordsOf(value) {
   if (isPromise(value)) return PROMISE;
   if (typeof value === "string" && !isWellFormed(value)) {
     return `a text with the lone surrogate \`\\u${loneOf(value).charCodeAt(0).toString(16)}\``;
   }
   if (isTooGreat(value)) return "a BigInt of more than 1023 bits";
+  if (typeof value === "bigint" && `${value}`.length <= MOST_DIGITS) return `\`${value}\``;
+  if (classOf(value) !== undefined) return `an object of \`${classOf(value)}\``;
   if (typeof value === "function" || typeof value === "symbol") return `a ${typeof value}`;
   return value === undefined || (typeof value === "number" && !Number.isFinite(value)) ? `\`${value}\`` : undefined;
 }

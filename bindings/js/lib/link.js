@@ -26,8 +26,10 @@ export function ran(core, values, stopped) {
  */
 export function granted(instance, asked) {
   const blocks = [];
+  const { cabi_realloc: realloc } = instance.exports;
   for (const { align, size } of asked) {
-    const at = ran(instance.exports.cabi_realloc, [0, 0, align, size], () => undefined);
+    if (typeof realloc !== "function") throw new TypeError("the guest exports no function cabi_realloc");
+    const at = ran(realloc, [0, 0, align, size], () => undefined);
     if (at === undefined) break;
     if (!isI32(at)) throw new TypeError(`cabi_realloc answered ${String(at)}, which is no i32`);
     blocks.push({ align, size, at: at >>> 0 });
@@ -46,11 +48,16 @@ export class Side {
   }
 
   get bytes() {
-    return new Uint8Array(this.#instance().exports.memory.buffer);
+    const { memory } = this.#instance().exports;
+    if (memory?.buffer === undefined) throw new TypeError("the guest exports no memory");
+    return new Uint8Array(memory.buffer);
   }
 
   grant(asked) {
-    return asked.length === 0 ? [] : this.#grant(this.#instance(), asked);
+    if (asked.length === 0) return [];
+    const blocks = this.#grant(this.#instance(), asked);
+    if (!Array.isArray(blocks)) throw new TypeError(`grant gives an array of blocks, and not ${String(blocks)}`);
+    return blocks;
   }
 }
 
@@ -95,11 +102,14 @@ export function coreOf(exports, func) {
   const name = coreName(func);
   const body = own(exports, name);
   if (typeof body !== "function") throw new TypeError(`the callee exports no function ${name}`);
-  return { body, post: own(exports, `cabi_post_${name}`) };
+  const after = `cabi_post_${name}`;
+  const post = own(exports, after);
+  if (post !== undefined && typeof post !== "function") throw new TypeError(`${after} of the callee is no function`);
+  return { body, post };
 }
 
 export function limitOf(limit) {
-  if (!Number.isSafeInteger(limit) || limit < 0) throw new RangeError(`${limit} is no limit in bytes`);
+  if (!Number.isSafeInteger(limit) || limit < 0) throw new RangeError(`${String(limit)} is no limit in bytes`);
   return limit;
 }
 

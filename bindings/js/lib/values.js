@@ -13,7 +13,7 @@ export const memberOf = (type, name) => type.members.find((it) => it.name === na
 export const isPlain = (type) => type.kind === "option" && meant(memberOf(type, "some")).kind !== "option";
 
 const isList = (value) => Array.isArray(value) || (ArrayBuffer.isView(value) && !(value instanceof DataView));
-const isObject = (value) => typeof value === "object" && value !== null && !isList(value);
+export const isObject = (value) => typeof value === "object" && value !== null && !isList(value);
 
 /** A surrogate that is none of a pair. */
 const LONE = /\p{Surrogate}/u;

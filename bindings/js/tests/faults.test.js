@@ -114,6 +114,13 @@ test("what stands there is named as JavaScript has it", () => {
     [Promise.resolve("open"), "", `${state} ${promise}`],
     ["open\ud800", "", `${state} a text with the lone surrogate \`\\ud800\``],
     [undefined, "", `${state} \`undefined\``],
+    [line({ count: 2n ** 64n }), ".paid[1].count", `${count} \`18446744073709551616\``],
+    [line({ count: -(10n ** 58n) }), ".paid[1].count", `${count} \`-1${"0".repeat(58)}\``],
+    [line({ name: new String("tea") }), ".paid[1].name", `${text} an object of \`String\``],
+    [line({ note: new Date(0) }), ".paid[1].note.some", `${text} an object of \`Date\``],
+    [new Map([["paid", []]]), "", `${state} an object of \`Map\``],
+    [{ paid: new Set([TEA]) }, ".paid", "a list is an array, and not an object of `Set`"],
+    [{ paid: new ArrayBuffer(2) }, ".paid", "a list is an array, and not an object of `ArrayBuffer`"],
     [{ paid: Promise.resolve([]) }, ".paid", `a list is an array, and not ${promise}`],
   ];
   for (const [value, path, fault] of wanted) {

@@ -123,6 +123,26 @@ test("traps have their steps", () => {
   assert.equal(trapOf(stops, ...none), "trap K7 body in body");
 });
 
+test("what the guest lacks is told, and what is no function, no array of blocks or no limit", () => {
+  const text = "package a:b; interface c { f: func(s: string); }";
+  const made = (exports, options) => {
+    const pkg = witcall.open(text);
+    return () => lift(pkg, pkg.functions[0], { callee: { exports }, ...options })("abc");
+  };
+  const told = (message, exports, options) => assert.throws(made(exports, options), { name: "TypeError", message });
+  const [memory, f, cabi_realloc] = [new WebAssembly.Memory({ initial: 1 }), () => undefined, () => 1024];
+  assert.equal(made({ memory, "a:b/c#f": f, cabi_realloc })(), undefined);
+  told("the callee exports no function a:b/c#f", { memory, cabi_realloc });
+  told("the guest exports no function cabi_realloc", { memory, "a:b/c#f": f });
+  told("the guest exports no memory", { "a:b/c#f": f, cabi_realloc });
+  told("cabi_post_a:b/c#f of the callee is no function", { memory, "a:b/c#f": f, cabi_realloc, "cabi_post_a:b/c#f": 5 });
+  for (const blocks of [undefined, null, 1024, "1024", {}]) {
+    told(`grant gives an array of blocks, and not ${blocks}`, { memory, "a:b/c#f": f }, { grant: () => blocks });
+  }
+  const limit = Symbol("none");
+  assert.throws(made({ "a:b/c#f": f }, { limit }), { name: "RangeError", message: "Symbol(none) is no limit in bytes" });
+});
+
 test("a value at the end of the memory is read", () => {
   const end = shop("total", (view) => {
     [1, 65533, 3].forEach((word, place) => view.setUint32(65520 + 4 * place, word, true));

@@ -100,11 +100,12 @@ class Allocators(unittest.TestCase):
 class CoreValues(unittest.TestCase):
     def test_values_that_are_none_are_refused(self):
         call = Upper().imported()
-        for value in (2**32, -(2**31) - 1, HUGE, float("nan")):
+        for value in (2**32, -(2**31) - 1, HUGE):
             with self.assertRaisesRegex(ValueError, " is no i32$"):
                 call(value, 0, 16)
-        for value in (1.5, "0", None, b"0"):
-            with self.assertRaises(TypeError):
+        none = {1.5: "1.5", float("nan"): "nan", "0": '"0"', None: "null", b"0": "b'0'"}
+        for value, shown in none.items():
+            with self.assertRaisesRegex(TypeError, f"^a core value is an int, and not `{shown}`$"):
                 call(value, 0, 16)
         with self.assertRaisesRegex(ValueError, "^a core value is of `i32` or `i64`, and not of"):
             call(witcall.CoreValue("f32", 0), 0, 16)
@@ -114,7 +115,7 @@ class CoreValues(unittest.TestCase):
             return 16
 
         started = later()
-        for answer in ("16", 16.0, {16}, (it for it in (16,)), started):
+        for answer in ("16", 16.0, b"16", bytearray(b"16"), {16}, (it for it in (16,)), started):
             call = Upper().imported(lambda *_, answer=answer: answer)
             with self.assertRaisesRegex(TypeError, "^a core function answers an int or several"):
                 call(0, 0, 16)
@@ -129,6 +130,13 @@ class Memories(unittest.TestCase):
         for address, length in ((0, 17), (16, 1), (17, 0), (-1, 1), (4, -2), (2**32, 1)):
             with self.assertRaisesRegex(IndexError, "are not all in a memory of 16 bytes$"):
                 memory.get(address, length)
+
+    def test_an_alignment_that_is_none_is_refused(self):
+        for alignment in (0, -1, -8):
+            memory = ArrayMemory(16)
+            with self.assertRaisesRegex(ValueError, f"from 1 on, and not `{alignment}`$"):
+                memory.put(b"abc", alignment)
+            self.assertEqual(memory.put(b"abc", 1), 0)
 
     def test_an_allocator_cannot_make_a_memory_grow(self):
         for address in (14, 17, -1):
@@ -171,6 +179,17 @@ class Words(unittest.TestCase):
                     make(bodies)
         with self.assertRaisesRegex(ValueError, "is a post-return, and a function of the host has"):
             witcall.serve(made.package, made.caller, {NAME: print, POST_RETURN: print})
+
+    def test_names_are_texts(self):
+        made = Upper()
+        for name in (5, None, b"a:b/c#upper"):
+            for make in (
+                lambda it: witcall.bind(made.package, made.callee, it),
+                lambda it: witcall.serve(made.package, made.callee, it),
+                lambda it: witcall.link(made.package, made.caller, made.callee, it),
+            ):
+                with self.assertRaisesRegex(TypeError, "^the name of a function is a `str`, and"):
+                    make({name: print})
 
     def test_bodies_are_functions(self):
         made = Upper()

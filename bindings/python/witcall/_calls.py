@@ -96,6 +96,8 @@ def _core_value(given: Flat, kind: str) -> CValue:
     width = _WIDTHS.get(kind)
     if width is None:
         raise ValueError(f"a core value is of `i32` or `i64`, and not of {shown(kind)}")
+    if not isinstance(number, int):
+        raise TypeError(f"a core value is an int, and not {shown(number)}")
     if not -(2 ** (width - 1)) <= number < 2**width:
         raise ValueError(f"{shown(number)} is no {kind}")
     return CValue(int(kind == "i64"), number % 2**width)

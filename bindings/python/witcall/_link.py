@@ -76,6 +76,8 @@ class ArrayMemory:
 
     def put(self, data: bytes, alignment: int = 1) -> int:
         """Puts bytes into a new block, and returns its address."""
+        if alignment < 1:
+            raise ValueError(f"an alignment is a number from 1 on, and not {shown(alignment)}")
         address = self.allocate(alignment, len(data))
         if address is None:
             raise MemoryError("the component's memory is full")
@@ -115,7 +117,7 @@ def values_of(answer: Answer) -> Sequence[Flat]:
         return ()
     if isinstance(answer, (int, CoreValue)):
         return (answer,)
-    if isinstance(answer, str) or not isinstance(answer, Sequence):
+    if isinstance(answer, (str, bytes, bytearray)) or not isinstance(answer, Sequence):
         raise TypeError(f"a core function answers an int or several, and not {shown(answer)}")
     return answer
 
@@ -137,7 +139,7 @@ def post_return_of(name: str) -> str:
 
 def is_post_return(name: str) -> bool:
     """Whether a core function of this name is a post-return."""
-    return name.startswith(_POST_RETURN)
+    return isinstance(name, str) and name.startswith(_POST_RETURN)
 
 
 def exported(
@@ -223,5 +225,7 @@ def link(
 
 def _parts(name: str) -> tuple[str, str]:
     """The full name of the interface, and the function's own."""
+    if not isinstance(name, str):
+        raise TypeError(f"the name of a function is a `str`, and not {type(name).__name__}")
     interface, _, function = name.rpartition("#")
     return interface, function
