@@ -21,6 +21,8 @@
 # | store          | two instances of one store, which lends one       | the compiler's sanitizers                           |
 # |                | memory at a time                                  |                                                     |
 # | call_header    | witcall_call.h as C99 to C++20, with all warnings | gcc, g++, clang                                     |
+# | many_blocks    | calls of up to 2,000 blocks through it, in C99 to | the same, their sanitizers, python3                 |
+# |                | C++20; each fault of tools/wrong_headers.py       |                                                     |
 # | vectors        | the stored calls of crates/vectors, in C          | python3, the compiler's sanitizers                  |
 # | json_vectors   | its rows of a host's memory, with values as JSON, | the same                                            |
 # |                | and its calls, as a host with such values serves  |                                                     |
@@ -132,18 +134,28 @@ checked_c_program() {
     c_program "$@" -g -fsanitize=address,undefined -fno-sanitize-recover=all
 }
 
+strict='-Wall -Wextra -Wconversion -Wsign-conversion -Wpedantic -Wshadow -Wcast-qual -Werror'
+
 # Compiles witcall_call.h alone, included twice, by each compiler in each dialect.
 strict_header() {
-    flags='-Wall -Wextra -Wconversion -Wsign-conversion -Wpedantic -Wshadow -Wcast-qual -Werror'
     printf '#include <witcall_call.h>\n#include <witcall_call.h>\n' >"$build/call_header.c"
     for dialect in c99 c11 c17 c++11 c++17 c++20; do
         compilers='gcc clang' language=c
         case $dialect in c++*) compilers='g++ clang++' language=c++ ;; esac
         for compiler in $compilers; do
             # shellcheck disable=SC2086 # the flags are words
-            "$compiler" -x $language -std=$dialect $flags -I"$prefix/include" -fsyntax-only "$build/call_header.c" || return 1
+            "$compiler" -x $language -std=$dialect $strict -I"$prefix/include" -fsyntax-only "$build/call_header.c" || return 1
         done
     done
+}
+
+# Compiles many_blocks.c by a compiler in a dialect, with its sanitizers.
+# shellcheck disable=SC2046,SC2086 # the flags are words
+many_blocks_program() {
+    language=c
+    case $2 in c++*) language=c++ ;; esac
+    "$1" -x $language -std="$2" -O1 -g $strict -fsanitize=address,undefined -fno-sanitize-recover=all \
+        $(pkg-config --cflags witcall) -o "$3" "$here/c/many_blocks.c" -x none $(pkg-config --libs witcall)
 }
 
 cmake_program() {
@@ -265,6 +277,18 @@ for host in lists values served store; do
 done
 if has call_header gcc g++ clang clang++; then
     step call_header strict_header
+fi
+if has many_blocks gcc g++ clang clang++ python3; then
+    for way in "gcc c99" "gcc c11" "clang c99" "clang c11" "g++ c++20" "clang++ c++20"; do
+        compiler=${way% *} dialect=${way#* }
+        program="$build/many_blocks-$compiler-$dialect"
+        step "build-many_blocks-$compiler-$dialect" many_blocks_program "$compiler" "$dialect" "$program"
+        case $way in
+            "gcc c99" | "clang++ c++20") same many_blocks "$here/c/many_blocks.expected" "$program" ;;
+            *) step "many_blocks-$compiler-$dialect" "$program" 65 ;;
+        esac
+    done
+    step wrong_headers python3 -B "$root/tools/wrong_headers.py" "$from"
 fi
 for rows in vectors json_vectors; do
     if has "$rows" python3; then
