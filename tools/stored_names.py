@@ -5,10 +5,11 @@ usage: tools/stored_names.py [--check]
 
 tests/names has for each file of tests its path, how many it has, and their names in order: the rows of crates/vectors,
 the stored runs of tests/explain, the files of tests/binaries, and the tests of crates and bindings. So it has the
-tables in the scripts of tools/ with their sizes, of which many are exceptions of a check, their limits, and the scripts
-of the part `pages`. Names that differ in a number alone are one line, `NAME-1 to 9`. Without words the script writes this file. With --check it compares the
-two, and the table of rows in docs/guarantees/tests.md: each name there is one of the file beside it, and of rows that
-begin or end as `..` says there are as many as it says. The exit status is 1 if something differs.
+tables in the scripts of tools/ with their sizes, of which many are exceptions of a check, their limits, and the steps
+of the gate: the lines of GATE. Names that differ in a number alone are one line, `NAME-1 to 9`. Without words the
+script writes this file. With --check it compares the two, and the table of rows in docs/guarantees/tests.md: each name
+there is one of the file beside it, and of rows that begin or end as `..` says there are as many as it says. The exit
+status is 1 if something differs.
 """
 import ast
 import json
@@ -29,8 +30,9 @@ TESTS = {
     ".py": re.compile(r"^ *def (test_\w+)", re.M),
     ".js": re.compile(r"^ *(?:test|it)\(([\"'`].*?[\"'`]),", re.M),
 }
-# a script of the part `pages`, with its words
-PAGES = re.compile(r"^(tools/\w+\.py(?: --check)?)$", re.M)
+# the scripts that are the gate, and a line of one that does something
+GATE = (".ci/run", "tools/test.sh")
+STEP = re.compile(r"^\s*([^\s#].*)$", re.M)
 FOLDERS = ("crates/*/src", "bindings/python/tests", "bindings/js/tests", "bindings/rust/tests")
 # what is numbered in a row, and not a size
 NUMBERED = re.compile(r"(?![A-Z_]+ (?:is|of) )(.*[- ])(0|[1-9]\d*)")
@@ -62,7 +64,7 @@ def names_by_file():
             found[place(path)] = TESTS[path.suffix].findall(path.read_text())
     scripts = sorted((ROOT / "tools").rglob("*.py"))
     found.update((place(path), list(tables_of(path))) for path in scripts)
-    found["tools/test.sh"] = PAGES.findall((ROOT / "tools/test.sh").read_text())
+    found.update((path, STEP.findall((ROOT / path).read_text())) for path in GATE)
     return {path: names for path, names in found.items() if names}
 
 
@@ -81,7 +83,8 @@ def lines_of(names):
 
 def text():
     """The text of tests/names."""
-    lines = ["# The names of all stored rows, runs and tests. tools/stored_names.py writes this file and compares it."]
+    lines = ["# The names of all stored rows, runs and tests, the sizes of tables, and the steps of the gate.",
+             "# tools/stored_names.py writes this file and compares it."]
     for path, names in names_by_file().items():
         lines += [f"{path}: {len(names)}", *(f"  {line}" for line in lines_of(names))]
     return "".join(f"{line}\n" for line in lines)

@@ -64,6 +64,7 @@ tools/check_conditions.py
 tools/conditions_page.py --check
 tools/check_surface.py
 tools/stored_names.py --check
+tools/cut_rows.py --check
 tools/page_facts.py --check
 tools/check_header.py
 tools/check_formats.py
