@@ -440,26 +440,34 @@ def is_full(row):
     return sum(map(width_in_row, row)) + 6 * (len(row) + 1) > WIDTH - 20
 
 
+def lines_of(row):
+    """How many lines a row takes, if its crates stand in them in turn: a full row two, or as many as it needs."""
+    crates = [width_in_row(it) + 4 for it in row if isinstance(it, str)]
+    least = 2 if is_full(row) else 1
+    return next(count for count in range(least, len(row) + 2)
+                if all(sum(crates[line::count]) <= WIDTH - 8 for line in range(count)))
+
+
 def heights(rows):
-    """Where each row begins, from the lowest on, and where the picture of them ends. A full row takes two lines."""
+    """Where each row begins, from the lowest on, and where the picture of them ends."""
     bottom, tops = 20, []
     for row in reversed(rows):
         tops.insert(0, bottom)
-        bottom += 96 if is_full(row) else 62
+        bottom += 28 + 34 * lines_of(row)
     return tops, bottom
 
 
 def placed_in(row, top):
     """The middle, the top and the width of each place of a row. Those of a full row are nearer to each other, and
-    stand in two lines in turn."""
-    full, widths = is_full(row), [width_in_row(it) for it in row]
+    stand in its lines in turn."""
+    full, lines, widths = is_full(row), lines_of(row), [width_in_row(it) for it in row]
     space = 0 if full else (WIDTH - 20 - sum(widths)) / (len(row) + 1)
     scale = min(1, (WIDTH - 20) / sum(widths))
     x, found, line = 10 + space, {}, 0
     for it, width in zip(row, widths):
         middle = min(max(x + width * scale / 2, 4 + width / 2), WIDTH - 4 - width / 2)
-        found[it] = (middle, top + (34 * line if full else 0), width)
-        line = 1 - line if isinstance(it, str) else line
+        found[it] = (middle, top + 34 * line, width)
+        line = (line + 1) % lines if isinstance(it, str) else line
         x += width * scale + space
     return apart(found) if full else found
 
