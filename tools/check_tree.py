@@ -1,6 +1,6 @@
 #!/usr/bin/env python3
-"""Compares the trees of WIT texts with what the program answers, and their faults with places that were written down
-before.
+"""Compares the trees of WIT texts with what the program answers, and their faults and findings with what was written
+down before.
 
 usage: tools/check_tree.py [--listing TREE_LISTING] [--witcall WITCALL] [N [SEED]]      N changed texts, or 5,000
 
@@ -11,10 +11,17 @@ SEED give the same changes. For each text, the tree has
 - a fault of the text if it answers 30, 31, 32 or 34;
 - the same feature at the same place, as the first that is not read, if it answers 33.
 
+What is told of each text is something exactly if it answers one of these, and not notes alone if it answers 30, 31, 32
+or 34. No two findings begin at one byte. Each edit, applied alone, gives a text of which less is told.
+
 Each case of tests/tree is a broken text with places that a good compiler would name, which were written down before
 anything was run. A place is told if a fault begins there, or is mended within a character of it. The cases say which of
 their places are not told today, and how many other faults are. Those in the file held-back.json are not looked at when
-recovery is changed. The exit status is 1 if something differs.
+recovery is changed.
+
+Each row of findings.json is a broken text with all that is to be told of it: where, a phrase that the hint has, one
+that it has not, and whether there is an edit, as a good compiler would say it. Most were written down before anything
+was run. Their edits are applied, too. The exit status is 1 if something differs.
 """
 import collections
 import concurrent.futures
@@ -36,6 +43,7 @@ from tools.repository import PROGRAM, parser  # noqa: E402
 
 LISTING = ROOT / "crates" / "tree_listing" / "out" / "tree_listing"
 CASES = ("cases.json", "held-back.json")
+ROWS = "findings.json"
 FAULT = re.compile(r"fault (\d+)\.\.(\d+) (.*?)(?:; insert `.+?` at (\d+))?")
 ANSWER = re.compile(r"error (\d+) (?:unsupported )?(.*?)(?: at (\d+)\.\.(\d+))?")
 OUTSIDE = "unsupported "
@@ -66,6 +74,28 @@ def listed(program, paths):
             else:
                 sys.exit(f"tools/check_tree.py: {program} prints this: {line}")
     return found
+
+
+def told(program, paths):
+    """What is told of each file: the findings, as objects."""
+    found = {}
+    for begin in range(0, len(paths), MOST):
+        words = [program, "findings", *paths[begin : begin + MOST]]
+        for line in subprocess.run(words, capture_output=True, check=True).stdout.decode().split("\n")[:-1]:
+            if line.startswith("== "):
+                own = found.setdefault(pathlib.Path(line.removeprefix("== ")), [])
+            else:
+                own.append(json.loads(line))
+    return found
+
+
+def told_of_texts(options, room, all_texts):
+    """What is told of each text, in their order."""
+    paths = [room / f"told-{place}.wit" for place in range(len(all_texts))]
+    for path, text in zip(paths, all_texts):
+        path.write_bytes(text)
+    found = told(options.listing, paths)
+    return [found[path] for path in paths]
 
 
 def judged(program, path):
@@ -99,6 +129,18 @@ def differs(text, answer, faults):
     return "a fault" if faults else ""
 
 
+def findings_differ(answer, faults, findings):
+    """What differs between the answer and what is told, or nothing. A tree may know more than the lexer, see `differs`."""
+    starts = [it["start"] for it in findings]
+    if any(first >= second for first, second in zip(starts, starts[1:])):
+        return "two findings at one place"
+    is_wrong = answer[0] in WRONG and any(not it.words.startswith(OUTSIDE) for it in faults)
+    if is_wrong and all(it["note"] for it in findings):
+        return "notes alone"
+    is_refused = answer[0] in (*WRONG, UNREAD)
+    return "" if bool(findings) == (is_refused and bool(faults)) else "findings and the answer"
+
+
 def given_texts():
     """The texts of the repository and of stored rows, each once, that are text."""
     found = texts() + stored_inputs(ROOT / "crates" / "vectors" / "data")
@@ -130,18 +172,19 @@ def compare(options, room):
     paths = [room / f"{place}.wit" for place in range(len(made))]
     for path, text in zip(paths, made):
         path.write_bytes(text)
-    faults = listed(options.listing, paths)
+    faults, findings = listed(options.listing, paths), told(options.listing, paths)
     with concurrent.futures.ThreadPoolExecutor(2) as pool:
         answers = list(pool.map(lambda path: judged(options.witcall, path), paths))
     counts, differing = collections.Counter(), 0
     for path, text, answer in zip(paths, made, answers):
         counts[answer[0] if answer[0] in (*WRONG, UNREAD) else 0] += 1
-        if what := differs(text, answer, faults[path]):
+        what = differs(text, answer, faults[path]) or findings_differ(answer, faults[path], findings[path])
+        if what:
             differing += 1
-            print(f"{what}: {text!r}\n  program {answer}\n  tree    {faults[path]}")
+            print(f"{what}: {text!r}\n  program {answer}\n  tree    {faults[path]}\n  told    {findings[path]}")
     kinds = ", ".join(f"{counts[it]} {it or 'accepted'}" for it in sorted(counts))
     print(f"{len(given)} texts and {options.count} changed ones ({kinds}): {differing} differ")
-    return differing
+    return differing + check_edits(options, room, made, [findings[path] for path in paths])
 
 
 # ---- places
@@ -165,7 +208,7 @@ def tells(text, fault, places):
     return place_of(text, fault.start) in places or any(it in places for it in near)
 
 
-def told_of(case, faults):
+def told_places(case, faults):
     """Which places of a case are told, and how many faults tell none of them."""
     text, wanted = "\n".join(case["text"]), [
         [tuple(map(int, place.split(":"))) for place in it["at"]] for it in case["places"]]
@@ -181,7 +224,7 @@ def check_places(options, room, name):
         path.write_text("\n".join(case["text"]), newline="")
     faults = listed(options.listing, paths)
     for path, case in zip(paths, all_cases):
-        told, others = told_of(case, faults[path])
+        told, others = told_places(case, faults[path])
         wanted = [not it.get("missed", False) for it in case["places"]]
         counts.update(places=len(told), told=sum(told), others=others)
         if told != wanted or others != case.get("others", 0):
@@ -190,6 +233,59 @@ def check_places(options, room, name):
     print(f"{name}: {len(all_cases)} texts, {counts['told']} of {counts['places']} places told, "
           f"{counts['others']} other faults: {differing} differ")
     return differing
+
+
+# ---- findings
+
+
+def row_differs(text, row, findings):
+    """What differs between a row and what is told of its text."""
+    found = {":".join(map(str, place_of(text, it["start"]))): it for it in findings}
+    for wanted in row["findings"]:
+        own = found.pop(wanted["at"], None)
+        if own is None:
+            yield f"nothing is told at {wanted['at']}"
+            continue
+        if wanted["hint"] not in own["hint"]:
+            yield f"{wanted['at']}: the hint has no {wanted['hint']!r}: {own['hint']!r}"
+        if wanted.get("not", "\0") in own["hint"]:
+            yield f"{wanted['at']}: the hint has {wanted['not']!r}: {own['hint']!r}"
+        if wanted.get("edit", "edit" in own) != ("edit" in own):
+            yield f"{wanted['at']}: an edit is {'not ' if wanted['edit'] else ''}wanted: {own}"
+    yield from (f"{place}: this is not to be told: {own}" for place, own in found.items())
+
+
+def with_edit(text, finding):
+    """A text with the edit of a finding."""
+    start, end, written = finding["edit"]
+    return text[:start] + written.encode() + text[end:]
+
+
+def check_edits(options, room, all_texts, all_findings):
+    """Applies each edit of these texts alone, and returns of how many no less is told then."""
+    edited = [(len(findings), with_edit(text, it))
+              for text, findings in zip(all_texts, all_findings) for it in findings if "edit" in it]
+    differing = 0
+    for (before, text), findings in zip(edited, told_of_texts(options, room, [text for _, text in edited])):
+        if len(findings) >= before:
+            differing += 1
+            print(f"an edit mends nothing: {text!r}\n  told    {findings}")
+    print(f"{len(edited)} edits: {differing} mend nothing")
+    return differing
+
+
+def check_findings(options, room):
+    """Compares what is told of each row's text with the row, and returns how many differ."""
+    rows, differing = cases(ROWS), 0
+    all_texts = ["\n".join(row["text"]) for row in rows]
+    encoded = [it.encode() for it in all_texts]
+    all_findings = told_of_texts(options, room, encoded)
+    for row, text, findings in zip(rows, all_texts, all_findings):
+        if what := list(row_differs(text, row, findings)):
+            differing += 1
+            print(f"{ROWS}: {row['kind']}: {'; '.join(what)}")
+    print(f"{ROWS}: {len(rows)} texts: {differing} differ")
+    return differing + check_edits(options, room, encoded, all_findings)
 
 
 def main():
@@ -207,6 +303,7 @@ def main():
     with tempfile.TemporaryDirectory() as room:
         room = pathlib.Path(room)
         differing = compare(options, room) + sum(check_places(options, room, name) for name in CASES)
+        differing += check_findings(options, room)
     sys.exit(differing > 0)
 
 

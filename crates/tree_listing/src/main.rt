@@ -1,14 +1,17 @@
-//! Lists the faults of WIT texts, and the nodes of their trees, for tests: `tree_listing faults PATH..` and
-//! `tree_listing nodes PATH..`. The gate compares them with what the program answers. `tree_listing layouts PATH..`
-//! prints the texts in their layout.
+//! Lists the faults of WIT texts, the nodes of their trees, and what is told of the texts, for tests: `tree_listing
+//! faults PATH..`, `tree_listing nodes PATH..` and `tree_listing findings PATH..`. The gate compares them with what the
+//! program answers. `tree_listing layouts PATH..` prints the texts in their layout.
 #![tactic(auto)]
 
+mod findings;
 mod formatting;
 
+use findings::list_finding;
 use formatting::list_layout;
 use std::alloc::{AllocError, Global};
 use std::{env, fs, io};
 use wit_reading::tree_of;
+use wit_rules::{Finding, findings_of};
 use wit_tree::{Fix, Node, Told, Tree, faults_of};
 
 /// The bytes that a text may have.
@@ -75,17 +78,39 @@ fn list(rt: &HostRuntime, path: &str, has_nodes: bool) -> io::Result<()> {
     Ok(())
 }
 
+/// What is told of a text, if it is not too long.
+#[tactic(auto, unfolding(wit_tokens::specs::Lexing::limit))]
+fn told_of(alloc: Global, text: &str) -> Result<Option<Vec<Finding>>, AllocError> {
+    if text.len() > LIMIT {
+        return Ok(None);
+    }
+    Ok(Some(findings_of(alloc, text)?))
+}
+
+/// Prints what is told of a text.
+fn tell(rt: &HostRuntime, path: &str) -> io::Result<()> {
+    println!(rt; "== {path}")?;
+    let text = fs::read_to_string(rt, path)?;
+    let Some(findings) = told_of(rt.alloc(), text.as_str())? else {
+        return println!(rt; "too long");
+    };
+    for finding in findings.as_slice() {
+        list_finding(rt, finding)?;
+    }
+    Ok(())
+}
+
 fn main(rt: HostRuntime) -> io::Result<()> {
     let words: Vec<String> = env::args(&rt)?.collect(rt.alloc())?;
     let [_, asked, paths @ ..] = words.as_slice() else {
-        return println!(rt; "usage: tree_listing faults|nodes|layouts PATH..");
+        return println!(rt; "usage: tree_listing faults|nodes|findings|layouts PATH..");
     };
     for path in paths {
-        if asked.as_str() == "layouts" {
-            list_layout(&rt, path.as_str())?;
-            continue;
+        match asked.as_str() {
+            "findings" => tell(&rt, path.as_str())?,
+            "layouts" => list_layout(&rt, path.as_str())?,
+            asked => list(&rt, path.as_str(), asked == "nodes")?,
         }
-        list(&rt, path.as_str(), asked.as_str() == "nodes")?;
     }
     Ok(())
 }
