@@ -30,6 +30,8 @@ PACKAGING = ROOT / "packaging"
 NEEDED = {"man": "man-db", "groff": "groff-base", "bash": "bash", "zsh": "zsh", "fish": "fish"}
 # options that a line of usage may leave out
 UNTOLD = {"witcall": {"--with"}, "wit-explain": set()}
+# short forms of options that no shell completes
+SHORT = {"-h"}
 OPTION = re.compile(r"(?<![\w-])--?[a-z]+\b")
 VALUES = re.compile(r"(--[a-z]+) ([a-z]+(?:\|[a-z]+)+)")
 # what a line of usage has in place of a word, and a word for it
@@ -108,7 +110,7 @@ def help_of_wit_explain(program):
     text = output([program, "--help"])[0]
     forms = forms_of("wit-explain", text)
     prose = text.rpartition("\n       wit-explain ")[2].partition("\n")[2]
-    shared = {"--help", *OPTION.findall(prose)}
+    shared = {"--help", *OPTION.findall(prose)} - SHORT
     options = {}
     for command in filter(None, map(command_of, sorted(forms))):
         first, _, second = command.partition(" ")

@@ -1,0 +1,14 @@
+pub mod LabelledRows
+pub mod PairsAreKnown
+pub mod CarriersAlike
+pub mod TypesByParts
+pub mod NodesOfTypes
+pub mod NodesTold
+pub mod PartsInTurn
+pub mod PartsAreTypes
+pub mod LeavesApart
+pub mod LikenessIsExact
+pub mod Ranks
+pub mod PlacesInTurn
+pub mod VerdictsAreExact
+pub mod PartnersByNames

@@ -1,0 +1,21 @@
+use Rattle.std.proofs.Common.{ap, sym, subst, ◌∙◌}
+use Rattle.canonical_abi.specs.Labelled.{labelled_string}
+use Rattle.tables.specs.Closed.{prim_of}
+use Rattle.tables.specs.Labelled.{labelled_types}
+use Rattle.package_changes.specs.Comparing.{IsEndOf}
+use Rattle.package_changes.specs.Likeness.{likeness}
+use Rattle.package_changes.proofs.LeavesApart.{strings-alike, string-prim, string-node}
+use Rattle.package_changes.proofs.comparing.compare_string.Goals as goal
+
+pub returns-in-Primitive : goal.returns-in-Primitive
+returns-in-Primitive c = λ s w is.
+    c.of_leaves.ensures ∙ string-prim (prim_of c.in-Primitive.field-0) ∙ ap (likeness labelled_string) (sym (subst (IsEndOf s w) c.in-Primitive.is is))
+
+pub returns-in-String : goal.returns-in-String
+returns-in-String c = λ s w is.
+    c.of_leaves-in-String.ensures ∙ strings-alike ∙ ap (likeness labelled_string) (sym (subst (IsEndOf s w) c.in-String.is is))
+
+pub returns-in-Node : goal.returns-in-Node
+returns-in-Node c = λ s w is.
+    let end = subst (IsEndOf s w) c.in-Node.is is in
+    c.of_leaves-in-Node.ensures ∙ string-node (labelled_types s) c.in-Node.field-1.now end.1.own ∙ ap (likeness labelled_string) (sym (end.0 ∙ end.1.is))

@@ -1,0 +1,10 @@
+pub mod Widening
+pub mod Forms
+pub mod Nodes
+pub mod Likeness
+pub mod Alike
+pub mod Comparing
+pub mod Exact
+pub mod Verdicts
+pub mod Judging
+pub mod Pairs
