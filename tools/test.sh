@@ -88,7 +88,7 @@ build() {
     tools/build.sh "$built" && tools/check_release.sh "$built"
 }
 
-models() { python3 -B -m tools.models check; }
+models() { python3 -B -m tools.models check && python3 -B tools/check_versions.py; }
 
 standard() { python3 -B tools/check_standard.py; }
 
