@@ -3,6 +3,7 @@ pub mod TrapsHaveCauses
 pub mod VisitsFewNodes
 pub mod HalvesKeepPromise
 pub mod HalvesAreACall
+pub mod WaysOfCalls
 pub mod LinkKeepsPromise
 pub mod ExactIsEither
 pub mod CallKeepsPromise

@@ -4,7 +4,9 @@ pub mod CalleeKeepsHeld
 pub mod ValuesTellTraces
 pub mod HeldStaysHeld
 pub mod RunsWithOneStepMore
+pub mod TrapsShowEvents
 pub mod OnlyValuesCross
+pub mod HeldValues
 pub mod PlacedIsHeld
 pub mod CalleeIsTold
 pub mod TameHeldStaysHeld

@@ -1,282 +1,46 @@
 -- Each half of a call over a tame guest keeps a promise of its own, and the whole one keeps both, whatever became of the caller between.
-use Rattle.std.proofs.Common.{◌≡◌, inl, inr, ℕ, ◌^◌, ◌<◌, false, cond, List, [], length, Option, Some, None, Result, Ok, Err, refl, sym, subst}
-use Rattle.canonical_abi.specs.Types.{FunctionType, Fields, record_type, result_fields}
-use Rattle.canonical_abi.specs.AnyHonest.{AnyGrant, AnyRelease}
-use Rattle.canonical_abi.specs.Layout.{size, max_flat_params, max_flat_results, fits_flat}
-use Rattle.canonical_abi.specs.Guest.{Memory, Allocation, Release, IsWithin}
-use Rattle.canonical_abi.specs.Trace.{TraceLeads}
-use Rattle.canonical_abi.specs.Call.{exact, Parties, World, KindsFit, area_of}
-use Rattle.canonical_abi.specs.Session.{HasResult}
-use Rattle.canonical_abi.specs.Headline.{IsStandardFunction, IsLentLive, LendsArea, area_size, AfterTrap, IsPosted, IfTrap}
-use Rattle.canonical_abi.specs.Tame.{LeavesLive, IsTame, AreTame, CalleeLeavesLive, LinksLive, FindsLive}
-use Rattle.canonical_abi.specs.Halves.{entering, returning, source, as_world, HasEntered, EntryFails, HasReturned, ReturnFails, IsEntryTrap, IsReturnTrap, RunsBetween, RunsAndReturns, body_stopped, post_stopped, ends_at_entry, ends_at_run, ends_at_return, ends_at_post, completes}
-use Rattle.canonical_abi.specs.TameHalves.{FindsArgumentsLive, EntryKeepsLivePromise, GivesAnswerLive, ReturnKeepsLivePromise, HalvesKeepLive, HalvesKeepLivePromise}
+use Rattle.std.proofs.Common.{List}
+use Rattle.canonical_abi.specs.Types.{FunctionType}
+use Rattle.canonical_abi.specs.Guest.{Allocation, Memory, Release}
+use Rattle.canonical_abi.specs.Call.{Parties, World, area_of, exact}
+use Rattle.canonical_abi.specs.Headline.{area_size}
+use Rattle.canonical_abi.specs.Tame.{CalleeLeavesLive, GivesLive, IsTame, LeavesLive, LinksLive}
+use Rattle.canonical_abi.specs.TameHalves.{EntryKeepsLivePromise, HalvesKeepLivePromise, IsLiveHalvesTrap, ReturnKeepsLivePromise}
 use Rattle.canonical_abi.specs.declared.flat.Flat.{Flat}
-use Rattle.canonical_abi.specs.declared.trap.Fault.{Fault}
-use Rattle.canonical_abi.specs.declared.trap.Fault.TheVariants.{Trap, NoMemory}
+use Rattle.canonical_abi.specs.declared.trap.TrapKind.{TrapKind}
+use Rattle.canonical_abi.specs.declared.trap.Step.{Step}
 use Rattle.canonical_abi.specs.declared.trap.Step.TheVariants as step
-use Rattle.canonical_abi.proofs.FlatValues.LoweredIsDenoted.{Nowhere, passes-confined, passes-aligned, lowered-is-denoted}
-use Rattle.canonical_abi.proofs.Calls.ResultIsHeld.{result-is-held}
-use Rattle.canonical_abi.proofs.Traces.ConfinedTraces.{Fine, small}
-use Rattle.canonical_abi.proofs.Traces.StoppedTracesAreConfined.{breaks-either}
-use Rattle.canonical_abi.proofs.Traces.TameTraces.{went-leaves, leaves-same, as-honest, any-is-honest, broken}
-use Rattle.canonical_abi.proofs.Calls.LinkKeepsPromise.{InArea, passes-result-confined, passes-result-aligned, script-params-fine}
-use Rattle.canonical_abi.proofs.Calls.TameLinkKeepsPromise.{goes-outside, result-faulty, result-fails, answer-denotes-fault, argument-fault, traps-before, found, answered-found, answered-once}
-use Rattle.canonical_abi.proofs.Calls.HalvesAreACall.{enters, put, after, answered}
-
--- who grants nothing and takes nothing back
-abbrev nobody : Allocation
-nobody = λ old align size at new. ⊥
-
-abbrev no_release : Release
-no_release = λ old at size taken new. ⊥
-
-nobody-is-tame : IsTame nobody no_release
-nobody-is-tame = record {
-  granted = λ old align size at new alignment h. absurd h;
-  full = λ old align size new h. absurd h;
-  taken = λ old at size new h. absurd h;
-  not_taken = λ old at size new h. absurd h;
-}
-
-module _ (allocates : Allocation) (releases : Release) (tame : IsTame allocates releases) where
-  enters-tame : AreTame (entering allocates) no_release releases
-  enters-tame = record { caller = nobody-is-tame; callee = tame }
-
-  returns-tame : AreTame (returning allocates) releases no_release
-  returns-tame = record { caller = tame; callee = nobody-is-tame }
-
-  module _ (f : FunctionType) (flats : List Flat) where
-    abbrev results : Fields
-    results = result_fields f.result
-
-    abbrev area : ℕ
-    area = area_of f flats
-
-    -- the first half
-    entry-done : (m : List ℕ) (old : Memory) (handed : List Flat) (new : Memory) (c : ℕ) → IsStandardFunction f
-        → HasEntered allocates f flats m old handed new c → FindsArgumentsLive f flats m old handed new
-    entry-done m old handed new c standard (values, there, e, counts) =
-        let aligned = passes-aligned max_flat_params f.params values there handed e.passes in
-        let confined = passes-confined max_flat_params f.params values there handed e.passes in
-        let (calm, left, leads) = as-honest allocates releases tame Nowhere there old new new aligned confined (λ x i. absurd i) e.leads (leaves-same 0 0 new) in
-        let lowered = lowered-is-denoted AnyGrant AnyRelease any-is-honest max_flat_params f.params values there handed calm new standard.params (small new e.small) e.passes leads in
-        record {
-          arguments = values;
-          held = e.denoted;
-          finds = lowered.denotes;
-          kept = went-leaves allocates releases tame Nowhere old new 0 0 (λ x i. absurd i) (there, new, record { aligned = aligned; confined = confined; leads = e.leads }, leaves-same 0 0 new);
-        }
-
-    pub entry-fails : (m : List ℕ) (old : Memory) (fault : Fault) (new : Memory) (c : ℕ)
-        → EntryFails allocates f flats m old fault new c → LeavesLive 0 0 old new × IfTrap {A = List Flat} (Err fault) (IsEntryTrap f flats m)
-    entry-fails m old NoMemory new c never = absurd never
-    entry-fails m old (Trap t) new c (inl (is, done, faulty, counts)) =
-        let before = traps-before (entering allocates) no_release releases exact f flats enters-tame (as_world (source m) old []) step.LiftArgs t.kind (record { there = done; back = [] }) (as_world (source m) new []) (faulty, refl) tt in
-        (before.kept, subst (λ s. IsEntryTrap f flats m s t.kind) (sym is) (argument-fault (entering allocates) no_release releases exact f flats enters-tame (as_world (source m) old []) t.kind done (as_world (source m) new []) faulty))
-    entry-fails m old (Trap t) new c (inr (is, done, (kinds, es, script, breaks, is_done, same, kept), counts)) =
-        let before = traps-before (entering allocates) no_release releases exact f flats enters-tame (as_world (source m) old []) step.LowerArgs t.kind (record { there = done; back = [] }) (as_world (source m) new []) ((kinds, es, script, breaks, is_done, same, kept), refl) tt in
-        let whole = script-params-fine f.params _ _ es script in
-        (before.kept, subst (λ s. IsEntryTrap f flats m s t.kind) (sym is) (broken allocates releases tame Nowhere old es t.kind new whole.0 whole.1 (breaks-either exact allocates old es t.kind new breaks)).1)
-
-    -- the second
-    in-area : (x : ℕ) → InArea results area x → IsWithin x area (area_size f)
-    in-area x i = subst (λ b. IsWithin x area (cond b 0 (size (record_type results)))) (sym i.0) i.1
-
-    pub return-done : (m : List ℕ) (answer : List Flat) (old : Memory) (given : List Flat) (new : Memory) (c : ℕ) → IsStandardFunction f
-        → KindsFit f flats → LendsArea f flats old → HasReturned allocates f flats m answer old given new c → GivesAnswerLive f flats m answer old given new
-    return-done m answer old given new c standard kinds lends (values, back, r, counts) = record {
-      values = values;
-      answered = r.denoted;
-      holds = held;
-      unchanged = went-leaves allocates releases tame (InArea results area) old new area (area_size f) in-area (back, new, fine, leaves-same 0 0 new);
-    }
-      where
-        fine : Fine allocates (InArea results area) old back new
-        fine = record {
-          aligned = passes-result-aligned results area values back given r.passes;
-          confined = passes-result-confined results area values back given r.passes;
-          leads = r.leads;
-        }
-
-        less : length new.bytes < 2 ^ 32
-        less = small new r.small
-
-        live : fits_flat max_flat_results results ≡ false → IsLentLive old area (size (record_type results))
-        live spills = subst (λ b. IsLentLive old area (cond b 0 (size (record_type results)))) spills (lends kinds r.area_stands)
-
-        calm : (m : Memory) × LeavesLive 0 0 old m × TraceLeads AnyGrant m back new
-        calm = as-honest allocates releases tame (InArea results area) back old new new fine.aligned fine.confined (λ x i. live i.0 x i.1) fine.leads (leaves-same 0 0 new)
-
-        held : HasResult results new.bytes given area values
-        held = elim (result-is-held AnyGrant AnyRelease any-is-honest max_flat_results results area values back given calm.0 new
-            standard.result less (λ spills x w. calm.1.live x (live spills x w)) r.passes calm.2) [
-              | inl h ↦ inl (h.0, h.1.denotes)
-              | inr h ↦ inr (h.0, h.2.holds)
-            ]
-
-    pub return-fails : (m : List ℕ) (answer : List Flat) (old : Memory) (fault : Fault) (new : Memory) (c : ℕ) → ReturnFails allocates f flats m answer old fault new c
-        → LeavesLive area (area_size f) old new × IfTrap {A = List Flat} (Err fault) (IsReturnTrap f flats m answer old)
-    return-fails m answer old NoMemory new c never = absurd never
-    return-fails m answer old (Trap t) new c (inl (is, done, faulty, counts)) =
-        let went = result-faulty (returning allocates) releases no_release exact f flats returns-tame answer (as_world old (source m) []) (as_world new (source m) []) t.kind done faulty in
-        let outside = goes-outside (returning allocates) releases no_release exact f flats returns-tame (as_world old (source m) []) (as_world new (source m) []) went in
-        (outside, subst (λ s. IsReturnTrap f flats m answer old s t.kind) (sym is) (answer-denotes-fault (returning allocates) releases no_release exact f flats returns-tame answer (as_world old (source m) []) t.kind done (as_world new (source m) []) faulty))
-    return-fails m answer old (Trap t) new c (inr (is, done, fails, counts)) =
-        let both = result-fails (returning allocates) releases no_release exact f flats returns-tame answer (as_world old (source m) []) (as_world new (source m) []) t.kind done fails in
-        let outside = goes-outside (returning allocates) releases no_release exact f flats returns-tame (as_world old (source m) []) (as_world new (source m) []) both.0 in
-        (outside, subst (λ s. IsReturnTrap f flats m answer old s t.kind) (sym is) both.1)
+use Rattle.canonical_abi.proofs.Calls.WaysOfCalls.{own-left, area-left}
+use Rattle.canonical_abi.proofs.Calls.LinkKeepsPromise.{Goes, goes-as}
+use Rattle.canonical_abi.proofs.Calls.TameLinkKeepsPromise.{live-link-trap, waits-live}
+use Rattle.canonical_abi.proofs.Calls.HalvesKeepPromise.{HalvesTrap, entry-done, entry-fails, halves-go, return-done, return-fails}
 
 pub tame-entry-keeps-promise : (allocates : Allocation) (releases : Release) → IsTame allocates releases → EntryKeepsLivePromise allocates
 tame-entry-keeps-promise allocates releases tame = record {
-  done = λ f flats m old handed new c standard h. entry-done allocates releases tame f flats m old handed new c standard h;
-  fails = λ f flats m old fault new c h. entry-fails allocates releases tame f flats m old fault new c h;
+  done = λ f flats m old handed new c standard h. (entry-done allocates releases tame f flats m old handed new c standard h).0;
+  fails = λ f flats m old fault new c h.
+      let (went, own) = entry-fails allocates releases tame f flats m old fault new c h in (own-left allocates releases tame old new went, own);
 }
 
 pub tame-return-keeps-promise : (allocates : Allocation) (releases : Release) → IsTame allocates releases → ReturnKeepsLivePromise allocates
 tame-return-keeps-promise allocates releases tame = record {
-  done = λ f flats m answer old given new c standard kinds lends h. return-done allocates releases tame f flats m answer old given new c standard kinds lends h;
-  fails = λ f flats m answer old fault new c h. return-fails allocates releases tame f flats m answer old fault new c h;
+  done = λ f flats m answer old given new c standard kinds lends h. (return-done allocates releases tame f flats m answer old given new c standard kinds lends h).0;
+  fails = λ f flats m answer old fault new c h.
+      let (went, own) = return-fails allocates releases tame f flats m answer old fault new c h in (area-left allocates releases tame old new f (area_of f flats) went, own);
 }
 
--- ---- the whole
-
-module _ (parties : Parties) (caller_releases callee_releases : Release) (tame : AreTame parties caller_releases callee_releases) (f : FunctionType) (flats : List Flat) (standard : IsStandardFunction f)
-    (old : World) (between : Memory) (lends : LendsArea f flats between) where
-  abbrev Keeps : Result (List Flat) Fault → World → Type 0
-  Keeps result new = HalvesKeepLive parties f flats old between result new
-
-  -- nothing was done to the caller
-  caller-same : LeavesLive (area_of f flats) (area_size f) between between
-  caller-same = leaves-same (area_of f flats) (area_size f) between
-
-  at-entry : (fault : Fault) (there : ℕ) (callee : Memory) → EntryFails parties.callee_allocates f flats old.caller.bytes old.callee fault callee there → Keeps (Err fault) (as_world between callee old.body)
-  at-entry NoMemory there callee never = absurd never
-  at-entry (Trap t) there callee h = elim h [
-    | inl g ↦ subst (λ s. Keeps (Err (Trap (record { kind = t.kind; step = s }))) (as_world between callee old.body)) (sym g.0) (record {
-      finds = λ e. absurd e;
-      before = λ e. callee_same;
-      once = inl callee_same;
-      gives = tt;
-      unchanged = caller-same;
-      own = subst (λ s. IsEntryTrap f flats old.caller.bytes s t.kind) g.0 fails.1;
-    })
-    | inr g ↦ subst (λ s. Keeps (Err (Trap (record { kind = t.kind; step = s }))) (as_world between callee old.body)) (sym g.0) (record {
-      finds = λ e. absurd e;
-      before = λ e. callee_same;
-      once = inl callee_same;
-      gives = tt;
-      unchanged = caller-same;
-      own = subst (λ s. IsEntryTrap f flats old.caller.bytes s t.kind) g.0 fails.1;
-    })
-  ]
-    where
-      fails : LeavesLive 0 0 old.callee callee × IsEntryTrap f flats old.caller.bytes t.step t.kind
-      fails = entry-fails parties.callee_allocates callee_releases tame.callee f flats old.caller.bytes old.callee (Trap t) callee there h
-
-      callee_same : CalleeLeavesLive old (as_world between callee old.body)
-      callee_same = record { kept = fails.0; same_body = refl }
-
-  at-run : (there : ℕ) (ran : Memory) (body : List ℕ) → RunsBetween parties f flats old there None ran body → Keeps (Err body_stopped) (as_world between ran body)
-  at-run there ran body r =
-      record { finds = λ e. once; before = λ e. absurd e; once = inr once; gives = tt; unchanged = caller-same; own = refl }
-    where
-      once : LinksLive parties f flats old (AfterTrap parties step.Body (as_world between ran body))
-      once = record {
-        arguments = r.enters.0;
-        held = r.enters.2.denoted;
-        runs = record {
-          answer = None;
-          ran = as_world old.caller ran body;
-          found = found parties caller_releases callee_releases exact f flats tame standard old r.enters.0 r.handed r.enters.1 (as_world old.caller r.entered old.body)
-              (enters parties f flats old r.handed r.entered there r.enters) None (as_world old.caller ran body) (record { run = r.run; same_caller = refl });
-          after = (refl, (refl, refl));
-        };
-      }
-
-  module _ (there : ℕ) (answer : List Flat) (ran : Memory) (body : List ℕ) (r : RunsBetween parties f flats old there (Some answer) ran body) where
-    found-once : FindsLive parties f r.enters.0 old (Some answer) (as_world old.caller ran body)
-    found-once =
-        answered-found parties caller_releases callee_releases exact f flats tame standard old answer (put parties f flats old there answer ran body r)
-        (after parties f flats old there answer ran body r) (answered parties f flats old there answer ran body r)
-
-    runs-once : (After : Option (List Flat) → World → Type 0) → After (Some answer) (as_world old.caller ran body) → LinksLive parties f flats old After
-    runs-once After stands =
-        answered-once parties caller_releases callee_releases exact f flats tame standard old After answer (put parties f flats old there answer ran body r)
-        (after parties f flats old there answer ran body r) (answered parties f flats old there answer ran body r) stands
-
-    at-return : (fault : Fault) (caller : Memory) (back : ℕ) → ReturnFails parties.caller_allocates f flats ran.bytes answer between fault caller back → Keeps (Err fault) (as_world caller ran body)
-    at-return NoMemory caller back never = absurd never
-    at-return (Trap t) caller back h = elim h [
-      | inl g ↦ subst (λ s. Keeps (Err (Trap (record { kind = t.kind; step = s }))) (as_world caller ran body)) (sym g.0) (record {
-        finds = λ e. runs-once (AfterTrap parties step.LiftResult (as_world caller ran body)) (refl, refl);
-        before = λ e. absurd e;
-        once = inr (runs-once (AfterTrap parties step.LiftResult (as_world caller ran body)) (refl, refl));
-        gives = tt;
-        unchanged = fails.0;
-        own = (r.enters.0, r.enters.2.denoted, (answer, as_world old.caller ran body, found-once, subst (λ s. IsReturnTrap f flats ran.bytes answer between s t.kind) g.0 fails.1, (refl, refl)));
-      })
-      | inr g ↦ subst (λ s. Keeps (Err (Trap (record { kind = t.kind; step = s }))) (as_world caller ran body)) (sym g.0) (record {
-        finds = λ e. runs-once (AfterTrap parties step.LowerResult (as_world caller ran body)) (refl, refl);
-        before = λ e. absurd e;
-        once = inr (runs-once (AfterTrap parties step.LowerResult (as_world caller ran body)) (refl, refl));
-        gives = tt;
-        unchanged = fails.0;
-        own = subst (λ s. IsReturnTrap f flats ran.bytes answer between s t.kind) g.0 fails.1;
-      })
-    ]
-      where
-        fails : LeavesLive (area_of f flats) (area_size f) between caller × IsReturnTrap f flats ran.bytes answer between t.step t.kind
-        fails = return-fails parties.caller_allocates caller_releases tame.caller f flats ran.bytes answer between (Trap t) caller back h
-
-  module _ (there back : ℕ) (answer given : List Flat) (caller ran : Memory) (body : List ℕ) (b : RunsAndReturns parties f flats old between there back answer given caller ran body) where
-    gives : GivesAnswerLive f flats ran.bytes answer between given caller
-    gives =
-        return-done parties.caller_allocates caller_releases tame.caller f flats ran.bytes answer between given caller back standard
-        b.runs.enters.2.kinds lends b.returns
-
-    at-post : (callee : Memory) (kept : List ℕ) → parties.posts body ran answer kept callee None → Keeps (Err post_stopped) (as_world caller callee kept)
-    at-post callee kept post = record {
-      finds = λ e. once;
-      before = λ e. absurd e;
-      once = inr once;
-      gives = tt;
-      unchanged = gives.unchanged;
-      own = refl;
-    }
-      where
-        once : LinksLive parties f flats old (IsPosted parties None (as_world caller callee kept))
-        once = runs-once there answer ran body b.runs (IsPosted parties None (as_world caller callee kept)) post
-
-    whole : (callee : Memory) (kept : List ℕ) → parties.posts body ran answer kept callee (Some tt) → Keeps (Ok given) (as_world caller callee kept)
-    whole callee kept post = record {
-      finds = λ e. once;
-      before = λ e. absurd e;
-      once = inr once;
-      gives = record {
-        arguments = b.runs.enters.0;
-        held = b.runs.enters.2.denoted;
-        answer = answer;
-        ran = as_world old.caller ran body;
-        found = found-once there answer ran body b.runs;
-        values = gives.values;
-        answered = gives.answered;
-        given = gives.holds;
-        posted = post;
-      };
-      unchanged = gives.unchanged;
-      own = tt;
-    }
-      where
-        once : LinksLive parties f flats old (IsPosted parties (Some tt) (as_world caller callee kept))
-        once = runs-once there answer ran body b.runs (IsPosted parties (Some tt) (as_world caller callee kept)) post
+-- the trap without its trace
+live-halves-trap : (parties : Parties) (f : FunctionType) (flats : List Flat) (old : World) (between : Memory) (new : World) (s : Step) (k : TrapKind)
+    → HalvesTrap parties f flats old between new s k → IsLiveHalvesTrap parties f flats old between new s k
+live-halves-trap parties f flats old between new step.LiftResult k t = live-link-trap parties f flats old new step.LiftResult k t
+live-halves-trap parties f flats old between new s k t = t
 
 pub tame-halves-keep-promise : (parties : Parties) (caller_releases callee_releases : Release) → HalvesKeepLivePromise parties caller_releases callee_releases
-tame-halves-keep-promise parties cr er f flats old between _ _ _ _ standard (ends_at_entry fault there callee fails) tame lends = at-entry parties cr er tame f flats standard old between lends fault there callee fails
-tame-halves-keep-promise parties cr er f flats old between _ _ _ _ standard (ends_at_run there ran body r) tame lends = at-run parties cr er tame f flats standard old between lends there ran body r
-tame-halves-keep-promise parties cr er f flats old between _ _ _ _ standard (ends_at_return there back answer fault caller ran body r fails) tame lends =
-    at-return parties cr er tame f flats standard old between lends there answer ran body r fault caller back fails
-tame-halves-keep-promise parties cr er f flats old between _ _ _ _ standard (ends_at_post there back answer given caller ran body b callee kept post) tame lends =
-    at-post parties cr er tame f flats standard old between lends there back answer given caller ran body b callee kept post
-tame-halves-keep-promise parties cr er f flats old between _ _ _ _ standard (completes there back answer given caller ran body b callee kept post) tame lends =
-    whole parties cr er tame f flats standard old between lends there back answer given caller ran body b callee kept post
+tame-halves-keep-promise parties caller_releases callee_releases f flats old between result there back new standard called tame lends =
+    record { finds = g.finds; before = g.before; once = g.once; gives = g.gives; unchanged = g.unchanged; own = g.own }
+  where
+    g : Goes parties exact result new (CalleeLeavesLive old new) (LinksLive parties f flats old) (λ back. GivesLive parties f flats old back new)
+        (LeavesLive (area_of f flats) (area_size f) between new.caller) (IsLiveHalvesTrap parties f flats old between new)
+    g = goes-as parties exact new (waits-live parties caller_releases callee_releases tame old new) (λ After l. l.0) (λ back g. g.0)
+        (area-left parties.caller_allocates caller_releases tame.caller between new.caller f (area_of f flats)) (live-halves-trap parties f flats old between new) result
+        (halves-go parties caller_releases callee_releases tame f flats standard old between lends result there back new called)

@@ -8,13 +8,13 @@ use Rattle.canonical_abi.specs.Flat.{Denotes, DenotesFault}
 use Rattle.canonical_abi.specs.Guest.{Memory, Allocation, Release}
 use Rattle.canonical_abi.specs.Trace.{Grant, Event, grant, TraceLeads, RequestFails}
 use Rattle.canonical_abi.specs.Lowering.{PassesParams}
-use Rattle.canonical_abi.specs.Call.{Run, PostRun, Parties, World, exact, Ways, Enters, Runs, Answered, Returned, Finishes, ArgumentsFaulty, ArgumentsFail, ResultFaulty, ResultFails, area_of}
+use Rattle.canonical_abi.specs.Call.{Run, PostRun, Parties, World, exact, Ways, Enters, Runs, Answered, Returned, Finishes, ArgumentsFail, ResultFaulty, ResultFails}
 use Rattle.canonical_abi.specs.Session.{SessionStep, call, place, read, release, SessionAnswer, Held, Placed, CameBack, TypedTraps, TypedCall, ReadsStep, RunsSession}
-use Rattle.canonical_abi.specs.Headline.{AreHonest, IsStandardFunction, AreArguments, IsArgumentFault}
+use Rattle.canonical_abi.specs.Headline.{IsStandardFunction, IsArgumentFault}
 use Rattle.canonical_abi.specs.Tame.{AreTame}
 use Rattle.canonical_abi.specs.TameValues.{CalleeIsToldLive}
 use Rattle.canonical_abi.specs.Keeping.{AreStandardSteps}
-use Rattle.canonical_abi.specs.Told.{AllocatesInOneWay, RunsInOneWay, Called, calls_of, Ending, unplaced, unreturned, told, ending_at, ending_of, endings_of, otherwise, SameCallee, CalleeIsTold}
+use Rattle.canonical_abi.specs.Told.{AllocatesInOneWay, RunsInOneWay, Called, calls_of, Ending, unplaced, unreturned, told, ending_at, ending_of, endings_of, otherwise, CalleeIsTold}
 use Rattle.canonical_abi.specs.declared.flat.Flat.{Flat}
 use Rattle.canonical_abi.specs.declared.trap.Fault.{Fault}
 use Rattle.canonical_abi.specs.declared.trap.Fault.TheVariants.{Trap, NoMemory}
@@ -23,11 +23,10 @@ use Rattle.canonical_abi.specs.declared.trap.Step.TheVariants as step
 use Rattle.canonical_abi.specs.declared.trap.TrapKind.{TrapKind}
 use Rattle.canonical_abi.proofs.Sessions.TracesOfSameValues.{alike-params, alike-end, alike-broken, alike-unbroken}
 use Rattle.canonical_abi.proofs.FlatValues.LoweredIsDenoted.{passes-aligned}
-use Rattle.canonical_abi.proofs.Sessions.CalleeKeepsHeld.{faulty-ran, fails-ran}
-use Rattle.canonical_abi.proofs.Calls.TameCallKeepsPromise.{arguments-same, arguments-stand}
-use Rattle.canonical_abi.proofs.Calls.CallKeepsPromise.{same-arguments, no-argument-fault}
+use Rattle.canonical_abi.proofs.Calls.LinkKeepsPromise.{faulty-ran, fails-ran, result-faulty, traps-wait, are-tame}
+use Rattle.canonical_abi.proofs.Calls.CallKeepsPromise.{arguments-same, arguments-stand}
 use Rattle.canonical_abi.proofs.ReadValues.ReadsExactly.{one_outcome, denoting-tells}
-use Rattle.canonical_abi.proofs.ReadValues.StopsAtFirstFault.{address-denotes-fault, params-denote-fault, result-denotes-fault}
+use Rattle.canonical_abi.proofs.ReadValues.StopsAtFirstFault.{params-denote-fault}
 
 -- ---- one call: what it did to the callee and the body, without the caller
 
@@ -164,25 +163,7 @@ module _ (allocates : Allocation) (runs : Run) (posts : PostRun) where
 
 -- ---- the calls of a run
 
--- the flat values of a typed call denote its arguments and no others, and so are not at fault
-record PutsArguments (parties : Parties) : Type 0 where
-  alone : (f : FunctionType) (arguments : List Value) (old : World) (flats : List Flat) (area : ℕ) (placed : World) → IsStandardFunction f → Placed parties f arguments old flats area placed
-      → (values : List Value) → AreArguments f flats placed.caller values → values ≡ arguments
-  no_fault : (f : FunctionType) (arguments : List Value) (old : World) (flats : List Flat) (area : ℕ) (placed : World) → IsStandardFunction f → Placed parties f arguments old flats area placed
-      → (k : TrapKind) → IsArgumentFault f flats placed.caller k → ⊥
-
-answer-denotes-fault : (parties : Parties) (f : FunctionType) (flats answer : List Flat) (answered : World) (k : TrapKind) (done : List Event) (new : World) → ResultFaulty parties exact f flats answered answer k done new
-    → DenotesFault max_flat_results (result_fields f.result) answered.callee.bytes answer k
-answer-denotes-fault parties f flats answer answered k done new (inl (faulty, none, is)) = address-denotes-fault max_flat_results (result_fields f.result) answered.callee.bytes answer k faulty
-answer-denotes-fault parties f flats answer answered k done new (inr (tested, es, until, part, begun, callee, body)) =
-    result-denotes-fault max_flat_results (result_fields f.result) answered.callee.bytes answer (area_of f flats) k es until
-
-argument-fault : (parties : Parties) (f : FunctionType) (flats : List Flat) (old : World) (k : TrapKind) (done : List Event) (new : World) → ArgumentsFaulty parties exact f flats old k done new → IsArgumentFault f flats old.caller k
-argument-fault parties f flats old k done new (inl (kinds, is_k, none, is)) = inl (kinds, is_k)
-argument-fault parties f flats old k done new (inr (inl (kinds, faulty, none, is))) = inr (kinds, address-denotes-fault max_flat_params f.params _ _ k faulty)
-argument-fault parties f flats old k done new (inr (inr (kinds, es, until, part, begun, caller, same))) = inr (kinds, params-denote-fault max_flat_params f.params _ _ k es until)
-
-module _ (parties : Parties) (caller_releases : Release) (puts : PutsArguments parties) where
+module _ (parties : Parties) (caller_releases callee_releases : Release) (tame : AreTame parties caller_releases callee_releases) where
   module _ (f : FunctionType) (arguments : List Value) (old : World) (standard : IsStandardFunction f) where
     abbrev HasWent : Ending → World → Type 0
     HasWent e new = Went parties.callee_allocates parties.runs parties.posts f arguments old.callee old.body e new.callee new.body
@@ -194,7 +175,7 @@ module _ (parties : Parties) (caller_releases : Release) (puts : PutsArguments p
       ran-of : (values : List Value) (handed : List Flat) (there : List Event) (entered : World) (answer : Option (List Flat)) (new : World) → Enters parties f flats placed values handed there entered
           → Runs parties f flats entered handed answer new → HasRun answer new.callee new.body
       ran-of values handed there entered answer new e r =
-          let same = puts.alone f arguments old flats area placed standard p values e.denoted in
+          let same = arguments-same parties caller_releases callee_releases exact f arguments tame standard old flats area placed p values e.denoted in
           record {
             entered = entered.callee;
             events = there;
@@ -224,11 +205,11 @@ module _ (parties : Parties) (caller_releases : Release) (puts : PutsArguments p
 
       -- the caller's flat values denote the arguments
       no-fault : (k : TrapKind) → IsArgumentFault f flats placed.caller k → ⊥
-      no-fault k fault = puts.no_fault f arguments old flats area placed standard p k fault
+      no-fault k fault = arguments-stand parties caller_releases callee_releases exact f arguments tame standard old flats area placed p k fault
 
       refused-of : (k : TrapKind) (done : List Event) (new : World) → ArgumentsFail parties exact f flats placed k done new → Refused parties.callee_allocates parties.runs parties.posts f arguments old.callee old.body new.callee
       refused-of k done new (kinds, es, inl (values, handed, denoted, passes), (front, made, rest, next, asked, whole, is, leads, fails), same_done, caller, body) =
-          let same = puts.alone f arguments old flats area placed standard p values denoted in
+          let same = arguments-same parties caller_releases callee_releases exact f arguments tame standard old flats area placed p values denoted in
           record {
             done = front;
             rest = rest;
@@ -246,7 +227,7 @@ module _ (parties : Parties) (caller_releases : Release) (puts : PutsArguments p
       unlifted-of : (k : TrapKind) (answer : List Flat) (there back : List Event) (answered new : World) → Answered parties f flats placed answer there answered → ResultFaulty parties exact f flats answered answer k back new → HasWent told new
       unlifted-of k answer there back answered new a faulty =
           let ran = faulty-ran parties exact f flats answer answered k back new faulty in
-          let fault = answer-denotes-fault parties f flats answer answered k back new faulty in
+          let fault = (result-faulty parties caller_releases callee_releases exact f flats tame answer answered new k back faulty).1 in
           inr (inr (inl (record {
             answer = answer;
             kind = k;
@@ -265,7 +246,7 @@ module _ (parties : Parties) (caller_releases : Release) (puts : PutsArguments p
     trapped-of : (s : Step) (k : TrapKind) (new : World) → TypedTraps parties exact f arguments old s k new → HasWent (ending_at s) new
     trapped-of step.Place k new t = (t.same_callee, t.same_body)
     trapped-of step.LiftArgs k new (flats, area, placed, p, ways, t) =
-        absurd (no-fault flats area placed p k (argument-fault parties f flats placed k ways.there new t.0))
+        absurd (no-fault flats area placed p k (traps-wait parties caller_releases callee_releases exact f flats tame placed step.LiftArgs k ways new t tt).1)
     trapped-of step.LowerArgs k new (flats, area, placed, p, ways, t) = inl (refused-of flats area placed p k ways.there new t.0, t.0.6 ∙ p.same_body)
     trapped-of step.Body k new (flats, area, placed, p, ways, (values, handed, entered, is, enters, runs, none)) = inr (inl (ran-of flats area placed p values handed ways.there entered None new enters runs))
     trapped-of step.LiftResult k new (flats, area, placed, p, ways, (answer, answered, a, faulty)) = unlifted-of flats area placed p k answer ways.there ways.back answered new a faulty
@@ -310,16 +291,12 @@ module _ (parties : Parties) (caller_releases : Release) (puts : PutsArguments p
       subst (λ es. Calls (calls_of (call f arguments ∷ steps)) es old new) (sym told_by)
       (run.between.callee, run.between.body, went-of f arguments old standard.0 run.takes.0 run.between run.takes.2, chain-of (before ++ run.answer ∷ []) run.between steps run.rest new standard.1 run.others)
 
-module _ (parties : Parties) (other : Allocation) (caller_releases other_releases callee_releases : Release) (puts : PutsArguments parties)
-    (also : PutsArguments (otherwise parties other caller_releases other_releases callee_releases)) (one_way : AllocatesInOneWay parties.callee_allocates) (in_one_way : RunsInOneWay parties.runs parties.posts) where
-  told-both : (before earlier : List SessionAnswer) (old past : World) (steps moves : List SessionStep) (answers replies : List SessionAnswer) (new last : World) → AreStandardSteps steps → AreStandardSteps moves
-      → RunsSession parties caller_releases exact before old steps answers new
-      → RunsSession (otherwise parties other caller_releases other_releases callee_releases) other_releases exact earlier past moves replies last
-      → calls_of steps ≡ calls_of moves → endings_of answers ≡ endings_of replies → SameCallee old past → SameCallee new last
-  told-both before earlier old past steps moves answers replies new last standard usual run walk calls ends same =
+module _ (parties : Parties) (other : Allocation) (caller_releases other_releases callee_releases : Release) where
+  pub callee-is-told-live : CalleeIsToldLive parties other caller_releases other_releases callee_releases
+  callee-is-told-live before earlier old past steps moves answers replies new last tame also one_way in_one_way standard usual run walk calls ends same =
       let A = parties.callee_allocates in
-      let one = chain-of parties caller_releases puts before old steps answers new standard run in
-      let two = chain-of (otherwise parties other caller_releases other_releases callee_releases) other_releases also earlier past moves replies last usual walk in
+      let one = chain-of parties caller_releases callee_releases tame before old steps answers new standard run in
+      let two = chain-of (otherwise parties other caller_releases other_releases callee_releases) other_releases callee_releases also earlier past moves replies last usual walk in
       let there : Chain A parties.runs parties.posts (calls_of steps) (endings_of answers) old.callee old.body last.callee last.body =
       subst (λ cs. Chain A parties.runs parties.posts cs (endings_of answers) old.callee old.body last.callee last.body) (sym calls)
       (subst (λ es. Chain A parties.runs parties.posts (calls_of moves) es old.callee old.body last.callee last.body) (sym ends)
@@ -328,26 +305,8 @@ module _ (parties : Parties) (other : Allocation) (caller_releases other_release
       let both = same-chain A parties.runs parties.posts one_way in_one_way (calls_of steps) (endings_of answers) old.callee old.body new.callee last.callee new.body last.body one there in
       record { callee = both.0; body = both.1 }
 
-honest-puts : (parties : Parties) (caller_releases callee_releases : Release) → AreHonest parties caller_releases callee_releases → PutsArguments parties
-honest-puts parties caller_releases callee_releases honest = record {
-  alone = λ f arguments old flats area placed standard p values d. same-arguments parties caller_releases callee_releases exact f arguments honest standard old flats area placed p values d;
-  no_fault = λ f arguments old flats area placed standard p k fault. no-argument-fault parties caller_releases callee_releases exact f arguments honest standard old flats area placed p k fault;
-}
-
-tame-puts : (parties : Parties) (caller_releases callee_releases : Release) → AreTame parties caller_releases callee_releases → PutsArguments parties
-tame-puts parties caller_releases callee_releases tame = record {
-  alone = λ f arguments old flats area placed standard p values d. arguments-same parties caller_releases callee_releases exact f arguments tame standard old flats area placed p values d;
-  no_fault = λ f arguments old flats area placed standard p k fault. arguments-stand parties caller_releases callee_releases exact f arguments tame standard old flats area placed p k fault;
-}
-
-pub callee-is-told : (parties : Parties) (other : Allocation) (caller_releases other_releases callee_releases : Release) → CalleeIsTold parties other caller_releases other_releases callee_releases
-callee-is-told parties other caller_releases other_releases callee_releases before earlier old past steps moves answers replies new last honest sincere limited bounded one_way in_one_way standard usual run walk calls ends same =
-    told-both parties other caller_releases other_releases callee_releases (honest-puts parties caller_releases callee_releases honest)
-    (honest-puts (otherwise parties other caller_releases other_releases callee_releases) other_releases callee_releases sincere) one_way in_one_way
-    before earlier old past steps moves answers replies new last standard usual run walk calls ends same
-
-pub callee-is-told-live : (parties : Parties) (other : Allocation) (caller_releases other_releases callee_releases : Release) → CalleeIsToldLive parties other caller_releases other_releases callee_releases
-callee-is-told-live parties other caller_releases other_releases callee_releases before earlier old past steps moves answers replies new last tame also one_way in_one_way standard usual run walk calls ends same =
-    told-both parties other caller_releases other_releases callee_releases (tame-puts parties caller_releases callee_releases tame)
-    (tame-puts (otherwise parties other caller_releases other_releases callee_releases) other_releases callee_releases also) one_way in_one_way
-    before earlier old past steps moves answers replies new last standard usual run walk calls ends same
+  -- honest guests are tame
+  pub callee-is-told : CalleeIsTold parties other caller_releases other_releases callee_releases
+  callee-is-told before earlier old past steps moves answers replies new last honest sincere limited bounded one_way in_one_way standard usual run walk calls ends same =
+      callee-is-told-live before earlier old past steps moves answers replies new last (are-tame parties caller_releases callee_releases honest)
+      (are-tame (otherwise parties other caller_releases other_releases callee_releases) other_releases callee_releases sincere) one_way in_one_way standard usual run walk calls ends same

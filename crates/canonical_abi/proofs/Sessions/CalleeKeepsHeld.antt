@@ -5,12 +5,12 @@ use Rattle.std.specs.List.{AllByRecursion}
 use Rattle.canonical_abi.specs.Types.{ClosedType, FunctionType}
 use Rattle.canonical_abi.specs.Values.{Value}
 use Rattle.canonical_abi.specs.Layout.{max_flat_params}
-use Rattle.canonical_abi.specs.Guest.{Memory, Allocation, Release, IsHonest}
+use Rattle.canonical_abi.specs.Guest.{Memory, Release}
 use Rattle.canonical_abi.specs.Footprint.{Reads, KeepsBytes}
 use Rattle.canonical_abi.specs.Trace.{Event}
-use Rattle.canonical_abi.specs.Call.{Parties, World, Order, either, exact, Ways, Enters, Answered, Returned, ResultFaulty, ResultFails, Traps, GivesUp}
+use Rattle.canonical_abi.specs.Call.{Parties, World, Order, either, exact, Ways, Enters, Answered, Returned, Traps, GivesUp}
 use Rattle.canonical_abi.specs.Session.{SessionStep, call, place, read, release, SessionAnswer, TypedTraps, TypedCall, CameBack, TakesStep, RunsSession}
-use Rattle.canonical_abi.specs.Headline.{AreHonest, IsBeforeBody, IsAsItRan}
+use Rattle.canonical_abi.specs.Headline.{IsBeforeBody, IsAsItRan}
 use Rattle.canonical_abi.specs.Memory.{HoldsInBlock}
 use Rattle.canonical_abi.specs.Tame.{LeavesLive, AreTame}
 use Rattle.canonical_abi.specs.TameKeeping.{CalleeKeepsHeldLive}
@@ -22,13 +22,12 @@ use Rattle.canonical_abi.specs.declared.trap.Step.{Step}
 use Rattle.canonical_abi.specs.declared.trap.Step.TheVariants as step
 use Rattle.canonical_abi.specs.declared.trap.TrapKind.{TrapKind}
 use Rattle.canonical_abi.proofs.ReadValues.FramesReading.{frames_reading, same_footprint}
-use Rattle.canonical_abi.proofs.Traces.WhatTracesKeep.{not-both, runs-keep}
 use Rattle.canonical_abi.proofs.FlatValues.LoweredIsDenoted.{Nowhere, passes-confined, passes-aligned}
-use Rattle.canonical_abi.proofs.Traces.ConfinedTraces.{Fine, stays}
-use Rattle.canonical_abi.proofs.Traces.TameTraces.{went-leaves, leaves-same}
-use Rattle.canonical_abi.proofs.Calls.LinkKeepsPromise.{traps-wait}
-use Rattle.canonical_abi.proofs.Calls.TameLinkKeepsPromise.{traps-before}
-use Rattle.canonical_abi.proofs.Sessions.HeldStaysHeld.{reads-inside}
+use Rattle.canonical_abi.proofs.Traces.ConfinedTraces.{went-by}
+use Rattle.canonical_abi.proofs.Calls.WaysOfCalls.{own-left}
+use Rattle.canonical_abi.proofs.Calls.LinkKeepsPromise.{traps-wait, faulty-ran, fails-ran, are-tame}
+use Rattle.canonical_abi.proofs.Calls.TameLinkKeepsPromise.{waits-live}
+use Rattle.canonical_abi.proofs.Sessions.HeldValues.{reads-inside}
 
 -- ---- live addresses of a footprint, from one memory to another
 
@@ -52,41 +51,30 @@ module _ (F : Footprint) where
     live = λ x f below is. let p = k.no_shorter in l.live x f (omega arith) (k.live x f below is);
   }
 
-  at-fine : (allocates : Allocation) (releases : Release) → IsHonest allocates releases → (old new : Memory) (es : List Event) → Fine allocates Nowhere old es new → KeepsAt F old new
-  at-fine allocates releases honest old new es fine =
-      let k = runs-keep allocates releases honest es old new fine.aligned fine.leads in
-      record {
-        no_shorter = k.no_shorter;
-        same = λ x f below is. stays allocates releases honest Nowhere old new es fine x below (λ n. n) (λ g. not-both is (k.was_free x g));
-        live = λ x f below is. k.stays_live x is;
-      }
+  at-left : (old new : Memory) → LeavesLive 0 0 old new → KeepsAt F old new
+  at-left old new k = record { no_shorter = k.no_shorter; same = λ x f below is. k.bytes x is below (inr (omega arith)); live = λ x f below is. k.live x is }
 
   at-run : (run : BodyRun) → LeavesAlone F run → KeepsAt F run.before run.after
   at-run run leaves = record { no_shorter = leaves.no_shorter; same = λ x f below is. leaves.same x f; live = λ x f below is. leaves.live x f is }
 
 -- ---- one call
 
--- what the allocator of the callee keeps of the footprint, in a trace that puts arguments there and in a call that traps before the body is entered
-record CalleeKeeps (parties : Parties) (order : Order) (F : Footprint) : Type 0 where
-  entering : (old new : Memory) (es : List Event) → Fine parties.callee_allocates Nowhere old es new → KeepsAt F old new
-  before : (f : FunctionType) (flats : List Flat) (placed : World) (s : Step) (k : TrapKind) (ways : Ways) (new : World) → Traps parties order f flats placed s k ways new → IsBeforeBody s → KeepsAt F placed.callee new.callee
-
-pub faulty-ran : (parties : Parties) (order : Order) (f : FunctionType) (flats answer : List Flat) (answered : World) (k : TrapKind) (done : List Event) (new : World) → ResultFaulty parties order f flats answered answer k done new → IsAsItRan answered new
-faulty-ran parties order f flats answer answered k done new (inl (faulty, none, is)) = (ap (λ w. w.callee) is, ap (λ w. w.body) is)
-faulty-ran parties order f flats answer answered k done new (inr (tested, es, until, part, begun, callee, body)) = (callee, body)
-
-pub fails-ran : (parties : Parties) (order : Order) (f : FunctionType) (flats answer : List Flat) (answered : World) (k : TrapKind) (done : List Event) (new : World) → ResultFails parties order f flats answered answer k done new → IsAsItRan answered new
-fails-ran parties order f flats answer answered k done new (inl (stands, faulty, none, is)) = (ap (λ w. w.callee) is, ap (λ w. w.body) is)
-fails-ran parties order f flats answer answered k done new (inr (stands, es, script, breaks, is_done, callee, body)) = (callee, body)
-
-module _ (parties : Parties) (caller_releases : Release) (order : Order) (F : Footprint) (keeps : CalleeKeeps parties order F) (f : FunctionType) where
+module _ (parties : Parties) (caller_releases callee_releases : Release) (order : Order) (F : Footprint) (tame : AreTame parties caller_releases callee_releases) (f : FunctionType) where
   -- the body is entered
   at-entered : (flats : List Flat) (placed : World) (values : List Value) (handed : List Flat) (there : List Event) (entered : World) → Enters parties f flats placed values handed there entered → KeepsAt F placed.callee entered.callee
-  at-entered flats placed values handed there entered e = keeps.entering placed.callee entered.callee there (record {
-    aligned = passes-aligned max_flat_params f.params values there handed e.passes;
-    confined = passes-confined max_flat_params f.params values there handed e.passes;
-    leads = e.leads;
-  })
+  at-entered flats placed values handed there entered e =
+      at-left F placed.callee entered.callee (own-left parties.callee_allocates callee_releases tame.callee placed.callee entered.callee
+      (went-by parties.callee_allocates Nowhere placed.callee there entered.callee (record {
+        aligned = passes-aligned max_flat_params f.params values there handed e.passes;
+        confined = passes-confined max_flat_params f.params values there handed e.passes;
+        leads = e.leads;
+      })))
+
+  -- or it is not
+  at-waiting : (flats : List Flat) (placed : World) (s : Step) (k : TrapKind) (ways : Ways) (new : World) → Traps parties order f flats placed s k ways new → IsBeforeBody s → KeepsAt F placed.callee new.callee
+  at-waiting flats placed s k ways new t b =
+      at-left F placed.callee new.callee
+      (waits-live parties caller_releases callee_releases tame placed new (traps-wait parties caller_releases callee_releases order f flats tame placed s k ways new t b).0).kept
 
   at-answered : (flats : List Flat) (placed : World) (answer : List Flat) (there : List Event) (answered : World) (a : Answered parties f flats placed answer there answered) → LeavesAlone F (answering_run parties f flats placed answer there answered a)
       → KeepsAt F placed.callee answered.callee
@@ -113,8 +101,8 @@ module _ (parties : Parties) (caller_releases : Release) (order : Order) (F : Fo
     at-trapped : (s : Step) (k : TrapKind) (new : World) (t : TypedTraps parties order f arguments old s k new) → AllByRecursion (LeavesAlone F) (runs_of_traps parties order f arguments old s k new t) → KeepsAt F old.callee new.callee
     at-trapped step.Place k new t leaves = at-same F old.callee new.callee t.same_callee
     at-trapped step.Take k new (back, area, b, fault) leaves = at-came back area new b leaves
-    at-trapped step.LiftArgs k new (flats, area, placed, p, ways, t) leaves = from-placed old placed new p.same_callee (keeps.before f flats placed step.LiftArgs k ways new t tt)
-    at-trapped step.LowerArgs k new (flats, area, placed, p, ways, t) leaves = from-placed old placed new p.same_callee (keeps.before f flats placed step.LowerArgs k ways new t tt)
+    at-trapped step.LiftArgs k new (flats, area, placed, p, ways, t) leaves = from-placed old placed new p.same_callee (at-waiting flats placed step.LiftArgs k ways new t tt)
+    at-trapped step.LowerArgs k new (flats, area, placed, p, ways, t) leaves = from-placed old placed new p.same_callee (at-waiting flats placed step.LowerArgs k ways new t tt)
     at-trapped step.Body k new (flats, area, placed, p, ways, (values, handed, entered, is, enters, runs, none)) leaves =
         from-placed old placed new p.same_callee (at-then F placed.callee entered.callee new.callee (at-entered flats placed values handed ways.there entered enters) (at-run F (record { before = entered.callee; after = new.callee }) leaves.0))
     at-trapped step.LiftResult k new (flats, area, placed, p, ways, (answer, answered, a, faulty)) leaves =
@@ -146,10 +134,10 @@ all-second : (P : BodyRun → Type 0) (xs ys : List BodyRun) → AllByRecursion 
 all-second P [] ys all = all
 all-second P (x ∷ xs) ys all = all-second P xs ys all.1
 
-module _ (parties : Parties) (caller_releases : Release) (order : Order) (F : Footprint) (keeps : CalleeKeeps parties order F) where
+module _ (parties : Parties) (caller_releases callee_releases : Release) (order : Order) (F : Footprint) (tame : AreTame parties caller_releases callee_releases) where
   at-step : (s : SessionStep) (before : List SessionAnswer) (old : World) (answer : SessionAnswer) (new : World) (taken : TakesStep parties caller_releases order before old s answer new)
       → AllByRecursion (LeavesAlone F) (runs_of_step parties caller_releases order s before old answer new taken) → KeepsAt F old.callee new.callee
-  at-step (call f arguments) before old answer new (result, is, calls) leaves = at-called parties caller_releases order F keeps f arguments old result new calls leaves
+  at-step (call f arguments) before old answer new (result, is, calls) leaves = at-called parties caller_releases callee_releases order F tame f arguments old result new calls leaves
   at-step (place t v) before old answer new (result, is, places, callee, body) leaves = at-same F old.callee new.callee callee
   at-step (read k) before old answer new (same, reads) leaves = at-same F old.callee new.callee (ap (λ w. w.callee) same)
   at-step (release at n) before old answer new (took, is, releases, callee, body) leaves = at-same F old.callee new.callee callee
@@ -174,29 +162,11 @@ held-then t a v old new holds live k =
       λ x r. k.live x r (inside x r) (live x r),
     )
 
-honest-keeps : (parties : Parties) (caller_releases callee_releases : Release) (order : Order) (F : Footprint) → AreHonest parties caller_releases callee_releases → CalleeKeeps parties order F
-honest-keeps parties caller_releases callee_releases order F honest = record {
-  entering = λ old new es fine. at-fine F parties.callee_allocates callee_releases honest.callee old new es fine;
-  before = λ f flats placed s k ways new t b.
-      let waits = traps-wait parties caller_releases callee_releases order f flats honest placed s k ways new t b in
-      at-fine F parties.callee_allocates callee_releases honest.callee placed.callee new.callee waits.0 waits.1;
-}
-
-tame-keeps : (parties : Parties) (caller_releases callee_releases : Release) (order : Order) (F : Footprint) → AreTame parties caller_releases callee_releases → CalleeKeeps parties order F
-tame-keeps parties caller_releases callee_releases order F tame = record {
-  entering = λ old new es fine. by-left old new (went-leaves parties.callee_allocates callee_releases tame.callee Nowhere old new 0 0 (λ x i. absurd i) (es, new, fine, leaves-same 0 0 new));
-  before = λ f flats placed s k ways new t b. by-left placed.callee new.callee (traps-before parties caller_releases callee_releases order f flats tame placed s k ways new t b).kept;
-}
-  where
-    by-left : (old new : Memory) → LeavesLive 0 0 old new → KeepsAt F old new
-    by-left old new k = record { no_shorter = k.no_shorter; same = λ x f below is. k.bytes x is below (inr (omega arith)); live = λ x f below is. k.live x is }
-
-pub callee-keeps-held : (parties : Parties) (caller_releases callee_releases : Release) (order : Order) → CalleeKeepsHeld parties caller_releases order callee_releases
-callee-keeps-held parties caller_releases callee_releases order t a v before old steps answers new run honest holds live leaves =
-    held-then t a v old.callee new.callee holds live
-    (at-steps parties caller_releases order (Reads t old.callee.bytes a) (honest-keeps parties caller_releases callee_releases order (Reads t old.callee.bytes a) honest) before old steps answers new run leaves)
-
 pub callee-keeps-held-live : (parties : Parties) (caller_releases callee_releases : Release) (order : Order) → CalleeKeepsHeldLive parties caller_releases order callee_releases
 callee-keeps-held-live parties caller_releases callee_releases order t a v before old steps answers new run tame holds live leaves =
-    held-then t a v old.callee new.callee holds live
-    (at-steps parties caller_releases order (Reads t old.callee.bytes a) (tame-keeps parties caller_releases callee_releases order (Reads t old.callee.bytes a) tame) before old steps answers new run leaves)
+    held-then t a v old.callee new.callee holds live (at-steps parties caller_releases callee_releases order (Reads t old.callee.bytes a) tame before old steps answers new run leaves)
+
+-- honest guests are tame
+pub callee-keeps-held : (parties : Parties) (caller_releases callee_releases : Release) (order : Order) → CalleeKeepsHeld parties caller_releases order callee_releases
+callee-keeps-held parties caller_releases callee_releases order t a v before old steps answers new run honest holds live leaves =
+    callee-keeps-held-live parties caller_releases callee_releases order t a v before old steps answers new run (are-tame parties caller_releases callee_releases honest) holds live leaves

@@ -1,29 +1,25 @@
 -- Values tell what two ways into one memory leave there; and what a way that broke off leaves is what its events tell.
-use Rattle.std.proofs.Common.{◌≡◌, ◌⊎◌, inl, inr, ℕ, ◌+◌, ◌-◌, ◌<◌, ◌≤◌, true, cond, List, [], ◌∷◌, ◌++◌, length, drop, Option, Some, refl, sym, ap, ◌∙◌, subst, arith}
+use Rattle.std.proofs.Common.{◌≡◌, ◌⊎◌, inl, inr, ℕ, ◌+◌, ◌-◌, ◌<◌, ◌≤◌, true, cond, List, [], ◌∷◌, length, drop, Option, Some, refl, sym, ap, ◌∙◌, subst, arith}
 use Rattle.std.specs.Prelude.{slice_get, slice_range}
 use Rattle.std.proofs.lemmas.Bool.{cases_lt}
 use Rattle.std.proofs.lemmas.Option.{slice_get_within}
-use Rattle.canonical_abi.specs.Types.{FunctionType, record_type, result_fields}
+use Rattle.canonical_abi.specs.Types.{record_type, result_fields}
 use Rattle.canonical_abi.specs.Layout.{size, max_flat_params, max_flat_results}
 use Rattle.canonical_abi.specs.Guest.{Memory, Allocation, Release, IsGrant, IsHonest, IsWithin, IsOutside, overwrite}
-use Rattle.canonical_abi.specs.Trace.{Grant, Event, node, grant, write, TraceLeads, LeavesOutWrites, RequestFails}
+use Rattle.canonical_abi.specs.Trace.{Grant, Event, node, grant, write, TraceLeads, LeavesOutWrites}
 use Rattle.canonical_abi.specs.Stands.{AreAligned}
 use Rattle.canonical_abi.specs.Lowering.{PassesResult}
-use Rattle.canonical_abi.specs.Call.{Run, PostRun, Parties, World, Ways, exact, Answered, ArgumentsFaulty, ArgumentsFail, ResultFaulty, ResultFails, Traps, argument_flats, area_of}
-use Rattle.canonical_abi.specs.Headline.{AreHonest, IsBeforeBody}
+use Rattle.canonical_abi.specs.Call.{Run, PostRun, Parties, area_of}
 use Rattle.canonical_abi.specs.OnlyValues.{OnlyValuesCross, ShowsAlone, TrapsShowValues}
 use Rattle.canonical_abi.specs.TameValues.{OnlyValuesCrossLive}
-use Rattle.canonical_abi.specs.declared.flat.Flat.{Flat}
-use Rattle.canonical_abi.specs.declared.trap.Step.{Step}
-use Rattle.canonical_abi.specs.declared.trap.Step.TheVariants as step
-use Rattle.canonical_abi.specs.declared.trap.TrapKind.{TrapKind}
 use Rattle.canonical_abi.proofs.Traces.TracesLeaveImages.{byte_over-before, byte_over-within, byte_over-after, overwrite-get, slice_get-drop, slice_get-take}
-use Rattle.canonical_abi.proofs.Traces.WhatTracesKeep.{runs-keep, aligned-first, aligned-second}
-use Rattle.canonical_abi.proofs.Traces.StoppedTracesAreConfined.{aligned-left, made-leaves, leaves-none}
-use Rattle.canonical_abi.proofs.Traces.ConfinedTraces.{request-failed}
+use Rattle.canonical_abi.proofs.Traces.WhatTracesKeep.{runs-keep}
+use Rattle.canonical_abi.proofs.Traces.ConfinedTraces.{refuses-same}
 use Rattle.canonical_abi.proofs.FlatValues.LoweredIsDenoted.{Nowhere, passes-aligned, passes-confined}
 use Rattle.canonical_abi.proofs.Sessions.ValuesTellTraces.{same-entry, same-return, same-entry-live, same-return-live}
-use Rattle.canonical_abi.proofs.Calls.LinkKeepsPromise.{InArea, passes-result-confined, answered-same, returned-fine, passes-result-aligned, until-result-aligned, script-aligned, until-params-fine, script-params-fine}
+use Rattle.canonical_abi.proofs.Sessions.TrapsShowEvents.{Shows, shows-there, shows-back}
+use Rattle.canonical_abi.proofs.Calls.WaysOfCalls.{InArea, passes-result-confined, passes-result-aligned}
+use Rattle.canonical_abi.proofs.Calls.LinkKeepsPromise.{are-tame}
 
 -- ---- ways that were taken to their end
 
@@ -160,90 +156,16 @@ module _ (allocates : Allocation) (releases : Release) (honest : IsHonest alloca
         | inr n ↦ elim n [ inl told ↦ inr (inl (inr told)) | inr z ↦ inr (inr (omega (arith, z.0, longer), z.1)) ]
       ]
 
-  same-shows : (old new : Memory) → new ≡ old → (es : List Event) → ShowsAlone old.bytes es new.bytes
-  same-shows old new same es = λ a b e. inl (ap (λ m. slice_get m.bytes a) (sym same) ∙ e)
-
-  -- a trace that broke off: the request that failed was refused, and changed nothing
-  broken-shows : (done made rest : List Event) (next : Grant) (es : List Event) (old asked new : Memory) (k : TrapKind) → AreAligned es → es ≡ done ++ grant next ∷ rest → LeavesOutWrites done made → TraceLeads allocates old made asked
-      → RequestFails allocates asked next.align next.size k new → ShowsAlone old.bytes done new.bytes
-  broken-shows done made rest next es old asked new k al is left leads fails =
-      let whole = subst AreAligned is al in
-      let front = aligned-first done (grant next ∷ rest) whole in
-      let behind = aligned-second done (grant next ∷ rest) whole in
-      let same = request-failed allocates releases honest asked next.align next.size k new behind.0 fails in
-      subst (λ m. ShowsAlone old.bytes done m.bytes) (sym same) (trace-shows done made old asked (aligned-left done made left front) left leads)
-
--- ---- calls
-
-module _ (parties : Parties) (caller_releases callee_releases : Release) (honest : AreHonest parties caller_releases callee_releases) (f : FunctionType) (flats : List Flat) where
-  abbrev CalleeShows : World → List Event → World → Type 0
-  CalleeShows old es new = ShowsAlone old.callee.bytes es new.callee.bytes
-
-  abbrev CallerShows : World → List Event → World → Type 0
-  CallerShows old es new = ShowsAlone old.caller.bytes es new.caller.bytes
-
-  arguments-faulty : (old : World) (k : TrapKind) (done : List Event) (new : World) → ArgumentsFaulty parties exact f flats old k done new → CalleeShows old done new
-  arguments-faulty old k done new (inl (other, is, none, same)) = same-shows parties.callee_allocates callee_releases honest.callee old.callee new.callee (ap (λ w. w.callee) same) done
-  arguments-faulty old k done new (inr (inl (kinds, faulty, none, same))) = same-shows parties.callee_allocates callee_releases honest.callee old.callee new.callee (ap (λ w. w.callee) same) done
-  arguments-faulty old k done new (inr (inr (kinds, es, until, is, (made, left, leads), caller, body))) =
-      let al = (until-params-fine f.params old.caller.bytes (argument_flats f flats) k es until).0 in
-      trace-shows parties.callee_allocates callee_releases honest.callee done made old.callee new.callee (aligned-left done made (made-leaves exact done made left) (subst AreAligned (sym is) al)) (made-leaves exact done made left) leads
-
-  arguments-fail : (old : World) (k : TrapKind) (done : List Event) (new : World) → ArgumentsFail parties exact f flats old k done new → CalleeShows old done new
-  arguments-fail old k done new (kinds, es, script, (front, made, rest, next, asked, is, left, leads, fails), same, caller, body) =
-      let al = (script-params-fine f.params old.caller.bytes (argument_flats f flats) es script).0 in
-      subst (λ l. CalleeShows old l new) (sym same) (broken-shows parties.callee_allocates callee_releases honest.callee front made rest next es old.callee asked new.callee k al is (made-leaves exact front made left) leads fails)
-
-  result-faulty : (answered : World) (answer : List Flat) (k : TrapKind) (done : List Event) (new : World) → ResultFaulty parties exact f flats answered answer k done new → CallerShows answered done new
-  result-faulty answered answer k done new (inl (faulty, none, same)) = same-shows parties.caller_allocates caller_releases honest.caller answered.caller new.caller (ap (λ w. w.caller) same) done
-  result-faulty answered answer k done new (inr (tested, es, until, is, (made, left, leads), callee, body)) =
-      let al = until-result-aligned (result_fields f.result) answered.callee.bytes answer (area_of f flats) k es until in
-      trace-shows parties.caller_allocates caller_releases honest.caller done made answered.caller new.caller (aligned-left done made (made-leaves exact done made left) (subst AreAligned (sym is) al)) (made-leaves exact done made left) leads
-
-  result-fails : (answered : World) (answer : List Flat) (k : TrapKind) (done : List Event) (new : World) → ResultFails parties exact f flats answered answer k done new → CallerShows answered done new
-  result-fails answered answer k done new (inl (tested, faulty, none, same)) = same-shows parties.caller_allocates caller_releases honest.caller answered.caller new.caller (ap (λ w. w.caller) same) done
-  result-fails answered answer k done new (inr (stands, es, script, (front, made, rest, next, asked, is, left, leads, fails), same, callee, body)) =
-      let al = script-aligned (result_fields f.result) answered.callee.bytes answer (area_of f flats) es script in
-      subst (λ l. CallerShows answered l new) (sym same) (broken-shows parties.caller_allocates caller_releases honest.caller front made rest next es answered.caller asked new.caller k al is (made-leaves exact front made left) leads fails)
-
-  -- where the caller is as it was
-  caller-same : (old new : World) (es : List Event) → new.caller ≡ old.caller → CallerShows old es new
-  caller-same old new es same = same-shows parties.caller_allocates caller_releases honest.caller old.caller new.caller same es
-
-  since : (old answered new : World) (answer : List Flat) (there es : List Event) → Answered parties f flats old answer there answered → CallerShows answered es new → CallerShows old es new
-  since old answered new answer there es a shows =
-      subst (λ m. ShowsAlone m.bytes es new.caller.bytes) (answered-same parties caller_releases callee_releases exact f flats honest old answer there answered a) shows
-
-  shows-there : (old : World) (s : Step) (k : TrapKind) (ways : Ways) (new : World) → IsBeforeBody s → Traps parties exact f flats old s k ways new → CalleeShows old ways.there new
-  shows-there old step.Place k ways new before t = absurd t
-  shows-there old step.LiftArgs k ways new before (faulty, none) = arguments-faulty old k ways.there new faulty
-  shows-there old step.LowerArgs k ways new before (fails, none) = arguments-fail old k ways.there new fails
-  shows-there old step.Body k ways new before t = absurd before
-  shows-there old step.LiftResult k ways new before t = absurd before
-  shows-there old step.LowerResult k ways new before t = absurd before
-  shows-there old step.Post k ways new before t = absurd before
-  shows-there old step.Take k ways new before t = absurd before
-
-  argued : (old : World) (k : TrapKind) (done : List Event) (new : World) → ArgumentsFaulty parties exact f flats old k done new → new.caller ≡ old.caller
-  argued old k done new (inl (other, is, none, same)) = ap (λ w. w.caller) same
-  argued old k done new (inr (inl (kinds, faulty, none, same))) = ap (λ w. w.caller) same
-  argued old k done new (inr (inr (kinds, es, until, is, begun, caller, body))) = caller
-
-  shows-back : (old : World) (s : Step) (k : TrapKind) (ways : Ways) (new : World) → Traps parties exact f flats old s k ways new → CallerShows old ways.back new
-  shows-back old step.Place k ways new t = absurd t
-  shows-back old step.Take k ways new t = absurd t
-  shows-back old step.LiftArgs k ways new (faulty, none) = caller-same old new ways.back (argued old k ways.there new faulty)
-  shows-back old step.LowerArgs k ways new ((kinds, es, script, breaks, same, caller, body), none) = caller-same old new ways.back caller
-  shows-back old step.Body k ways new (values, handed, entered, is, enters, runs, none) = caller-same old new ways.back (runs.same_caller ∙ enters.same_caller)
-  shows-back old step.LiftResult k ways new (answer, answered, a, faulty) = since old answered new answer ways.there ways.back a (result-faulty answered answer k ways.back new faulty)
-  shows-back old step.LowerResult k ways new (answer, answered, a, fails) = since old answered new answer ways.there ways.back a (result-fails answered answer k ways.back new fails)
-  shows-back old step.Post k ways new (answer, given, last, is, r, finishes) =
-      let fine = returned-fine parties caller_releases callee_releases exact f flats honest old answer given ways last r in
-      subst (λ m. ShowsAlone old.caller.bytes ways.back m.bytes) (sym finishes.same_caller)
-      (trace-shows parties.caller_allocates caller_releases honest.caller ways.back ways.back old.caller last.caller fine.aligned (leaves-none ways.back) fine.leads)
+  shows-alone : Shows allocates (λ old es new. ShowsAlone old.bytes es new.bytes)
+  shows-alone es made old mid new al left leads after =
+      subst (λ m. ShowsAlone old.bytes es m.bytes) (sym (refuses-same allocates releases honest mid new after)) (trace-shows es made old mid al left leads)
 
 pub traps-show-values : (parties : Parties) (caller_releases callee_releases : Release) → TrapsShowValues parties caller_releases callee_releases
 traps-show-values parties caller_releases callee_releases = record {
-  there = λ f flats old s k ways new honest before t. shows-there parties caller_releases callee_releases honest f flats old s k ways new before t;
-  back = λ f flats old s k ways new honest t. shows-back parties caller_releases callee_releases honest f flats old s k ways new t;
+  there = λ f flats old s k ways new honest before t.
+      shows-there parties caller_releases callee_releases (are-tame parties caller_releases callee_releases honest) (λ old es new. ShowsAlone old.bytes es new.bytes)
+      (shows-alone parties.callee_allocates callee_releases honest.callee) (shows-alone parties.caller_allocates caller_releases honest.caller) f flats old s k ways new before t;
+  back = λ f flats old s k ways new honest t.
+      shows-back parties caller_releases callee_releases (are-tame parties caller_releases callee_releases honest) (λ old es new. ShowsAlone old.bytes es new.bytes)
+      (shows-alone parties.callee_allocates callee_releases honest.callee) (shows-alone parties.caller_allocates caller_releases honest.caller) f flats old s k ways new t;
 }

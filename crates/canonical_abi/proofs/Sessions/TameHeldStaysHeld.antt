@@ -18,24 +18,25 @@ use Rattle.canonical_abi.specs.declared.trap.Fault.TheVariants.{Trap, NoMemory}
 use Rattle.canonical_abi.proofs.ReadValues.FramesReading.{frames_reading, same_footprint}
 use Rattle.canonical_abi.proofs.Traces.WhatTracesKeep.{not-both, not-true}
 use Rattle.canonical_abi.proofs.FlatValues.LoweredIsDenoted.{Nowhere}
-use Rattle.canonical_abi.proofs.Traces.ConfinedTraces.{trace-limited, small}
-use Rattle.canonical_abi.proofs.Traces.TameTraces.{Went, went-leaves, leaves-same, as-honest, any-is-honest, typed-broken}
+use Rattle.canonical_abi.proofs.Traces.ConfinedTraces.{trace-limited, small, Went, went-by}
+use Rattle.canonical_abi.proofs.Traces.TameTraces.{leaves-same, any-is-honest, typed-broken, calm-trace}
 use Rattle.canonical_abi.proofs.Calls.TameCallKeepsPromise.{call-leaves-caller}
-use Rattle.canonical_abi.proofs.Sessions.HeldStaysHeld.{reads-inside, block-aligned, block-confined, held-read}
-use Rattle.canonical_abi.proofs.Sessions.PlacedIsHeld.{placed-is-held}
+use Rattle.canonical_abi.proofs.Sessions.HeldValues.{reads-inside, block-aligned, block-confined, held-read, placed-held as calm-held}
+use Rattle.canonical_abi.proofs.Calls.WaysOfCalls.{own-left}
 
 -- ---- a value that is placed
 
 module _ (allocates : Allocation) (releases : Release) (tame : IsTame allocates releases) where
-  place-went : (t : ClosedType) (v : Value) (old new : Memory) (result : Result Held Fault) → PlacesValue allocates t v old result new → Went allocates releases tame Nowhere old new
+  -- whether it is placed, or there is no room for it
+  pub place-went : (t : ClosedType) (v : Value) (old new : Memory) (result : Result Held Fault) → PlacesValue allocates t v old result new → Went allocates Nowhere old new
   place-went t v old new (Ok held) (g, rest, block, stores, within, leads, is) =
-      (grant g ∷ rest, new, record { aligned = block-aligned t v g rest block stores; confined = block-confined t v g rest block stores; leads = leads }, leaves-same 0 0 new)
+      went-by allocates Nowhere old (grant g ∷ rest) new (record { aligned = block-aligned t v g rest block stores; confined = block-confined t v g rest block stores; leads = leads })
   place-went t v old new (Err (Trap fault)) (g, rest, block, stores, is, breaks) =
       (typed-broken allocates releases tame Nowhere old (grant g ∷ rest) fault.kind new (block-aligned t v g rest block stores) (block-confined t v g rest block stores) breaks).0
   place-went t v old new (Err NoMemory) p = absurd p
 
   place-leaves : (t : ClosedType) (v : Value) (old new : Memory) (result : Result Held Fault) → PlacesValue allocates t v old result new → LeavesLive 0 0 old new
-  place-leaves t v old new result places = went-leaves allocates releases tame Nowhere old new 0 0 (λ x i. absurd i) (place-went t v old new result places)
+  place-leaves t v old new result places = own-left allocates releases tame old new (place-went t v old new result places)
 
   placed-held : (t : ClosedType) (v : Value) (old new : Memory) (held : Held) → IsStandard t → length new.bytes < 2 ^ 32 → PlacesValue allocates t v old (Ok held) new → IsPlacedLive t held.at v old new
   placed-held t v old new held standard small (g, rest, block, stores, within, leads, is) = record {
@@ -47,10 +48,11 @@ module _ (allocates : Allocation) (releases : Release) (tame : IsTame allocates 
     where
       -- an honest guest puts it there, too
       calm : (m : Memory) × LeavesLive 0 0 old m × TraceLeads AnyGrant m (grant g ∷ rest) new
-      calm = as-honest allocates releases tame Nowhere (grant g ∷ rest) old new new (block-aligned t v g rest block stores) (block-confined t v g rest block stores) (λ x i. absurd i) leads (leaves-same 0 0 new)
+      calm = calm-trace allocates releases tame Nowhere (grant g ∷ rest) old new (λ x i. absurd i)
+          (record { aligned = block-aligned t v g rest block stores; confined = block-confined t v g rest block stores; leads = leads })
 
       there : IsPlaced AnyGrant t held.at v calm.0 new
-      there = (placed-is-held AnyGrant AnyRelease any-is-honest).placed t v calm.0 new held standard small (g, rest, block, stores, within, calm.2, is)
+      there = calm-held AnyGrant AnyRelease any-is-honest t v calm.0 new held standard small (g, rest, block, stores, within, calm.2, is)
 
 pub placed-is-held-live : (allocates : Allocation) (releases : Release) → IsTame allocates releases → PlacedIsHeldLive allocates
 placed-is-held-live allocates releases tame = record {

@@ -1,19 +1,15 @@
--- A trace over an honest guest, confined to a place and to its own blocks, changes nothing else.
-use Rattle.std.proofs.Common.{◌≡◌, ◌⊎◌, inl, inr, ℕ, ◌^◌, ◌<◌, ◌≤◌, true, List, [], ◌∷◌, ◌++◌, length, get_or, Some, refl, sym, ap, ◌∙◌, subst, arith}
+-- A trace that is confined to a place and to its own blocks, and a refusal after it: over an honest guest nothing else is changed.
+use Rattle.std.proofs.Common.{◌≡◌, ◌⊎◌, inl, inr, ℕ, ◌^◌, ◌<◌, ◌≤◌, true, List, [], ◌∷◌, ◌++◌, length, get_or, Some, refl, sym, ap, ◌∙◌, subst, arith, None}
 use Rattle.std.specs.Prelude.{slice_get}
 use Rattle.std.proofs.lemmas.Option.{slice_get-get_or}
-use Rattle.canonical_abi.specs.Guest.{Memory, Allocation, Release, IsHonest, IsLimited, KeepsLimit, IsWithin, IsOutside, IsAlignment}
-use Rattle.canonical_abi.specs.Trace.{Event, node, write, grant, grants_of, TraceLeads, RequestFails}
+use Rattle.canonical_abi.specs.Guest.{Memory, Allocation, Release, IsHonest, IsLimited, KeepsLimit, IsWithin, IsOutside}
+use Rattle.canonical_abi.specs.Trace.{Event, node, write, grant, grants_of, TraceLeads}
 use Rattle.canonical_abi.specs.Stands.{AreAligned, IsGranted, IsWritten, Keeps}
-use Rattle.canonical_abi.specs.Call.{either, Breaks}
-use Rattle.canonical_abi.specs.Session.{TypedRequestFails, TypedTraceBreaks}
 use Rattle.canonical_abi.specs.Headline.{IsOutsideAll, AreLive, KeepsOutside}
-use Rattle.canonical_abi.specs.declared.trap.TrapKind.{TrapKind}
-use Rattle.canonical_abi.specs.declared.trap.TrapKind.TheVariants as trap
 use Rattle.canonical_abi.proofs.Traces.BytesWrittenOver.{length-overwrite}
-use Rattle.canonical_abi.proofs.Traces.WhatTracesKeep.{not-both, runs-keep, aligned-first, aligned-second}
-use Rattle.canonical_abi.proofs.StoredValues.WritesOwnPlaceAndBlocks.{Confined, confined-more, confined-front, own-confined}
-use Rattle.canonical_abi.proofs.Traces.StoppedTracesAreConfined.{confined-left, aligned-left, leaves-none}
+use Rattle.canonical_abi.proofs.Traces.WhatTracesKeep.{not-both, runs-keep}
+use Rattle.canonical_abi.proofs.StoredValues.WritesOwnPlaceAndBlocks.{Confined, confined-more, own-confined}
+use Rattle.canonical_abi.proofs.Traces.StoppedTracesAreConfined.{leaves-none}
 
 -- ---- traces one behind the other
 
@@ -59,18 +55,25 @@ all-live (grant b ∷ es) m h = ((λ x w. h x (inl w)), all-live es m (λ x g. h
 same-byte : (xs ys : List ℕ) (x : ℕ) → x < length xs → length xs ≤ length ys → get_or ys x 0 ≡ get_or xs x 0 → slice_get ys x ≡ slice_get xs x
 same-byte xs ys x below long e = slice_get-get_or ys x 0 (omega arith) ∙ ap (λ b. Some b) e ∙ sym (slice_get-get_or xs x 0 below)
 
--- a trace that an honest guest went through, confined to a place and to its own blocks
+-- a trace that a guest went through, confined to a place and to its own blocks
 pub record Fine (allocates : Allocation) (P : ℕ → Type 0) (old : Memory) (es : List Event) (new : Memory) : Type 0 where
   pub aligned : AreAligned es
   pub confined : Confined P es
   pub leads : TraceLeads allocates old es new
 
-pub fine-from : (allocates : Allocation) (P : ℕ → Type 0) (m m' : Memory) (es : List Event) (new : Memory) → m' ≡ m → Fine allocates P m es new → Fine allocates P m' es new
-fine-from allocates P m m' es new same fine =
-    record { aligned = fine.aligned; confined = fine.confined; leads = subst (λ x. TraceLeads allocates x es new) (sym same) fine.leads }
+-- nothing came after a trace, or a request that was refused
+abbrev pub Refuses : Allocation → Memory → Memory → Type 0
+Refuses allocates mid new = (new ≡ mid) ⊎ ((alignment size : ℕ) × allocates mid alignment size None new)
 
-pub fine-none : (allocates : Allocation) (P : ℕ → Type 0) (old new : Memory) → new ≡ old → Fine allocates P old [] new
-fine-none allocates P old new same = record { aligned = tt; confined = tt; leads = same }
+-- such a trace, and a refusal after it or none
+abbrev pub Went : Allocation → (ℕ → Type 0) → Memory → Memory → Type 0
+Went allocates P old new = (es : List Event) × (mid : Memory) × Fine allocates P old es mid × Refuses allocates mid new
+
+pub went-by : (allocates : Allocation) (P : ℕ → Type 0) (old : Memory) (es : List Event) (new : Memory) → Fine allocates P old es new → Went allocates P old new
+went-by allocates P old es new fine = (es, new, fine, inl refl)
+
+pub went-same : (allocates : Allocation) (P : ℕ → Type 0) (old new : Memory) → new ≡ old → Went allocates P old new
+went-same allocates P old new same = ([], old, record { aligned = tt; confined = tt; leads = refl }, inl same)
 
 module _ (allocates : Allocation) (releases : Release) (honest : IsHonest allocates releases) (P : ℕ → Type 0) (old new : Memory) (es : List Event) (fine : Fine allocates P old es new) where
   kept : Keeps old es new
@@ -103,59 +106,15 @@ module _ (allocates : Allocation) (releases : Release) (honest : IsHonest alloca
   unfolding keeps-outside
   outside-events lent size inside = refl
 
--- ---- requests that fail over an honest guest
+-- a refusal of an honest guest changes nothing
+pub refuses-same : (allocates : Allocation) (releases : Release) → IsHonest allocates releases → (mid new : Memory) → Refuses allocates mid new → new ≡ mid
+refuses-same allocates releases honest mid new (inl same) = same
+refuses-same allocates releases honest mid new (inr (alignment, size, full)) = honest.full mid alignment size new full
 
--- such a request was refused
-pub request-own : (allocates : Allocation) (releases : Release) → IsHonest allocates releases → (old : Memory) (alignment n : ℕ) (k : TrapKind) (new : Memory) → IsAlignment alignment → RequestFails allocates old alignment n k new → k ≡ trap.Full
-request-own allocates releases honest old alignment n trap.Full new al r = refl
-request-own allocates releases honest old alignment n trap.Align new al (at, r, bad) = absurd (bad (honest.granted old alignment n at new al r).aligned)
-request-own allocates releases honest old alignment n trap.Bounds new al (at, r, ok, bad) = let inside = (honest.granted old alignment n at new al r).inside in absurd (omega arith)
-request-own allocates releases honest old alignment n trap.Char new al r = absurd r
-request-own allocates releases honest old alignment n trap.Case new al r = absurd r
-request-own allocates releases honest old alignment n trap.Utf8 new al r = absurd r
-request-own allocates releases honest old alignment n trap.Body new al r = absurd r
-request-own allocates releases honest old alignment n trap.CoreSignature new al r = absurd r
+pub went-fine : (allocates : Allocation) (releases : Release) → IsHonest allocates releases → (P : ℕ → Type 0) (old new : Memory) → Went allocates P old new → (es : List Event) × Fine allocates P old es new
+went-fine allocates releases honest P old new (es, mid, fine, after) = (es, subst (λ m. Fine allocates P old es m) (sym (refuses-same allocates releases honest mid new after)) fine)
 
--- and changes nothing
-pub request-failed : (allocates : Allocation) (releases : Release) → IsHonest allocates releases → (old : Memory) (alignment n : ℕ) (k : TrapKind) (new : Memory) → IsAlignment alignment → RequestFails allocates old alignment n k new → new ≡ old
-request-failed allocates releases honest old alignment n k new al r =
-    honest.full old alignment n new (subst (λ j. RequestFails allocates old alignment n j new) (request-own allocates releases honest old alignment n k new al r) r)
-
-typed-own : (allocates : Allocation) (releases : Release) → IsHonest allocates releases → (old : Memory) (alignment n : ℕ) (k : TrapKind) (new : Memory) → IsAlignment alignment → TypedRequestFails allocates old alignment n k new
-    → ((k ≡ trap.Full) ⊎ (k ≡ trap.Bounds)) × (new ≡ old)
-typed-own allocates releases honest old alignment n k new al (inl r) = (inr r.1, r.2)
-typed-own allocates releases honest old alignment n k new al (inr r) =
-    (inl (request-own allocates releases honest old alignment n k new al r.1), request-failed allocates releases honest old alignment n k new al r.1)
-
--- what was made of a trace that breaks is fine, if the whole trace is aligned and confined, and it broke as a request was refused
-pub broken : (allocates : Allocation) (releases : Release) (honest : IsHonest allocates releases) (P : ℕ → Type 0) (old : Memory) (es : List Event) (k : TrapKind) (new : Memory) → AreAligned es → Confined P es → Breaks either allocates old es k new
-    → (made : List Event) × Fine allocates P old made new × (k ≡ trap.Full)
-broken allocates releases honest P old es k new al c (done, made, rest, next, asked, is, left, leads, fails) =
-    let whole = subst AreAligned is al in
-    let front = aligned-first done (grant next ∷ rest) whole in
-    let behind = aligned-second done (grant next ∷ rest) whole in
-    let same = request-failed allocates releases honest asked next.align next.size k new behind.0 fails in (
-      made,
-      record {
-        aligned = aligned-left done made left front;
-        confined = confined-left P done made left (confined-front P done (grant next ∷ rest) (subst (Confined P) is c));
-        leads = subst (TraceLeads allocates old made) (sym same) leads;
-      },
-      request-own allocates releases honest asked next.align next.size k new behind.0 fails,
-    )
-
-pub typed-broken : (allocates : Allocation) (releases : Release) (honest : IsHonest allocates releases) (P : ℕ → Type 0) (old : Memory) (es : List Event) (k : TrapKind) (new : Memory) → AreAligned es → Confined P es → TypedTraceBreaks allocates old es k new
-    → (made : List Event) × Fine allocates P old made new × ((k ≡ trap.Full) ⊎ (k ≡ trap.Bounds))
-typed-broken allocates releases honest P old es k new al c (done, made, rest, next, asked, is, within, left, leads, fails) =
-    let whole = subst AreAligned is al in
-    let front = aligned-first done (grant next ∷ rest) whole in
-    let behind = aligned-second done (grant next ∷ rest) whole in
-    let own = typed-own allocates releases honest asked next.align next.size k new behind.0 fails in (
-      made,
-      record {
-        aligned = aligned-left done made left front;
-        confined = confined-left P done made left (confined-front P done (grant next ∷ rest) (subst (Confined P) is c));
-        leads = subst (TraceLeads allocates old made) (sym own.1) leads;
-      },
-      own.0,
-    )
+pub went-outside : (allocates : Allocation) (releases : Release) → IsHonest allocates releases → (P : ℕ → Type 0) (old new : Memory) (lent size : ℕ) → ((x : ℕ) → P x → IsWithin x lent size) → Went allocates P old new
+    → KeepsOutside allocates lent size old new
+went-outside allocates releases honest P old new lent size inside went =
+    let (es, fine) = went-fine allocates releases honest P old new went in keeps-outside allocates releases honest P old new es fine lent size inside

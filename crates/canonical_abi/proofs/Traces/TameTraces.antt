@@ -1,12 +1,12 @@
 -- What a trace over a tame guest keeps, and the trace of an honest guest that it stands for: one from a memory with the same live bytes, by the
 -- same events and to the same memory.
-use Rattle.std.proofs.Common.{◌≡◌, ◌⊎◌, inl, inr, ℕ, ◌+◌, ◌-◌, ◌<◌, ◌≤◌, true, List, [], ◌∷◌, length, get_or, drop, Some, refl, sym, ap, ◌∙◌, subst, arith, length-drop}
+use Rattle.std.proofs.Common.{◌≡◌, ◌⊎◌, inl, inr, ℕ, ◌+◌, ◌-◌, ◌<◌, ◌≤◌, true, List, [], ◌∷◌, length, get_or, drop, Some, refl, sym, ap, ◌∙◌, subst, arith, length-drop, None, ◌++◌}
 use Rattle.std.specs.Prelude.{slice_get, slice_range}
 use Rattle.std.proofs.lemmas.List.{ext_get_or, get_or-take, get_or-drop, length-take-le}
 use Rattle.std.proofs.lemmas.Option.{slice_get-get_or}
 use Rattle.canonical_abi.specs.AnyHonest.{AnyGrant, AnyRelease}
 use Rattle.canonical_abi.specs.Guest.{Memory, Allocation, Release, IsHonest, IsGrant, IsWithin, IsOutside, IsAlignment, overwrite, with_bytes}
-use Rattle.canonical_abi.specs.Trace.{Event, node, write, grant, TraceLeads, RequestFails}
+use Rattle.canonical_abi.specs.Trace.{Event, node, write, grant, TraceLeads, RequestFails, Grant, LeavesOutWrites}
 use Rattle.canonical_abi.specs.Stands.{AreAligned}
 use Rattle.canonical_abi.specs.Call.{either, Breaks}
 use Rattle.canonical_abi.specs.Session.{TypedTraceBreaks, TypedRequestFails}
@@ -17,7 +17,7 @@ use Rattle.canonical_abi.proofs.Traces.BytesWrittenOver.{same_byte, length-overw
 use Rattle.canonical_abi.proofs.Traces.WhatTracesKeep.{not-both, aligned-first, aligned-second}
 use Rattle.canonical_abi.proofs.StoredValues.WritesOwnPlaceAndBlocks.{Confined, confined-front}
 use Rattle.canonical_abi.proofs.Traces.StoppedTracesAreConfined.{confined-left, aligned-left}
-use Rattle.canonical_abi.proofs.Traces.ConfinedTraces.{Fine}
+use Rattle.canonical_abi.proofs.Traces.ConfinedTraces.{Fine, Refuses, Went}
 
 -- equal bytes at an address inside both
 byte-of : (xs ys : List ℕ) (x : ℕ) → x < length xs → length xs ≤ length ys → get_or ys x 0 ≡ get_or xs x 0 → slice_get ys x ≡ slice_get xs x
@@ -28,15 +28,12 @@ byte-of xs ys x below long e = slice_get-get_or ys x 0 (omega arith) ∙ ap (λ 
 pub leaves-same : (lent size : ℕ) (m : Memory) → LeavesLive lent size m m
 leaves-same lent size m = record { no_shorter = omega arith; live = λ a l. l; bytes = λ a l below out. refl }
 
-pub leaves-then : (lent size : ℕ) (old mid new : Memory) → LeavesLive lent size old mid → LeavesLive 0 0 mid new → LeavesLive lent size old new
+leaves-then : (lent size : ℕ) (old mid new : Memory) → LeavesLive lent size old mid → LeavesLive 0 0 mid new → LeavesLive lent size old new
 leaves-then lent size old mid new k l = record {
   no_shorter = let h = k.no_shorter in let i = l.no_shorter in omega arith;
   live = λ a is. l.live a (k.live a is);
   bytes = λ a is below out. l.bytes a (k.live a is) (let h = k.no_shorter in omega arith) (inr (omega arith)) ∙ k.bytes a is below out;
 }
-
-pub leaves-more : (lent size : ℕ) (old new : Memory) → LeavesLive 0 0 old new → LeavesLive lent size old new
-leaves-more lent size old new k = record { no_shorter = k.no_shorter; live = k.live; bytes = λ a is below out. k.bytes a is below (inr (omega arith)) }
 
 byte-left : (old new : Memory) → LeavesLive 0 0 old new → (a : ℕ) → old.live a ≡ true → a < length old.bytes → slice_get new.bytes a ≡ slice_get old.bytes a
 byte-left old new k a is below = k.bytes a is below (inr (omega arith))
@@ -119,14 +116,15 @@ module _ (allocates : Allocation) (releases : Release) (tame : IsTame allocates 
         ),
       )
 
-  -- a trace that is confined to a place and to its own blocks, and what a refusal may do after it
-  abbrev pub Went : (ℕ → Type 0) → Memory → Memory → Type 0
-  Went P old new = (es : List Event) × (mid : Memory) × Fine allocates P old es mid × LeavesLive 0 0 mid new
+  pub refuses-leaves : (mid new : Memory) → Refuses allocates mid new → LeavesLive 0 0 mid new
+  refuses-leaves mid new (inl same) = subst (λ m. LeavesLive 0 0 mid m) (sym same) (leaves-same 0 0 mid)
+  refuses-leaves mid new (inr (alignment, n, full)) = tame.full mid alignment n new full
 
-  pub went-leaves : (P : ℕ → Type 0) (old new : Memory) (lent size : ℕ) → ((x : ℕ) → P x → IsWithin x lent size) → Went P old new → LeavesLive lent size old new
+  -- where it went through a trace that is confined to a place and to its own blocks, and through a refusal after it or none
+  pub went-leaves : (P : ℕ → Type 0) (old new : Memory) (lent size : ℕ) → ((x : ℕ) → P x → IsWithin x lent size) → Went allocates P old new → LeavesLive lent size old new
   went-leaves P old new lent size inside (es, mid, fine, after) =
       let t = trace-leaves P es old mid fine.aligned fine.confined fine.leads in
-      leaves-then lent size old mid new (record { no_shorter = t.0; live = λ a is. (t.1 a is).0; bytes = λ a is below out. (t.1 a is).1 below (apart a out) }) after
+      leaves-then lent size old mid new (record { no_shorter = t.0; live = λ a is. (t.1 a is).0; bytes = λ a is below out. (t.1 a is).1 below (apart a out) }) (refuses-leaves mid new after)
     where
       apart : (x : ℕ) → IsOutside x lent size → ¬ P x
       apart x (inl l) p = let w = inside x p in let h = w.0 in omega arith
@@ -136,7 +134,7 @@ module _ (allocates : Allocation) (releases : Release) (tame : IsTame allocates 
 
   -- where only live bytes are written: the weakest honest guest goes from a memory that has all live bytes of the old, by these events, to the
   -- new one, or to one with all live bytes of that
-  pub as-honest : (P : ℕ → Type 0) (es : List Event) (old new target : Memory) → AreAligned es → Confined P es → ((x : ℕ) → P x → old.live x ≡ true)
+  as-honest : (P : ℕ → Type 0) (es : List Event) (old new target : Memory) → AreAligned es → Confined P es → ((x : ℕ) → P x → old.live x ≡ true)
       → TraceLeads allocates old es new → LeavesLive 0 0 new target → (m : Memory) × LeavesLive 0 0 old m × TraceLeads AnyGrant m es target
   as-honest P [] old new target al c live r t = (target, subst (λ m. LeavesLive 0 0 m target) r t, refl)
   as-honest P (node ∷ es) old new target al c live r t =
@@ -199,54 +197,48 @@ module _ (allocates : Allocation) (releases : Release) (tame : IsTame allocates 
       apart x (inl l) w = let h = w.0 in absurd (omega arith)
       apart x (inr l) w = let h = w.1 in absurd (omega arith)
 
+  -- the weakest honest guest goes so to the new memory itself, if the place is live
+  pub calm-trace : (P : ℕ → Type 0) (es : List Event) (old new : Memory) → ((x : ℕ) → P x → old.live x ≡ true) → Fine allocates P old es new → (m : Memory) × LeavesLive 0 0 old m × TraceLeads AnyGrant m es new
+  calm-trace P es old new live fine = as-honest P es old new new fine.aligned fine.confined live fine.leads (leaves-same 0 0 new)
+
   -- ---- requests that fail
 
-  pub request-refused : (old : Memory) (alignment n : ℕ) (k : TrapKind) (new : Memory) → IsAlignment alignment → RequestFails allocates old alignment n k new → (k ≡ trap.Full) × LeavesLive 0 0 old new
-  request-refused old alignment n trap.Full new al r = (refl, tame.full old alignment n new r)
+  -- such a request was refused
+  pub request-refused : (old : Memory) (alignment n : ℕ) (k : TrapKind) (new : Memory) → IsAlignment alignment → RequestFails allocates old alignment n k new → (k ≡ trap.Full) × allocates old alignment n None new
+  request-refused old alignment n trap.Full new al r = (refl, r)
   request-refused old alignment n trap.Align new al (at, r, bad) = absurd (bad (tame.granted old alignment n at new al r).aligned)
   request-refused old alignment n trap.Bounds new al (at, r, ok, bad) = let inside = (tame.granted old alignment n at new al r).inside in absurd (omega arith)
-  request-refused old alignment n trap.Char new al r = absurd r
-  request-refused old alignment n trap.Case new al r = absurd r
-  request-refused old alignment n trap.Utf8 new al r = absurd r
-  request-refused old alignment n trap.Body new al r = absurd r
-  request-refused old alignment n trap.CoreSignature new al r = absurd r
+  request-refused old alignment n k new al r = absurd r
 
-  typed-refused : (old : Memory) (alignment n : ℕ) (k : TrapKind) (new : Memory) → IsAlignment alignment → TypedRequestFails allocates old alignment n k new → ((k ≡ trap.Full) ⊎ (k ≡ trap.Bounds)) × LeavesLive 0 0 old new
-  typed-refused old alignment n k new al (inl r) = (inr r.1, subst (λ m. LeavesLive 0 0 old m) (sym r.2) (leaves-same 0 0 old))
-  typed-refused old alignment n k new al (inr r) = let refused = request-refused old alignment n k new al r.1 in (inl refused.0, refused.1)
+  typed-refused : (old : Memory) (alignment n : ℕ) (k : TrapKind) (new : Memory) → IsAlignment alignment → TypedRequestFails allocates old alignment n k new → ((k ≡ trap.Full) ⊎ (k ≡ trap.Bounds)) × Refuses allocates old new
+  typed-refused old alignment n k new al (inl r) = (inr r.1, inl r.2)
+  typed-refused old alignment n k new al (inr r) = let refused = request-refused old alignment n k new al r.1 in (inl refused.0, inr (alignment, n, refused.1))
+
+  -- what was made of a trace up to a request that failed
+  made-went : (P : ℕ → Type 0) (old : Memory) (es done made rest : List Event) (next : Grant) (asked new : Memory) → AreAligned es → Confined P es → es ≡ done ++ grant next ∷ rest → LeavesOutWrites done made
+      → TraceLeads allocates old made asked → Refuses allocates asked new → Went allocates P old new
+  made-went P old es done made rest next asked new al c is left leads refuses = (
+    made,
+    asked,
+    record {
+      aligned = aligned-left done made left (aligned-first done (grant next ∷ rest) (subst AreAligned is al));
+      confined = confined-left P done made left (confined-front P done (grant next ∷ rest) (subst (Confined P) is c));
+      leads = leads;
+    },
+    refuses,
+  )
+
+  next-aligned : (es done rest : List Event) (next : Grant) → AreAligned es → es ≡ done ++ grant next ∷ rest → IsAlignment next.align
+  next-aligned es done rest next al is = (aligned-second done (grant next ∷ rest) (subst AreAligned is al)).0
 
   -- a trace that breaks went as far as the request that was refused
-  pub broken : (P : ℕ → Type 0) (old : Memory) (es : List Event) (k : TrapKind) (new : Memory) → AreAligned es → Confined P es → Breaks either allocates old es k new → Went P old new × (k ≡ trap.Full)
+  pub broken : (P : ℕ → Type 0) (old : Memory) (es : List Event) (k : TrapKind) (new : Memory) → AreAligned es → Confined P es → Breaks either allocates old es k new → Went allocates P old new × (k ≡ trap.Full)
   broken P old es k new al c (done, made, rest, next, asked, is, left, leads, fails) =
-      let whole = subst AreAligned is al in
-      let refused = request-refused asked next.align next.size k new (aligned-second done (grant next ∷ rest) whole).0 fails in (
-        (
-          made,
-          asked,
-          record {
-            aligned = aligned-left done made left (aligned-first done (grant next ∷ rest) whole);
-            confined = confined-left P done made left (confined-front P done (grant next ∷ rest) (subst (Confined P) is c));
-            leads = leads;
-          },
-          refused.1,
-        ),
-        refused.0,
-      )
+      let refused = request-refused asked next.align next.size k new (next-aligned es done rest next al is) fails in
+      (made-went P old es done made rest next asked new al c is left leads (inr (next.align, next.size, refused.1)), refused.0)
 
   pub typed-broken : (P : ℕ → Type 0) (old : Memory) (es : List Event) (k : TrapKind) (new : Memory) → AreAligned es → Confined P es → TypedTraceBreaks allocates old es k new
-      → Went P old new × ((k ≡ trap.Full) ⊎ (k ≡ trap.Bounds))
+      → Went allocates P old new × ((k ≡ trap.Full) ⊎ (k ≡ trap.Bounds))
   typed-broken P old es k new al c (done, made, rest, next, asked, is, within, left, leads, fails) =
-      let whole = subst AreAligned is al in
-      let refused = typed-refused asked next.align next.size k new (aligned-second done (grant next ∷ rest) whole).0 fails in (
-        (
-          made,
-          asked,
-          record {
-            aligned = aligned-left done made left (aligned-first done (grant next ∷ rest) whole);
-            confined = confined-left P done made left (confined-front P done (grant next ∷ rest) (subst (Confined P) is c));
-            leads = leads;
-          },
-          refused.1,
-        ),
-        refused.0,
-      )
+      let refused = typed-refused asked next.align next.size k new (next-aligned es done rest next al is) fails in
+      (made-went P old es done made rest next asked new al c is left leads refused.1, refused.0)
