@@ -21,7 +21,7 @@ use Rattle.crossing.specs.Outcome.{Counts, IsCrossed, MetFault, WasRefused}
 use Rattle.crossing.specs.Ways.{ParamsWalk, ResultWalk, AreaIsBad, IsUnbegun, WayEnds}
 use Rattle.crossing.specs.declared.stopped.Stopped.{Stopped}
 use Rattle.crossing.specs.declared.stopped.Stopped.TheVariants as stopped
-use Rattle.canonical_abi.specs.Halves.{counted_nodes, source, as_world, HasEntered, EntryFails, HasReturned, ReturnFails}
+use Rattle.canonical_abi.specs.Halves.{counted_nodes, source, as_state, HasEntered, EntryFails, HasReturned, ReturnFails}
 use Rattle.adapter.specs.Faults.{fault_in}
 use Rattle.adapter.specs.Leaving.{LeaveFails}
 
@@ -79,7 +79,7 @@ module _ (allocates : Allocation) (f : FunctionType) (flats : List Flat) (m : Li
     -- the record of the arguments has no place
     bad-address : (k : TrapKind) → KindsFit f flats → AddressFaulty max_flat_params f.params m (argument_flats f flats) k → IsUnbegun callee n callee' c
         → EntryFails allocates f flats m callee (ended.Trap (record { kind = k; step = step.LiftArgs })) callee' c
-    bad-address k kinds address none = inl (refl, [], inr (inl (kinds, address, refl, ap (λ w. as_world (source m) w []) none.same)), none.uncounted ∙ fresh)
+    bad-address k kinds address none = inl (refl, [], inr (inl (kinds, address, refl, ap (λ w. as_state (source m) w []) none.same)), none.uncounted ∙ fresh)
 
     -- one of their nodes is at fault
     bad-argument : (k : TrapKind) (final : List Flat) → KindsFit f flats → MetFault allocates (ParamsWalk max_flat_params f.params m (argument_flats f flats) final) callee n k callee' c
@@ -132,7 +132,7 @@ module _ (allocates : Allocation) (f : FunctionType) (flats : List Flat) (caller
     -- the answer's kinds or the address of its record are at fault
     bad-answer : (k : TrapKind) → AddressFaulty max_flat_results fs m answer k → IsUnbegun caller n caller' c
         → ReturnFails allocates f flats m answer caller (ended.Trap (record { kind = k; step = step.LiftResult })) caller' c
-    bad-answer k address none = inl (refl, [], inl (address, refl, ap (λ w. as_world w (source m) []) none.same), none.uncounted ∙ fresh)
+    bad-answer k address none = inl (refl, [], inl (address, refl, ap (λ w. as_state w (source m) []) none.same), none.uncounted ∙ fresh)
 
     -- one of its nodes is
     bad-result : (k : TrapKind) (final : List Flat) → MetFault allocates (ResultWalk max_flat_results fs m answer (area_of f flats) caller.bytes final) caller n k caller' c
@@ -143,7 +143,7 @@ module _ (allocates : Allocation) (f : FunctionType) (flats : List Flat) (caller
     -- the return area is
     bad-area : (k : TrapKind) → AreaIsBad max_flat_results fs m answer (area_of f flats) caller.bytes k → IsUnbegun caller n caller' c
         → ReturnFails allocates f flats m answer caller (ended.Trap (record { kind = k; step = step.LowerResult })) caller' c
-    bad-area k bad none = inr (refl, [], inl (bad.0, bad.1, refl, ap (λ w. as_world w (source m) []) none.same), none.uncounted ∙ fresh)
+    bad-area k bad none = inr (refl, [], inl (bad.0, bad.1, refl, ap (λ w. as_state w (source m) []) none.same), none.uncounted ∙ fresh)
 
     -- the caller has no room for it
     no-room-back : (k : TrapKind) (final : List Flat) → WasRefused allocates (ResultWalk max_flat_results fs m answer (area_of f flats) caller.bytes final) caller n k caller' c

@@ -4,7 +4,7 @@ ghost use Rattle.adapter.specs.Asking.{IsToldAhead};
 ghost use Rattle.canonical_abi.specs.Call.{Calls, Ways, exact, AllowsSameRuns, AllowsSamePosts, KindsFit};
 ghost use Rattle.canonical_abi.specs.Few.{AreFewNodes};
 ghost use Rattle.canonical_abi.specs.Flat.{Denotes, DenotesFault};
-ghost use Rattle.canonical_abi.specs.Halves.{as_world, HasEntered, EntryFails, HasReturned, ReturnFails, RunsBetween};
+ghost use Rattle.canonical_abi.specs.Halves.{as_state, HasEntered, EntryFails, HasReturned, ReturnFails, RunsBetween};
 ghost use Rattle.canonical_abi.specs.Halves.{CallsInHalves};
 ghost use Rattle.canonical_abi.specs.Headline.{IsLinkPromised, AreArguments, IsArgumentFault};
 ghost use Rattle.canonical_abi.specs.Layout.{lifted_signature, max_flat_params, max_flat_results, size};
@@ -451,7 +451,7 @@ impl<'a> Link<'a> {
             })
             (function_type self.old.resolve call.now.func)
             call.now.flats.now
-            (as_world (C.memory caller.now) (E.memory callee.old) (B.state body.old))
+            (as_state (C.memory caller.now) (E.memory callee.old) (B.state body.old))
             self.new.there
             (Some answer.items)
             (E.memory callee.new)
@@ -465,12 +465,12 @@ impl<'a> Link<'a> {
             })
             (function_type self.old.resolve call.now.func)
             call.now.flats.now
-            (as_world (C.memory caller.now) (E.memory callee.old) (B.state body.old))
+            (as_state (C.memory caller.now) (E.memory callee.old) (B.state body.old))
             (C.memory caller.now)
             (Err fault)
             self.new.there
             0
-            (as_world (C.memory caller.now) (E.memory callee.new) (B.state body.new))) }
+            (as_state (C.memory caller.now) (E.memory callee.new) (B.state body.new))) }
         ensures back { self.new.back ≡ 0 }
         ensures same_runs { AllowsSameRuns (B.runs body.old) (B.runs body.new) }
         ensures same_posts { AllowsSamePosts (B.posts body.old) (B.posts body.new) }
@@ -514,7 +514,7 @@ impl<'a> Link<'a> {
             })
             (function_type self.old.resolve call.now.func)
             call.now.flats.now
-            (as_world (C.memory caller.now) (E.memory callee.old) (B.state body.old))
+            (as_state (C.memory caller.now) (E.memory callee.old) (B.state body.old))
             self.new.there
             (Some answer.items)
             (E.memory callee.new)
@@ -528,12 +528,12 @@ impl<'a> Link<'a> {
             })
             (function_type self.old.resolve call.now.func)
             call.now.flats.now
-            (as_world (C.memory caller.now) (E.memory callee.old) (B.state body.old))
+            (as_state (C.memory caller.now) (E.memory callee.old) (B.state body.old))
             (C.memory caller.now)
             (Err fault)
             self.new.there
             0
-            (as_world (C.memory caller.now) (E.memory callee.new) (B.state body.new))) }
+            (as_state (C.memory caller.now) (E.memory callee.new) (B.state body.new))) }
         ensures back { self.new.back ≡ 0 }
         ensures same_runs { AllowsSameRuns (B.runs body.old) (B.runs body.new) }
         ensures same_posts { AllowsSamePosts (B.posts body.old) (B.posts body.new) }
@@ -583,7 +583,7 @@ impl<'a> Link<'a> {
             })
             (function_type self.old.resolve call.now.func)
             call.now.flats.now
-            (as_world (C.memory caller.now) (E.memory callee.old) (B.state body.old))
+            (as_state (C.memory caller.now) (E.memory callee.old) (B.state body.old))
             self.new.there
             (Some answer.items)
             (E.memory callee.new)
@@ -597,12 +597,12 @@ impl<'a> Link<'a> {
             })
             (function_type self.old.resolve call.now.func)
             call.now.flats.now
-            (as_world (C.memory caller.now) (E.memory callee.old) (B.state body.old))
+            (as_state (C.memory caller.now) (E.memory callee.old) (B.state body.old))
             (C.memory caller.now)
             (Err fault)
             self.new.there
             0
-            (as_world (C.memory caller.now) (E.memory callee.new) (B.state body.new))) }
+            (as_state (C.memory caller.now) (E.memory callee.new) (B.state body.new))) }
         ensures back { self.new.back ≡ 0 }
         ensures same_runs { AllowsSameRuns (B.runs body.old) (B.runs body.new) }
         ensures same_posts { AllowsSamePosts (B.posts body.old) (B.posts body.new) }

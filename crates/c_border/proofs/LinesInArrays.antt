@@ -30,12 +30,6 @@ from-place (x ∷ xs) (suc n) bytes within =
     ∙ ap (λ k. x ∷ take n xs ++ (take (suc (length xs) - suc n) bytes ++ drop k (x ∷ xs))) rest
 from-place [] (suc n) bytes within = absurd (omega (arith, within))
 
--- past its end nothing is put
-pub past-end : (a : List ℕ) (n : ℕ) (bytes : List ℕ) → length a ≤ n → put_over a n bytes ≡ a
-past-end [] n bytes within = refl
-past-end (x ∷ xs) (suc n) bytes within = ap (λ l. x ∷ l) (past-end xs n bytes (omega (arith, within)))
-past-end (x ∷ xs) zero bytes within = absurd (omega (arith, within))
-
 -- no bytes
 pub nothing-put : (a : List ℕ) (n : ℕ) → put_over a n [] ≡ a
 nothing-put [] n = refl

@@ -7,7 +7,7 @@ use Rattle.canonical_abi.specs.Reading.{number_at}
 use Rattle.canonical_abi.specs.Guest.{Memory, Allocation, Release}
 use Rattle.canonical_abi.specs.Trace.{node, write}
 use Rattle.canonical_abi.specs.Footprint.{Reads}
-use Rattle.canonical_abi.specs.Call.{Parties, World, either}
+use Rattle.canonical_abi.specs.Call.{Parties, CallState, either}
 use Rattle.canonical_abi.specs.Session.{Held, SessionStep, place, read, release, SessionAnswer, placed, was_read, released, missing, RunsSession}
 use Rattle.canonical_abi.specs.Keeping.{IsLive, LeavesAlone, ReleasesMiss, StaysLive, Throughout}
 use Rattle.canonical_abi.specs.Told.{AllocatesInOneWay}
@@ -34,8 +34,8 @@ parties = record {
   posts = λ s m flats s' m' a. ⊥;
 }
 
-abbrev world : Memory → World
-world caller = record { caller = caller; callee = bytes 0 false; body = [] }
+abbrev of_caller : Memory → CallState
+of_caller caller = record { caller = caller; callee = bytes 0 false; body = [] }
 
 abbrev held : Held
 held = record { ty = u8; at = 0 }
@@ -46,11 +46,11 @@ steps = place u8 seven ∷ read 0 ∷ read 1 ∷ release 0 1 ∷ []
 abbrev answers : List SessionAnswer
 answers = placed (Ok held) ∷ was_read (Ok seven) ∷ missing ∷ released true ∷ []
 
-abbrev there : World
-there = world (bytes 7 true)
+abbrev there : CallState
+there = of_caller (bytes 7 true)
 
 -- a value is placed and read; what step 1 placed is missing, as it placed nothing; and the block is given back
-placed-and-read : RunsSession parties takes_first either [] (world (bytes 0 false)) steps answers (world (bytes 7 false))
+placed-and-read : RunsSession parties takes_first either [] (of_caller (bytes 0 false)) steps answers (of_caller (bytes 7 false))
 unfolding number_at
 placed-and-read = record {
   answer = placed (Ok held);
@@ -88,7 +88,7 @@ placed-and-read = record {
         answer = released true;
         rest = _;
         answers_are = refl;
-        between = world (bytes 7 false);
+        between = of_caller (bytes 7 false);
         takes = (true, refl, (refl, refl, refl), refl, refl);
         others = (refl, refl);
       };
@@ -126,8 +126,8 @@ lives = λ x r. still-live x r.1
 lives-no-more : IsLive (Reads u8 (bytes 7 false).bytes 0) (bytes 7 false) → ⊥
 lives-no-more h = let e : false ≡ true = h 0 (omega arith, omega arith) in cc
 
--- a footprint isn't live throughout a run whose first world has no live address
-not-throughout : Throughout parties takes_first either (λ w. IsLive (λ x. x ≡ 0) w.caller) [] (world (bytes 0 false)) steps answers (world (bytes 7 false)) placed-and-read → ⊥
+-- a footprint isn't live throughout a run whose first state has no live address
+not-throughout : Throughout parties takes_first either (λ w. IsLive (λ x. x ≡ 0) w.caller) [] (of_caller (bytes 0 false)) steps answers (of_caller (bytes 7 false)) placed-and-read → ⊥
 not-throughout live = let e : false ≡ true = live.0 0 refl in cc
 
 -- an allocator that may grant or refuse does not answer in one way
@@ -136,7 +136,7 @@ in-two-ways one_way =
     let e : ◌≡◌ {A = Option ℕ} (Some 0) None = (one_way (bytes 0 true) 1 1 (Some 0) None (bytes 0 true) (bytes 0 true) (inl refl) refl refl).0 in cc
 
 -- no step is left out: a run does not end before its last step
-one-answer-fewer : (answer : SessionAnswer) (new : World) → RunsSession parties takes_first either [] (world (bytes 0 false)) (place u8 seven ∷ read 0 ∷ []) (answer ∷ []) new → ⊥
+one-answer-fewer : (answer : SessionAnswer) (new : CallState) → RunsSession parties takes_first either [] (of_caller (bytes 0 false)) (place u8 seven ∷ read 0 ∷ []) (answer ∷ []) new → ⊥
 one-answer-fewer answer new run =
     let first = run.answers_are in
     let second = run.others.answers_are in cc

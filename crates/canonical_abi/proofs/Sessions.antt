@@ -9,5 +9,4 @@ pub mod OnlyValuesCross
 pub mod HeldValues
 pub mod PlacedIsHeld
 pub mod CalleeIsTold
-pub mod TameHeldStaysHeld
 pub mod TameTrapsShowValues

@@ -12,7 +12,7 @@ use Rattle.canonical_abi.specs.Reading.{number_at, low_bits}
 use Rattle.canonical_abi.specs.Guest.{Memory, Allocation, Release, IsHonest, IsWithin, IsOutside, IsAlignment, overwrite, with_bytes, rounded_to_eight}
 use Rattle.canonical_abi.specs.Storing.{pointer_pair}
 use Rattle.canonical_abi.specs.Trace.{Grant, node, grant, write}
-use Rattle.canonical_abi.specs.Call.{Run, PostRun, Parties, World, Order, exact, Completes}
+use Rattle.canonical_abi.specs.Call.{Run, PostRun, Parties, CallState, Order, exact, Completes}
 use Rattle.canonical_abi.specs.Session.{TypedCall}
 use Rattle.canonical_abi.specs.Headline.{IsStandardFunction}
 use Rattle.canonical_abi.specs.Tame.{LeavesLive, IsTameGrant, IsTameRelease, IsTame, KeepsLivePromise, LinkKeepsLivePromise}
@@ -171,7 +171,7 @@ abbrev headed : Run → PostRun → Parties
 headed runs posts = record { caller_allocates = Headers; callee_allocates = Headers; runs = runs; posts = posts }
 
 -- each keeps the promise of what is live, with no premise on the guests
-pub headers-keep-promise : (runs : Run) (posts : PostRun) (order : Order) (f : FunctionType) (arguments : List Value) (old : World) (result : Result (Option Value) Fault) (new : World)
+pub headers-keep-promise : (runs : Run) (posts : PostRun) (order : Order) (f : FunctionType) (arguments : List Value) (old : CallState) (result : Result (Option Value) Fault) (new : CallState)
     → IsStandardFunction f → TypedCall (headed runs posts) order f arguments old result new → KeepsLivePromise (headed runs posts) order f arguments old result new
 headers-keep-promise runs posts order f arguments old result new standard call =
     tame-call-keeps-promise (headed runs posts) Freed Freed order f arguments old result new standard call (record { caller = headers-are-tame; callee = headers-are-tame })
@@ -199,7 +199,7 @@ noted = record { bytes = with_head (with_header fresh.bytes 24 2) 26; live = λ 
 abbrev told : Memory
 told = with_bytes noted (overwrite noted.bytes 24 hi)
 
-abbrev between : Memory → World
+abbrev between : Memory → CallState
 between callee = record { caller = saying; callee = callee; body = [] }
 
 abbrev hi_block : Grant
@@ -276,12 +276,12 @@ say-hi-writes-notes = (refl, refl)
 -- ---- what is not so
 
 -- an allocator that grants nothing, and where it refuses writes a 9 at address 0, live or not
-abbrev Careless : Allocation
+abbrev pub Careless : Allocation
 Careless old align size (Some at) new = ⊥
 Careless old align size None new = new ≡ with_bytes old (overwrite old.bytes 0 (9 ∷ []))
 
 -- four bytes that are live
-abbrev kept : ℕ → Memory
+abbrev pub kept : ℕ → Memory
 kept x = record { bytes = x ∷ 2 ∷ 3 ∷ 4 ∷ []; live = λ a. true; state = [] }
 
 careless-is-not-tame : (releases : Release) → IsTame Careless releases → ⊥
@@ -290,7 +290,7 @@ careless-is-not-tame releases tame = let e : ◌≡◌ {A = Option ℕ} (Some 9)
 abbrev careless : Parties
 careless = record { caller_allocates = Careless; callee_allocates = Careless; runs = λ s m flats s' m' a. ⊥; posts = λ s m flats s' m' done. ⊥ }
 
-abbrev with_caller : Memory → World
+abbrev with_caller : Memory → CallState
 with_caller m = record { caller = m; callee = kept 1; body = [] }
 
 abbrev nowhere : Grant
@@ -323,7 +323,7 @@ careless-call = record {
           (refl, refl, refl),
         ),
       ),
-      inl (refl, refl, refl),
+      inl (refl, refl, refl, refl),
     ),
     (node ∷ [], node ∷ [], write 0 [] ∷ [], nowhere, kept 1, refl, tt, ([], refl, refl), (kept 1, refl, refl), inr (omega arith, refl)),
   );

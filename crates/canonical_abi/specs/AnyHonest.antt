@@ -3,7 +3,7 @@ use Rattle.std.specs.Prelude.{◌≡◌, true, false, List, Option, None, Some, 
 use Rattle.canonical_abi.specs.Types.{FunctionType}
 use Rattle.canonical_abi.specs.Values.{Value}
 use Rattle.canonical_abi.specs.Guest.{Allocation, Release, IsGrant, IsRelease}
-use Rattle.canonical_abi.specs.Call.{Parties, World, Run, PostRun, Ways, exact, Calls}
+use Rattle.canonical_abi.specs.Call.{Parties, CallState, Run, PostRun, Ways, exact, Calls}
 use Rattle.canonical_abi.specs.Session.{TypedCall}
 use Rattle.canonical_abi.specs.Headline.{IsStandardFunction, KeepsPromise, LendsArea, LinkKeepsPromise}
 use Rattle.canonical_abi.specs.declared.flat.Flat.{Flat}
@@ -26,13 +26,13 @@ any_honest runs posts = record { caller_allocates = AnyGrant; callee_allocates =
 -- a typed call between guests that make any honest step keeps the promise, with no premise on the guests
 abbrev pub AnyHonestIsPromised : Run → PostRun → Type 0
 AnyHonestIsPromised runs posts =
-    (f : FunctionType) (arguments : List Value) (old : World) (result : Result (Option Value) Fault) (new : World)
+    (f : FunctionType) (arguments : List Value) (old : CallState) (result : Result (Option Value) Fault) (new : CallState)
     → IsStandardFunction f → TypedCall (any_honest runs posts) exact f arguments old result new
     → KeepsPromise (any_honest runs posts) exact f arguments old result new
 
 -- a call of flat values between such guests keeps the promise too, if the return area is lent
 abbrev pub AnyHonestLinkIsPromised : Run → PostRun → Type 0
 AnyHonestLinkIsPromised runs posts =
-    (f : FunctionType) (flats : List Flat) (old : World) (result : Result (List Flat) Fault) (ways : Ways) (new : World)
+    (f : FunctionType) (flats : List Flat) (old : CallState) (result : Result (List Flat) Fault) (ways : Ways) (new : CallState)
     → IsStandardFunction f → Calls (any_honest runs posts) exact f flats old result ways new → LendsArea f flats old.caller
     → LinkKeepsPromise (any_honest runs posts) exact f flats old result new

@@ -3,7 +3,7 @@ use Rattle.std.specs.Prelude.{true, false, List, Option, None, Some, Result}
 use Rattle.canonical_abi.specs.Types.{FunctionType}
 use Rattle.canonical_abi.specs.Values.{Value}
 use Rattle.canonical_abi.specs.Guest.{Allocation, Release}
-use Rattle.canonical_abi.specs.Call.{Parties, World, Order, Run, PostRun, Ways, exact, Calls}
+use Rattle.canonical_abi.specs.Call.{Parties, CallState, Order, Run, PostRun, Ways, exact, Calls}
 use Rattle.canonical_abi.specs.Session.{TypedCall}
 use Rattle.canonical_abi.specs.Headline.{IsStandardFunction, LendsArea}
 use Rattle.canonical_abi.specs.Tame.{LeavesLive, IsTameGrant, IsTameRelease, KeepsLivePromise, LinkKeepsLivePromise}
@@ -27,27 +27,27 @@ any_tame runs posts = record { caller_allocates = AnyTameGrant; callee_allocates
 -- a typed call keeps the promise of what is live, with no premise on the guests
 abbrev pub CallsKeepLive : Parties → Order → Type 0
 CallsKeepLive parties order =
-    (f : FunctionType) (arguments : List Value) (old : World) (result : Result (Option Value) Fault) (new : World)
+    (f : FunctionType) (arguments : List Value) (old : CallState) (result : Result (Option Value) Fault) (new : CallState)
     → IsStandardFunction f → TypedCall parties order f arguments old result new
     → KeepsLivePromise parties order f arguments old result new
 
 -- a call of flat values, too, if the return area is lent
 abbrev pub LinksKeepLive : Parties → Order → Type 0
 LinksKeepLive parties order =
-    (f : FunctionType) (flats : List Flat) (old : World) (result : Result (List Flat) Fault) (ways : Ways) (new : World)
+    (f : FunctionType) (flats : List Flat) (old : CallState) (result : Result (List Flat) Fault) (ways : Ways) (new : CallState)
     → IsStandardFunction f → Calls parties order f flats old result ways new → LendsArea f flats old.caller
     → LinkKeepsLivePromise parties order f flats old result new
 
 -- a typed call between such guests keeps the promise of what is live, with no premise on the guests
 abbrev pub AnyTameIsPromised : Run → PostRun → Type 0
 AnyTameIsPromised runs posts =
-    (f : FunctionType) (arguments : List Value) (old : World) (result : Result (Option Value) Fault) (new : World)
+    (f : FunctionType) (arguments : List Value) (old : CallState) (result : Result (Option Value) Fault) (new : CallState)
     → IsStandardFunction f → TypedCall (any_tame runs posts) exact f arguments old result new
     → KeepsLivePromise (any_tame runs posts) exact f arguments old result new
 
 -- a call of flat values between them, too, if the return area is lent
 abbrev pub AnyTameLinkIsPromised : Run → PostRun → Type 0
 AnyTameLinkIsPromised runs posts =
-    (f : FunctionType) (flats : List Flat) (old : World) (result : Result (List Flat) Fault) (ways : Ways) (new : World)
+    (f : FunctionType) (flats : List Flat) (old : CallState) (result : Result (List Flat) Fault) (ways : Ways) (new : CallState)
     → IsStandardFunction f → Calls (any_tame runs posts) exact f flats old result ways new → LendsArea f flats old.caller
     → LinkKeepsLivePromise (any_tame runs posts) exact f flats old result new

@@ -8,7 +8,7 @@ use Rattle.canonical_abi.specs.Flat.{Denotes, DenotesFault}
 use Rattle.canonical_abi.specs.Values.{Value}
 use Rattle.canonical_abi.specs.Guest.{Memory, Allocation, Release}
 use Rattle.canonical_abi.specs.Trace.{Event, nodes_of}
-use Rattle.canonical_abi.specs.Call.{exact, Parties, World, Ways, Enters, Returns, ArgumentsFaulty, ArgumentsFail, ResultFaulty, ResultFails, Calls, KindsFit, area_of, ReturnAreaFaulty}
+use Rattle.canonical_abi.specs.Call.{exact, Parties, CallState, Ways, Enters, Returns, ArgumentsFaulty, ArgumentsFail, ResultFaulty, ResultFails, Calls, KindsFit, area_of, ReturnAreaFaulty}
 use Rattle.canonical_abi.specs.Session.{HasResult}
 use Rattle.canonical_abi.specs.Headline as headline
 use Rattle.canonical_abi.specs.Headline.{IsStandardFunction, AreHonest, LendsArea, AreArguments, IsArgumentFault, KeepsOutside, area_size, CalleeIsUnchanged, EndsBeforeBody, AfterRun, IfTrap, IsLinkTrap, LinksOnce, GivesBack}
@@ -24,9 +24,9 @@ use Rattle.canonical_abi.specs.declared.trap.Step.TheVariants as step
 abbrev pub counted_nodes : List Event → ℕ
 counted_nodes es = min (nodes_of es) (2 ^ 64 - 1)
 
--- a world of these two memories and what the body keeps
-abbrev pub as_world : Memory → Memory → List ℕ → World
-as_world caller callee body = record { caller = caller; callee = callee; body = body }
+-- the state of a call: these two memories, and what the body keeps
+abbrev pub as_state : Memory → Memory → List ℕ → CallState
+as_state caller callee body = record { caller = caller; callee = callee; body = body }
 
 -- a memory that is only read: its bytes, with nothing live
 abbrev pub source : List ℕ → Memory
@@ -55,15 +55,15 @@ returning allocates = record {
 -- the arguments are put into the callee; c is the number of nodes that they have
 abbrev pub HasEntered : Allocation → FunctionType → List Flat → List ℕ → Memory → List Flat → Memory → ℕ → Type 0
 HasEntered allocates f flats m old handed new c =
-    (values : List Value) × (there : List Event) × Enters (entering allocates) f flats (as_world (source m) old []) values handed there (as_world (source m) new []) × (c ≡ counted_nodes there)
+    (values : List Value) × (there : List Event) × Enters (entering allocates) f flats (as_state (source m) old []) values handed there (as_state (source m) new []) × (c ≡ counted_nodes there)
 
 -- why the arguments are not put into the callee: a trap; c is the number of nodes that were visited before it
 abbrev pub EntryFails : Allocation → FunctionType → List Flat → List ℕ → Memory → Fault → Memory → ℕ → Type 0
 EntryFails allocates f flats m old (Trap t) new c =
     ((t.step ≡ step.LiftArgs) × (done : List Event)
-    × ArgumentsFaulty (entering allocates) exact f flats (as_world (source m) old []) t.kind done (as_world (source m) new []) × (c ≡ counted_nodes done))
+    × ArgumentsFaulty (entering allocates) exact f flats (as_state (source m) old []) t.kind done (as_state (source m) new []) × (c ≡ counted_nodes done))
     ⊎ ((t.step ≡ step.LowerArgs) × (done : List Event)
-    × ArgumentsFail (entering allocates) exact f flats (as_world (source m) old []) t.kind done (as_world (source m) new []) × (c ≡ counted_nodes done))
+    × ArgumentsFail (entering allocates) exact f flats (as_state (source m) old []) t.kind done (as_state (source m) new []) × (c ≡ counted_nodes done))
 EntryFails allocates f flats m old NoMemory new c = ⊥
 
 -- ---- the second half, from a callee with the bytes m
@@ -71,15 +71,15 @@ EntryFails allocates f flats m old NoMemory new c = ⊥
 -- the result is put into the caller; c is the number of nodes that it has
 abbrev pub HasReturned : Allocation → FunctionType → List Flat → List ℕ → List Flat → Memory → List Flat → Memory → ℕ → Type 0
 HasReturned allocates f flats m answer old given new c =
-    (values : List Value) × (back : List Event) × Returns (returning allocates) f flats (as_world old (source m) []) answer values given back (as_world new (source m) []) × (c ≡ counted_nodes back)
+    (values : List Value) × (back : List Event) × Returns (returning allocates) f flats (as_state old (source m) []) answer values given back (as_state new (source m) []) × (c ≡ counted_nodes back)
 
 -- why the result is not put into the caller: a trap; c is the number of nodes that were visited before it
 abbrev pub ReturnFails : Allocation → FunctionType → List Flat → List ℕ → List Flat → Memory → Fault → Memory → ℕ → Type 0
 ReturnFails allocates f flats m answer old (Trap t) new c =
     ((t.step ≡ step.LiftResult) × (done : List Event)
-    × ResultFaulty (returning allocates) exact f flats (as_world old (source m) []) answer t.kind done (as_world new (source m) []) × (c ≡ counted_nodes done))
+    × ResultFaulty (returning allocates) exact f flats (as_state old (source m) []) answer t.kind done (as_state new (source m) []) × (c ≡ counted_nodes done))
     ⊎ ((t.step ≡ step.LowerResult) × (done : List Event)
-    × ResultFails (returning allocates) exact f flats (as_world old (source m) []) answer t.kind done (as_world new (source m) []) × (c ≡ counted_nodes done))
+    × ResultFails (returning allocates) exact f flats (as_state old (source m) []) answer t.kind done (as_state new (source m) []) × (c ≡ counted_nodes done))
 ReturnFails allocates f flats m answer old NoMemory new c = ⊥
 
 -- ---- what each half promises by itself, over a memory whose allocator is honest
@@ -136,7 +136,7 @@ body_stopped = Trap (record { kind = trap.Body; step = step.Body })
 abbrev pub post_stopped : Fault
 post_stopped = Trap (record { kind = trap.Body; step = step.Post })
 
-module _ (parties : Parties) (f : FunctionType) (flats : List Flat) (old : World) where
+module _ (parties : Parties) (f : FunctionType) (flats : List Flat) (old : CallState) where
   -- the arguments entered, and the core function made one run on what was handed
   pub record RunsBetween (there : ℕ) (answer : Option (List Flat)) (ran : Memory) (body : List ℕ) : Type 0 where
     -- the flat values that the core function is run on
@@ -148,8 +148,8 @@ module _ (parties : Parties) (f : FunctionType) (flats : List Flat) (old : World
     -- a run that the body may make on them; `ran` is the callee's memory after it
     pub run : parties.runs old.body entered handed body ran answer
 
--- from a world as it is before the first half, and a caller as it is before the second
-module _ (parties : Parties) (f : FunctionType) (flats : List Flat) (old : World) (between : Memory) where
+-- from a state as it is before the first half, and a caller as it is before the second
+module _ (parties : Parties) (f : FunctionType) (flats : List Flat) (old : CallState) (between : Memory) where
   -- the arguments entered, the core function ran and answered, and its answer is put into the caller
   pub record RunsAndReturns (there back : ℕ) (answer given : List Flat) (caller ran : Memory) (body : List ℕ) : Type 0 where
     -- the first half and the run, which gave this answer
@@ -157,42 +157,42 @@ module _ (parties : Parties) (f : FunctionType) (flats : List Flat) (old : World
     -- the second half put the answer into the caller, with `back` nodes
     pub returns : HasReturned parties.caller_allocates f flats ran.bytes answer between given caller back
 
-  -- what a host sees of a call in halves, by where it ended: the answer, the nodes that the two halves told, and the world after it
-  pub data CallsInHalves : Result (List Flat) Fault → ℕ → ℕ → World → Type 0 where
+  -- what a host sees of a call in halves, by where it ended: the answer, the nodes that the two halves told, and the state after it
+  pub data CallsInHalves : Result (List Flat) Fault → ℕ → ℕ → CallState → Type 0 where
     -- the arguments did not enter, and nothing ran
     ends_at_entry : (fault : Fault) (there : ℕ) (callee : Memory) → EntryFails parties.callee_allocates f flats old.caller.bytes old.callee fault callee there
-        → CallsInHalves (Err fault) there 0 (as_world between callee old.body)
+        → CallsInHalves (Err fault) there 0 (as_state between callee old.body)
     -- the run came to no answer
-    ends_at_run : (there : ℕ) (ran : Memory) (body : List ℕ) → RunsBetween parties f flats old there None ran body → CallsInHalves (Err body_stopped) there 0 (as_world between ran body)
+    ends_at_run : (there : ℕ) (ran : Memory) (body : List ℕ) → RunsBetween parties f flats old there None ran body → CallsInHalves (Err body_stopped) there 0 (as_state between ran body)
     -- its answer did not return
     ends_at_return : (there back : ℕ) (answer : List Flat) (fault : Fault) (caller ran : Memory) (body : List ℕ) → RunsBetween parties f flats old there (Some answer) ran body
-        → ReturnFails parties.caller_allocates f flats ran.bytes answer between fault caller back → CallsInHalves (Err fault) there back (as_world caller ran body)
+        → ReturnFails parties.caller_allocates f flats ran.bytes answer between fault caller back → CallsInHalves (Err fault) there back (as_state caller ran body)
     -- the one run of post-return on it stopped
     ends_at_post : (there back : ℕ) (answer given : List Flat) (caller ran : Memory) (body : List ℕ) → RunsAndReturns there back answer given caller ran body
-        → (callee : Memory) (kept : List ℕ) → parties.posts body ran answer kept callee None → CallsInHalves (Err post_stopped) there back (as_world caller callee kept)
+        → (callee : Memory) (kept : List ℕ) → parties.posts body ran answer kept callee None → CallsInHalves (Err post_stopped) there back (as_state caller callee kept)
     -- or came to its end
     completes : (there back : ℕ) (answer given : List Flat) (caller ran : Memory) (body : List ℕ) → RunsAndReturns there back answer given caller ran body
-        → (callee : Memory) (kept : List ℕ) → parties.posts body ran answer kept callee (Some tt) → CallsInHalves (Ok given) there back (as_world caller callee kept)
+        → (callee : Memory) (kept : List ℕ) → parties.posts body ran answer kept callee (Some tt) → CallsInHalves (Ok given) there back (as_state caller callee kept)
 
-module _ (parties : Parties) (f : FunctionType) (flats : List Flat) (old : World) where
+module _ (parties : Parties) (f : FunctionType) (flats : List Flat) (old : CallState) where
   -- the call gives this answer, and visits so many nodes in the callee and in the caller
-  abbrev pub CallsWithNodes : Result (List Flat) Fault → ℕ → ℕ → World → Type 0
+  abbrev pub CallsWithNodes : Result (List Flat) Fault → ℕ → ℕ → CallState → Type 0
   CallsWithNodes result there back new =
       (ways : Ways) × Calls parties exact f flats old result ways new × ((there ≡ counted_nodes ways.there) × (back ≡ counted_nodes ways.back))
 
 -- each call in halves between which the caller stays as it was is a call
 abbrev pub HalvesAreACall : Parties → Type 0
 HalvesAreACall parties =
-    (f : FunctionType) (flats : List Flat) (old : World) (result : Result (List Flat) Fault) (there back : ℕ) (new : World)
+    (f : FunctionType) (flats : List Flat) (old : CallState) (result : Result (List Flat) Fault) (there back : ℕ) (new : CallState)
     → CallsInHalves parties f flats old old.caller result there back new → CallsWithNodes parties f flats old result there back new
 
 -- the traps of a call in halves: those of a call, but that the return area is one of the caller as it was between
-abbrev pub IsHalvesTrap : Parties → FunctionType → List Flat → World → Memory → World → Step → TrapKind → Type 0
+abbrev pub IsHalvesTrap : Parties → FunctionType → List Flat → CallState → Memory → CallState → Step → TrapKind → Type 0
 IsHalvesTrap parties f flats old between new step.LowerResult k = (k ≡ trap.Full) ⊎ ReturnAreaFaulty f flats between k
 IsHalvesTrap parties f flats old between new s k = IsLinkTrap parties f flats old new s k
 
 -- what such a call promises, whatever became of the caller between: of the callee from its beginning, of the caller from the second half on
-pub record HalvesKeep (parties : Parties) (f : FunctionType) (flats : List Flat) (old : World) (between : Memory) (result : Result (List Flat) Fault) (new : World) : Type 0 where
+pub record HalvesKeep (parties : Parties) (f : FunctionType) (flats : List Flat) (old : CallState) (between : Memory) (result : Result (List Flat) Fault) (new : CallState) : Type 0 where
   -- the callee finds exactly the arguments that the caller held at the beginning, and is run once
   pub finds : headline.WasEntered exact result → LinksOnce parties f flats old (AfterRun parties exact result new)
   -- before the body is entered the callee keeps all outside the blocks handed out
@@ -207,7 +207,7 @@ pub record HalvesKeep (parties : Parties) (f : FunctionType) (flats : List Flat)
 -- each call in halves keeps its promise, over honest guests and a return area that is lent before the second half
 abbrev pub HalvesKeepPromise : Parties → Release → Release → Type 0
 HalvesKeepPromise parties caller_releases callee_releases =
-    (f : FunctionType) (flats : List Flat) (old : World) (between : Memory) (result : Result (List Flat) Fault) (there back : ℕ) (new : World)
+    (f : FunctionType) (flats : List Flat) (old : CallState) (between : Memory) (result : Result (List Flat) Fault) (there back : ℕ) (new : CallState)
     → IsStandardFunction f → CallsInHalves parties f flats old between result there back new
     → AreHonest parties caller_releases callee_releases → LendsArea f flats between
     → HalvesKeep parties f flats old between result new

@@ -5,7 +5,7 @@ use Rattle.canonical_abi.specs.Types.{FunctionType}
 use Rattle.canonical_abi.specs.Values.{Value}
 use Rattle.canonical_abi.specs.Guest.{Allocation, Release, IsWithin}
 use Rattle.canonical_abi.specs.Trace.{Event, node, grant, write}
-use Rattle.canonical_abi.specs.Call.{Run, PostRun, Parties, World, Ways, exact, Enters, Returns, Traps, area_of}
+use Rattle.canonical_abi.specs.Call.{Run, PostRun, Parties, CallState, Ways, exact, Enters, Returns, Traps, area_of}
 use Rattle.canonical_abi.specs.Headline.{AreHonest, IsBeforeBody}
 use Rattle.canonical_abi.specs.Told.{AllocatesInOneWay, IgnoresBytes}
 use Rattle.canonical_abi.specs.declared.flat.Flat.{Flat}
@@ -17,12 +17,12 @@ use Rattle.canonical_abi.specs.declared.trap.TrapKind.{TrapKind}
 -- into one memory, from any two others that hold equal values: equal core values, and the memory ends the same
 pub record AreToldByValues (target one two : Allocation) (runs : Run) (posts : PostRun) : Type 0 where
   -- the arguments, into the callee
-  pub there : (f : FunctionType) (flats others : List Flat) (old past : World) (values : List Value) (handed given : List Flat) (es fs : List Event) (new last : World)
+  pub there : (f : FunctionType) (flats others : List Flat) (old past : CallState) (values : List Value) (handed given : List Flat) (es fs : List Event) (new last : CallState)
       → Enters (record { caller_allocates = one; callee_allocates = target; runs = runs; posts = posts }) f flats old values handed es new
       → Enters (record { caller_allocates = two; callee_allocates = target; runs = runs; posts = posts }) f others past values given fs last
       → old.callee ≡ past.callee → (handed ≡ given) × (new.callee ≡ last.callee)
   -- the result, into the caller, whose return area stands at one address
-  pub back : (f : FunctionType) (flats others : List Flat) (old past : World) (answer reply : List Flat) (values : List Value) (handed given : List Flat) (es fs : List Event) (new last : World)
+  pub back : (f : FunctionType) (flats others : List Flat) (old past : CallState) (answer reply : List Flat) (values : List Value) (handed given : List Flat) (es fs : List Event) (new last : CallState)
       → Returns (record { caller_allocates = target; callee_allocates = one; runs = runs; posts = posts }) f flats old answer values handed es new
       → Returns (record { caller_allocates = target; callee_allocates = two; runs = runs; posts = posts }) f others past reply values given fs last
       → area_of f flats ≡ area_of f others → old.caller ≡ past.caller → (handed ≡ given) × (new.caller ≡ last.caller)
@@ -47,8 +47,8 @@ ShowsAlone old es new = (a b : ℕ) → slice_get new a ≡ Some b → (slice_ge
 -- over honest guests a call that traps shows of a source what the nodes write that were done, and nothing else
 pub record TrapsShowValues (parties : Parties) (caller_releases callee_releases : Release) : Type 0 where
   -- of the caller, in the callee, where the body was not entered
-  pub there : (f : FunctionType) (flats : List Flat) (old : World) (s : Step) (k : TrapKind) (ways : Ways) (new : World) → AreHonest parties caller_releases callee_releases
+  pub there : (f : FunctionType) (flats : List Flat) (old : CallState) (s : Step) (k : TrapKind) (ways : Ways) (new : CallState) → AreHonest parties caller_releases callee_releases
       → IsBeforeBody s → Traps parties exact f flats old s k ways new → ShowsAlone old.callee.bytes ways.there new.callee.bytes
   -- of the callee, in the caller
-  pub back : (f : FunctionType) (flats : List Flat) (old : World) (s : Step) (k : TrapKind) (ways : Ways) (new : World) → AreHonest parties caller_releases callee_releases
+  pub back : (f : FunctionType) (flats : List Flat) (old : CallState) (s : Step) (k : TrapKind) (ways : Ways) (new : CallState) → AreHonest parties caller_releases callee_releases
       → Traps parties exact f flats old s k ways new → ShowsAlone old.caller.bytes ways.back new.caller.bytes

@@ -7,7 +7,7 @@ use Rattle.canonical_abi.specs.Values.{Value}
 use Rattle.canonical_abi.specs.Layout.{max_flat_params, max_flat_results}
 use Rattle.canonical_abi.specs.Flat.{Denotes, DenotesFault}
 use Rattle.canonical_abi.specs.Guest.{Memory, Allocation, Release, IsAlignment, IsWithin, IsOutside, rounded_to_eight}
-use Rattle.canonical_abi.specs.Call.{Parties, World, Order, Ways, area_of, Traps, Calls}
+use Rattle.canonical_abi.specs.Call.{Parties, CallState, Order, Ways, area_of, Traps, Calls}
 use Rattle.canonical_abi.specs.Session.{HasResult, TypedCall}
 use Rattle.canonical_abi.specs.Headline.{IsStandardFunction, LendsArea, AreArguments, area_size, LiftsExactly, EndsBeforeBody, WasEntered, IsAsItRan, IsPosted, AfterRun, TrapStands, IfTrap, IsOwnTrap, IsLinkTrap}
 use Rattle.canonical_abi.specs.declared.flat.Flat.{Flat}
@@ -54,9 +54,9 @@ pub record AreTame (parties : Parties) (caller_releases callee_releases : Releas
 
 module _ (parties : Parties) (f : FunctionType) where
   -- the callee finds exactly these arguments as the body is entered, and the body is run once, on them
-  pub record FindsLive (arguments : List Value) (old : World) (answer : Option (List Flat)) (ran : World) : Type 0 where
-    -- the world as the body is entered
-    pub entered : World
+  pub record FindsLive (arguments : List Value) (old : CallState) (answer : Option (List Flat)) (ran : CallState) : Type 0 where
+    -- the state as the body is entered
+    pub entered : CallState
     -- the flat values that the body is run on
     pub handed : List Flat
     -- in the callee's memory they denote exactly these arguments
@@ -71,30 +71,30 @@ module _ (parties : Parties) (f : FunctionType) where
     pub kept : LeavesLive 0 0 old.callee entered.callee
 
   -- the callee finds these arguments, the body is run once on them, and `After` is true of what came after
-  pub record RunsLive (arguments : List Value) (old : World) (After : Option (List Flat) → World → Type 0) : Type 0 where
+  pub record RunsLive (arguments : List Value) (old : CallState) (After : Option (List Flat) → CallState → Type 0) : Type 0 where
     pub answer : Option (List Flat)
-    pub ran : World
+    pub ran : CallState
     pub found : FindsLive arguments old answer ran
     pub after : After answer ran
 
 -- in the callee no live byte is changed, and the body is as it was
-pub record CalleeLeavesLive (old new : World) : Type 0 where
+pub record CalleeLeavesLive (old new : CallState) : Type 0 where
   pub kept : LeavesLive 0 0 old.callee new.callee
   pub same_body : new.body ≡ old.body
 
 -- the body's answer denotes nothing in the callee as the run left it, and this is its first fault; nothing ran after
-abbrev pub IsLiveAnswerFault : Parties → FunctionType → List Value → World → World → TrapKind → Type 0
+abbrev pub IsLiveAnswerFault : Parties → FunctionType → List Value → CallState → CallState → TrapKind → Type 0
 IsLiveAnswerFault parties f arguments old new k =
-    (answer : List Flat) × (ran : World) × FindsLive parties f arguments old (Some answer) ran
+    (answer : List Flat) × (ran : CallState) × FindsLive parties f arguments old (Some answer) ran
     × DenotesFault max_flat_results (result_fields f.result) ran.callee.bytes answer k × IsAsItRan ran new
 
 -- the traps that a typed call can end in
-abbrev pub IsLiveTrap : Parties → FunctionType → List Value → World → World → Step → TrapKind → Type 0
+abbrev pub IsLiveTrap : Parties → FunctionType → List Value → CallState → CallState → Step → TrapKind → Type 0
 IsLiveTrap parties f arguments old new step.LiftResult k = IsLiveAnswerFault parties f arguments old new k
 IsLiveTrap parties f arguments old new s k = IsOwnTrap parties f arguments old new s k
 
 -- the promise of a typed call over tame guests that ended with this result
-pub record KeepsLivePromise (parties : Parties) (order : Order) (f : FunctionType) (arguments : List Value) (old : World) (result : Result (Option Value) Fault) (new : World) : Type 0 where
+pub record KeepsLivePromise (parties : Parties) (order : Order) (f : FunctionType) (arguments : List Value) (old : CallState) (result : Result (Option Value) Fault) (new : CallState) : Type 0 where
   -- the callee finds exactly these arguments and is run once, and nothing runs after but its post-return, once
   pub finds : WasEntered order result → RunsLive parties f arguments old (AfterRun parties order result new)
   -- before the body is entered the callee keeps all that is live
@@ -102,7 +102,7 @@ pub record KeepsLivePromise (parties : Parties) (order : Order) (f : FunctionTyp
   -- whatever the answer, it is one of the two
   pub once : CalleeLeavesLive old new ⊎ RunsLive parties f arguments old (AfterRun parties order result new)
   -- the caller lifts exactly its answer
-  pub lifts : IfOk result (λ v. (answer : List Flat) × (ran : World) × FindsLive parties f arguments old (Some answer) ran × LiftsExactly parties f v answer ran
+  pub lifts : IfOk result (λ v. (answer : List Flat) × (ran : CallState) × FindsLive parties f arguments old (Some answer) ran × LiftsExactly parties f v answer ran
       × IsPosted parties (Some tt) new (Some answer) ran)
   -- no live byte of the caller is changed
   pub unchanged : LeavesLive 0 0 old.caller new.caller
@@ -112,31 +112,31 @@ pub record KeepsLivePromise (parties : Parties) (order : Order) (f : FunctionTyp
   pub own : IfTrap result (IsLiveTrap parties f arguments old new)
 
 -- the promise of a typed call, if both guests are tame
-abbrev pub IsPromisedLive : Parties → Release → Release → Order → FunctionType → List Value → World → Result (Option Value) Fault → World → Type 0
+abbrev pub IsPromisedLive : Parties → Release → Release → Order → FunctionType → List Value → CallState → Result (Option Value) Fault → CallState → Type 0
 IsPromisedLive parties caller_releases callee_releases order f arguments old result new =
     AreTame parties caller_releases callee_releases → KeepsLivePromise parties order f arguments old result new
 
 -- a typed call of a function whose types a package can have keeps it
 abbrev pub CallKeepsLivePromise : Parties → Release → Release → Order → Type 0
 CallKeepsLivePromise parties caller_releases callee_releases order =
-    (f : FunctionType) (arguments : List Value) (old : World) (result : Result (Option Value) Fault) (new : World)
+    (f : FunctionType) (arguments : List Value) (old : CallState) (result : Result (Option Value) Fault) (new : CallState)
     → IsStandardFunction f → TypedCall parties order f arguments old result new
     → IsPromisedLive parties caller_releases callee_releases order f arguments old result new
 
 -- ---- of a call of flat values, over a return area that is lent
 
 -- the callee finds exactly the arguments that the caller holds, and is run once
-pub record LinksLive (parties : Parties) (f : FunctionType) (flats : List Flat) (old : World) (After : Option (List Flat) → World → Type 0) : Type 0 where
+pub record LinksLive (parties : Parties) (f : FunctionType) (flats : List Flat) (old : CallState) (After : Option (List Flat) → CallState → Type 0) : Type 0 where
   pub arguments : List Value
   pub held : AreArguments f flats old.caller arguments
   pub runs : RunsLive parties f arguments old After
 
 -- the caller holds exactly what the body answered, in the flat values that come back or in the return area
-pub record GivesLive (parties : Parties) (f : FunctionType) (flats : List Flat) (old : World) (back : List Flat) (new : World) : Type 0 where
+pub record GivesLive (parties : Parties) (f : FunctionType) (flats : List Flat) (old : CallState) (back : List Flat) (new : CallState) : Type 0 where
   pub arguments : List Value
   pub held : AreArguments f flats old.caller arguments
   pub answer : List Flat
-  pub ran : World
+  pub ran : CallState
   pub found : FindsLive parties f arguments old (Some answer) ran
   pub values : List Value
   pub answered : Denotes max_flat_results (result_fields f.result) ran.callee.bytes answer values
@@ -144,13 +144,13 @@ pub record GivesLive (parties : Parties) (f : FunctionType) (flats : List Flat) 
   pub posted : IsPosted parties (Some tt) new (Some answer) ran
 
 -- the traps that such a call can end in
-abbrev pub IsLiveLinkTrap : Parties → FunctionType → List Flat → World → World → Step → TrapKind → Type 0
+abbrev pub IsLiveLinkTrap : Parties → FunctionType → List Flat → CallState → CallState → Step → TrapKind → Type 0
 IsLiveLinkTrap parties f flats old new step.LiftResult k =
     (arguments : List Value) × AreArguments f flats old.caller arguments × IsLiveAnswerFault parties f arguments old new k
 IsLiveLinkTrap parties f flats old new s k = IsLinkTrap parties f flats old new s k
 
 -- the promise of a call of flat values over tame guests that ended with this result
-pub record LinkKeepsLivePromise (parties : Parties) (order : Order) (f : FunctionType) (flats : List Flat) (old : World) (result : Result (List Flat) Fault) (new : World) : Type 0 where
+pub record LinkKeepsLivePromise (parties : Parties) (order : Order) (f : FunctionType) (flats : List Flat) (old : CallState) (result : Result (List Flat) Fault) (new : CallState) : Type 0 where
   pub finds : WasEntered order result → LinksLive parties f flats old (AfterRun parties order result new)
   pub before : EndsBeforeBody result → CalleeLeavesLive old new
   pub once : CalleeLeavesLive old new ⊎ LinksLive parties f flats old (AfterRun parties order result new)
@@ -161,7 +161,7 @@ pub record LinkKeepsLivePromise (parties : Parties) (order : Order) (f : Functio
   pub own : IfTrap result (IsLiveLinkTrap parties f flats old new)
 
 -- the promise of a call of flat values, if both guests are tame and the return area is lent
-abbrev pub IsLinkPromisedLive : Parties → Release → Release → Order → FunctionType → List Flat → World → Result (List Flat) Fault → World → Type 0
+abbrev pub IsLinkPromisedLive : Parties → Release → Release → Order → FunctionType → List Flat → CallState → Result (List Flat) Fault → CallState → Type 0
 IsLinkPromisedLive parties caller_releases callee_releases order f flats old result new =
     AreTame parties caller_releases callee_releases → LendsArea f flats old.caller
     → LinkKeepsLivePromise parties order f flats old result new
@@ -169,6 +169,6 @@ IsLinkPromisedLive parties caller_releases callee_releases order f flats old res
 -- a call of a function whose types a package can have keeps it
 abbrev pub LinkLivePromise : Parties → Release → Release → Order → Type 0
 LinkLivePromise parties caller_releases callee_releases order =
-    (f : FunctionType) (flats : List Flat) (old : World) (result : Result (List Flat) Fault) (ways : Ways) (new : World)
+    (f : FunctionType) (flats : List Flat) (old : CallState) (result : Result (List Flat) Fault) (ways : Ways) (new : CallState)
     → IsStandardFunction f → Calls parties order f flats old result ways new
     → IsLinkPromisedLive parties caller_releases callee_releases order f flats old result new

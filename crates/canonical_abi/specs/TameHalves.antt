@@ -5,7 +5,7 @@ use Rattle.canonical_abi.specs.Values.{Value}
 use Rattle.canonical_abi.specs.Layout.{max_flat_params, max_flat_results}
 use Rattle.canonical_abi.specs.Flat.{Denotes}
 use Rattle.canonical_abi.specs.Guest.{Memory, Allocation, Release}
-use Rattle.canonical_abi.specs.Call.{exact, Parties, World, KindsFit, area_of, ReturnAreaFaulty}
+use Rattle.canonical_abi.specs.Call.{exact, Parties, CallState, KindsFit, area_of, ReturnAreaFaulty}
 use Rattle.canonical_abi.specs.Session.{HasResult}
 use Rattle.canonical_abi.specs.Headline.{IsStandardFunction, LendsArea, AreArguments, area_size, WasEntered, EndsBeforeBody, AfterRun, IfTrap}
 use Rattle.canonical_abi.specs.Tame.{LeavesLive, AreTame, CalleeLeavesLive, LinksLive, GivesLive, IsLiveLinkTrap}
@@ -52,12 +52,12 @@ pub record ReturnKeepsLivePromise (allocates : Allocation) : Type 0 where
 -- ---- the whole call
 
 -- the traps of a call in halves: those of a call, but that the return area is one of the caller as it was between
-abbrev pub IsLiveHalvesTrap : Parties → FunctionType → List Flat → World → Memory → World → Step → TrapKind → Type 0
+abbrev pub IsLiveHalvesTrap : Parties → FunctionType → List Flat → CallState → Memory → CallState → Step → TrapKind → Type 0
 IsLiveHalvesTrap parties f flats old between new step.LowerResult k = (k ≡ trap.Full) ⊎ ReturnAreaFaulty f flats between k
 IsLiveHalvesTrap parties f flats old between new s k = IsLiveLinkTrap parties f flats old new s k
 
 -- what such a call promises, whatever became of the caller between: of the callee from its beginning, of the caller from the second half on
-pub record HalvesKeepLive (parties : Parties) (f : FunctionType) (flats : List Flat) (old : World) (between : Memory) (result : Result (List Flat) Fault) (new : World) : Type 0 where
+pub record HalvesKeepLive (parties : Parties) (f : FunctionType) (flats : List Flat) (old : CallState) (between : Memory) (result : Result (List Flat) Fault) (new : CallState) : Type 0 where
   -- the callee finds exactly the arguments that the caller held at the beginning, and is run once
   pub finds : WasEntered exact result → LinksLive parties f flats old (AfterRun parties exact result new)
   -- before the body is entered the callee keeps all that is live
@@ -72,7 +72,7 @@ pub record HalvesKeepLive (parties : Parties) (f : FunctionType) (flats : List F
 -- each call in halves keeps its promise, over tame guests and a return area that is lent before the second half
 abbrev pub HalvesKeepLivePromise : Parties → Release → Release → Type 0
 HalvesKeepLivePromise parties caller_releases callee_releases =
-    (f : FunctionType) (flats : List Flat) (old : World) (between : Memory) (result : Result (List Flat) Fault) (there back : ℕ) (new : World)
+    (f : FunctionType) (flats : List Flat) (old : CallState) (between : Memory) (result : Result (List Flat) Fault) (there back : ℕ) (new : CallState)
     → IsStandardFunction f → CallsInHalves parties f flats old between result there back new
     → AreTame parties caller_releases callee_releases → LendsArea f flats between
     → HalvesKeepLive parties f flats old between result new

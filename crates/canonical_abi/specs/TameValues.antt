@@ -6,12 +6,10 @@ use Rattle.canonical_abi.specs.Values.{Value}
 use Rattle.canonical_abi.specs.Guest.{Memory, Allocation, Release, IsAlignment}
 use Rattle.canonical_abi.specs.Trace.{Event}
 use Rattle.canonical_abi.specs.Stands.{IsGranted}
-use Rattle.canonical_abi.specs.Call.{Run, PostRun, Parties, World, Ways, exact, Enters, Returns, Traps, KindsFit, area_of}
+use Rattle.canonical_abi.specs.Call.{Run, PostRun, Parties, CallState, Ways, exact, Enters, Returns, Traps, KindsFit, area_of}
 use Rattle.canonical_abi.specs.Headline.{LendsArea, IsBeforeBody}
 use Rattle.canonical_abi.specs.OnlyValues.{TellsByte}
-use Rattle.canonical_abi.specs.Told.{AllocatesInOneWay, RunsInOneWay, SameCallee, calls_of, endings_of, otherwise}
-use Rattle.canonical_abi.specs.Keeping.{AreStandardSteps}
-use Rattle.canonical_abi.specs.Session.{SessionStep, SessionAnswer, RunsSession}
+use Rattle.canonical_abi.specs.Told.{AllocatesInOneWay}
 use Rattle.canonical_abi.specs.Tame.{IsTame, AreTame}
 use Rattle.canonical_abi.specs.declared.flat.Flat.{Flat}
 use Rattle.canonical_abi.specs.declared.trap.Step.{Step}
@@ -33,12 +31,12 @@ IgnoresLive allocates =
 -- into one memory, from any two others that hold equal values: equal core values, and the memory ends the same
 pub record AreToldByLive (target one two : Allocation) (runs : Run) (posts : PostRun) : Type 0 where
   -- the arguments, into the callee
-  pub there : (f : FunctionType) (flats others : List Flat) (old past : World) (values : List Value) (handed given : List Flat) (es fs : List Event) (new last : World)
+  pub there : (f : FunctionType) (flats others : List Flat) (old past : CallState) (values : List Value) (handed given : List Flat) (es fs : List Event) (new last : CallState)
       → Enters (record { caller_allocates = one; callee_allocates = target; runs = runs; posts = posts }) f flats old values handed es new
       → Enters (record { caller_allocates = two; callee_allocates = target; runs = runs; posts = posts }) f others past values given fs last
       → old.callee ≡ past.callee → (handed ≡ given) × (new.callee ≡ last.callee)
   -- the result, into the caller, whose return area stands at one address and is lent
-  pub back : (f : FunctionType) (flats others : List Flat) (old past : World) (answer reply : List Flat) (values : List Value) (handed given : List Flat) (es fs : List Event) (new last : World)
+  pub back : (f : FunctionType) (flats others : List Flat) (old past : CallState) (answer reply : List Flat) (values : List Value) (handed given : List Flat) (es fs : List Event) (new last : CallState)
       → Returns (record { caller_allocates = target; callee_allocates = one; runs = runs; posts = posts }) f flats old answer values handed es new
       → Returns (record { caller_allocates = target; callee_allocates = two; runs = runs; posts = posts }) f others past reply values given fs last
       → KindsFit f flats → LendsArea f flats old.caller
@@ -59,22 +57,8 @@ ShowsLive old es new =
 -- over tame guests a call that traps shows of a source what the nodes write that were done, and nothing else, in all bytes that are live
 pub record TrapsShowLive (parties : Parties) (caller_releases callee_releases : Release) : Type 0 where
   -- of the caller, in the callee, where the body was not entered
-  pub there : (f : FunctionType) (flats : List Flat) (old : World) (s : Step) (k : TrapKind) (ways : Ways) (new : World) → AreTame parties caller_releases callee_releases
+  pub there : (f : FunctionType) (flats : List Flat) (old : CallState) (s : Step) (k : TrapKind) (ways : Ways) (new : CallState) → AreTame parties caller_releases callee_releases
       → IsBeforeBody s → Traps parties exact f flats old s k ways new → ShowsLive old.callee ways.there new.callee
   -- of the callee, in the caller
-  pub back : (f : FunctionType) (flats : List Flat) (old : World) (s : Step) (k : TrapKind) (ways : Ways) (new : World) → AreTame parties caller_releases callee_releases
+  pub back : (f : FunctionType) (flats : List Flat) (old : CallState) (s : Step) (k : TrapKind) (ways : Ways) (new : CallState) → AreTame parties caller_releases callee_releases
       → Traps parties exact f flats old s k ways new → ShowsLive old.caller ways.back new.caller
-
--- ---- a list of steps
-
-module _ (parties : Parties) (other : Allocation) (caller_releases other_releases callee_releases : Release) where
-  -- between tame guests nothing of the caller but the functions and the arguments, and which calls it had no room for, is in what a list of
-  -- steps leaves of the callee and of the body, traps among them or not
-  abbrev pub CalleeIsToldLive : Type 0
-  CalleeIsToldLive =
-      (before earlier : List SessionAnswer) (old past : World) (steps moves : List SessionStep) (answers replies : List SessionAnswer) (new last : World)
-      → AreTame parties caller_releases callee_releases → AreTame (otherwise parties other caller_releases other_releases callee_releases) other_releases callee_releases
-      → AllocatesInOneWay parties.callee_allocates → RunsInOneWay parties.runs parties.posts → AreStandardSteps steps → AreStandardSteps moves
-      → RunsSession parties caller_releases exact before old steps answers new
-      → RunsSession (otherwise parties other caller_releases other_releases callee_releases) other_releases exact earlier past moves replies last
-      → calls_of steps ≡ calls_of moves → endings_of answers ≡ endings_of replies → SameCallee old past → SameCallee new last

@@ -5,7 +5,7 @@ use Rattle.std.specs.Cmp.Lexicographic.{slice_cmp}
 use Rattle.std.specs.Map.{lookup}
 use Rattle.atoms.specs.Production.{give, never, ◌>>=◌, when, by_option}
 use Rattle.ctype_format.specs.Opcodes.{opcode_of}
-use Rattle.ctype_format.specs.Grammar.{is_nested, is_component}
+use Rattle.ctype_format.specs.Grammar.{is_nested, is_component, max_entries}
 use Rattle.ctype_format.specs.declared.opcode.Opcode.{Opcode}
 use Rattle.ctype_format.specs.declared.opcode.Opcode.TheVariants as op
 use Rattle.tables.specs.declared.tables.Direction.{Direction}
@@ -28,14 +28,6 @@ use Rattle.component_structure.specs.Bytes.{repeat, Bytes, Name, Plain, Full, na
 use Rattle.component_structure.specs.Names.{has_name}
 use Rattle.component_structure.specs.Parts.{ScopePart, Parts, structure_view, new_scope, no_parts, names_of, with_noted, with_exported, TypeKind, FunctionType, Item, AType, AFunction, AComponent, AnInstance, InstancePart}
 use Rattle.component_structure.specs.Types.{type_fault, kind, function}
-
--- how many type indices all scopes together may have
-abbrev pub max_types : ℕ
-max_types = 65535
-
--- how many component types and instance types may stand within one another
-abbrev pub max_depth : ℕ
-max_depth = 4
 
 -- what was read of a file, how many scopes began, and how many type indices all scopes have
 pub record Reading : Type 0 where
@@ -61,7 +53,7 @@ with_entry scope entry = record scope { types = scope.types ++ entry ∷ [] }
 
 -- the type at this offset gets the scope's next type index, if all scopes together have not too many
 abbrev pub pushed : ℕ → Entry → ScopePart × Reading → Result (ScopePart × Reading) DecodeError
-pushed place entry s = if nat_le max_types s.1.indices then Err (errors.At Limit place) else Ok (with_entry s.0 entry, record s.1 { indices = s.1.indices + 1 })
+pushed place entry s = if nat_le max_entries s.1.indices then Err (errors.At Limit place) else Ok (with_entry s.0 entry, record s.1 { indices = s.1.indices + 1 })
 
 -- ---- types without declarations
 

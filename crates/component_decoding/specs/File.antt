@@ -3,6 +3,7 @@ use Rattle.std.specs.Prelude.{ℕ, ◌-◌, ◌==◌, ◌||◌, ◌&&◌, not, f
 use Rattle.std.specs.List.{starts_with}
 use Rattle.std.specs.Str.{bytes_eq}
 use Rattle.atoms.specs.Production.{after, give, ◌>>=◌, at_end}
+use Rattle.ctype_format.specs.File.{max_scope_depth, preamble}
 use Rattle.component_structure.specs.declared.error.Feature.{Feature}
 use Rattle.component_structure.specs.declared.error.Feature.TheVariants.{AscribedType, Encoding, Utf16, Section}
 use Rattle.component_structure.specs.declared.error.Fault.{Fault}
@@ -19,7 +20,7 @@ use Rattle.component_decoding.specs.declared.file.Custom.TheVariants as customs
 use Rattle.component_structure.specs.Bytes.{repeat, front_of, to_end, while_left, Bytes, at, judged, here, granted, byte, several, flag, u32, sized, name, extern_name}
 use Rattle.component_structure.specs.Names.{has_name, with_name}
 use Rattle.component_structure.specs.Parts.{ScopePart, Parts, scope_view, new_scope}
-use Rattle.component_decoding.specs.Declarations.{Reading, decoder_view, max_depth, with_begun, nothing_read, pushed, sort_of, label_at, entry_at, component_at, type}
+use Rattle.component_decoding.specs.Declarations.{Reading, decoder_view, with_begun, nothing_read, pushed, sort_of, label_at, entry_at, component_at, type}
 
 -- what was read of a component: its own scope, the names of its exports in lower case, and all that was read
 pub record FileRead : Type 0 where
@@ -37,7 +38,7 @@ file_view f = record { scope = scope_view f.scope; names = f.names; reading = de
 unfoldable pub component_type : ℕ → FileRead → Bytes FileRead
 component_type end s = do
   place ← here end
-  t ← type max_depth end [] s.scope s.reading
+  t ← type max_scope_depth end [] s.scope s.reading
   next ← granted (pushed place t.0 (s.scope, t.1))
   give (record { scope = next.0; names = s.names; reading = next.1 })
 
@@ -262,10 +263,6 @@ some_content end bytes (Some x) = Ok x
 unfoldable pub content_of_module : ℕ → List ℕ → Result Content DecodeError
 content_of_module end bytes = after (while_left (more_module end) None bytes) (λ x. some_content end x.1 x.0)
 
--- `component`'s preamble in Binary.md: magic `\0asm`, version 13, layer 1
-abbrev pub component_preamble : List ℕ
-component_preamble = 0x00 ∷ 0x61 ∷ 0x73 ∷ 0x6d ∷ 0x0d ∷ 0x00 ∷ 0x01 ∷ 0x00 ∷ []
-
 -- the preamble of a core module: magic `\0asm`, version 1
 abbrev pub module_preamble : List ℕ
 module_preamble = 0x00 ∷ 0x61 ∷ 0x73 ∷ 0x6d ∷ 0x01 ∷ 0x00 ∷ 0x00 ∷ 0x00 ∷ []
@@ -276,7 +273,7 @@ world_of place parts = if parts.is_world then Ok parts else Err (errors.At NoEnc
 
 -- the preamble of the component in a core module
 abbrev pub preamble_of : List ℕ → Result ℕ Fault
-preamble_of bytes = if bytes_eq bytes component_preamble then Ok 0 else Err NotComponent
+preamble_of bytes = if bytes_eq bytes preamble then Ok 0 else Err NotComponent
 
 -- what the component in a core module has: its preamble, and what says that it encodes a world
 unfoldable pub component_of_module : Content → Result Parts DecodeError
@@ -290,6 +287,6 @@ module_parts end bytes = after (content_of_module end bytes) component_of_module
 -- what a file has: a component, or a core module with a component in it
 unfoldable pub decoded : List ℕ → Result Parts DecodeError
 decoded bytes =
-    if starts_with (λ a b. a == b) bytes component_preamble then component (length bytes) (drop 8 bytes)
+    if starts_with (λ a b. a == b) bytes preamble then component (length bytes) (drop 8 bytes)
     else (if starts_with (λ a b. a == b) bytes module_preamble then module_parts (length bytes) (drop 8 bytes)
     else Err (errors.At NotComponent 0))

@@ -1,5 +1,6 @@
 //! Component types and instance types: their declarations, each of which may take an index. (Binary.md)
 ghost use Rattle.std.specs.Prelude.{◌≡◌, ◌-◌, ◌<◌, [], length, true, IfOk, OnOk};
+ghost use Rattle.ctype_format.specs.File.{max_scope_depth};
 ghost use Rattle.ctype_format.specs.Grammar.{is_nested, is_component};
 ghost use Rattle.std.specs.String.{string_bytes};
 ghost use Rattle.component_structure.specs.Bytes.{Answers, extern_view, name_text};
@@ -12,7 +13,7 @@ ghost use Rattle.component_decoding.specs.Declarations.{function_item, component
 ghost use Rattle.component_decoding.specs.Declarations.{with_named, type_item};
 ghost use Rattle.component_decoding.specs.Declarations.{described, external, declaration, with_scope};
 ghost use Rattle.component_decoding.specs.Declarations.{nested_type, type};
-ghost use Rattle.component_decoding.specs.Declarations.{max_depth, opcode, scope_entry};
+ghost use Rattle.component_decoding.specs.Declarations.{opcode, scope_entry};
 
 use atoms::Label;
 use component_structure::{
@@ -51,7 +52,7 @@ pub struct Around<'a> {
 impl Around<'_> {
     /// No scopes: what a file stands in.
     pub fn nothing() -> Around<'static>
-        ensures room { result.room ≡ max_depth }
+        ensures room { result.room ≡ max_scope_depth }
         ensures scopes { around_view result ≡ [] }
     {
         Around {

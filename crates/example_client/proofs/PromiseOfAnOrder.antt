@@ -8,7 +8,7 @@ use Rattle.canonical_abi.specs.Layout.{max_flat_params}
 use Rattle.canonical_abi.specs.Reading.{kind_of, low_bits, number_of}
 use Rattle.canonical_abi.specs.Flat.{Denotes}
 use Rattle.canonical_abi.specs.Guest.{Memory, IsWithin}
-use Rattle.canonical_abi.specs.Call.{Parties, Run, PostRun, World, exact}
+use Rattle.canonical_abi.specs.Call.{Parties, Run, PostRun, CallState, exact}
 use Rattle.canonical_abi.specs.Tame.{LeavesLive, KeepsLivePromise}
 use Rattle.canonical_abi.specs.declared.flat.Flat.{Flat}
 use Rattle.canonical_abi.specs.declared.flat.CoreKind.TheVariants.{I32}
@@ -110,7 +110,7 @@ stands m item count flats (kinds, inl (fits, (v, rest, is, (inside, utf8, text),
     (kinds, inside, same-text _ _ is_text, sym (third (map number_of flats)) ∙ same-number _ _ is_number)
 stands m item count flats (kinds, inr (fits, held)) = absurd (cc)
 
-module _ (parties : Parties) (f : FunctionType) (item : List ℕ) (count : ℕ) (old new : World) where
+module _ (parties : Parties) (f : FunctionType) (item : List ℕ) (count : ℕ) (old new : CallState) where
   pub found : (result : Result (Option Val) Fault) → TakesOrder f → KeepsLivePromise parties exact f (string_value item ∷ unsigned_value int32 count ∷ []) old (typed_answer result) new
       → IfOk result (λ v. FindsOrder item count f (option_map value_of v) parties.runs parties.posts old.body new.body new.callee)
   found (Ok v) is promise =

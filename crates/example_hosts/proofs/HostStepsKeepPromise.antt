@@ -3,8 +3,8 @@ use Rattle.std.proofs.Common.{◌≡◌, inl, inr, ◌&&◌, ℕ, ◌<◌, true,
 use Rattle.std.specs.List.{list_all}
 use Rattle.std.proofs.lemmas.Bool.{and_from, lt-ltb}
 use Rattle.arrayvec.specs.ArrayVec.{ArrayVec}
-use Rattle.canonical_abi.specs.Call.{PostRun, Run, World}
-use Rattle.canonical_abi.specs.Halves.{source, as_world, body_stopped, post_stopped, CallsInHalves, HalvesKeepPromise, ends_at_entry, ends_at_run, ends_at_return, ends_at_post, completes}
+use Rattle.canonical_abi.specs.Call.{PostRun, Run, CallState}
+use Rattle.canonical_abi.specs.Halves.{source, as_state, body_stopped, post_stopped, CallsInHalves, HalvesKeepPromise, ends_at_entry, ends_at_run, ends_at_return, ends_at_post, completes}
 use Rattle.canonical_abi.specs.Headline.{IsStandardFunction, LendsArea}
 use Rattle.canonical_abi.specs.Types.{FunctionType}
 use Rattle.canonical_abi.specs.declared.flat.Flat.{Flat}
@@ -36,8 +36,8 @@ module _ (runs : Run) (posts : PostRun) (law : HalvesKeepPromise (hosting runs p
     (caller callee : List ℕ) (short : length caller < 4294967296) (limited : length callee < 4294967296) where
   -- what ends as a call in halves keeps the promise
   promised : (name : ℕ) (entering : List ℕ) (there : List Block) → HasGranted callee entering → (other : ℕ) (between : List ℕ) (back : List Block) → HasGranted caller between
-      → LendsArea f flats (lent other between back) → (ended : Result (List Flat) Fault) (n m : ℕ) (new : World)
-      → CallsInHalves (hosting runs posts) f flats (as_world (source caller) (lent name entering there) []) (lent other between back) ended n m new
+      → LendsArea f flats (lent other between back) → (ended : Result (List Flat) Fault) (n m : ℕ) (new : CallState)
+      → CallsInHalves (hosting runs posts) f flats (as_state (source caller) (lent name entering there) []) (lent other between back) ended n m new
       → (result : Result (ArrayVec Flat) HalfError) → IsToldAs there back ended new result → (caller' callee' : List ℕ) → caller' ≡ new.caller.bytes → callee' ≡ new.callee.bytes
       → MakesCall runs posts f flats caller callee result caller' callee'
   promised name entering there grants other between back grants' lends ended n m new calls result told caller' callee' is is' = record {
@@ -58,7 +58,7 @@ module _ (runs : Run) (posts : PostRun) (law : HalvesKeepPromise (hosting runs p
     nodes_back = m;
     calls = calls;
     promise =
-        law f flats (as_world (source caller) (lent name entering there) []) (lent other between back) ended n m new standard calls
+        law f flats (as_state (source caller) (lent name entering there) []) (lent other between back) ended n m new standard calls
         (record { caller = LentIsHonest; callee = LentIsHonest })
         lends;
   }
@@ -66,17 +66,17 @@ module _ (runs : Run) (posts : PostRun) (law : HalvesKeepPromise (hosting runs p
   -- the first half was broken off
   pub not-entered : (error : HalfError) (caller' new : List ℕ) → caller' ≡ caller → EntersCall f flats caller callee (Err error) new → MakesCall runs posts f flats caller callee (Err error) caller' new
   not-entered (half.OtherBlock index) caller' new same (entering, there, grants, (name, (n, (below, (s, fails))))) =
-      promised name entering there grants 0 caller [] (refl, refl) (all-live f flats caller) (Err (full_in s)) n 0 (as_world (lent 0 caller []) (lent name new (drop index there)) [])
+      promised name entering there grants 0 caller [] (refl, refl) (all-live f flats caller) (Err (full_in s)) n 0 (as_state (lent 0 caller []) (lent name new (drop index there)) [])
       (ends_at_entry (full_in s) n (lent name new (drop index there)) fails) (Err (half.OtherBlock index)) (inl (below, (name, refl)), (s, refl)) caller' new same refl
   not-entered (half.Fault fault) caller' new same (entering, there, grants, (name, (n, (rest, fails, none)))) =
-      promised name entering there grants 0 caller [] (refl, refl) (all-live f flats caller) (Err fault) n 0 (as_world (lent 0 caller []) (lent name new rest) [])
+      promised name entering there grants 0 caller [] (refl, refl) (all-live f flats caller) (Err fault) n 0 (as_state (lent 0 caller []) (lent name new rest) [])
       (ends_at_entry fault n (lent name new rest) fails) (Err (half.Fault fault)) refl caller' new same refl
 
   -- the core function stopped
   pub not-run : (handed : ArrayVec Flat) (entered caller' left : List ℕ) → caller' ≡ caller → EntersCall f flats caller callee (Ok handed) entered → RunsOnBytes runs entered handed.items left None
       → MakesCall runs posts f flats caller callee (Err (half.Fault body_stopped)) caller' left
   not-run handed entered caller' left same (entering, there, grants, (name, (n, rest, enters))) run =
-      promised name entering there grants 0 caller [] (refl, refl) (all-live f flats caller) (Err body_stopped) n 0 (as_world (lent 0 caller []) (lent name left rest) [])
+      promised name entering there grants 0 caller [] (refl, refl) (all-live f flats caller) (Err body_stopped) n 0 (as_state (lent 0 caller []) (lent name left rest) [])
       (ends_at_run n (lent name left rest) [] (record { handed = handed.items; entered = lent name entered rest; enters = enters; run = run (lent name entered rest) }))
       (Err (half.Fault body_stopped)) refl caller' left same refl
 
@@ -84,13 +84,13 @@ module _ (runs : Run) (posts : PostRun) (law : HalvesKeepPromise (hosting runs p
   pub not-returned : (handed : ArrayVec Flat) (entered left : List ℕ) (answer : List Flat) (error : HalfError) (new callee' : List ℕ) → callee' ≡ left → EntersCall f flats caller callee (Ok handed) entered
       → RunsOnBytes runs entered handed.items left (Some answer) → LeavesCall f flats left answer caller (Err error) new → MakesCall runs posts f flats caller callee (Err error) new callee'
   not-returned handed entered left answer (half.OtherBlock index) new callee' same (entering, there, grants, (name, (n, rest, enters))) run (between, back, grants', area, (other, (m, (below, (s, fails))))) =
-      promised name entering there grants other between back grants' (λ fits stands. area other fits) (Err (full_in s)) n m (as_world (lent other new (drop index back)) (lent name left rest) [])
+      promised name entering there grants other between back grants' (λ fits stands. area other fits) (Err (full_in s)) n m (as_state (lent other new (drop index back)) (lent name left rest) [])
       (ends_at_return n m answer (full_in s) (lent other new (drop index back)) (lent name left rest) []
       (record { handed = handed.items; entered = lent name entered rest; enters = enters; run = run (lent name entered rest) })
       (return-fails LentAllocates f flats left answer (lent other between back) (full_in s) (lent other new (drop index back)) m enters.2.kinds fails))
       (Err (half.OtherBlock index)) (inr (below, (other, refl)), (s, refl)) new callee' refl same
   not-returned handed entered left answer (half.Fault fault) new callee' same (entering, there, grants, (name, (n, rest, enters))) run (between, back, grants', area, (other, (m, (remain, fails, none)))) =
-      promised name entering there grants other between back grants' (λ fits stands. area other fits) (Err fault) n m (as_world (lent other new remain) (lent name left rest) [])
+      promised name entering there grants other between back grants' (λ fits stands. area other fits) (Err fault) n m (as_state (lent other new remain) (lent name left rest) [])
       (ends_at_return n m answer fault (lent other new remain) (lent name left rest) []
       (record { handed = handed.items; entered = lent name entered rest; enters = enters; run = run (lent name entered rest) })
       (return-fails LentAllocates f flats left answer (lent other between back) fault (lent other new remain) m enters.2.kinds fails))
@@ -101,7 +101,7 @@ module _ (runs : Run) (posts : PostRun) (law : HalvesKeepPromise (hosting runs p
       → RunsOnBytes runs entered handed.items left (Some answer) → LeavesCall f flats left answer caller (Ok given) new → PostsOnBytes posts left answer callee' None
       → MakesCall runs posts f flats caller callee (Err (half.Fault post_stopped)) new callee'
   not-finished handed entered left answer given new callee' (entering, there, grants, (name, (n, rest, enters))) run (between, back, grants', area, (other, (m, remain, returns))) post =
-      promised name entering there grants other between back grants' (λ fits stands. area other fits) (Err post_stopped) n m (as_world (lent other new remain) (lent name callee' rest) [])
+      promised name entering there grants other between back grants' (λ fits stands. area other fits) (Err post_stopped) n m (as_state (lent other new remain) (lent name callee' rest) [])
       (ends_at_post n m answer given.items (lent other new remain) (lent name left rest) []
       (record { runs = record { handed = handed.items; entered = lent name entered rest; enters = enters; run = run (lent name entered rest) }; returns = returns })
       (lent name callee' rest) [] (post (lent name left rest)))
@@ -112,7 +112,7 @@ module _ (runs : Run) (posts : PostRun) (law : HalvesKeepPromise (hosting runs p
       → RunsOnBytes runs entered handed.items left (Some answer) → LeavesCall f flats left answer caller (Ok given) new → PostsOnBytes posts left answer callee' (Some tt)
       → MakesCall runs posts f flats caller callee (Ok given) new callee'
   finished handed entered left answer given new callee' (entering, there, grants, (name, (n, rest, enters))) run (between, back, grants', area, (other, (m, remain, returns))) post =
-      promised name entering there grants other between back grants' (λ fits stands. area other fits) (Ok given.items) n m (as_world (lent other new remain) (lent name callee' rest) [])
+      promised name entering there grants other between back grants' (λ fits stands. area other fits) (Ok given.items) n m (as_state (lent other new remain) (lent name callee' rest) [])
       (completes n m answer given.items (lent other new remain) (lent name left rest) []
       (record { runs = record { handed = handed.items; entered = lent name entered rest; enters = enters; run = run (lent name entered rest) }; returns = returns })
       (lent name callee' rest) [] (post (lent name left rest)))

@@ -2,9 +2,9 @@
 use Rattle.std.specs.Prelude.{◌≡◌, ◌⊎◌, ◌<◌, ℕ, List, [], drop, length, Option, Result, Ok, Err, MatchResult}
 use Rattle.arrayvec.specs.ArrayVec.{ArrayVec}
 use Rattle.adapter.specs.declared.asking.request.Request.{Request}
-use Rattle.canonical_abi.specs.Call.{Parties, PostRun, Run, World}
+use Rattle.canonical_abi.specs.Call.{Parties, PostRun, Run, CallState}
 use Rattle.canonical_abi.specs.Guest.{Memory, with_bytes}
-use Rattle.canonical_abi.specs.Halves.{source, as_world, CallsInHalves, HalvesKeep}
+use Rattle.canonical_abi.specs.Halves.{source, as_state, CallsInHalves, HalvesKeep}
 use Rattle.canonical_abi.specs.Types.{FunctionType}
 use Rattle.canonical_abi.specs.declared.flat.Flat.{Flat}
 use Rattle.canonical_abi.specs.declared.trap.Fault.{Fault}
@@ -60,7 +60,7 @@ IsFirstLeft blocks index memory = (index < length blocks) × ((name : ℕ) × (m
 
 -- a call that ended so, between memories with these blocks, is told the host so: a block of another size or alignment than was asked for is a
 -- request that was refused
-abbrev pub IsToldAs : List Block → List Block → Result (List Flat) Fault → World → Result (ArrayVec Flat) HalfError → Type 0
+abbrev pub IsToldAs : List Block → List Block → Result (List Flat) Fault → CallState → Result (ArrayVec Flat) HalfError → Type 0
 IsToldAs there back ended new (Ok given) = ended ≡ Ok given.items
 IsToldAs there back ended new (Err (half.Fault fault)) = ended ≡ Err fault
 IsToldAs there back ended new (Err (half.OtherBlock index)) =
@@ -79,12 +79,12 @@ pub record MakesCall (runs : Run) (posts : PostRun) (f : FunctionType) (flats : 
   pub caller_granted : HasGranted caller between
   -- how the call ended, as the host is told, and both memories then
   pub ended : Result (List Flat) Fault
-  pub new : World
+  pub new : CallState
   pub told : IsToldAs there back ended new result
   pub caller_is : caller' ≡ new.caller.bytes
   pub callee_is : callee' ≡ new.callee.bytes
   -- by ways of so many nodes
   pub nodes_there : ℕ
   pub nodes_back : ℕ
-  pub calls : CallsInHalves (hosting runs posts) f flats (as_world (source caller) (lent name entering there) []) (lent other between back) ended nodes_there nodes_back new
-  pub promise : HalvesKeep (hosting runs posts) f flats (as_world (source caller) (lent name entering there) []) (lent other between back) ended new
+  pub calls : CallsInHalves (hosting runs posts) f flats (as_state (source caller) (lent name entering there) []) (lent other between back) ended nodes_there nodes_back new
+  pub promise : HalvesKeep (hosting runs posts) f flats (as_state (source caller) (lent name entering there) []) (lent other between back) ended new

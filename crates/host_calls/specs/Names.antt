@@ -2,21 +2,16 @@
 use Rattle.std.specs.Prelude.{ℕ, List, [], ◌∷◌, map, slice_get, Option, None, Some}
 use Rattle.std.specs.Option.{option_map}
 use Rattle.canonical_abi.specs.Labelled.{none_label, some_label, ok_label, error_label}
-use Rattle.tables.specs.declared.tables.TypeName.{TypeName}
+use Rattle.tables.specs.Names.{label_in}
 use Rattle.tables.specs.declared.tables.TypeDefKind.{TypeDefKind}
 use Rattle.tables.specs.declared.tables.TypeDefKind.TheVariants as kind
 use Rattle.tables.specs.declared.tables.Definition.{Definition}
 use Rattle.tables.specs.declared.tables.Definition.TheVariants as row
 use Rattle.tables.specs.declared.tables.Resolve.{Resolve}
 
--- the bytes of a type's name, or none if it has no name
-abbrev pub type_name_bytes : Option TypeName → List ℕ
-type_name_bytes None = []
-type_name_bytes (Some n) = n.name
-
 -- the name of a row: a type's or a function's; no bytes if it has none
 abbrev pub definition_name : Definition → List ℕ
-definition_name (row.Type d) = type_name_bytes d.name
+definition_name (row.Type d) = label_in d.name
 definition_name (row.Function f) = f.name
 
 -- a label for each member, in order; no bytes for an element of a tuple

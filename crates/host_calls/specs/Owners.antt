@@ -2,16 +2,9 @@
 use Rattle.std.specs.Prelude.{ℕ, ◌==◌, List, Option, None, Some, slice_get, if◌then◌else◌}
 use Rattle.std.specs.Option.{option_map}
 use Rattle.tables.specs.Names.{full_name, world_name}
-use Rattle.tables.specs.declared.tables.Definition.{Definition}
-use Rattle.tables.specs.declared.tables.Definition.TheVariants as row
 use Rattle.tables.specs.declared.tables.Owner.{Owner}
 use Rattle.tables.specs.declared.tables.Owner.TheVariants as owner
 use Rattle.tables.specs.declared.tables.Resolve.{Resolve}
-
--- the interface or world of a row, or none of a type without a name
-abbrev pub stated_owner : Definition → Option Owner
-stated_owner (row.Type d) = option_map (λ n. owner.Interface n.interface) d.name
-stated_owner (row.Function f) = Some f.owner
 
 -- the number of what an owner is: 1 an interface, 2 a world, 0 if there is none
 abbrev pub owner_kind : Option Owner → ℕ

@@ -3,6 +3,7 @@ use Rattle.std.specs.Prelude.{ℕ, length, slice_get, Option, None, Some}
 use Rattle.std.specs.Option.{option_map}
 use Rattle.canonical_abi.specs.Layout.{size, align}
 use Rattle.tables.specs.Closed.{closed_type}
+use Rattle.tables.specs.Names.{owner_of}
 use Rattle.tables.specs.declared.tables.ValType.{ValType}
 use Rattle.tables.specs.declared.tables.ValType.TheVariants as val
 use Rattle.tables.specs.declared.tables.Definition.{Definition}
@@ -10,7 +11,7 @@ use Rattle.tables.specs.declared.tables.Resolve.{Resolve}
 use Rattle.host_calls.specs.Status.{told}
 use Rattle.host_calls.specs.Contents.{types_of_members, target_of}
 use Rattle.host_calls.specs.Kinds.{type_number}
-use Rattle.host_calls.specs.Owners.{stated_owner, owner_kind, owner_number}
+use Rattle.host_calls.specs.Owners.{owner_kind, owner_number}
 use Rattle.host_calls.specs.declared.host_lists.rows.RowInfo.{RowInfo}
 use Rattle.host_calls.specs.declared.host_lists.rows.TypeInfo.{TypeInfo}
 
@@ -39,8 +40,8 @@ abbrev pub row_info : Resolve → ℕ → Definition → RowInfo
 row_info r number d = record {
   ty = type_info r (Some (row_type number));
   target = type_info r (target_of d);
-  owner_kind = owner_kind (stated_owner d);
-  owner = owner_number (stated_owner d);
+  owner_kind = owner_kind (owner_of d);
+  owner = owner_number (owner_of d);
   members = told (length (types_of_members d));
 }
 

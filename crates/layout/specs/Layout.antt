@@ -4,6 +4,7 @@ use Rattle.std.specs.Option.{option_map}
 use Rattle.canonical_abi.specs.Types.{ClosedType, string_type, depth, result_fields}
 use Rattle.canonical_abi.specs.Layout.{extent_of, size, align, flat_kinds, field_kinds, CoreSignature}
 use Rattle.canonical_abi.specs.declared.flat.CoreKind.{CoreKind}
+use Rattle.canonical_abi.specs.Session.{max_block}
 use Rattle.tables.specs.Closed.{closed_val, closed_types, closed_type}
 use Rattle.tables.specs.declared.tables.Definition.{Definition}
 use Rattle.tables.specs.declared.tables.Definition.TheVariants as row
@@ -22,9 +23,9 @@ use Rattle.layout.specs.declared.error.LayoutError.TheVariants.{TooDeep, TooLarg
 abbrev pub max_depth : ℕ
 max_depth = 64
 
--- the most bytes that a type may take in memory: 16 MiB
+-- the most bytes that a type may take in memory: those that a typed call asks for in one block
 abbrev pub max_size : ℕ
-max_size = 16777216
+max_size = max_block
 
 -- a depth, or 65 if it is above the limit of 64
 abbrev pub capped : ℕ → ℕ

@@ -85,7 +85,7 @@ case_info_of ps (val.Id t) i = case_info_by (slice_index_or ps t.0 (parts.Same v
 case_info_of ps _ i = None
 
 -- ---- the law between them
--- these parts are those of the closed type t: its elements, fields with offsets, or cases; types are before place n
+-- lemma: these parts are those of the closed type t: its elements, fields with offsets, or cases; types are before place n
 abbrev pub PartsStand : (ValType → ClosedType) → ℕ → Parts → ClosedType → Type 0
 PartsStand c n (parts.Same v) t = t ≡ c v
 PartsStand c n (parts.List v) t = (t ≡ list_type (c v)) × IsTrue (is_below n v)

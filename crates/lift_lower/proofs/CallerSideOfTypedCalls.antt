@@ -88,8 +88,9 @@ module _ (t : ClosedType) (m : List ℕ) (at : ℕ) (spilled : fits_flat max_fla
   own_place : at ≡ at + next_multiple_of 0 (align t)
   own_place = let here = first-place t in omega (arith, here)
 
-  holds-result : (v : Value) → HoldsInBlock t m at v → HasResult (field t no_field) m flats at (v ∷ [])
-  holds-result v h = inr (spilled, (v, [], refl, subst (λ a. Holds t m a v) own_place h.1, refl))
+  holds-result : (v : Value) → BlockHolds m at (align (record_type (field t no_field))) (size (record_type (field t no_field))) → HoldsInBlock t m at v
+      → HasResult (field t no_field) m flats at (v ∷ [])
+  holds-result v block h = inr (spilled, block, (v, [], refl, subst (λ a. Holds t m a v) own_place h.1, refl))
 
   no-fault : (k : TrapKind) → BlockHolds m at (align t) (size t) → BlockFaulty m at (align t) (size t) k → ⊥
   no-fault k h (inl (not, is)) = not h.0
@@ -103,8 +104,9 @@ module _ (t : ClosedType) (m : List ℕ) (at : ℕ) (spilled : fits_flat max_fla
   pub value-block : BlockHolds m at (align (record_type (field t no_field))) (size (record_type (field t no_field))) → BlockHolds m at (align t) (size t)
   value-block h = (subst (λ a. at % a ≡ 0) (alone-align t) h.0, omega (arith, h.1, alone-size t))
 
-  pub value-taken : (v : Val) → HoldsInBlock t m at (value_of v) → HasResult (field t no_field) m flats at (option_to_list (option_map value_of (Some v)))
-  value-taken v h = holds-result (value_of v) h
+  pub value-taken : (v : Val) → BlockHolds m at (align (record_type (field t no_field))) (size (record_type (field t no_field))) → HoldsInBlock t m at (value_of v)
+      → HasResult (field t no_field) m flats at (option_to_list (option_map value_of (Some v)))
+  value-taken v block h = holds-result (value_of v) block h
 
   pub fault-taken : (fault : Fault) → BlockHolds m at (align t) (size t)
       → AnswerStands step.Take (λ v. HoldsInBlock t m at (value_of v)) (FaultyInBlock t m at) (Err fault)

@@ -19,7 +19,7 @@ pub record HasEnded (limit : ℕ) (allocates : Allocation) (S : List Event → T
   pub scripted : S events
   pub ends : TraceEnds limit allocates old events k new
 
--- a beginning of the script S was done, which those of T complete
+-- lemma: a beginning of the script S was done, which those of T complete
 pub record IsBegun (limit : ℕ) (allocates : Allocation) (S T : List Event → Type 0) (old now : Memory) : Type 0 where
   pub events : List Event
   pub completed : (rest : List Event) → T rest → S (events ++ rest)

@@ -90,9 +90,6 @@ leads_to_too : (m n : Memory) → SameButLive m n → HasNotes m → (size found
 leads_to_too m n s notes size found leads =
     subst (λ k. Leads n size (k / 8) 8 found) s.same_length (leads_too m n s notes size (length m.bytes / 8) 8 found (inl refl) leads)
 
-notes_too : (m n : Memory) → SameButLive m n → HasNotes m → HasNotes n
-notes_too m n s h = record { inside = omega (arith, h.inside, s.same_length); free = λ a low. sym (s.same_live a) ∙ h.free a low }
-
 -- ---- what is written of two such memories
 
 -- a word over bytes that are alike at an address leaves them alike there

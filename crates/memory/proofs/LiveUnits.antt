@@ -2,19 +2,14 @@
 use Rattle.std.proofs.Common.{◌≡◌, ◌⊎◌, inl, inr, ◌+◌, ◌-◌, ◌*◌, ◌/◌, ◌%◌, ◌<◌, ◌≤◌, ℕ, zero, suc, Bool, true, false, cond, List, [], ◌∷◌, ◌++◌, take, drop, replicate, length, get_or, refl, sym, ap, ◌∙◌, subst, arith, length-append, length-drop}
 use Rattle.std.specs.Prelude.{IsTrue, min, slice_range, nat_le, nat_lt, ◌&&◌}
 use Rattle.std.proofs.lemmas.List.{get_or-take, get_or-drop, get_or_append_left, get_or-append_right, get_or-replicate, length-take-le, length-replicate}
-use Rattle.std.proofs.lemmas.Bool.{cases_lt, le-leb, lt-leb, lt-ltb, le-ltb}
-use Rattle.memory.specs.Units.{is_unit_live, AreUnits, with_units}
+use Rattle.std.proofs.lemmas.Bool.{cases_lt}
+use Rattle.memory.specs.Units.{AreUnits}
 
 -- behind the last flag they are false
 pub get_or-past : (xs : List Bool) (i : ℕ) → length xs ≤ i → get_or xs i false ≡ false
 get_or-past [] i h = refl
 get_or-past (x ∷ xs) zero h = absurd (omega arith)
 get_or-past (x ∷ xs) (suc i) h = get_or-past xs i (omega arith)
-
-pub none_live : (n i : ℕ) → get_or (replicate n false) i false ≡ false
-none_live zero i = refl
-none_live (suc n) zero = refl
-none_live (suc n) (suc i) = none_live n i
 
 module _ (xs : List Bool) (start end : ℕ) (live : Bool) (rise : start ≤ end) (within : end ≤ length xs) where
   front : length (take start xs) ≡ start
@@ -35,17 +30,6 @@ module _ (xs : List Bool) (start end : ℕ) (live : Bool) (rise : start ≤ end)
       ∙ get_or-append_right (replicate (end - start) live) (drop end xs) (end - start) (i - start) false (length-replicate (end - start) live) (omega arith)
       ∙ get_or-drop end xs (i - start - (end - start)) false
       ∙ ap (λ k. get_or xs k false) (let e : end + (i - start - (end - start)) ≡ i = omega arith in e)
-
--- flags of a range that are written are those of its addresses
-pub units_set : (xs : List Bool) (from to : ℕ) (live : Bool) → from % 8 ≡ 0 → to % 8 ≡ 0 → from ≤ to → to ≤ 8 * length xs → (a : ℕ)
-    → is_unit_live (take (from / 8) xs ++ (replicate (to / 8 - from / 8) live ++ drop (to / 8) xs)) a ≡ with_units (is_unit_live xs) from to live a
-units_set xs from to live begins ends rise within a = elim (cases_lt a from) [
-  | inl before ↦ rw (lt-leb from a before) (filled-before xs (from / 8) (to / 8) live (omega arith) (omega arith) (a / 8) (omega arith))
-  | inr behind ↦ elim (cases_lt a to) [
-    | inl in_it ↦ rw (le-leb from a behind, lt-ltb a to in_it) (filled-within xs (from / 8) (to / 8) live (omega arith) (omega arith) (a / 8) (omega arith) (omega arith))
-    | inr after ↦ rw (le-leb from a behind, le-ltb a to after) (filled-after xs (from / 8) (to / 8) live (omega arith) (omega arith) (a / 8) (omega arith))
-  ]
-]
 
 -- a part of the flags, by its places
 module _ (xs : List Bool) (start end : ℕ) (rise : start ≤ end) (within : end ≤ length xs) where

@@ -7,7 +7,7 @@ use Rattle.std.proofs.lemmas.List.{map-append}
 use Rattle.package_form.specs.Form.{functions_in_item, functions_of, item_function}
 use Rattle.package_form.specs.Ids.{is_function_in, is_in, is_of_worlds, is_owned_by, is_type_in, is_use, is_use_in, is_world_function, places_where}
 use Rattle.set_rows.specs.Moved.{Renaming, put_item, put_kind, put_row, put_world}
-use Rattle.set_rows.specs.Owners.{owner_of}
+use Rattle.tables.specs.Names.{owner_of}
 use Rattle.tables.specs.declared.tables.Definition.{Definition}
 use Rattle.tables.specs.declared.tables.Definition.TheVariants as row
 use Rattle.tables.specs.declared.tables.Owner.{Owner}

@@ -29,7 +29,7 @@ use Rattle.package_sets.proofs.OwnedRows.RowsAreOwned.{IsOfWorlds, IsOwnedFrom, 
 use Rattle.package_sets.proofs.MovedRows.MovedRowsKeepMeaning.{IsOwnedWithin}
 use Rattle.package_text.specs.Writable.{IsWritable}
 use Rattle.set_rows.specs.Moved.{Renaming, put_function_id, put_id, put_interface, put_row, put_world}
-use Rattle.set_rows.specs.Owners.{owner_of}
+use Rattle.tables.specs.Names.{owner_of}
 use Rattle.tables.specs.PackageNames.{PackageParts}
 use Rattle.tables.specs.declared.tables.Definition.{Definition}
 use Rattle.tables.specs.declared.tables.Definition.TheVariants as row

@@ -17,7 +17,7 @@ use Rattle.package_sets.proofs.GrowingLists.{behind-get, front-get}
 use Rattle.package_sets.proofs.OwnedRows.RowsAreOwned.{all-owned}
 use Rattle.package_sets.proofs.MovedRows.MovedRowsKeepMeaning.{IsOwnedWithin}
 use Rattle.package_text.proofs.OneTablePerTree.SameNamesSameRows.{IsSound}
-use Rattle.set_rows.specs.Owners.{owner_of}
+use Rattle.tables.specs.Names.{owner_of}
 use Rattle.tables.specs.Names.{full_name, full_name_in}
 use Rattle.tables.specs.Package.{interface_names}
 use Rattle.tables.specs.PackageNames.{PackageParts}

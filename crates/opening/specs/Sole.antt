@@ -53,7 +53,7 @@ pub record AddsRawInOrder (raw : RawComponent) (set r : Resolve) : Type 0 where
   pub table : IsSetTable r
   pub order : HasOwnBehind set adds.own r
 
--- two tables in which the names are the same are the same
+-- lemma: two tables in which the names are the same are the same
 abbrev pub NamesDetermine : Resolve → PackageParts → Resolve → Resolve → Type 0
 NamesDetermine set own r s = IsSetTable r → IsSetTable s → HasOwnBehind set own r → HasOwnBehind set own s → package_of r ≡ package_of s → IsSamePackage r s
 

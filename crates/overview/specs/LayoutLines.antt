@@ -6,11 +6,10 @@ use Rattle.canonical_abi.specs.Layout.{size, align, CoreSignature, lifted_signat
 use Rattle.canonical_abi.specs.declared.flat.CoreKind.{CoreKind}
 use Rattle.canonical_abi.specs.declared.flat.CoreKind.TheVariants.{I32, I64}
 use Rattle.tables.specs.Closed.{closed_type, function_at, function_type}
-use Rattle.tables.specs.Names.{full_name}
+use Rattle.tables.specs.Names.{full_name, label_in}
 use Rattle.tables.specs.Tables.{type_of}
 use Rattle.tables.specs.declared.tables.TypeId.{TypeId}
 use Rattle.tables.specs.declared.tables.FunctionId.{FunctionId}
-use Rattle.tables.specs.declared.tables.TypeName.{TypeName}
 use Rattle.tables.specs.declared.tables.TypeDef.{TypeDef}
 use Rattle.tables.specs.declared.tables.Function.{Function}
 use Rattle.tables.specs.declared.tables.ValType.TheVariants as val
@@ -31,11 +30,6 @@ kinds_text ks = codes "(" ++ (join_by kind_word (codes " ") ks ++ codes ")")
 -- a core signature: its parameters and its results in parentheses
 abbrev pub signature_text : CoreSignature → List ℕ
 signature_text s = kinds_text s.params ++ (codes " -> " ++ kinds_text s.results)
-
--- the label of a type, or nothing of a type without a name
-abbrev pub label_in : Option TypeName → List ℕ
-label_in None = []
-label_in (Some n) = n.name
 
 -- the label of a type, or nothing if there is no type or it has no name
 abbrev pub type_label : Option TypeDef → List ℕ

@@ -18,7 +18,7 @@ use Rattle.package_sets.specs.Attached.{HasRoom, has_package}
 use Rattle.package_sets.specs.Follows.{IsOfInterfaces, OfImports}
 use Rattle.package_sets.specs.Imports.{IsImportsOf}
 use Rattle.package_sets.proofs.FoundImports.OfImports.{follows}
-use Rattle.set_rows.specs.Owners.{owner_of}
+use Rattle.tables.specs.Names.{owner_of}
 use Rattle.package_sets.specs.Restricted.{IsReachedIn}
 use Rattle.package_sets.specs.SetForm.{HasNamesApart, IsInSetForm}
 use Rattle.package_sets.proofs.KeptParts.ClosedTypesStay.{kept-from}

@@ -9,6 +9,5 @@ pub mod PartsAreTypes
 pub mod LeavesApart
 pub mod LikenessIsExact
 pub mod Ranks
-pub mod PlacesInTurn
 pub mod VerdictsAreExact
 pub mod PartnersByNames

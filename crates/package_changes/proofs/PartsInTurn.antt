@@ -43,9 +43,6 @@ both-none a = λ i. record {
 pub record LeavesRest (all : Likeness) (i : ℕ) (ps qs : List (Option LabelledType)) : Type 0 where
   pub is : both all (parts_likeness (drop i ps) (drop i qs)) ≡ parts_likeness ps qs
 
-pub rest-begins : (ps qs : List (Option LabelledType)) → LeavesRest (leaves true) 0 ps qs
-rest-begins ps qs = record { is = refl }
-
 pub rest-steps : (all here : Likeness) (i : ℕ) (ps qs : List (Option LabelledType)) (p q : Option LabelledType) → i < length ps → i < length qs → p ≡ get_or ps i p → q ≡ get_or qs i q
     → here ≡ part_likeness p q → LeavesRest all i ps qs → LeavesRest (both all here) (i + 1) ps qs
 unfolding parts_likeness

@@ -9,7 +9,7 @@ use Rattle.package_form.specs.Scope.{AreDistinct}
 use Rattle.package_sets.specs.Attached.{others, HasAll, Fits}
 use Rattle.package_sets.specs.Imports.{IsImportsOf}
 use Rattle.package_sets.specs.Joining.{own_interfaces}
-use Rattle.set_rows.specs.Owners.{owner_of}
+use Rattle.tables.specs.Names.{owner_of}
 use Rattle.package_sets.specs.Restricted.{definitions_where, reached_definitions, package_of_owner, IsReachedIn, NamesEarlierPackages, IsRestricted}
 use Rattle.package_sets.specs.Set.{IsPackageByPackage, IsSet, HasRowsInForm}
 use Rattle.package_sets.specs.SetForm.{HasNamesApart, IsInSetForm}

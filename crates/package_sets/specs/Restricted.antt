@@ -1,7 +1,8 @@
 -- The table of one package of a set: what the package reaches of the set, as the set's names tell it.
 use Rattle.std.specs.Prelude.{◌≡◌, ◌≤◌, ◌<◌, ◌⊎◌, ℕ, Bool, true, false, List, [], ◌∷◌, ◌++◌, map, flat_map, length, slice_get, slice_index_or, Option, None, Some, Contains, if◌then◌else◌}
 use Rattle.std.specs.Option.{option_map}
-use Rattle.set_rows.specs.Owners.{owner_of, owners}
+use Rattle.set_rows.specs.Owners.{owners}
+use Rattle.tables.specs.Names.{owner_of}
 use Rattle.set_rows.specs.declared.moved.Moved.{Moved}
 use Rattle.package_sets.specs.Part.{IsTableOf}
 use Rattle.set_rows.specs.Reaches.{Marks, is_marked, owners_in, named_owners, OfPackage, AreReached}

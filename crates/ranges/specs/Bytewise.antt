@@ -128,7 +128,7 @@ abbrev mutual
   nodes_of_case (case_with t cs) m b zero = nodes_at t m b
   nodes_of_case (case_with t cs) m b (suc n) = nodes_of_case cs m b n
 
--- bytes from a on come over those from `at` on, each under its cap
+-- lemma: bytes from a on come over those from `at` on, each under its cap
 pub record Blends (cap : ℕ → ℕ) (m : List ℕ) (a : ℕ) (old : List ℕ) (at : ℕ) (new : List ℕ) : Type 0 where
   pub same_length : length new ≡ length old
   pub below : (x : ℕ) → x < at → get_or new x 0 ≡ get_or old x 0

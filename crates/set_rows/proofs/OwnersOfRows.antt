@@ -2,7 +2,8 @@
 use Rattle.std.proofs.Common.{◌≡◌, ℕ, suc, ◌+◌, ◌<◌, List, [], ◌∷◌, ◌++◌, length, drop, get_or, reverse, Option, refl, ap, sym, ◌∙◌}
 use Rattle.std.specs.Option.{option_or}
 use Rattle.std.proofs.lemmas.List.{reverse-append, drop_more}
-use Rattle.set_rows.specs.Owners.{owner_of, first_owner, owners}
+use Rattle.set_rows.specs.Owners.{first_owner, owners}
+use Rattle.tables.specs.Names.{owner_of}
 use Rattle.tables.specs.declared.tables.Owner.{Owner}
 use Rattle.tables.specs.declared.tables.Definition.{Definition}
 

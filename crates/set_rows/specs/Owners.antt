@@ -1,18 +1,12 @@
 -- Whose the rows of a table are: an interface's or a world's.
 use Rattle.std.specs.Prelude.{List, [], ◌∷◌, Option, None, Some}
-use Rattle.std.specs.Option.{option_map, option_or}
+use Rattle.std.specs.Option.{option_or}
 use Rattle.package_form.specs.References.{row_references}
 use Rattle.package_form.specs.Reached.{used_in}
+use Rattle.tables.specs.Names.{owner_of}
 use Rattle.tables.specs.declared.tables.TypeId.{TypeId}
 use Rattle.tables.specs.declared.tables.Owner.{Owner}
-use Rattle.tables.specs.declared.tables.Owner.TheVariants as owner
 use Rattle.tables.specs.declared.tables.Definition.{Definition}
-use Rattle.tables.specs.declared.tables.Definition.TheVariants as row
-
--- the interface or world that a row with a name is of, or none of a row without
-abbrev pub owner_of : Definition → Option Owner
-owner_of (row.Type d) = option_map (λ n. owner.Interface n.interface) d.name
-owner_of (row.Function f) = Some f.owner
 
 -- the owner of the first of these rows, or none if there is no row
 abbrev pub first_owner : List (Option Owner) → Option Owner

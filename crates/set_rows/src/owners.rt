@@ -1,7 +1,8 @@
 //! Whose the rows of a table are.
 ghost use Rattle.std.specs.Prelude.{◌≡◌, IfOk, slice_index_or, None};
 ghost use Rattle.package_form.specs.Reached.{used_in};
-ghost use Rattle.set_rows.specs.Owners.{owner_of, owners, names};
+ghost use Rattle.set_rows.specs.Owners.{owners, names};
+ghost use Rattle.tables.specs.Names.{owner_of};
 
 use package_form::push_references;
 use std::alloc::{AllocError, Global};

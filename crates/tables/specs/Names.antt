@@ -1,8 +1,13 @@
--- WIT.md, "Package Names": full names, and which function a full name and a name stand for.
-use Rattle.std.specs.Prelude.{◌≡◌, ℕ, List, slice_get, Option, None, Some, Contains}
+-- WIT.md, "Package Names": full names, which function a full name and a name stand for, and whose a row with a name is.
+use Rattle.std.specs.Prelude.{◌≡◌, ℕ, List, [], slice_get, Option, None, Some, Contains}
 use Rattle.std.specs.Option.{option_map}
 use Rattle.tables.specs.PackageNames.{PackageParts, own_name}
 use Rattle.tables.specs.Closed.{function_at}
+use Rattle.tables.specs.declared.tables.Definition.{Definition}
+use Rattle.tables.specs.declared.tables.Definition.TheVariants as row
+use Rattle.tables.specs.declared.tables.Owner.{Owner}
+use Rattle.tables.specs.declared.tables.Owner.TheVariants as owner
+use Rattle.tables.specs.declared.tables.TypeName.{TypeName}
 use Rattle.tables.specs.declared.tables.FunctionId.{FunctionId}
 use Rattle.tables.specs.declared.tables.Interface.{Interface}
 use Rattle.tables.specs.declared.tables.World.{World}
@@ -20,6 +25,16 @@ full_name r i = full_name_in (slice_get r.packages i.«package».0) i.name
 -- the full name of a world of the table, as `namespace:package/name@version`
 abbrev pub world_name : Resolve → World → List ℕ
 world_name r w = full_name_in (slice_get r.packages w.«package».0) w.name
+
+-- the interface or world that a row with a name is of, or none of a row without
+abbrev pub owner_of : Definition → Option Owner
+owner_of (row.Type d) = option_map (λ n. owner.Interface n.interface) d.name
+owner_of (row.Function f) = Some f.owner
+
+-- the label of a type, or nothing of a type without a name
+abbrev pub label_in : Option TypeName → List ℕ
+label_in None = []
+label_in (Some n) = n.name
 
 -- the name of the function at this place, without its interface or world; none if there is no function
 abbrev pub function_name : Resolve → FunctionId → Option (List ℕ)

@@ -238,7 +238,3 @@ below-rank r labels (suc n) (val.Id t) low typed =
 -- no record in a type of the table has a label twice
 pub records-apart : (r : Resolve) (v : ValType) → HasApartLabels r → IsTypeOf r v → HasApartRecords (labelled_type r v)
 records-apart r v labels typed = below-rank r labels (rank v) v (omega arith) typed
-
--- what the function gives for a value of a type of the table stands for it
-pub value-stands : (r : Resolve) (t : ValType) (v : Value) → HasApartLabels r → IsTypeOf r t → HasType v (closed (labelled_type r t)) → Json (labelled_type r t) v (json_of (labelled_type r t) v)
-value-stands r t v labels inside typed = stands (labelled_type r t) v (records-apart r t labels inside) typed

@@ -16,10 +16,6 @@ IsBefore f g = f.start < g.start
 abbrev pub IsPlainIn : List ℕ → Finding → Type 0
 IsPlainIn text f = IsIn (length text) f × (f.edit ≡ None)
 
--- a finding without what mends it
-abbrev pub without_edit : Finding → Finding
-without_edit f = record f { edit = None }
-
 -- the edits of findings
 abbrev pub edits_in : List Finding → List Edit
 edits_in fs = flat_map (λ (f : Finding). option_to_list f.edit) fs

@@ -5,7 +5,6 @@ use Rattle.std.proofs.lemmas.List.{take-append-drop, take-take, drop-take, take_
 use Rattle.wit_tokens.specs.declared.token.Token.{Token}
 use Rattle.wit_tokens.specs.declared.token.TokenKind.{TokenKind}
 use Rattle.wit_tokens.specs.declared.piece.Piece.{Piece}
-use Rattle.wit_tokens.specs.declared.piece.PieceKind.{PieceKind}
 use Rattle.wit_tokens.specs.declared.piece.PieceKind.TheVariants as piece
 use Rattle.wit_tokens.specs.declared.lexer.Front.TheVariants as front
 use Rattle.wit_tokens.specs.Lexing.{Upto, begin, blank, next, front_of, blank_run}
@@ -57,10 +56,6 @@ comment-on text at n e ts good u = subst (λ (us : List Token). Upto text (at + 
 -- blanks go on the tokens before them
 pub blanks-on : (text : List ℕ) (at n : ℕ) → front_of (drop at text) ≡ front.Blank n → GoesOn text (piece_from piece.Blank at (at + n + blank_run (drop (at + n) text)))
 blanks-on text at n e ts good u = subst (λ (us : List Token). Upto text (at + n + blank_run (drop (at + n) text)) us) (sym (append-nil ts)) (over_blanks text (at + n) ts (blank at n ts u e))
-
--- what is not good need not go on anything
-pub bad-on : (text : List ℕ) (k : PieceKind) (at end : ℕ) → (IsGood k → ⊥) → GoesOn text (piece_from k at end)
-bad-on text k at end bad ts good u = absurd (bad good)
 
 -- good pieces with one more have the text's tokens up to there
 pub tokens-so-far : (text : List ℕ) (ps : List Piece) (p : Piece) → GoesOn text p → (AreGood ps → Upto text p.start (tokens_in ps)) → AreGood (ps ++ p ∷ []) → Upto text p.end (tokens_in (ps ++ p ∷ []))

@@ -33,7 +33,7 @@ module _ (allocates : Allocation) (f : FunctionType) (arguments : List Value) (o
   pub ready_flat : (mid : Memory) (flats : List Flat) (new : Memory) → AreLowered allocates f.params arguments old flats mid
       → fits_flat max_flat_results (result_fields f.result) ≡ true → new ≡ mid → IsReady allocates f arguments old flats None new
   ready_flat mid flats new l fits same =
-      (l.0, (l.0, flats, l.1, inl (fits, refl, refl)), l.2, subst (λ m. TraceLeads allocates old l.0 m) (sym same) l.3)
+      (l.0, (l.0, flats, l.1, inl (fits, refl, refl, refl)), l.2, subst (λ m. TraceLeads allocates old l.0 m) (sym same) l.3)
 
   pub ready_with_area : (mid : Memory) (flats given : List Flat) (at : ℕ) (new : Memory) → AreLowered allocates f.params arguments old flats mid
       → fits_flat max_flat_results (result_fields f.result) ≡ false → IsAreaAsked allocates (result_fields f.result) mid (Some at) new
@@ -53,7 +53,7 @@ module _ (allocates : Allocation) (f : FunctionType) (arguments : List Value) (o
   arguments_fail (ended.Trap t) new h = by (fits_flat max_flat_results (result_fields f.result)) refl
     where
       by : (b : Bool) → fits_flat max_flat_results (result_fields f.result) ≡ b → IsNotReady allocates f arguments old (ended.Trap t) new
-      by true fits = (h.0, (h.1, h.2, 0, (h.1, h.2, h.3, inl (fits, refl, refl)), h.4))
+      by true fits = (h.0, (h.1, h.2, 0, (h.1, h.2, h.3, inl (fits, refl, refl, refl)), h.4))
       by false spilled = (
         h.0,
         (

@@ -2,7 +2,7 @@
 use Rattle.std.proofs.Common.{◌≡◌, ℕ, List, Option, Result, Err, map, sym, subst}
 use Rattle.canonical_abi.specs.Values.{Value}
 use Rattle.canonical_abi.specs.Guest.{Memory}
-use Rattle.canonical_abi.specs.Call.{Run, PostRun, World, exact}
+use Rattle.canonical_abi.specs.Call.{Run, PostRun, CallState, exact}
 use Rattle.canonical_abi.specs.Session.{TypedCall}
 use Rattle.canonical_abi.specs.declared.trap.Fault.{Fault}
 use Rattle.canonical_abi.specs.declared.trap.Fault.TheVariants as fault
@@ -31,7 +31,7 @@ pub answers : (runs : Run) (posts : PostRun) (state after : List ℕ) (r : Resol
     → TypedCall (spaces runs posts) exact (function_type r f) vs (record { caller = caller; callee = callee; body = state }) answer (record { caller = caller'; callee = callee'; body = after })
     → CallAnswers r f vs runs posts state answer after
 answers runs posts state after r f vs answer caller callee caller' callee' same_caller same_callee called =
-    let new : World = record { caller = caller'; callee = callee'; body = after } in
+    let new : CallState = record { caller = caller'; callee = callee'; body = after } in
     let own_caller = subst (λ m. TypedCall (spaces runs posts) exact (function_type r f) vs (record { caller = m; callee = callee; body = state }) answer new) same_caller called in
     (caller', callee', subst (λ m. TypedCall (spaces runs posts) exact (function_type r f) vs (record { caller = fresh 65536 1048576; callee = m; body = state }) answer new) same_callee own_caller)
 

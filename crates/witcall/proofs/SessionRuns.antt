@@ -4,7 +4,7 @@ use Rattle.std.specs.List.{All}
 use Rattle.std.proofs.Math.Seq.{drop-append_seam, take-length}
 use Rattle.std.proofs.lemmas.List.{append-nil, map-append, take_all, take_more}
 use Rattle.std.proofs.lemmas.List.Elements.{All-nil, All-push}
-use Rattle.canonical_abi.specs.Call.{Parties, World, exact}
+use Rattle.canonical_abi.specs.Call.{Parties, CallState, exact}
 use Rattle.canonical_abi.specs.Guest.{Release}
 use Rattle.canonical_abi.specs.Session.{TakesStep, RunsSession}
 use Rattle.canonical_abi.proofs.Sessions.RunsWithOneStepMore.{runs-longer}
@@ -20,7 +20,7 @@ types_more [] (b ∷ answers) s a h e = absurd h
 types_more (t ∷ steps) [] s a h e = absurd h
 types_more (t ∷ steps) (b ∷ answers) s a h e = (h.0, types_more steps answers s a h.1 e)
 
-module _ (parties : Parties) (caller_releases : Release) (r : Resolve) (steps : List Step) (before : List Answer) (old : World) where
+module _ (parties : Parties) (caller_releases : Release) (r : Resolve) (steps : List Step) (before : List Answer) (old : CallState) where
   pub none_ran : RunsSteps parties caller_releases r [] before old before old
   none_ran = record {
     made = [];
@@ -31,14 +31,14 @@ module _ (parties : Parties) (caller_releases : Release) (r : Resolve) (steps : 
   }
 
   -- the answers of this run are those behind the ones that were there
-  pub made_is : (n : ℕ) (items : List Answer) (now : World) (ran : RunsSteps parties caller_releases r (take n steps) before old items now) → drop (length before) items ≡ ran.made
+  pub made_is : (n : ℕ) (items : List Answer) (now : CallState) (ran : RunsSteps parties caller_releases r (take n steps) before old items now) → drop (length before) items ≡ ran.made
   made_is n items now ran = ap (λ xs. drop (length before) xs) ran.appended ∙ drop-append_seam before ran.made
 
-  pub known_so_far : (n : ℕ) (items : List Answer) (now : World) → RunsSteps parties caller_releases r (take n steps) before old items now
+  pub known_so_far : (n : ℕ) (items : List Answer) (now : CallState) → RunsSteps parties caller_releases r (take n steps) before old items now
       → All (IsKnownAnswer r) (drop (length before) items)
   known_so_far n items now ran = subst (All (IsKnownAnswer r)) (sym (made_is n items now ran)) ran.known
 
-  pub one_more : (n : ℕ) (items : List Answer) (now : World) (s : Step) (a : Answer) (new : World) → n < length steps → s ≡ get_or steps n s
+  pub one_more : (n : ℕ) (items : List Answer) (now : CallState) (s : Step) (a : Answer) (new : CallState) → n < length steps → s ≡ get_or steps n s
       → RunsSteps parties caller_releases r (take n steps) before old items now
       → TakesStep parties caller_releases exact (map (answer_of r) (drop (length before) items)) now (step_of r s) (answer_of r a) new → IsKnownAnswer r a → IsOfStep s a
       → RunsSteps parties caller_releases r (take (n + 1) steps) before old (items ++ a ∷ []) new
@@ -59,7 +59,7 @@ module _ (parties : Parties) (caller_releases : Release) (r : Resolve) (steps : 
             (subst (λ xs. RunsSession parties caller_releases exact [] old (map (step_of r) first ++ step_of r s ∷ []) xs new) (sym answers) longer);
       }
 
-  pub all_ran : (n : ℕ) (items : List Answer) (now : World) → n ≡ length steps → RunsSteps parties caller_releases r (take n steps) before old items now
+  pub all_ran : (n : ℕ) (items : List Answer) (now : CallState) → n ≡ length steps → RunsSteps parties caller_releases r (take n steps) before old items now
       → RunsSteps parties caller_releases r steps before old items now
   all_ran n items now is ran =
       let whole : take n steps ≡ steps = ap (λ k. take k steps) is ∙ take-length steps in

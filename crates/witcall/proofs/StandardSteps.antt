@@ -1,21 +1,17 @@
 -- The steps of a package's session are such as the laws of sessions speak of, so these hold of them.
-use Rattle.std.proofs.Common.{List, [], ◌∷◌, map, Ok, arith}
+use Rattle.std.proofs.Common.{List, [], ◌∷◌, map, arith}
 use Rattle.std.specs.List.{All}
 use Rattle.std.proofs.lemmas.List.Elements.{All-head, All-tail}
 use Rattle.canonical_abi.specs.Call.{Parties, exact}
-use Rattle.canonical_abi.specs.Guest.{Allocation, Release, IsLimited}
-use Rattle.canonical_abi.specs.Trace.{grant}
+use Rattle.canonical_abi.specs.Guest.{Allocation, Release}
 use Rattle.canonical_abi.specs.Keeping.{AreStandardSteps}
-use Rattle.canonical_abi.proofs.Traces.ConfinedTraces.{trace-limited}
-use Rattle.canonical_abi.proofs.Sessions.HeldStaysHeld.{held-is-read, held-stays-held}
-use Rattle.canonical_abi.proofs.Sessions.PlacedIsHeld.{placed-is-held, placed-is-read, placed-limited}
-use Rattle.canonical_abi.proofs.Sessions.TameHeldStaysHeld.{held-is-read-live, held-stays-held-live, placed-is-held-live, placed-is-read-live}
-use Rattle.canonical_abi.proofs.Sessions.CalleeIsTold.{callee-is-told, callee-is-told-live}
+use Rattle.canonical_abi.proofs.Sessions.HeldStaysHeld.{held-is-read, held-stays-held, placed-is-held-live, placed-is-read}
+use Rattle.canonical_abi.proofs.Sessions.PlacedIsHeld.{placed-is-held}
+use Rattle.canonical_abi.proofs.Sessions.CalleeIsTold.{callee-is-told}
 use Rattle.tables.specs.Closed.{closed_type}
 use Rattle.tables.specs.declared.tables.Resolve.{Resolve}
 use Rattle.tables.proofs.HasStandardTypes.{function-standard, type-standard}
-use Rattle.witcall.specs.Laws.{PlacesHeld, StepsKeepHeld, StepsReadHeld, StepsReadPlaced, StepsTellCallee}
-use Rattle.witcall.specs.TameLaws.{PlacesHeldLive, StepsKeepHeldLive, StepsReadHeldLive, StepsReadPlacedLive, StepsTellCalleeLive}
+use Rattle.witcall.specs.Laws.{PlacesHeld, PlacesHeldLive, StepsKeepHeld, StepsReadHeld, StepsReadPlaced, StepsTellCallee}
 use Rattle.witcall.specs.Steps.{IsStep, step_of}
 use Rattle.witcall.specs.declared.steps.Step.{Step}
 use Rattle.witcall.specs.declared.steps.Step.TheVariants as step
@@ -30,51 +26,28 @@ are_standard r (step.Release at size ∷ steps) all = are_standard r steps (All-
 
 module _ (parties : Parties) (caller_releases callee_releases : Release) (r : Resolve) where
   pub keep_held : StepsKeepHeld parties caller_releases callee_releases r
-  keep_held t a v before old steps answers new ran honest limited all stays =
-      held-stays-held parties caller_releases callee_releases exact t a v before old (map (step_of r) steps) answers new ran honest limited (are_standard r steps all) stays
+  keep_held t a v before old steps answers new ran tame all stays =
+      held-stays-held parties caller_releases callee_releases exact t a v before old (map (step_of r) steps) answers new ran tame (are_standard r steps all) stays
 
   pub read_held : StepsReadHeld parties caller_releases callee_releases r
-  read_held t a v before old steps answers new ran answer honest limited all stays reads =
-      held-is-read parties caller_releases callee_releases exact t a v before old (map (step_of r) steps) answers new ran answer honest limited (are_standard r steps all) stays reads
+  read_held t a v before old steps answers new ran answer tame all stays reads =
+      held-is-read parties caller_releases callee_releases exact t a v before old (map (step_of r) steps) answers new ran answer tame (are_standard r steps all) stays reads
 
   pub place_held : PlacesHeld parties caller_releases callee_releases r
-  place_held ty v held old placed honest limited is places =
-      let few = placed-limited parties.caller_allocates caller_releases honest.caller limited.caller_keeps (closed_type r ty) v old.caller placed.caller (Ok held) limited.caller places in
-      (placed-is-held parties.caller_allocates caller_releases honest.caller).placed (closed_type r ty) v old.caller placed.caller held (type-standard r ty is) (omega arith) places
-
-  pub read_placed : StepsReadPlaced parties caller_releases callee_releases r
-  read_placed ty v held before old placed steps answers new answer honest limited is all places ran misses reads =
-      placed-is-read parties caller_releases callee_releases exact (closed_type r ty) v held before old placed (map (step_of r) steps) answers new answer honest limited
-      (type-standard r ty is) (are_standard r steps all) places ran misses reads
-
-  -- ---- between tame guests
-
-  pub keep_held_live : StepsKeepHeldLive parties caller_releases callee_releases r
-  keep_held_live t a v before old steps answers new ran tame all stays =
-      held-stays-held-live parties caller_releases callee_releases exact t a v before old (map (step_of r) steps) answers new ran tame (are_standard r steps all) stays
-
-  pub read_held_live : StepsReadHeldLive parties caller_releases callee_releases r
-  read_held_live t a v before old steps answers new ran answer tame all stays reads =
-      held-is-read-live parties caller_releases callee_releases exact t a v before old (map (step_of r) steps) answers new ran answer tame (are_standard r steps all) stays reads
+  place_held ty v held old placed honest few is places =
+      (placed-is-held parties.caller_allocates caller_releases honest.caller).placed (closed_type r ty) v old.caller placed.caller held (type-standard r ty is) (omega (arith, few)) places
 
   pub place_held_live : PlacesHeldLive parties caller_releases callee_releases r
-  place_held_live ty v held old placed tame limited is places =
-      let few : IsLimited placed.caller = trace-limited parties.caller_allocates limited.caller_keeps (grant places.0 ∷ places.1) old.caller placed.caller places.5 limited.caller in
+  place_held_live ty v held old placed tame few is places =
       (placed-is-held-live parties.caller_allocates caller_releases tame.caller).placed (closed_type r ty) v old.caller placed.caller held (type-standard r ty is) (omega (arith, few)) places
 
-  pub read_placed_live : StepsReadPlacedLive parties caller_releases callee_releases r
-  read_placed_live ty v held before old placed steps answers new answer tame limited is all places ran misses reads =
-      placed-is-read-live parties caller_releases callee_releases exact (closed_type r ty) v held before old placed (map (step_of r) steps) answers new answer tame limited
+  pub read_placed : StepsReadPlaced parties caller_releases callee_releases r
+  read_placed ty v held before old placed steps answers new answer tame few is all places ran misses reads =
+      placed-is-read parties caller_releases callee_releases exact (closed_type r ty) v held before old placed (map (step_of r) steps) answers new answer tame few
       (type-standard r ty is) (are_standard r steps all) places ran misses reads
 
 pub tell_callee : (parties : Parties) (other : Allocation) (caller_releases other_releases callee_releases : Release) (r : Resolve)
     → StepsTellCallee parties other caller_releases other_releases callee_releases r
-tell_callee parties other caller_releases other_releases callee_releases r before earlier old past steps moves answers replies new last honest too limited small one_way runs all every ran went calls ends begun =
-    callee-is-told parties other caller_releases other_releases callee_releases before earlier old past (map (step_of r) steps) (map (step_of r) moves) answers replies new last honest too limited small
-    one_way runs (are_standard r steps all) (are_standard r moves every) ran went calls ends begun
-
-pub tell_callee_live : (parties : Parties) (other : Allocation) (caller_releases other_releases callee_releases : Release) (r : Resolve)
-    → StepsTellCalleeLive parties other caller_releases other_releases callee_releases r
-tell_callee_live parties other caller_releases other_releases callee_releases r before earlier old past steps moves answers replies new last tame also one_way runs all every ran went calls ends begun =
-    callee-is-told-live parties other caller_releases other_releases callee_releases before earlier old past (map (step_of r) steps) (map (step_of r) moves) answers replies new last tame also
+tell_callee parties other caller_releases other_releases callee_releases r before earlier old past steps moves answers replies new last tame also one_way runs all every ran went calls ends begun =
+    callee-is-told parties other caller_releases other_releases callee_releases before earlier old past (map (step_of r) steps) (map (step_of r) moves) answers replies new last tame also
     one_way runs (are_standard r steps all) (are_standard r moves every) ran went calls ends begun

@@ -2,7 +2,7 @@
 use Rattle.std.specs.Prelude.{◌≡◌, ℕ, List, [], ◌∷◌, ◌++◌, Option, Some, None, Result, Ok, Err}
 use Rattle.canonical_abi.specs.Values.{Value}
 use Rattle.canonical_abi.specs.Guest.{Memory}
-use Rattle.canonical_abi.specs.Call.{Run, PostRun, World, exact}
+use Rattle.canonical_abi.specs.Call.{Run, PostRun, CallState, exact}
 use Rattle.canonical_abi.specs.Session.{TypedCall}
 use Rattle.memory.specs.Holes.{all_free}
 use Rattle.memory.specs.Space.{of_kind, spaces, first_fit_kind}
@@ -34,8 +34,8 @@ IsOutputOf r None None output = output ≡ []
 IsOutputOf r _ _ output = ⊥
 
 -- what a call of the program begins with: two memories of 64 KiB that may grow to 1 MiB, and the body's state
-abbrev pub program_world : List ℕ → World
-program_world state = record { caller = fresh 65536 1048576; callee = fresh 65536 1048576; body = state }
+abbrev pub program_state : List ℕ → CallState
+program_state state = record { caller = fresh 65536 1048576; callee = fresh 65536 1048576; body = state }
 
 -- the words name this function of the package, and give it these arguments
 pub record NamesCall (r : Resolve) (iface func args : List ℕ) (f : FunctionId) (vs : List Value) : Type 0 where
@@ -46,7 +46,7 @@ pub record NamesCall (r : Resolve) (iface func args : List ℕ) (f : FunctionId)
 abbrev pub CallAnswers : Resolve → FunctionId → List Value → Run → PostRun → (state : List ℕ) → Result (Option Value) Fault → (after : List ℕ) → Type 0
 CallAnswers r f vs runs posts state answer after =
     (caller callee : Memory)
-    × TypedCall (spaces runs posts) exact (function_type r f) vs (program_world state) answer (record { caller = caller; callee = callee; body = after })
+    × TypedCall (spaces runs posts) exact (function_type r f) vs (program_state state) answer (record { caller = caller; callee = callee; body = after })
 
 -- the call that the words ask for is made on a body that may make these runs, and this is its output
 pub record Prints (r : Resolve) (iface func args : List ℕ) (runs : Run) (posts : PostRun) (state after output : List ℕ) : Type 0 where

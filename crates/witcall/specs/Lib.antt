@@ -5,4 +5,3 @@ pub mod Running
 pub mod Session
 pub mod Status
 pub mod Steps
-pub mod TameLaws

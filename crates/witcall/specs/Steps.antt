@@ -2,7 +2,7 @@
 use Rattle.std.specs.Prelude.{◌≡◌, List, [], ◌∷◌, ◌++◌, Result, Ok, Err, IfOk, map, is_ok}
 use Rattle.std.specs.List.{All}
 use Rattle.canonical_abi.specs.Session.{Held as HeldValue, SessionStep, call, place, read, release, SessionAnswer, called, placed, was_read, released, missing, RunsSession}
-use Rattle.canonical_abi.specs.Call.{Parties, World, exact}
+use Rattle.canonical_abi.specs.Call.{Parties, CallState, exact}
 use Rattle.canonical_abi.specs.Guest.{Release}
 use Rattle.canonical_abi.specs.Values.{Value, HasType, HaveTypes}
 use Rattle.canonical_abi.specs.declared.trap.Fault.{Fault}
@@ -77,7 +77,7 @@ AreOfSteps (s ∷ steps) [] = ⊥
 AreOfSteps (s ∷ steps) (a ∷ answers) = IsOfStep s a × AreOfSteps steps answers
 
 -- the steps were taken in turn, and their answers stand behind those that were there
-pub record RunsSteps (parties : Parties) (caller_releases : Release) (r : Resolve) (steps : List Step) (before : List Answer) (old : World) (after : List Answer) (new : World) : Type 0 where
+pub record RunsSteps (parties : Parties) (caller_releases : Release) (r : Resolve) (steps : List Step) (before : List Answer) (old : CallState) (after : List Answer) (new : CallState) : Type 0 where
   pub made : List Answer
   pub appended : after ≡ before ++ made
   pub known : All (IsKnownAnswer r) made

@@ -6,14 +6,12 @@ ghost use Rattle.canonical_abi.specs.Few.{VisitsFewNodes};
 ghost use Rattle.canonical_abi.specs.Halves.{HalvesAreACall};
 ghost use Rattle.canonical_abi.specs.Keeping.{CalleeKeepsHeld};
 ghost use Rattle.canonical_abi.specs.OnlyValues.{OnlyValuesCross, TrapsShowValues};
-ghost use Rattle.canonical_abi.specs.TameKeeping.{CalleeKeepsHeldLive};
 ghost use Rattle.memory.specs.Space.{SpaceAllocates, SpaceReleases, spaces};
 ghost use Rattle.tables.specs.Package.{IsClosedByNames};
 ghost use Rattle.package_form.specs.Laws.{HasOneOfEachName};
 ghost use Rattle.value_json.specs.ByNames.{IsLabelledByNames};
-ghost use Rattle.witcall.specs.Laws.{PlacesHeld, StepsKeepHeld, StepsReadHeld, StepsReadPlaced, StepsTellCallee};
-ghost use Rattle.witcall.specs.TameLaws.{PlacesHeldLive, StepsKeepHeldLive, StepsReadHeldLive};
-ghost use Rattle.witcall.specs.TameLaws.{StepsReadPlacedLive, StepsTellCalleeLive};
+ghost use Rattle.witcall.specs.Laws.{PlacesHeld, PlacesHeldLive, StepsKeepHeld, StepsReadHeld, StepsReadPlaced};
+ghost use Rattle.witcall.specs.Laws.{StepsTellCallee};
 
 use crate::reply::Reply;
 use crate::session::Session;
@@ -48,11 +46,12 @@ pub fn is_labelled_by_names(package: &Package)
     labels_alike(package.resolve());
 }
 
-/// What is placed is held in live blocks of its own, and nothing else is changed. Through every list of steps of a
-/// session, traps among them, a value that a component holds at some moment is held with the same footprint, and is
-/// read as that value, or the host is out of memory: in the caller while its footprint is live, so that what was placed
-/// is read until a release frees it; in the callee if no run of the body or of its post-return changed a byte of
-/// the footprint or freed it.
+/// What is placed in an honest memory is held in live blocks of its own, and nothing else is changed; in a tame one it is
+/// held in live addresses that were not live, and no live byte is changed. Between tame memories, so between honest ones,
+/// too, through every list of steps of a session, traps among them, a value that a component holds at some moment is held
+/// with the same footprint, and is read as that value, or the host is out of memory: in the caller while its footprint is
+/// live, so that what was placed is read until a release frees it; in the callee if no run of the body or of its
+/// post-return changed a byte of the footprint or freed it.
 pub fn keeps_held<C: Guest, E: Guest, B: Body<E>>(_session: &Session<'_, C, E, B>)
     ensures caller { StepsKeepHeld
         (record {
@@ -84,6 +83,16 @@ pub fn keeps_held<C: Guest, E: Guest, B: Body<E>>(_session: &Session<'_, C, E, B
         C.releases
         E.releases
         _session.now.package.now.resolve }
+    ensures placed_live { PlacesHeldLive
+        (record {
+          caller_allocates = C.allocates;
+          callee_allocates = E.allocates;
+          runs = B.runs _session.now.body;
+          posts = B.posts _session.now.body;
+        })
+        C.releases
+        E.releases
+        _session.now.package.now.resolve }
     ensures read { StepsReadPlaced
         (record {
           caller_allocates = C.allocates;
@@ -106,83 +115,11 @@ pub fn keeps_held<C: Guest, E: Guest, B: Body<E>>(_session: &Session<'_, C, E, B
         E.releases }
 {}
 
-/// After any list of steps, traps among them, the callee and its body depend on their beginning, on the functions and
-/// the arguments in turn, and on which calls the caller was out of memory for, in `place` or `lower-result`: nothing
-/// else of a caller is in them, of whatever kind its memory is.
+/// Between tame memories, after any list of steps, traps among them, the callee and its body depend on their beginning,
+/// on the functions and the arguments in turn, and on which calls the caller was out of memory for, in `place` or
+/// `lower-result`: nothing else of a caller is in them, of whatever kind its memory is.
 pub fn tells_callee<C: Guest, D: Guest, E: Guest, B: Body<E>>(_session: &Session<'_, C, E, B>)
     ensures { StepsTellCallee
-        (record {
-          caller_allocates = C.allocates;
-          callee_allocates = E.allocates;
-          runs = B.runs _session.now.body;
-          posts = B.posts _session.now.body;
-        })
-        D.allocates
-        C.releases
-        D.releases
-        E.releases
-        _session.now.package.now.resolve }
-{}
-
-/// Between tame memories the same: what is placed is held in live addresses that were not live, and no live byte is
-/// changed. What a component holds in live addresses stays held and is read as that value, through every list of steps
-/// of a session, traps among them.
-pub fn tame_keeps_held<C: Guest, E: Guest, B: Body<E>>(_session: &Session<'_, C, E, B>)
-    ensures caller { StepsKeepHeldLive
-        (record {
-          caller_allocates = C.allocates;
-          callee_allocates = E.allocates;
-          runs = B.runs _session.now.body;
-          posts = B.posts _session.now.body;
-        })
-        C.releases
-        E.releases
-        _session.now.package.now.resolve }
-    ensures held { StepsReadHeldLive
-        (record {
-          caller_allocates = C.allocates;
-          callee_allocates = E.allocates;
-          runs = B.runs _session.now.body;
-          posts = B.posts _session.now.body;
-        })
-        C.releases
-        E.releases
-        _session.now.package.now.resolve }
-    ensures placed { PlacesHeldLive
-        (record {
-          caller_allocates = C.allocates;
-          callee_allocates = E.allocates;
-          runs = B.runs _session.now.body;
-          posts = B.posts _session.now.body;
-        })
-        C.releases
-        E.releases
-        _session.now.package.now.resolve }
-    ensures read { StepsReadPlacedLive
-        (record {
-          caller_allocates = C.allocates;
-          callee_allocates = E.allocates;
-          runs = B.runs _session.now.body;
-          posts = B.posts _session.now.body;
-        })
-        C.releases
-        E.releases
-        _session.now.package.now.resolve }
-    ensures callee { CalleeKeepsHeldLive
-        (record {
-          caller_allocates = C.allocates;
-          callee_allocates = E.allocates;
-          runs = B.runs _session.now.body;
-          posts = B.posts _session.now.body;
-        })
-        C.releases
-        exact
-        E.releases }
-{}
-
-/// And the callee and its body depend on nothing else of a caller, as `tells_callee` says.
-pub fn tame_tells_callee<C: Guest, D: Guest, E: Guest, B: Body<E>>(_session: &Session<'_, C, E, B>)
-    ensures { StepsTellCalleeLive
         (record {
           caller_allocates = C.allocates;
           callee_allocates = E.allocates;

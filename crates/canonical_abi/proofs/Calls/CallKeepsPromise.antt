@@ -12,7 +12,7 @@ use Rattle.canonical_abi.specs.Guest.{Memory, Release, IsLimited, IsWithin, IsAl
 use Rattle.canonical_abi.specs.Trace.{Event, grant, TraceLeads}
 use Rattle.canonical_abi.specs.Stands.{AreAligned, IsGranted, Carries}
 use Rattle.canonical_abi.specs.Laws.{IsOneOutcome}
-use Rattle.canonical_abi.specs.Call.{Parties, World, Order, either, exact, Ways, Traps, GivesUp, Calls, KindsFit, ReturnAreaFaulty, argument_flats, area_of}
+use Rattle.canonical_abi.specs.Call.{Parties, CallState, Order, either, exact, Ways, Traps, GivesUp, Calls, KindsFit, AreaStands, ReturnAreaFaulty, argument_flats, area_of}
 use Rattle.canonical_abi.specs.Session.{AsksArea, Prepares, HasResult, HasResultFault, Placed, PlaceFails, CameBack, TypedTraps, TypedCall}
 use Rattle.canonical_abi.specs.Headline.{AreHonest, IsStandardFunction, FindsAndRunsOnce, RunsOnce, LiftsExactly, CallerIsUnchanged, CalleeIsUnchanged, IsBeforeBody, EntersBody, WasEntered, IsPosted, AfterTrap, AfterRun, IsOwnTrap, CallKeepsPromise, LendsArea, AreArguments, IsArgumentFault, TrapStands}
 use Rattle.canonical_abi.specs.AnyHonest.{AnyGrant, AnyRelease}
@@ -214,40 +214,72 @@ module _ (f : FunctionType) (arguments : List Value) (es : List Event) (flats : 
 
     result-in-area : (n : List ℕ) (back : List Flat) (vs : List Value) → HasResult (result_fields f.result) n back (area_of f flats) vs → HasResult (result_fields f.result) n back area vs
     result-in-area n back vs (inl h) = inl h
-    result-in-area n back vs (inr h) = inr (h.0, subst (λ a. FieldsHold (result_fields f.result) n a 0 vs) (same-area h.0) h.1)
+    result-in-area n back vs (inr h) =
+        let a = same-area h.0 in
+        inr (h.0, subst (λ a. BlockHolds n a (align (record_type (result_fields f.result))) (size (record_type (result_fields f.result)))) a h.1, subst (λ a. FieldsHold (result_fields f.result) n a 0 vs) a h.2)
 
-told-result : (results : Fields) (m : List ℕ) (back : List Flat) (area : ℕ) → IsOneOutcome (HasResult results m back area) (HasResultFault results m back area)
-told-result results m back area =
-    one_outcome _ _ _ (tells-if (fits_flat max_flat_results results) _ _ _ _ _ _ (denoting-tells max_flat_results results m back) (fields-tell results m area 0))
+-- where a result is, its area stands
+result-stands : (results : Fields) (m : List ℕ) (back : List Flat) (area : ℕ) (vs : List Value) → HasResult results m back area vs → AreaStands max_flat_results results area m
+result-stands results m back area vs (inl h) = inl h.0
+result-stands results m back area vs (inr h) = inr (h.0, h.1)
+
+-- the result, wherever its area is
+abbrev HasFields : Fields → List ℕ → List Flat → ℕ → List Value → Type 0
+HasFields results m back area vs =
+    ((fits_flat max_flat_results results ≡ true) × Denotes max_flat_results results m back vs) ⊎ ((fits_flat max_flat_results results ≡ false) × FieldsHold results m area 0 vs)
+
+-- where the area stands, as the call has tested, there is one result or one first fault
+told-result : (results : Fields) (m : List ℕ) (back : List Flat) (area : ℕ) → AreaStands max_flat_results results area m → IsOneOutcome (HasResult results m back area) (HasResultFault results m back area)
+told-result results m back area stands = record {
+  some = elim fields.some [ inl h ↦ inl (h.0, with-block h.0 h.1) | inr h ↦ inr h ];
+  one_value = λ v w p q. fields.one_value v w (without-block v p) (without-block w q);
+  one_fault = fields.one_fault;
+  not_both = λ v k p q. fields.not_both v k (without-block v p) q;
+}
+  where
+    fields : IsOneOutcome (HasFields results m back area) (HasResultFault results m back area)
+    fields = one_outcome _ _ _ (tells-if (fits_flat max_flat_results results) _ _ _ _ _ _ (denoting-tells max_flat_results results m back) (fields-tell results m area 0))
+
+    without-block : (vs : List Value) → HasResult results m back area vs → HasFields results m back area vs
+    without-block vs (inl h) = inl h
+    without-block vs (inr h) = inr (h.0, h.2)
+
+    block-of : fits_flat max_flat_results results ≡ false → AreaStands max_flat_results results area m → BlockHolds m area (align (record_type results)) (size (record_type results))
+    block-of spills (inl fits) = absurd (not-both fits spills)
+    block-of spills (inr h) = h.1
+
+    with-block : (vs : List Value) → HasFields results m back area vs → HasResult results m back area vs
+    with-block vs (inl h) = inl h
+    with-block vs (inr h) = inr (h.0, block-of h.0 stands, h.1)
 
 -- ---- what is said of a typed call: the words of the promise over tame guests, each with the trace that its callee went through before the body
 
-module _ (parties : Parties) (f : FunctionType) (arguments : List Value) (old : World) where
+module _ (parties : Parties) (f : FunctionType) (arguments : List Value) (old : CallState) where
   -- the callee found the arguments, and the body made its one run
-  abbrev pub Ran : (Option (List Flat) → World → Type 0) → Type 0
+  abbrev pub Ran : (Option (List Flat) → CallState → Type 0) → Type 0
   Ran After = (runs : RunsLive parties f arguments old After) × Went parties.callee_allocates Nowhere old.callee runs.found.entered.callee
 
   -- the caller lifts what the body answered
-  abbrev pub Lifted : World → Option Value → Type 0
-  Lifted new v = (answer : List Flat) × (ran : World) × Found parties f arguments old (Some answer) ran × LiftsExactly parties f v answer ran × IsPosted parties (Some tt) new (Some answer) ran
+  abbrev pub Lifted : CallState → Option Value → Type 0
+  Lifted new v = (answer : List Flat) × (ran : CallState) × Found parties f arguments old (Some answer) ran × LiftsExactly parties f v answer ran × IsPosted parties (Some tt) new (Some answer) ran
 
   -- a trap that its step can end in
-  abbrev pub OwnCallTrap : World → Step → TrapKind → Type 0
+  abbrev pub OwnCallTrap : CallState → Step → TrapKind → Type 0
   OwnCallTrap new step.LiftResult k = AnswerFaulty parties f arguments old new k
   OwnCallTrap new s k = IsOwnTrap parties f arguments old new s k
 
 -- ---- a typed call over tame guests
 
 module _ (parties : Parties) (caller_releases callee_releases : Release) (order : Order) (f : FunctionType) (arguments : List Value)
-    (tame : AreTame parties caller_releases callee_releases) (standard : IsStandardFunction f) (old : World) where
+    (tame : AreTame parties caller_releases callee_releases) (standard : IsStandardFunction f) (old : CallState) where
   -- the caller went through a trace that is confined to its own blocks
-  abbrev CallerWent : World → Type 0
+  abbrev CallerWent : CallState → Type 0
   CallerWent new = Went parties.caller_allocates Nowhere old.caller new.caller
 
-  abbrev Once : (Option (List Flat) → World → Type 0) → Type 0
+  abbrev Once : (Option (List Flat) → CallState → Type 0) → Type 0
   Once After = Ran parties f arguments old After
 
-  module _ (flats : List Flat) (area : ℕ) (placed : World) (p : Placed parties f arguments old flats area placed) where
+  module _ (flats : List Flat) (area : ℕ) (placed : CallState) (p : Placed parties f arguments old flats area placed) where
     abbrev events : List Event
     events = p.puts.0
 
@@ -271,7 +303,7 @@ module _ (parties : Parties) (caller_releases callee_releases : Release) (order 
     lends = area-lent f arguments events flats area p.puts.1 standard placed.caller p.small carried (runs-keep AnyGrant AnyRelease any-is-honest events calm.0 placed.caller placed-fine.aligned calm.2).is_live
 
     -- what a call makes of the caller comes behind what was placed
-    went-behind : (result : Result (List Flat) Fault) (ways : Ways) (new : World) → Calls parties order f flats placed result ways new → CallerWent new
+    went-behind : (result : Result (List Flat) Fault) (ways : Ways) (new : CallState) → Calls parties order f flats placed result ways new → CallerWent new
     went-behind result ways new c =
         let (es, mid, fine, after) = call-went parties caller_releases callee_releases order f flats tame placed result ways new c in (
           events ++ es,
@@ -286,7 +318,7 @@ module _ (parties : Parties) (caller_releases callee_releases : Release) (order 
         )
 
     -- what is said of the call is said from the beginning on
-    found-before : (values : List Value) → AreArguments f flats placed.caller values → (answer : Option (List Flat)) (ran : World) → Found parties f values placed answer ran → Found parties f arguments old answer ran
+    found-before : (values : List Value) → AreArguments f flats placed.caller values → (answer : Option (List Flat)) (ran : CallState) → Found parties f values placed answer ran → Found parties f arguments old answer ran
     found-before values held answer ran (r, went) = (
       record {
         entered = r.entered;
@@ -300,33 +332,33 @@ module _ (parties : Parties) (caller_releases callee_releases : Release) (order 
       subst (λ m. Went parties.callee_allocates Nowhere m r.entered.callee) p.same_callee went,
     )
 
-    once-before : (After : Option (List Flat) → World → Type 0) → Linked parties f flats placed After → Once After
+    once-before : (After : Option (List Flat) → CallState → Type 0) → Linked parties f flats placed After → Once After
     once-before After (l, went) =
         let r = l.runs in
         let (found, from) = found-before l.arguments l.held r.answer r.ran (r.found, went) in
         (record { answer = r.answer; ran = r.ran; found = found; after = r.after }, from)
 
-    waits-before : (new : World) → Waits parties placed new → Waits parties old new
+    waits-before : (new : CallState) → Waits parties placed new → Waits parties old new
     waits-before new (went, body) = (subst (λ m. Went parties.callee_allocates Nowhere m new.callee) p.same_callee went, body ∙ p.same_body)
 
   -- ---- the caller
 
-  came-went : (back : List Flat) (area : ℕ) (new : World) → CameBack parties f arguments old back area new → CallerWent new
+  came-went : (back : List Flat) (area : ℕ) (new : CallState) → CameBack parties f arguments old back area new → CallerWent new
   came-went back area new b = went-behind b.flats area b.placed b.places (Ok back) b.ways new b.completes
 
   -- there was no room in `place`
-  place-broke : (k : TrapKind) (new : World) → PlaceFails parties f arguments old k new → CallerWent new × ((k ≡ trap.Full) ⊎ (k ≡ trap.Bounds))
+  place-broke : (k : TrapKind) (new : CallState) → PlaceFails parties f arguments old k new → CallerWent new × ((k ≡ trap.Full) ⊎ (k ≡ trap.Bounds))
   place-broke k new t =
       let (es, flats, area, p, breaks) = t.fails in
       typed-broken parties.caller_allocates caller_releases tame.caller Nowhere old.caller es k new.caller (prepares-aligned f arguments es flats area p) (prepares-confined f arguments es flats area p) breaks
 
-  trapped-went : (s : Step) (k : TrapKind) (new : World) → TypedTraps parties order f arguments old s k new → CallerWent new
+  trapped-went : (s : Step) (k : TrapKind) (new : CallState) → TypedTraps parties order f arguments old s k new → CallerWent new
   trapped-went step.Place k new t = (place-broke k new t).0
   trapped-went step.Take k new t = came-went t.0 t.1 new t.2
   trapped-went s k new (flats, area, placed, p, ways, t) = went-behind flats area placed p (Err (Trap (record { kind = k; step = s }))) ways new t
 
   -- whatever a typed call answers, the caller went through a trace that is confined to its own blocks
-  pub call-went-on : (result : Result (Option Value) Fault) (new : World) → TypedCall parties order f arguments old result new → CallerWent new
+  pub call-went-on : (result : Result (Option Value) Fault) (new : CallState) → TypedCall parties order f arguments old result new → CallerWent new
   call-went-on (Ok v) new (back, area, b, has) = came-went back area new b
   call-went-on (Err (Trap t)) new traps = trapped-went t.step t.kind new traps
   call-went-on (Err NoMemory) new (inl (flats, area, placed, p, ways, g)) = went-behind flats area placed p (Err NoMemory) ways new g
@@ -334,60 +366,62 @@ module _ (parties : Parties) (caller_releases callee_releases : Release) (order 
 
   -- ---- the callee
 
-  trapped-waits : (s : Step) (k : TrapKind) (new : World) → TypedTraps parties order f arguments old s k new → IsBeforeBody s → Waits parties old new
+  trapped-waits : (s : Step) (k : TrapKind) (new : CallState) → TypedTraps parties order f arguments old s k new → IsBeforeBody s → Waits parties old new
   trapped-waits step.Place k new t b = (went-same parties.callee_allocates Nowhere old.callee new.callee t.same_callee, t.same_body)
   trapped-waits step.Take k new t b = absurd b
   trapped-waits s k new (flats, area, placed, p, ways, t) b = waits-before flats area placed p new (traps-wait parties caller_releases callee_releases order f flats tame placed s k ways new t b).0
 
-  came-once : (back : List Flat) (area : ℕ) (new : World) → CameBack parties f arguments old back area new → Once (IsPosted parties (Some tt) new)
+  came-once : (back : List Flat) (area : ℕ) (new : CallState) → CameBack parties f arguments old back area new → Once (IsPosted parties (Some tt) new)
   came-once back area new b =
       once-before b.flats area b.placed b.places (IsPosted parties (Some tt) new)
       (completed-once parties caller_releases callee_releases order f b.flats tame standard b.placed back b.ways new b.completes)
 
-  trapped-once : (s : Step) (k : TrapKind) (new : World) → TypedTraps parties order f arguments old s k new → EntersBody s → Once (AfterTrap parties s new)
+  trapped-once : (s : Step) (k : TrapKind) (new : CallState) → TypedTraps parties order f arguments old s k new → EntersBody s → Once (AfterTrap parties s new)
   trapped-once step.Place k new t e = absurd e
   trapped-once step.Take k new t e = came-once t.0 t.1 new t.2
   trapped-once s k new (flats, area, placed, p, ways, t) e =
       once-before flats area placed p (AfterTrap parties s new) (traps-once parties caller_releases callee_releases order f flats tame standard placed s k ways new t e)
 
   -- want of the host's memory
-  abbrev After : Order → World → Option (List Flat) → World → Type 0
+  abbrev After : Order → CallState → Option (List Flat) → CallState → Type 0
   After o new = AfterRun {A = Option Value} parties o (Err NoMemory) new
 
-  came-late : (o : Order) (new : World) → Once (IsPosted parties (Some tt) new) → Once (After o new)
+  came-late : (o : Order) (new : CallState) → Once (IsPosted parties (Some tt) new) → Once (After o new)
   came-late either new (r, went) = (record { answer = r.answer; ran = r.ran; found = r.found; after = inr r.after }, went)
   came-late exact new r = r
 
-  given-up : (flats : List Flat) (area : ℕ) (placed : World) → Placed parties f arguments old flats area placed → (o : Order) (ways : Ways) (new : World) → GivesUp parties f flats o placed ways new → Waits parties old new ⊎ Once (After o new)
+  given-up : (flats : List Flat) (area : ℕ) (placed : CallState) → Placed parties f arguments old flats area placed → (o : Order) (ways : Ways) (new : CallState) → GivesUp parties f flats o placed ways new → Waits parties old new ⊎ Once (After o new)
   given-up flats area placed p o ways new g =
       elim (gives-up-once parties caller_releases callee_releases order f flats tame standard placed o ways new g) [
         | inl u ↦ inl (waits-before flats area placed p new u)
         | inr l ↦ inr (once-before flats area placed p (After o new) l)
       ]
 
-  wanting-either : (new : World) → TypedCall parties order f arguments old (Err NoMemory) new → Waits parties old new ⊎ Once (After order new)
+  wanting-either : (new : CallState) → TypedCall parties order f arguments old (Err NoMemory) new → Waits parties old new ⊎ Once (After order new)
   wanting-either new (inl (flats, area, placed, p, ways, g)) = given-up flats area placed p order ways new g
   wanting-either new (inr (back, area, b)) = inr (came-late order new (came-once back area new b))
 
   -- in the exact order it comes after the whole crossing
-  wanting-once : (o : Order) → o ≡ order → (new : World) → TypedCall parties order f arguments old (Err NoMemory) new → WasEntered {A = Option Value} o (Err NoMemory) → Once (After o new)
+  wanting-once : (o : Order) → o ≡ order → (new : CallState) → TypedCall parties order f arguments old (Err NoMemory) new → WasEntered {A = Option Value} o (Err NoMemory) → Once (After o new)
   wanting-once either is new c e = absurd e
   wanting-once exact is new (inl (flats, area, placed, p, ways, g)) e = absurd (subst (λ o. GivesUp parties f flats o placed ways new) (sym is) g)
   wanting-once exact is new (inr (back, area, b)) e = came-late exact new (came-once back area new b)
 
   -- ---- the result
 
-  result-held : (back : List Flat) (area : ℕ) (new : World) (b : CameBack parties f arguments old back area new) → HasResult (result_fields f.result) new.caller.bytes back area b.completes.returns.values
+  result-held : (back : List Flat) (area : ℕ) (new : CallState) (b : CameBack parties f arguments old back area new) → HasResult (result_fields f.result) new.caller.bytes back area b.completes.returns.values
   result-held back area new b =
       result-in-area f arguments b.places.puts.0 b.flats area b.places.puts.1 standard b.placed.caller b.places.small (carried b.flats area b.placed b.places) new.caller.bytes back b.completes.returns.values
       (result-given parties caller_releases callee_releases order f b.flats tame standard b.placed
       (lends b.flats area b.placed b.places) b.completes.answer back b.ways b.completes.returned new b.completes.returns b.completes.finishes.same_caller)
 
-  came-lifted : (back : List Flat) (area : ℕ) (new : World) (b : CameBack parties f arguments old back area new) (result : Option Value) → HasResult (result_fields f.result) new.caller.bytes back area (option_to_list result)
+  came-lifted : (back : List Flat) (area : ℕ) (new : CallState) (b : CameBack parties f arguments old back area new) (result : Option Value) → HasResult (result_fields f.result) new.caller.bytes back area (option_to_list result)
       → Lifted parties f arguments old new result
   came-lifted back area new b result has =
       let r = b.completes.returns in
-      let same = (told-result (result_fields f.result) new.caller.bytes back area).one_value (option_to_list result) r.values has (result-held back area new b) in (
+      let held = result-held back area new b in
+      let stands = result-stands (result_fields f.result) new.caller.bytes back area r.values held in
+      let same = (told-result (result_fields f.result) new.caller.bytes back area stands).one_value (option_to_list result) r.values has held in (
         b.completes.answer,
         r.answered,
         found-before b.flats area b.placed b.places r.answers.values r.answers.enters.denoted (Some b.completes.answer) r.answered
@@ -398,12 +432,15 @@ module _ (parties : Parties) (caller_releases callee_releases : Release) (order 
 
   -- ---- the traps
 
-  call-own : (flats : List Flat) (area : ℕ) (placed : World) → Placed parties f arguments old flats area placed → (s : Step) (k : TrapKind) (ways : Ways) (new : World) → Traps parties order f flats placed s k ways new → OwnTrap parties f flats placed new s k
+  call-own : (flats : List Flat) (area : ℕ) (placed : CallState) → Placed parties f arguments old flats area placed → (s : Step) (k : TrapKind) (ways : Ways) (new : CallState) → Traps parties order f flats placed s k ways new → OwnTrap parties f flats placed new s k
   call-own flats area placed p s k ways new t = traps-own parties caller_releases callee_releases order f flats tame standard placed s k ways new t
 
-  trapped-own : (s : Step) (k : TrapKind) (new : World) → TypedTraps parties order f arguments old s k new → OwnCallTrap parties f arguments old new s k
+  trapped-own : (s : Step) (k : TrapKind) (new : CallState) → TypedTraps parties order f arguments old s k new → OwnCallTrap parties f arguments old new s k
   trapped-own step.Place k new t = (place-broke k new t).1
-  trapped-own step.Take k new t = (told-result (result_fields f.result) new.caller.bytes t.0 t.1).not_both t.2.completes.returns.values k (result-held t.0 t.1 new t.2) t.3
+  trapped-own step.Take k new t =
+      let held = result-held t.0 t.1 new t.2 in
+      let stands = result-stands (result_fields f.result) new.caller.bytes t.0 t.1 t.2.completes.returns.values held in
+      (told-result (result_fields f.result) new.caller.bytes t.0 t.1 stands).not_both t.2.completes.returns.values k held t.3
   trapped-own step.LiftArgs k new (flats, area, placed, p, ways, t) = arguments-stand flats area placed p k (call-own flats area placed p step.LiftArgs k ways new t)
   trapped-own step.LiftResult k new (flats, area, placed, p, ways, t) =
       let (values, held, (answer, ran, found, fault, same)) = call-own flats area placed p step.LiftResult k ways new t in
@@ -417,7 +454,7 @@ module _ (parties : Parties) (caller_releases callee_releases : Release) (order 
 
   -- ---- each answer
 
-  pub call-goes : (result : Result (Option Value) Fault) (new : World) → TypedCall parties order f arguments old result new
+  pub call-goes : (result : Result (Option Value) Fault) (new : CallState) → TypedCall parties order f arguments old result new
       → Goes parties order result new (Waits parties old new) Once (Lifted parties f arguments old new) (CallerWent new) (OwnCallTrap parties f arguments old new)
   call-goes (Ok v) new (back, area, b, has) = record {
     finds = λ e. came-once back area new b;
@@ -445,7 +482,7 @@ module _ (parties : Parties) (caller_releases callee_releases : Release) (order 
   }
 
 -- a trap that stands
-pub call-stands : (parties : Parties) (order : Order) (f : FunctionType) (arguments : List Value) (old : World) (result : Result (Option Value) Fault) (new : World) → TypedCall parties order f arguments old result new
+pub call-stands : (parties : Parties) (order : Order) (f : FunctionType) (arguments : List Value) (old : CallState) (result : Result (Option Value) Fault) (new : CallState) → TypedCall parties order f arguments old result new
     → IfErr result (λ fault. TrapStands parties order f arguments old fault new)
 call-stands parties order f arguments old (Ok v) new c = tt
 call-stands parties order f arguments old (Err (Trap t)) new c = c
@@ -453,15 +490,15 @@ call-stands parties order f arguments old (Err NoMemory) new c = tt
 
 -- ---- over honest guests all outside the blocks is kept, too
 
-module _ (parties : Parties) (caller_releases callee_releases : Release) (honest : AreHonest parties caller_releases callee_releases) (f : FunctionType) (arguments : List Value) (old : World) where
-  runs-once : (After : Option (List Flat) → World → Type 0) → Ran parties f arguments old After → RunsOnce parties f arguments old After
+module _ (parties : Parties) (caller_releases callee_releases : Release) (honest : AreHonest parties caller_releases callee_releases) (f : FunctionType) (arguments : List Value) (old : CallState) where
+  runs-once : (After : Option (List Flat) → CallState → Type 0) → Ran parties f arguments old After → RunsOnce parties f arguments old After
   runs-once After (r, went) = record { answer = r.answer; ran = r.ran; found = finds-and-runs parties caller_releases callee_releases honest f arguments old r.answer r.ran (r.found, went); after = r.after }
 
-  lifts : (new : World) (v : Option Value) → Lifted parties f arguments old new v
-      → (answer : List Flat) × (ran : World) × FindsAndRunsOnce parties f arguments old (Some answer) ran × LiftsExactly parties f v answer ran × IsPosted parties (Some tt) new (Some answer) ran
+  lifts : (new : CallState) (v : Option Value) → Lifted parties f arguments old new v
+      → (answer : List Flat) × (ran : CallState) × FindsAndRunsOnce parties f arguments old (Some answer) ran × LiftsExactly parties f v answer ran × IsPosted parties (Some tt) new (Some answer) ran
   lifts new v (answer, ran, found, lifted, post) = (answer, ran, finds-and-runs parties caller_releases callee_releases honest f arguments old (Some answer) ran found, lifted, post)
 
-  call-trap : (new : World) (s : Step) (k : TrapKind) → OwnCallTrap parties f arguments old new s k → IsOwnTrap parties f arguments old new s k
+  call-trap : (new : CallState) (s : Step) (k : TrapKind) → OwnCallTrap parties f arguments old new s k → IsOwnTrap parties f arguments old new s k
   call-trap new step.LiftResult k (answer, ran, found, fault, same) = (answer, ran, finds-and-runs parties caller_releases callee_releases honest f arguments old (Some answer) ran found, fault, same)
   call-trap new s k t = t
 
@@ -470,7 +507,7 @@ keeps-promise parties caller_releases callee_releases order f arguments old resu
     record { finds = g.finds; before = g.before; once = g.once; lifts = g.gives; unchanged = g.unchanged; trap = call-stands parties order f arguments old result new called; own = g.own }
   where
     g : Goes parties order result new (CalleeIsUnchanged parties old new) (RunsOnce parties f arguments old)
-        (λ v. (answer : List Flat) × (ran : World) × FindsAndRunsOnce parties f arguments old (Some answer) ran × LiftsExactly parties f v answer ran × IsPosted parties (Some tt) new (Some answer) ran)
+        (λ v. (answer : List Flat) × (ran : CallState) × FindsAndRunsOnce parties f arguments old (Some answer) ran × LiftsExactly parties f v answer ran × IsPosted parties (Some tt) new (Some answer) ran)
         (CallerIsUnchanged parties old new) (IsOwnTrap parties f arguments old new)
     g = goes-as parties order new (waits-unchanged parties caller_releases callee_releases honest old new) (runs-once parties caller_releases callee_releases honest f arguments old)
         (lifts parties caller_releases callee_releases honest f arguments old new)

@@ -2,7 +2,7 @@
 use Rattle.std.proofs.Common.{List}
 use Rattle.canonical_abi.specs.Types.{FunctionType}
 use Rattle.canonical_abi.specs.Guest.{Allocation, Memory, Release}
-use Rattle.canonical_abi.specs.Call.{Parties, World, area_of, exact}
+use Rattle.canonical_abi.specs.Call.{Parties, CallState, area_of, exact}
 use Rattle.canonical_abi.specs.Headline.{area_size}
 use Rattle.canonical_abi.specs.Tame.{CalleeLeavesLive, GivesLive, IsTame, LeavesLive, LinksLive}
 use Rattle.canonical_abi.specs.TameHalves.{EntryKeepsLivePromise, HalvesKeepLivePromise, IsLiveHalvesTrap, ReturnKeepsLivePromise}
@@ -30,7 +30,7 @@ tame-return-keeps-promise allocates releases tame = record {
 }
 
 -- the trap without its trace
-live-halves-trap : (parties : Parties) (f : FunctionType) (flats : List Flat) (old : World) (between : Memory) (new : World) (s : Step) (k : TrapKind)
+live-halves-trap : (parties : Parties) (f : FunctionType) (flats : List Flat) (old : CallState) (between : Memory) (new : CallState) (s : Step) (k : TrapKind)
     → HalvesTrap parties f flats old between new s k → IsLiveHalvesTrap parties f flats old between new s k
 live-halves-trap parties f flats old between new step.LiftResult k t = live-link-trap parties f flats old new step.LiftResult k t
 live-halves-trap parties f flats old between new s k t = t

@@ -2,7 +2,7 @@
 use Rattle.std.proofs.Common.{List}
 use Rattle.canonical_abi.specs.Types.{FunctionType}
 use Rattle.canonical_abi.specs.Guest.{Release}
-use Rattle.canonical_abi.specs.Call.{Order, Parties, World, area_of}
+use Rattle.canonical_abi.specs.Call.{Order, Parties, CallState, area_of}
 use Rattle.canonical_abi.specs.Headline.{area_size}
 use Rattle.canonical_abi.specs.Tame.{AreTame, CalleeLeavesLive, GivesLive, IsLiveLinkTrap, LeavesLive, LinkLivePromise, LinksLive}
 use Rattle.canonical_abi.specs.declared.flat.Flat.{Flat}
@@ -13,11 +13,11 @@ use Rattle.canonical_abi.proofs.Calls.WaysOfCalls.{area-left, own-left}
 use Rattle.canonical_abi.proofs.Calls.LinkKeepsPromise.{Goes, OwnTrap, Waits, goes-as, link-goes, traps-stand}
 
 module _ (parties : Parties) (caller_releases callee_releases : Release) (tame : AreTame parties caller_releases callee_releases) where
-  pub waits-live : (old new : World) → Waits parties old new → CalleeLeavesLive old new
+  pub waits-live : (old new : CallState) → Waits parties old new → CalleeLeavesLive old new
   waits-live old new (went, body) = record { kept = own-left parties.callee_allocates callee_releases tame.callee old.callee new.callee went; same_body = body }
 
 -- the trap without its trace
-pub live-link-trap : (parties : Parties) (f : FunctionType) (flats : List Flat) (old new : World) (s : Step) (k : TrapKind) → OwnTrap parties f flats old new s k → IsLiveLinkTrap parties f flats old new s k
+pub live-link-trap : (parties : Parties) (f : FunctionType) (flats : List Flat) (old new : CallState) (s : Step) (k : TrapKind) → OwnTrap parties f flats old new s k → IsLiveLinkTrap parties f flats old new s k
 live-link-trap parties f flats old new step.LiftResult k (values, held, (answer, ran, found, fault, same)) = (values, held, (answer, ran, found.0, fault, same))
 live-link-trap parties f flats old new s k t = t
 

@@ -1,5 +1,5 @@
 -- Traps have the causes of their steps.
-use Rattle.std.proofs.Common.{inl, inr, ◌⊎◌, ℕ, zero, suc, ◌+◌, List, ◌≡◌}
+use Rattle.std.proofs.Common.{inl, inr, ◌⊎◌, ℕ, zero, suc, ◌+◌, List, ◌++◌, ◌≡◌, ◌∙◌, subst}
 use Rattle.canonical_abi.specs.Types.{ClosedType, prim_type, string_type, list_type, record_type, variant_type, flags_type, Fields, no_field, field, Cases, no_case, plain_case, case_with, Prim, boolean, unsigned, signed, scalar_value, FunctionType, result_fields}
 use Rattle.canonical_abi.specs.Values.{Value}
 use Rattle.canonical_abi.specs.Layout.{align, size, max_flat_params, max_flat_results}
@@ -7,16 +7,16 @@ use Rattle.canonical_abi.specs.Script.{AddressFaulty}
 use Rattle.canonical_abi.specs.Memory.{PrimFaulty, TextFaulty, BlockFaulty, EachFaulty, Holds, Faulty, FieldsFaulty, CaseFaulty}
 use Rattle.canonical_abi.specs.Flat.{DenotesFault, LiftFaulty, FieldsLiftFaulty, CaseLiftFaulty}
 use Rattle.canonical_abi.specs.Guest.{Memory, Allocation}
-use Rattle.canonical_abi.specs.Trace.{Event, RequestFails}
-use Rattle.canonical_abi.specs.Call.{Parties, World, Order, either, Breaks, Ways, argument_flats, area_of, Traps}
-use Rattle.canonical_abi.specs.Session.{TypedTraceBreaks, HasResultFault, TypedTraps}
-use Rattle.canonical_abi.specs.Causes.{IsOfValues, IsOfAllocator, HasCause, TrapsHaveCauses}
+use Rattle.canonical_abi.specs.Trace.{Event, TraceLeads}
+use Rattle.canonical_abi.specs.Call.{Parties, CallState, Order, Breaks, Ways, argument_flats, area_of, Traps}
+use Rattle.canonical_abi.specs.Session.{TypedTraceBreaks, HasResultFault, Placed, TypedTraps}
+use Rattle.canonical_abi.specs.Causes.{IsOfValues, RequestFailed, HasCause, TrapsHaveCauses}
 use Rattle.canonical_abi.specs.declared.flat.Flat.{Flat}
 use Rattle.canonical_abi.specs.declared.trap.TrapKind.{TrapKind}
 use Rattle.canonical_abi.specs.declared.trap.TrapKind.TheVariants as trap
 use Rattle.canonical_abi.specs.declared.trap.Step.{Step}
 use Rattle.canonical_abi.specs.declared.trap.Step.TheVariants as step
-use Rattle.canonical_abi.proofs.Traces.StoppedTracesAreConfined.{breaks-either}
+use Rattle.canonical_abi.proofs.Traces.ConfinedTraces.{leads-both}
 use Rattle.canonical_abi.proofs.ReadValues.StopsAtFirstFault.{address-denotes-fault, params-denote-fault, result-denotes-fault}
 
 -- ---- the faults of values
@@ -99,49 +99,58 @@ of-result results m back area k (inr e) = of-fields results m area 0 k e.1
 
 -- ---- those of requests
 
-of-request : (allocates : Allocation) (old new : Memory) (align size : ℕ) (k : TrapKind) → RequestFails allocates old align size k new → IsOfAllocator allocates k
-of-request allocates old new align size trap.Full e = (old, new, align, size, e)
-of-request allocates old new align size trap.Align e = (old, new, align, size, e.0, e.1, e.2)
-of-request allocates old new align size trap.Bounds e = (old, new, align, size, e.0, e.1, e.3)
-of-request allocates old new align size trap.Char e = elim e [ ]
-of-request allocates old new align size trap.Case e = elim e [ ]
-of-request allocates old new align size trap.Utf8 e = elim e [ ]
-of-request allocates old new align size trap.Body e = elim e [ ]
-of-request allocates old new align size trap.CoreSignature e = elim e [ ]
+of-breaking : (order : Order) (allocates : Allocation) (old new : Memory) (es : List Event) (k : TrapKind) → Breaks order allocates old es k new → RequestFailed allocates old k new
+of-breaking order allocates old new es k (done, made, rest, next, asked, is, part, leads, fails) = (made, asked, next.align, next.size, leads, fails)
 
-of-breaking : (allocates : Allocation) (old new : Memory) (es : List Event) (k : TrapKind) → Breaks either allocates old es k new → IsOfAllocator allocates k
-of-breaking allocates old new es k b = of-request allocates b.4 new b.3.align b.3.size k b.8
-
-of-ending : (allocates : Allocation) (old new : Memory) (es : List Event) (k : TrapKind) → TypedTraceBreaks allocates old es k new → (k ≡ trap.Bounds) ⊎ IsOfAllocator allocates k
+of-ending : (allocates : Allocation) (old new : Memory) (es : List Event) (k : TrapKind) → TypedTraceBreaks allocates old es k new → (k ≡ trap.Bounds) ⊎ RequestFailed allocates old k new
 of-ending allocates old new es k (done, made, rest, next, asked, is, within, leaves, leads, inl ends) = inl ends.1
-of-ending allocates old new es k (done, made, rest, next, asked, is, within, leaves, leads, inr ends) = inr (of-request allocates asked new next.align next.size k ends.1)
+of-ending allocates old new es k (done, made, rest, next, asked, is, within, leaves, leads, inr ends) = inr (made, asked, next.align, next.size, leads, ends.1)
+
+-- after other events
+of-later : (allocates : Allocation) (old mid new : Memory) (es : List Event) (k : TrapKind) → TraceLeads allocates old es mid → RequestFailed allocates mid k new → RequestFailed allocates old k new
+of-later allocates old mid new es k before (made, asked, align, size, leads, fails) = (es ++ made, asked, align, size, leads-both allocates es made old mid asked before leads, fails)
 
 -- ---- calls
 
 module _ (parties : Parties) (order : Order) (f : FunctionType) where
-  of-call : (flats : List Flat) (old : World) (s : Step) (k : TrapKind) (ways : Ways) (new : World) → Traps parties order f flats old s k ways new → HasCause parties s k
+  of-call : (flats : List Flat) (old : CallState) (s : Step) (k : TrapKind) (ways : Ways) (new : CallState) → Traps parties order f flats old s k ways new → HasCause parties old s k new
   of-call flats old step.LiftArgs k ways new (inl e, none) = rw e.1 tt
   of-call flats old step.LiftArgs k ways new (inr (inl e), none) = of-address max_flat_params f.params old.caller.bytes (argument_flats f flats) k e.1
   of-call flats old step.LiftArgs k ways new (inr (inr e), none) = of-denoting max_flat_params f.params old.caller.bytes (argument_flats f flats) k (params-denote-fault max_flat_params f.params old.caller.bytes (argument_flats f flats) k e.1 e.2)
-  of-call flats old step.LowerArgs k ways new (e, none) = of-breaking parties.callee_allocates old.callee new.callee e.1 k (breaks-either order parties.callee_allocates old.callee e.1 k new.callee e.3)
-  of-call flats old step.Body k ways new e = (e.3, (_, _, _, _, _, e.5.run))
+  of-call flats old step.LowerArgs k ways new (e, none) = of-breaking order parties.callee_allocates old.callee new.callee e.1 k e.3
+  of-call flats old step.Body k ways new e = (e.3, (_, _, _, e.5.run))
   of-call flats old step.LiftResult k ways new (answer, answered, before, inl e) = of-address max_flat_results (result_fields f.result) answered.callee.bytes answer k e.0
   of-call flats old step.LiftResult k ways new (answer, answered, before, inr e) = of-denoting max_flat_results (result_fields f.result) answered.callee.bytes answer k (result-denotes-fault max_flat_results (result_fields f.result) answered.callee.bytes answer (area_of f flats) k e.1 e.2)
   of-call flats old step.LowerResult k ways new (answer, answered, before, inl e) = inl (of-block answered.caller.bytes (area_of f flats) (align (record_type (result_fields f.result))) (size (record_type (result_fields f.result))) k e.1.1)
-  of-call flats old step.LowerResult k ways new (answer, answered, before, inr e) = inr (of-breaking parties.caller_allocates answered.caller new.caller e.1 k (breaks-either order parties.caller_allocates answered.caller e.1 k new.caller e.3))
-  of-call flats old step.Post k ways new e = (e.3, (_, _, _, _, _, e.5.run))
+  of-call flats old step.LowerResult k ways new (answer, answered, before, inr e) =
+      inr (subst (λ m. RequestFailed parties.caller_allocates m k new.caller) (before.runs.same_caller ∙ before.enters.same_caller) (of-breaking order parties.caller_allocates answered.caller new.caller e.1 k e.3))
+  of-call flats old step.Post k ways new e = (e.3, (_, _, _, e.5.run))
   of-call flats old step.Place k ways new e = elim e [ ]
   of-call flats old step.Take k ways new e = elim e [ ]
 
-  of-typed : (arguments : List Value) (old : World) (s : Step) (k : TrapKind) (new : World) → TypedTraps parties order f arguments old s k new → HasCause parties s k
+  -- the arguments were placed before
+  of-placed : (arguments : List Value) (old : CallState) (flats : List Flat) (area : ℕ) (placed : CallState) → Placed parties f arguments old flats area placed
+      → (s : Step) (k : TrapKind) (new : CallState) → HasCause parties placed s k new → HasCause parties old s k new
+  of-placed arguments old flats area placed p step.Place k new (inl large) = inl large
+  of-placed arguments old flats area placed p step.Place k new (inr failed) = inr (of-later parties.caller_allocates old.caller placed.caller new.caller p.puts.0 k p.puts.3 failed)
+  of-placed arguments old flats area placed p step.Take k new h = h
+  of-placed arguments old flats area placed p step.LiftArgs k new h = h
+  of-placed arguments old flats area placed p step.LowerArgs k new h = subst (λ m. RequestFailed parties.callee_allocates m k new.callee) p.same_callee h
+  of-placed arguments old flats area placed p step.Body k new h = h
+  of-placed arguments old flats area placed p step.LiftResult k new h = h
+  of-placed arguments old flats area placed p step.LowerResult k new (inl values) = inl values
+  of-placed arguments old flats area placed p step.LowerResult k new (inr failed) = inr (of-later parties.caller_allocates old.caller placed.caller new.caller p.puts.0 k p.puts.3 failed)
+  of-placed arguments old flats area placed p step.Post k new h = h
+
+  of-typed : (arguments : List Value) (old : CallState) (s : Step) (k : TrapKind) (new : CallState) → TypedTraps parties order f arguments old s k new → HasCause parties old s k new
   of-typed arguments old step.Place k new e = of-ending parties.caller_allocates old.caller new.caller e.fails.0 k e.fails.4
   of-typed arguments old step.Take k new e = of-result (result_fields f.result) new.caller.bytes e.0 e.1 k e.3
-  of-typed arguments old step.LiftArgs k new e = of-call e.0 e.2 step.LiftArgs k e.4 new e.5
-  of-typed arguments old step.LowerArgs k new e = of-call e.0 e.2 step.LowerArgs k e.4 new e.5
-  of-typed arguments old step.Body k new e = of-call e.0 e.2 step.Body k e.4 new e.5
-  of-typed arguments old step.LiftResult k new e = of-call e.0 e.2 step.LiftResult k e.4 new e.5
-  of-typed arguments old step.LowerResult k new e = of-call e.0 e.2 step.LowerResult k e.4 new e.5
-  of-typed arguments old step.Post k new e = of-call e.0 e.2 step.Post k e.4 new e.5
+  of-typed arguments old step.LiftArgs k new e = of-placed arguments old e.0 e.1 e.2 e.3 step.LiftArgs k new (of-call e.0 e.2 step.LiftArgs k e.4 new e.5)
+  of-typed arguments old step.LowerArgs k new e = of-placed arguments old e.0 e.1 e.2 e.3 step.LowerArgs k new (of-call e.0 e.2 step.LowerArgs k e.4 new e.5)
+  of-typed arguments old step.Body k new e = of-placed arguments old e.0 e.1 e.2 e.3 step.Body k new (of-call e.0 e.2 step.Body k e.4 new e.5)
+  of-typed arguments old step.LiftResult k new e = of-placed arguments old e.0 e.1 e.2 e.3 step.LiftResult k new (of-call e.0 e.2 step.LiftResult k e.4 new e.5)
+  of-typed arguments old step.LowerResult k new e = of-placed arguments old e.0 e.1 e.2 e.3 step.LowerResult k new (of-call e.0 e.2 step.LowerResult k e.4 new e.5)
+  of-typed arguments old step.Post k new e = of-placed arguments old e.0 e.1 e.2 e.3 step.Post k new (of-call e.0 e.2 step.Post k e.4 new e.5)
 
 pub traps-have-causes : (parties : Parties) (order : Order) → TrapsHaveCauses parties order
 traps-have-causes parties order = record {

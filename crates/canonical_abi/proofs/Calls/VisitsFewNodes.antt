@@ -13,7 +13,7 @@ use Rattle.canonical_abi.specs.Storing.{Stores, EachStores, FieldsStore, CaseSto
 use Rattle.canonical_abi.specs.Lowering.{Lowers, FieldsLower, CaseLowers, PassesParams, PassesResult}
 use Rattle.canonical_abi.specs.Script.{StoresUntil, EachStops, FieldsStoreUntil, CaseStoresUntil, LowersUntil, FieldsLowerUntil, CaseLowersUntil, ParamsUntil, ResultUntil, ParamsScript, ResultScript}
 use Rattle.canonical_abi.specs.Trace.{Grant, Event, node, grant, write, nodes_of}
-use Rattle.canonical_abi.specs.Call.{Parties, World, Ways, exact, Enters, Returns, ArgumentsFaulty, ArgumentsFail, ResultFaulty, ResultFails, Traps, Calls, argument_flats, area_of, Returned}
+use Rattle.canonical_abi.specs.Call.{Parties, CallState, Ways, exact, Enters, Returns, ArgumentsFaulty, ArgumentsFail, ResultFaulty, ResultFails, Traps, Calls, argument_flats, area_of, Returned}
 use Rattle.canonical_abi.specs.Halves.{entering, returning}
 use Rattle.canonical_abi.specs.Headline.{IsStandardFunction, area_size}
 use Rattle.canonical_abi.specs.Guest.{Allocation}
@@ -426,33 +426,33 @@ module _ (parties : Parties) (f : FunctionType) (flats : List Flat) (standard : 
   all-back vs es given passes =
       back-few es [] es (result-few (result_fields f.result) standard.result shallow.result (area_size f) area-fits (area_of f flats) vs es given passes) (sym (append-nil es))
 
-  arguments-faulty : (old : World) (k : TrapKind) (done : List Event) (new : World) → ArgumentsFaulty parties exact f flats old k done new → ThereFew done
+  arguments-faulty : (old : CallState) (k : TrapKind) (done : List Event) (new : CallState) → ArgumentsFaulty parties exact f flats old k done new → ThereFew done
   arguments-faulty old k done new (inl (other, is, none, same)) = none-there done none
   arguments-faulty old k done new (inr (inl (kinds, faulty, none, same))) = none-there done none
   arguments-faulty old k done new (inr (inr (kinds, es, until, is, begun, caller, body))) =
       there-few done [] es (params-until-few f.params standard.params shallow.params old.caller.bytes (argument_flats f flats) k es until) (sym is ∙ sym (append-nil done))
 
-  arguments-fail : (old : World) (k : TrapKind) (done : List Event) (new : World) → ArgumentsFail parties exact f flats old k done new → ThereFew done
+  arguments-fail : (old : CallState) (k : TrapKind) (done : List Event) (new : CallState) → ArgumentsFail parties exact f flats old k done new → ThereFew done
   arguments-fail old k done new (kinds, es, script, (front, made, rest, next, asked, is, left, leads, fails), same, caller, body) =
       there-few done (grant next ∷ rest) es (params-script-few f.params standard.params shallow.params old.caller.bytes (argument_flats f flats) es script) (is ∙ ap (λ l. l ++ grant next ∷ rest) (sym same))
 
-  result-faulty : (answered : World) (answer : List Flat) (k : TrapKind) (done : List Event) (new : World) → ResultFaulty parties exact f flats answered answer k done new → BackFew done
+  result-faulty : (answered : CallState) (answer : List Flat) (k : TrapKind) (done : List Event) (new : CallState) → ResultFaulty parties exact f flats answered answer k done new → BackFew done
   result-faulty answered answer k done new (inl (faulty, none, same)) = none-back done none
   result-faulty answered answer k done new (inr (tested, es, until, is, begun, callee, body)) =
       back-few done [] es (result-until-few (result_fields f.result) standard.result shallow.result (area_size f) area-fits answered.callee.bytes answer (area_of f flats) k es until) (sym is ∙ sym (append-nil done))
 
-  result-fails : (answered : World) (answer : List Flat) (k : TrapKind) (done : List Event) (new : World) → ResultFails parties exact f flats answered answer k done new → BackFew done
+  result-fails : (answered : CallState) (answer : List Flat) (k : TrapKind) (done : List Event) (new : CallState) → ResultFails parties exact f flats answered answer k done new → BackFew done
   result-fails answered answer k done new (inl (tested, faulty, none, same)) = none-back done none
   result-fails answered answer k done new (inr (stands, es, script, (front, made, rest, next, asked, is, left, leads, fails), same, callee, body)) =
       back-few done (grant next ∷ rest) es (result-script-few (result_fields f.result) standard.result shallow.result (area_size f) area-fits answered.callee.bytes answer (area_of f flats) es script)
       (is ∙ ap (λ l. l ++ grant next ∷ rest) (sym same))
 
-  returned : (old : World) (answer given : List Flat) (ways : Ways) (new : World) → Returned parties f flats old answer given ways new → AreFewNodes f ways
+  returned : (old : CallState) (answer given : List Flat) (ways : Ways) (new : CallState) → Returned parties f flats old answer given ways new → AreFewNodes f ways
   returned old answer given ways new r =
       let e = r.answers.enters in
       record { there = all-there r.answers.values ways.there r.answers.handed e.passes; back = all-back r.values ways.back given r.returns.passes }
 
-  traps : (old : World) (s : Step) (k : TrapKind) (ways : Ways) (new : World) → Traps parties exact f flats old s k ways new → AreFewNodes f ways
+  traps : (old : CallState) (s : Step) (k : TrapKind) (ways : Ways) (new : CallState) → Traps parties exact f flats old s k ways new → AreFewNodes f ways
   traps old step.Place k ways new t = absurd t
   traps old step.Take k ways new t = absurd t
   traps old step.LiftArgs k ways new (faulty, none) = record { there = arguments-faulty old k ways.there new faulty; back = none-back ways.back none }
@@ -464,7 +464,7 @@ module _ (parties : Parties) (f : FunctionType) (flats : List Flat) (standard : 
       record { there = all-there a.values ways.there a.handed a.enters.passes; back = result-fails answered answer k ways.back new fails }
   traps old step.Post k ways new (answer, given, last, is, r, finishes) = returned old answer given ways last r
 
-  calls : (old : World) (result : Result (List Flat) Fault) (ways : Ways) (new : World) → Calls parties exact f flats old result ways new → AreFewNodes f ways
+  calls : (old : CallState) (result : Result (List Flat) Fault) (ways : Ways) (new : CallState) → Calls parties exact f flats old result ways new → AreFewNodes f ways
   calls old (Ok given) ways new c = returned old c.answer given ways c.returned c.returns
   calls old (Err (Trap t)) ways new c = traps old t.step t.kind ways new c
   calls old (Err NoMemory) ways new c = absurd c
@@ -474,7 +474,7 @@ visits-few-nodes parties = λ f flats old result ways new standard shallow c. ca
 
 -- ---- halves
 
-module _ (allocates : Allocation) (f : FunctionType) (flats : List Flat) (standard : IsStandardFunction f) (shallow : IsShallowFunction f) (old new : World) where
+module _ (allocates : Allocation) (f : FunctionType) (flats : List Flat) (standard : IsStandardFunction f) (shallow : IsShallowFunction f) (old new : CallState) where
   few-there : (es : List Event) → ThereFew (entering allocates) f flats standard shallow es → AreFew 0 es
   few-there es few = let h : nodes_of es ≤ 64 * (granted_size es + 16) = few in omega (arith, h)
 

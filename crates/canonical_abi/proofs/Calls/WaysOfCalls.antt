@@ -1,15 +1,16 @@
 -- What the events of a call's two ways are confined to, and what such a way leaves in a memory of a tame and of an honest guest.
-use Rattle.std.proofs.Common.{◌≡◌, ◌⊎◌, inl, inr, ℕ, false, cond, List, ◌∷◌, refl, sym, subst, arith}
+use Rattle.std.proofs.Common.{◌≡◌, ◌⊎◌, inl, inr, ℕ, ◌≤◌, false, cond, List, ◌∷◌, length, refl, sym, subst, arith}
 use Rattle.canonical_abi.specs.Types.{record_type, Fields, FunctionType, result_fields, AreStandardFields}
 use Rattle.canonical_abi.specs.Values.{Value}
-use Rattle.canonical_abi.specs.Layout.{size, max_flat_params, max_flat_results, fits_flat}
+use Rattle.canonical_abi.specs.Layout.{align, size, max_flat_params, max_flat_results, fits_flat}
+use Rattle.canonical_abi.specs.Memory.{BlockHolds}
 use Rattle.canonical_abi.specs.Flat.{Denotes}
 use Rattle.canonical_abi.specs.Guest.{Release, IsWithin, IsAlignment, Allocation, IsLimited, Memory, IsHonest}
 use Rattle.canonical_abi.specs.Trace.{Event, node, grant, TraceLeads}
 use Rattle.canonical_abi.specs.Lowering.{PassesResult, PassesParams}
 use Rattle.canonical_abi.specs.Stands.{AreAligned}
 use Rattle.canonical_abi.specs.Script.{ParamsUntil, ParamsScript, ResultUntil, ResultScript}
-use Rattle.canonical_abi.specs.Call.{Order, either, exact, IsGrantedPart}
+use Rattle.canonical_abi.specs.Call.{Order, either, exact, IsGrantedPart, AreaStands}
 use Rattle.canonical_abi.specs.Session.{HasResult}
 use Rattle.canonical_abi.specs.Headline.{IsLentLive, KeepsOutside, area_size}
 use Rattle.canonical_abi.specs.AnyHonest.{AnyGrant, AnyRelease}
@@ -17,7 +18,7 @@ use Rattle.canonical_abi.specs.Tame.{IsTame, LeavesLive}
 use Rattle.canonical_abi.specs.declared.flat.Flat.{Flat}
 use Rattle.canonical_abi.specs.declared.trap.TrapKind.{TrapKind}
 use Rattle.canonical_abi.proofs.Layouts.AlignmentsAndSizes.{is-alignment}
-use Rattle.canonical_abi.proofs.Traces.WhatTracesKeep.{aligned-first}
+use Rattle.canonical_abi.proofs.Traces.WhatTracesKeep.{aligned-first, not-both}
 use Rattle.canonical_abi.proofs.StoredValues.WritesOwnPlaceAndBlocks.{Confined, InFields, confined-more, confined-front, stores-confined, fields-aligned}
 use Rattle.canonical_abi.proofs.FlatValues.LoweredIsDenoted.{Nowhere, passes-confined, passes-aligned, fields-lower-confined, fields-lower-aligned, lowered-is-denoted}
 use Rattle.canonical_abi.proofs.Calls.ResultIsHeld.{result-is-held}
@@ -78,6 +79,12 @@ granted-part exact P done es is al c = (subst AreAligned (sym is) al, subst (Con
 
 -- ---- what is put into a memory of a tame guest
 
+-- an area that stood stands in a memory that is not shorter
+area-inside : (ts : Fields) (area : ℕ) (m n : List ℕ) → fits_flat max_flat_results ts ≡ false → AreaStands max_flat_results ts area m → length m ≤ length n
+    → BlockHolds n area (align (record_type ts)) (size (record_type ts))
+area-inside ts area m n spills (inl fits) longer = absurd (not-both fits spills)
+area-inside ts area m n spills (inr (is, block)) longer = (block.0, let inside = block.1 in omega arith)
+
 module _ (allocates : Allocation) (releases : Release) (tame : IsTame allocates releases) (old new : Memory) (few : IsLimited new) where
   -- parameters are denoted there
   pub params-arrive : (ts : Fields) (vs : List Value) (es : List Event) (handed : List Flat) → AreStandardFields ts → PassesParams max_flat_params ts vs es handed → TraceLeads allocates old es new
@@ -88,15 +95,15 @@ module _ (allocates : Allocation) (releases : Release) (tame : IsTame allocates 
       let (calm, left, calmly) = calm-trace allocates releases tame Nowhere es old new (λ x i. absurd i) fine in
       ((lowered-is-denoted AnyGrant AnyRelease any-is-honest max_flat_params ts vs es handed calm new standard (small new few) passes calmly).denotes, went-by allocates Nowhere old es new fine)
 
-  -- a result is there, in flat values or in an area that is live
+  -- a result is there, in flat values or in an area that is live, aligned and inside
   pub result-arrives : (ts : Fields) (area : ℕ) (vs : List Value) (es : List Event) (given : List Flat) → AreStandardFields ts → (fits_flat max_flat_results ts ≡ false → IsLentLive old area (size (record_type ts)))
-      → PassesResult max_flat_results ts area vs es given → TraceLeads allocates old es new → HasResult ts new.bytes given area vs
-  result-arrives ts area vs es given standard live passes leads =
+      → AreaStands max_flat_results ts area old.bytes → PassesResult max_flat_results ts area vs es given → TraceLeads allocates old es new → HasResult ts new.bytes given area vs
+  result-arrives ts area vs es given standard live stands passes leads =
       let (calm, left, calmly) = calm-trace allocates releases tame (InArea ts area) es old new (λ x i. live i.0 x i.1)
       (record { aligned = passes-result-aligned ts area vs es given passes; confined = passes-result-confined ts area vs es given passes; leads = leads }) in
       elim (result-is-held AnyGrant AnyRelease any-is-honest max_flat_results ts area vs es given calm new standard (small new few) (λ spills x w. left.live x (live spills x w)) passes calmly) [
         | inl h ↦ inl (h.0, h.1.denotes)
-        | inr h ↦ inr (h.0, h.2.holds)
+        | inr h ↦ inr (h.0, area-inside ts area old.bytes new.bytes h.0 stands (let l = left.no_shorter in let k = h.2.keeps.no_shorter in omega arith), h.2.holds)
       ]
 
 -- an area that is lent is live where the result doesn't go flat

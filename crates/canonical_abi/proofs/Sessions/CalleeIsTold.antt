@@ -8,11 +8,10 @@ use Rattle.canonical_abi.specs.Flat.{Denotes, DenotesFault}
 use Rattle.canonical_abi.specs.Guest.{Memory, Allocation, Release}
 use Rattle.canonical_abi.specs.Trace.{Grant, Event, grant, TraceLeads, RequestFails}
 use Rattle.canonical_abi.specs.Lowering.{PassesParams}
-use Rattle.canonical_abi.specs.Call.{Run, PostRun, Parties, World, exact, Ways, Enters, Runs, Answered, Returned, Finishes, ArgumentsFail, ResultFaulty, ResultFails}
+use Rattle.canonical_abi.specs.Call.{Run, PostRun, Parties, CallState, exact, Ways, Enters, Runs, Answered, Returned, Finishes, ArgumentsFail, ResultFaulty, ResultFails}
 use Rattle.canonical_abi.specs.Session.{SessionStep, call, place, read, release, SessionAnswer, Held, Placed, CameBack, TypedTraps, TypedCall, ReadsStep, RunsSession}
 use Rattle.canonical_abi.specs.Headline.{IsStandardFunction, IsArgumentFault}
 use Rattle.canonical_abi.specs.Tame.{AreTame}
-use Rattle.canonical_abi.specs.TameValues.{CalleeIsToldLive}
 use Rattle.canonical_abi.specs.Keeping.{AreStandardSteps}
 use Rattle.canonical_abi.specs.Told.{AllocatesInOneWay, RunsInOneWay, Called, calls_of, Ending, unplaced, unreturned, told, ending_at, ending_of, endings_of, otherwise, CalleeIsTold}
 use Rattle.canonical_abi.specs.declared.flat.Flat.{Flat}
@@ -23,7 +22,7 @@ use Rattle.canonical_abi.specs.declared.trap.Step.TheVariants as step
 use Rattle.canonical_abi.specs.declared.trap.TrapKind.{TrapKind}
 use Rattle.canonical_abi.proofs.Sessions.TracesOfSameValues.{alike-params, alike-end, alike-broken, alike-unbroken}
 use Rattle.canonical_abi.proofs.FlatValues.LoweredIsDenoted.{passes-aligned}
-use Rattle.canonical_abi.proofs.Calls.LinkKeepsPromise.{faulty-ran, fails-ran, result-faulty, traps-wait, are-tame}
+use Rattle.canonical_abi.proofs.Calls.LinkKeepsPromise.{faulty-ran, fails-ran, result-faulty, traps-wait}
 use Rattle.canonical_abi.proofs.Calls.CallKeepsPromise.{arguments-same, arguments-stand}
 use Rattle.canonical_abi.proofs.ReadValues.ReadsExactly.{one_outcome, denoting-tells}
 use Rattle.canonical_abi.proofs.ReadValues.StopsAtFirstFault.{params-denote-fault}
@@ -164,15 +163,15 @@ module _ (allocates : Allocation) (runs : Run) (posts : PostRun) where
 -- ---- the calls of a run
 
 module _ (parties : Parties) (caller_releases callee_releases : Release) (tame : AreTame parties caller_releases callee_releases) where
-  module _ (f : FunctionType) (arguments : List Value) (old : World) (standard : IsStandardFunction f) where
-    abbrev HasWent : Ending → World → Type 0
+  module _ (f : FunctionType) (arguments : List Value) (old : CallState) (standard : IsStandardFunction f) where
+    abbrev HasWent : Ending → CallState → Type 0
     HasWent e new = Went parties.callee_allocates parties.runs parties.posts f arguments old.callee old.body e new.callee new.body
 
     abbrev HasRun : Option (List Flat) → Memory → List ℕ → Type 0
     HasRun answer last left = Ran parties.callee_allocates parties.runs parties.posts f arguments old.callee old.body answer last left
 
-    module _ (flats : List Flat) (area : ℕ) (placed : World) (p : Placed parties f arguments old flats area placed) where
-      ran-of : (values : List Value) (handed : List Flat) (there : List Event) (entered : World) (answer : Option (List Flat)) (new : World) → Enters parties f flats placed values handed there entered
+    module _ (flats : List Flat) (area : ℕ) (placed : CallState) (p : Placed parties f arguments old flats area placed) where
+      ran-of : (values : List Value) (handed : List Flat) (there : List Event) (entered : CallState) (answer : Option (List Flat)) (new : CallState) → Enters parties f flats placed values handed there entered
           → Runs parties f flats entered handed answer new → HasRun answer new.callee new.body
       ran-of values handed there entered answer new e r =
           let same = arguments-same parties caller_releases callee_releases exact f arguments tame standard old flats area placed p values e.denoted in
@@ -185,10 +184,10 @@ module _ (parties : Parties) (caller_releases callee_releases : Release) (tame :
             run = subst (λ s. parties.runs s entered.callee handed new.body new.callee answer) (e.same_body ∙ p.same_body) r.run;
           }
 
-      answered-of : (answer : List Flat) (there : List Event) (answered : World) → Answered parties f flats placed answer there answered → HasRun (Some answer) answered.callee answered.body
+      answered-of : (answer : List Flat) (there : List Event) (answered : CallState) → Answered parties f flats placed answer there answered → HasRun (Some answer) answered.callee answered.body
       answered-of answer there answered a = ran-of a.values a.handed there a.entered (Some answer) answered a.enters a.runs
 
-      posted-of : (answer given : List Flat) (ways : Ways) (returned : World) (ended : Option (Unit {0})) (new : World) → Returned parties f flats placed answer given ways returned → Finishes parties f flats returned answer ended new
+      posted-of : (answer given : List Flat) (ways : Ways) (returned : CallState) (ended : Option (Unit {0})) (new : CallState) → Returned parties f flats placed answer given ways returned → Finishes parties f flats returned answer ended new
           → HasWent told new
       posted-of answer given ways returned ended new r finishes =
           inr (inr (inr (record {
@@ -207,7 +206,7 @@ module _ (parties : Parties) (caller_releases callee_releases : Release) (tame :
       no-fault : (k : TrapKind) → IsArgumentFault f flats placed.caller k → ⊥
       no-fault k fault = arguments-stand parties caller_releases callee_releases exact f arguments tame standard old flats area placed p k fault
 
-      refused-of : (k : TrapKind) (done : List Event) (new : World) → ArgumentsFail parties exact f flats placed k done new → Refused parties.callee_allocates parties.runs parties.posts f arguments old.callee old.body new.callee
+      refused-of : (k : TrapKind) (done : List Event) (new : CallState) → ArgumentsFail parties exact f flats placed k done new → Refused parties.callee_allocates parties.runs parties.posts f arguments old.callee old.body new.callee
       refused-of k done new (kinds, es, inl (values, handed, denoted, passes), (front, made, rest, next, asked, whole, is, leads, fails), same_done, caller, body) =
           let same = arguments-same parties caller_releases callee_releases exact f arguments tame standard old flats area placed p values denoted in
           record {
@@ -224,7 +223,7 @@ module _ (parties : Parties) (caller_releases callee_releases : Release) (tame :
       refused-of k done new (kinds, es, inr (j, until), breaks, same_done, caller, body) =
           absurd (no-fault j (inr (kinds, params-denote-fault max_flat_params f.params _ _ j es until)))
 
-      unlifted-of : (k : TrapKind) (answer : List Flat) (there back : List Event) (answered new : World) → Answered parties f flats placed answer there answered → ResultFaulty parties exact f flats answered answer k back new → HasWent told new
+      unlifted-of : (k : TrapKind) (answer : List Flat) (there back : List Event) (answered new : CallState) → Answered parties f flats placed answer there answered → ResultFaulty parties exact f flats answered answer k back new → HasWent told new
       unlifted-of k answer there back answered new a faulty =
           let ran = faulty-ran parties exact f flats answer answered k back new faulty in
           let fault = (result-faulty parties caller_releases callee_releases exact f flats tame answer answered new k back faulty).1 in
@@ -235,15 +234,15 @@ module _ (parties : Parties) (caller_releases callee_releases : Release) (tame :
             fault = subst (λ m. DenotesFault max_flat_results (result_fields f.result) m.bytes answer k) (sym ran.0) fault;
           })))
 
-      unreturned-of : (k : TrapKind) (answer : List Flat) (there back : List Event) (answered new : World) → Answered parties f flats placed answer there answered → ResultFails parties exact f flats answered answer k back new → HasWent unreturned new
+      unreturned-of : (k : TrapKind) (answer : List Flat) (there back : List Event) (answered new : CallState) → Answered parties f flats placed answer there answered → ResultFails parties exact f flats answered answer k back new → HasWent unreturned new
       unreturned-of k answer there back answered new a fails =
           let ran = fails-ran parties exact f flats answer answered k back new fails in
           (answer, subst (λ m. HasRun (Some answer) m new.body) (sym ran.0) (subst (λ s. HasRun (Some answer) answered.callee s) (sym ran.1) (answered-of answer there answered a)))
 
-    came-of : (back : List Flat) (area : ℕ) (new : World) → CameBack parties f arguments old back area new → HasWent told new
+    came-of : (back : List Flat) (area : ℕ) (new : CallState) → CameBack parties f arguments old back area new → HasWent told new
     came-of back area new b = posted-of b.flats area b.placed b.places b.completes.answer back b.ways b.completes.returned (Some tt) new b.completes.returns b.completes.finishes
 
-    trapped-of : (s : Step) (k : TrapKind) (new : World) → TypedTraps parties exact f arguments old s k new → HasWent (ending_at s) new
+    trapped-of : (s : Step) (k : TrapKind) (new : CallState) → TypedTraps parties exact f arguments old s k new → HasWent (ending_at s) new
     trapped-of step.Place k new t = (t.same_callee, t.same_body)
     trapped-of step.LiftArgs k new (flats, area, placed, p, ways, t) =
         absurd (no-fault flats area placed p k (traps-wait parties caller_releases callee_releases exact f flats tame placed step.LiftArgs k ways new t tt).1)
@@ -254,16 +253,16 @@ module _ (parties : Parties) (caller_releases callee_releases : Release) (tame :
     trapped-of step.Post k new (flats, area, placed, p, ways, (answer, given, returned, is, r, finishes)) = posted-of flats area placed p answer given ways returned None new r finishes
     trapped-of step.Take k new (back, area, b, fault) = came-of back area new b
 
-    went-of : (result : Result (Option Value) Fault) (new : World) → TypedCall parties exact f arguments old result new → HasWent (ending_of result) new
+    went-of : (result : Result (Option Value) Fault) (new : CallState) → TypedCall parties exact f arguments old result new → HasWent (ending_of result) new
     went-of (Ok v) new (back, area, b, has) = came-of back area new b
     went-of (Err (Trap t)) new traps = trapped-of t.step t.kind new traps
     went-of (Err NoMemory) new (inl (flats, area, placed, p, ways, up)) = absurd up
     went-of (Err NoMemory) new (inr (back, area, b)) = came-of back area new b
 
-  abbrev Calls : List Called → List Ending → World → World → Type 0
+  abbrev Calls : List Called → List Ending → CallState → CallState → Type 0
   Calls cs es old new = Chain parties.callee_allocates parties.runs parties.posts cs es old.callee old.body new.callee new.body
 
-  from-same : (cs : List Called) (es : List Ending) (old between new : World) → between.callee ≡ old.callee → between.body ≡ old.body → Calls cs es between new → Calls cs es old new
+  from-same : (cs : List Called) (es : List Ending) (old between new : CallState) → between.callee ≡ old.callee → between.body ≡ old.body → Calls cs es between new → Calls cs es old new
   from-same cs es old between new callee body c =
       subst (λ m. Chain parties.callee_allocates parties.runs parties.posts cs es m old.body new.callee new.body) callee
       (subst (λ s. Chain parties.callee_allocates parties.runs parties.posts cs es between.callee s new.callee new.body) body c)
@@ -273,7 +272,7 @@ module _ (parties : Parties) (caller_releases callee_releases : Release) (tame :
   not-called memory None answer rest is = ap (λ a. endings_of (a ∷ rest)) is
   not-called memory (Some held) answer rest (result, is, reads) = ap (λ a. endings_of (a ∷ rest)) is
 
-  chain-of : (before : List SessionAnswer) (old : World) (steps : List SessionStep) (answers : List SessionAnswer) (new : World) → AreStandardSteps steps
+  chain-of : (before : List SessionAnswer) (old : CallState) (steps : List SessionStep) (answers : List SessionAnswer) (new : CallState) → AreStandardSteps steps
       → RunsSession parties caller_releases exact before old steps answers new → Calls (calls_of steps) (endings_of answers) old new
   chain-of before old [] answers new standard run = (ap (λ w. w.callee) run.1, ap (λ w. w.body) run.1)
   chain-of before old (place t v ∷ steps) answers new standard run =
@@ -292,8 +291,8 @@ module _ (parties : Parties) (caller_releases callee_releases : Release) (tame :
       (run.between.callee, run.between.body, went-of f arguments old standard.0 run.takes.0 run.between run.takes.2, chain-of (before ++ run.answer ∷ []) run.between steps run.rest new standard.1 run.others)
 
 module _ (parties : Parties) (other : Allocation) (caller_releases other_releases callee_releases : Release) where
-  pub callee-is-told-live : CalleeIsToldLive parties other caller_releases other_releases callee_releases
-  callee-is-told-live before earlier old past steps moves answers replies new last tame also one_way in_one_way standard usual run walk calls ends same =
+  pub callee-is-told : CalleeIsTold parties other caller_releases other_releases callee_releases
+  callee-is-told before earlier old past steps moves answers replies new last tame also one_way in_one_way standard usual run walk calls ends same =
       let A = parties.callee_allocates in
       let one = chain-of parties caller_releases callee_releases tame before old steps answers new standard run in
       let two = chain-of (otherwise parties other caller_releases other_releases callee_releases) other_releases callee_releases also earlier past moves replies last usual walk in
@@ -304,9 +303,3 @@ module _ (parties : Parties) (other : Allocation) (caller_releases other_release
       (subst (λ s. Chain A parties.runs parties.posts (calls_of moves) (endings_of replies) past.callee s last.callee last.body) (sym same.body) two))) in
       let both = same-chain A parties.runs parties.posts one_way in_one_way (calls_of steps) (endings_of answers) old.callee old.body new.callee last.callee new.body last.body one there in
       record { callee = both.0; body = both.1 }
-
-  -- honest guests are tame
-  pub callee-is-told : CalleeIsTold parties other caller_releases other_releases callee_releases
-  callee-is-told before earlier old past steps moves answers replies new last honest sincere limited bounded one_way in_one_way standard usual run walk calls ends same =
-      callee-is-told-live before earlier old past steps moves answers replies new last (are-tame parties caller_releases callee_releases honest)
-      (are-tame (otherwise parties other caller_releases other_releases callee_releases) other_releases callee_releases sincere) one_way in_one_way standard usual run walk calls ends same

@@ -4,7 +4,7 @@ use Rattle.canonical_abi.specs.Types.{FunctionType, result_fields}
 use Rattle.canonical_abi.specs.Guest.{Memory, Allocation, Release}
 use Rattle.canonical_abi.specs.Trace.{Event, grant, TraceLeads, LeavesOutWrites}
 use Rattle.canonical_abi.specs.Stands.{AreAligned}
-use Rattle.canonical_abi.specs.Call.{Parties, World, Ways, exact, Answered, ArgumentsFaulty, ArgumentsFail, ResultFaulty, ResultFails, Traps, argument_flats, area_of, Begins, Breaks, IsGrantedPart}
+use Rattle.canonical_abi.specs.Call.{Parties, CallState, Ways, exact, Answered, ArgumentsFaulty, ArgumentsFail, ResultFaulty, ResultFails, Traps, argument_flats, area_of, Begins, Breaks, IsGrantedPart}
 use Rattle.canonical_abi.specs.Headline.{IsBeforeBody}
 use Rattle.canonical_abi.specs.Tame.{IsTame, AreTame}
 use Rattle.canonical_abi.specs.declared.flat.Flat.{Flat}
@@ -41,46 +41,46 @@ module _ (allocates : Allocation) (releases : Release) (tame : IsTame allocates 
 
 module _ (parties : Parties) (caller_releases callee_releases : Release) (tame : AreTame parties caller_releases callee_releases) (Shown : Memory → List Event → Memory → Type 0)
     (callee_shows : Shows parties.callee_allocates Shown) (caller_shows : Shows parties.caller_allocates Shown) (f : FunctionType) (flats : List Flat) where
-  callee-same : (old new : World) (es : List Event) → new ≡ old → es ≡ [] → Shown old.callee es new.callee
+  callee-same : (old new : CallState) (es : List Event) → new ≡ old → es ≡ [] → Shown old.callee es new.callee
   callee-same old new es same none = same-shows parties.callee_allocates callee_releases tame.callee Shown callee_shows old.callee new.callee es (ap (λ w. w.callee) same) none
 
-  caller-same : (old new : World) (es : List Event) → new.caller ≡ old.caller → es ≡ [] → Shown old.caller es new.caller
+  caller-same : (old new : CallState) (es : List Event) → new.caller ≡ old.caller → es ≡ [] → Shown old.caller es new.caller
   caller-same old new es same none = same-shows parties.caller_allocates caller_releases tame.caller Shown caller_shows old.caller new.caller es same none
 
-  arguments-faulty : (old : World) (k : TrapKind) (done : List Event) (new : World) → ArgumentsFaulty parties exact f flats old k done new → Shown old.callee done new.callee
+  arguments-faulty : (old : CallState) (k : TrapKind) (done : List Event) (new : CallState) → ArgumentsFaulty parties exact f flats old k done new → Shown old.callee done new.callee
   arguments-faulty old k done new (inl (other, is, none, same)) = callee-same old new done same none
   arguments-faulty old k done new (inr (inl (kinds, faulty, none, same))) = callee-same old new done same none
   arguments-faulty old k done new (inr (inr (kinds, es, until, is, begun, caller, body))) =
       begun-shows parties.callee_allocates callee_releases tame.callee Shown callee_shows old.callee new.callee es done (until-params-fine f.params old.caller.bytes (argument_flats f flats) k es until).0 is begun
 
-  arguments-fail : (old : World) (k : TrapKind) (done : List Event) (new : World) → ArgumentsFail parties exact f flats old k done new → Shown old.callee done new.callee
+  arguments-fail : (old : CallState) (k : TrapKind) (done : List Event) (new : CallState) → ArgumentsFail parties exact f flats old k done new → Shown old.callee done new.callee
   arguments-fail old k done new (kinds, es, script, breaks, same, caller, body) =
       broken-shows parties.callee_allocates callee_releases tame.callee Shown callee_shows old.callee new.callee es done k (script-params-fine f.params old.caller.bytes (argument_flats f flats) es script).0 breaks same
 
-  result-faulty : (answered : World) (answer : List Flat) (k : TrapKind) (done : List Event) (new : World) → ResultFaulty parties exact f flats answered answer k done new → Shown answered.caller done new.caller
+  result-faulty : (answered : CallState) (answer : List Flat) (k : TrapKind) (done : List Event) (new : CallState) → ResultFaulty parties exact f flats answered answer k done new → Shown answered.caller done new.caller
   result-faulty answered answer k done new (inl (faulty, none, same)) = caller-same answered new done (ap (λ w. w.caller) same) none
   result-faulty answered answer k done new (inr (tested, es, until, is, begun, callee, body)) =
       begun-shows parties.caller_allocates caller_releases tame.caller Shown caller_shows answered.caller new.caller es done
       (until-result-aligned (result_fields f.result) answered.callee.bytes answer (area_of f flats) k es until) is begun
 
-  result-fails : (answered : World) (answer : List Flat) (k : TrapKind) (done : List Event) (new : World) → ResultFails parties exact f flats answered answer k done new → Shown answered.caller done new.caller
+  result-fails : (answered : CallState) (answer : List Flat) (k : TrapKind) (done : List Event) (new : CallState) → ResultFails parties exact f flats answered answer k done new → Shown answered.caller done new.caller
   result-fails answered answer k done new (inl (tested, faulty, none, same)) = caller-same answered new done (ap (λ w. w.caller) same) none
   result-fails answered answer k done new (inr (stands, es, script, breaks, same, callee, body)) =
       broken-shows parties.caller_allocates caller_releases tame.caller Shown caller_shows answered.caller new.caller es done k
       (script-aligned (result_fields f.result) answered.callee.bytes answer (area_of f flats) es script) breaks same
 
-  since : (old answered new : World) (answer : List Flat) (there es : List Event) → Answered parties f flats old answer there answered → Shown answered.caller es new.caller → Shown old.caller es new.caller
+  since : (old answered new : CallState) (answer : List Flat) (there es : List Event) → Answered parties f flats old answer there answered → Shown answered.caller es new.caller → Shown old.caller es new.caller
   since old answered new answer there es a shows = subst (λ m. Shown m es new.caller) (a.runs.same_caller ∙ a.enters.same_caller) shows
 
   -- into the callee, where the body was not entered
-  pub shows-there : (old : World) (s : Step) (k : TrapKind) (ways : Ways) (new : World) → IsBeforeBody s → Traps parties exact f flats old s k ways new → Shown old.callee ways.there new.callee
+  pub shows-there : (old : CallState) (s : Step) (k : TrapKind) (ways : Ways) (new : CallState) → IsBeforeBody s → Traps parties exact f flats old s k ways new → Shown old.callee ways.there new.callee
   shows-there old step.Place k ways new before t = absurd t
   shows-there old step.LiftArgs k ways new before t = arguments-faulty old k ways.there new t.0
   shows-there old step.LowerArgs k ways new before t = arguments-fail old k ways.there new t.0
   shows-there old s k ways new before t = absurd before
 
   -- into the caller
-  pub shows-back : (old : World) (s : Step) (k : TrapKind) (ways : Ways) (new : World) → Traps parties exact f flats old s k ways new → Shown old.caller ways.back new.caller
+  pub shows-back : (old : CallState) (s : Step) (k : TrapKind) (ways : Ways) (new : CallState) → Traps parties exact f flats old s k ways new → Shown old.caller ways.back new.caller
   shows-back old step.LiftArgs k ways new (faulty, none) =
       caller-same old new ways.back (faulty-caller parties caller_releases callee_releases exact f flats tame old k ways.there new faulty) none
   shows-back old step.LowerArgs k ways new ((kinds, es, script, breaks, same, caller, body), none) = caller-same old new ways.back caller none

@@ -2,7 +2,7 @@ use Rattle.std.proofs.Common.{◌≡◌, true, List, subst, sym, arith, string_b
 use Rattle.std.specs.Str.{is_utf8}
 use Rattle.std.proofs.lemmas.Str.{is_utf8-from_IsUtf8, IsUtf8-string_bytes}
 use Rattle.canonical_abi.specs.Values.{Value, HaveTypes}
-use Rattle.canonical_abi.specs.Call.{Parties, World, exact}
+use Rattle.canonical_abi.specs.Call.{Parties, CallState, exact}
 use Rattle.canonical_abi.specs.Tame.{KeepsLivePromise}
 use Rattle.tables.specs.Closed.{function_type}
 use Rattle.witcall.specs.Session.{typed_answer}
@@ -27,8 +27,8 @@ returns-clause-found g c =
       runs = g.B.Body.runs before.body;
       posts = g.B.Body.posts before.body;
     } in
-    let old : World = record { caller = g.C.Guest.memory before.caller; callee = g.E.Guest.memory before.callee; body = g.B.Body.state before.body } in
-    let new : World = record { caller = g.C.Guest.memory after.caller; callee = g.E.Guest.memory after.callee; body = g.B.Body.state after.body } in
+    let old : CallState = record { caller = g.C.Guest.memory before.caller; callee = g.E.Guest.memory before.callee; body = g.B.Body.state before.body } in
+    let new : CallState = record { caller = g.C.Guest.memory after.caller; callee = g.E.Guest.memory after.callee; body = g.B.Body.state after.body } in
     let f = function_type before.package.now.resolve c.args.func in
     let promise = c.call.ensures.promise_live (record { caller = g.met.C.Tame.is_tame; callee = g.met.E.Tame.is_tame }) in
     found parties f (string_bytes c.args.item) c.args.count old new c.call.result c.requires.takes

@@ -1,7 +1,7 @@
 //! Where a row has its name: an interface or a world, and the full names of these.
 ghost use Rattle.std.specs.Prelude.{◌≡◌, IfOk, option_map, slice_get};
-ghost use Rattle.tables.specs.Names.{full_name_in};
-ghost use Rattle.host_calls.specs.Owners.{stated_owner, owner_kind, owner_number, numbered_owner, owner_name};
+ghost use Rattle.tables.specs.Names.{full_name_in, owner_of};
+ghost use Rattle.host_calls.specs.Owners.{owner_kind, owner_number, numbered_owner, owner_name};
 ghost use Rattle.host_calls.specs.Owners.{owner_name_at};
 ghost use Rattle.host_calls.specs.Told.{TellsNewName};
 
@@ -14,7 +14,7 @@ use values::Types;
 
 /// Where a row has its name, if it has one.
 pub(crate) fn stated_owner(definition: &Definition) -> Option<Owner>
-    ensures { result ≡ stated_owner definition.now }
+    ensures { result ≡ owner_of definition.now }
 {
     match definition {
         Definition::Type(definition) => match &definition.name {

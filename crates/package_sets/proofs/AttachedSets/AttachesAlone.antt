@@ -20,7 +20,8 @@ use Rattle.package_form.specs.Form.{IsInPackageForm}
 use Rattle.package_sets.specs.Attached.{IsAttached, IsOwn}
 use Rattle.package_sets.specs.Joining.{before_own, import_count, imports, own_interfaces, import_rows, row_places, all_places, place_in, joined}
 use Rattle.set_rows.specs.Moved.{Renaming, put_interface, put_world, put_row}
-use Rattle.set_rows.specs.Owners.{owner_of, owners}
+use Rattle.set_rows.specs.Owners.{owners}
+use Rattle.tables.specs.Names.{owner_of}
 use Rattle.package_sets.specs.BehindImports.{IsBehindImports}
 use Rattle.package_sets.specs.Imports.{IsImportsOf}
 use Rattle.package_sets.specs.NamedIn.{AreMarksOf, NamesIn}

@@ -47,7 +47,8 @@ use Rattle.package_sets.proofs.AttachedSets.PutBehind.{IsPut}
 use Rattle.package_sets.specs.Joining.{import_count, imports, own_interfaces, import_rows, joined, are_same_packages, HasIds}
 use Rattle.set_rows.specs.Moved.{Renaming, put_id, put_interface, put_item, put_item_kind, put_world, put_row, put_types, put_functions}
 use Rattle.package_sets.specs.NamedIn.{own_rows, own_reached, IsImportAt, AreNamedIn}
-use Rattle.set_rows.specs.Owners.{owner_of, owners, names, names_or}
+use Rattle.set_rows.specs.Owners.{owners, names, names_or}
+use Rattle.tables.specs.Names.{owner_of}
 use Rattle.package_sets.specs.Part.{IsPart, IsTableOf}
 use Rattle.set_rows.specs.Places.{place}
 use Rattle.set_rows.specs.Reaches.{Marks, is_marked, own_marks, given_marks, item_owners, owners_in, world_owners, owner_at, named_owners, OfPackage, OfInterfaces, Reaches, of_start, of_row, AreReached}

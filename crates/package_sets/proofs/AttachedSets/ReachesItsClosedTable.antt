@@ -25,7 +25,8 @@ use Rattle.tables.specs.declared.tables.WorldItem.{WorldItem}
 use Rattle.tables.specs.declared.tables.WorldItemKind.{WorldItemKind}
 use Rattle.tables.specs.declared.tables.WorldItemKind.TheVariants as item
 use Rattle.tables.specs.declared.tables.Resolve.{Resolve}
-use Rattle.set_rows.specs.Owners.{owner_of, owners, names}
+use Rattle.set_rows.specs.Owners.{owners, names}
+use Rattle.tables.specs.Names.{owner_of}
 use Rattle.set_rows.specs.Moved.{Renaming, put_id, put_name, put_owner, put_row, put_interface, put_item, put_item_kind, put_world}
 use Rattle.set_rows.specs.Reaches.{is_marked, own_marks, item_owners, owners_in, owner_at, named_owners, OfPackage, Reaches, of_start, of_row}
 use Rattle.package_sets.specs.SetForm.{IsInSetForm}

@@ -20,7 +20,7 @@ use Rattle.tables.specs.declared.tables.Definition.{Definition}
 use Rattle.tables.specs.declared.tables.Interface.{Interface}
 use Rattle.tables.specs.declared.tables.World.{World}
 use Rattle.tables.specs.declared.tables.Resolve.{Resolve}
-use Rattle.set_rows.specs.Owners.{owner_of}
+use Rattle.tables.specs.Names.{owner_of}
 use Rattle.set_rows.specs.Moved.{Renaming, put_row}
 use Rattle.package_sets.specs.Restricted.{definitions_where, number_or}
 use Rattle.package_sets.specs.Set.{IsPackageByPackage, HasRowsInForm}

@@ -30,7 +30,8 @@ use Rattle.tables.specs.declared.tables.WorldItem.{WorldItem}
 use Rattle.tables.specs.declared.tables.WorldItemKind.{WorldItemKind}
 use Rattle.tables.specs.declared.tables.WorldItemKind.TheVariants as item
 use Rattle.tables.specs.declared.tables.Resolve.{Resolve}
-use Rattle.set_rows.specs.Owners.{owner_of, names}
+use Rattle.set_rows.specs.Owners.{names}
+use Rattle.tables.specs.Names.{owner_of}
 use Rattle.set_rows.specs.Places.{place}
 use Rattle.set_rows.specs.Reaches.{is_marked}
 use Rattle.set_rows.specs.Renamed.{renaming}

@@ -9,7 +9,7 @@ use Rattle.tables.specs.Tables.{is_below, option_all, kind_all, definition_all}
 use Rattle.tables.specs.Package.{Tree, TextTree, VariantTree, RecordTree, Plain, AsResult, IsUse, IsType, Meaning, Choices, no_choices, read_val, read_choice, read_tuple, read_fields, read_params, read_cases, read_kind, meaning_of, reference, reference_by, references, key_of, named_by, named_function, definition_of, definitions_from, Reference}
 use Rattle.tables.proofs.ClosedTypesRowByRow.{split}
 use Rattle.set_rows.specs.Places.{place}
-use Rattle.set_rows.specs.Owners.{owner_of}
+use Rattle.tables.specs.Names.{owner_of}
 use Rattle.set_rows.specs.Renamed.{renaming}
 use Rattle.set_rows.specs.Moved.{put_val, put_field, put_case, put_parameter, put_kind, put_name, put_owner, put_row}
 use Rattle.package_sets.specs.Restricted.{definitions_where}

@@ -18,7 +18,7 @@ use Rattle.tables.specs.declared.tables.Definition.{Definition}
 use Rattle.tables.specs.declared.tables.InterfaceId.{InterfaceId}
 use Rattle.tables.specs.declared.tables.Interface.{Interface}
 use Rattle.tables.specs.declared.tables.World.{World}
-use Rattle.set_rows.specs.Owners.{owner_of}
+use Rattle.tables.specs.Names.{owner_of}
 use Rattle.package_sets.specs.Joining.{HasIds}
 use Rattle.set_rows.specs.Moved.{Renaming, put_id, put_function_id, has_type, has_function, put_types, put_functions}
 use Rattle.package_sets.specs.Set.{ArePackageByPackage, behind_all, an_interface, a_world}

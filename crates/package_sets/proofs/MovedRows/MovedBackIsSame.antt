@@ -21,7 +21,7 @@ use Rattle.tables.specs.declared.tables.Owner.TheVariants as owner
 use Rattle.tables.specs.declared.tables.Function.{Function}
 use Rattle.tables.specs.declared.tables.Definition.{Definition}
 use Rattle.tables.specs.declared.tables.Definition.TheVariants as row
-use Rattle.set_rows.specs.Owners.{owner_of}
+use Rattle.tables.specs.Names.{owner_of}
 use Rattle.set_rows.specs.Moved.{Renaming, put_id, put_function_id, put_val, put_field, put_case, put_parameter, put_kind, put_name, put_type, put_owner, put_function, put_row, has_type, has_function, put_types, put_functions}
 use Rattle.package_sets.proofs.KeptParts.KeptIsPackageByPackage.{filter-all, all-from}
 

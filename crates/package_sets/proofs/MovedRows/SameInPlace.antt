@@ -20,7 +20,7 @@ use Rattle.package_form.specs.Form.{ids_of}
 use Rattle.package_form.proofs.AllAndContains.{contains-map}
 use Rattle.std.proofs.lemmas.List.Elements.{Contains-append_left, Contains-append_right}
 use Rattle.set_rows.specs.Moved.{Renaming, put_id, put_function_id, put_interface, put_item, put_world, put_row, put_types, put_functions, has_type, has_function}
-use Rattle.set_rows.specs.Owners.{owner_of}
+use Rattle.tables.specs.Names.{owner_of}
 use Rattle.package_sets.proofs.MovedRows.IdsOfInterfaces.{id-there}
 use Rattle.package_sets.proofs.KeptParts.PropertiesOfKept.{list-at, placed-at, worlds-grouped-at}
 use Rattle.package_sets.proofs.GrowingLists.{get-contains}

@@ -22,7 +22,8 @@ use Rattle.tables.specs.declared.tables.Definition.{Definition}
 use Rattle.tables.specs.declared.tables.Definition.TheVariants as row
 use Rattle.tables.specs.declared.tables.Interface.{Interface}
 use Rattle.tables.specs.declared.tables.World.{World}
-use Rattle.set_rows.specs.Owners.{owner_of, first_owner, owners}
+use Rattle.set_rows.specs.Owners.{first_owner, owners}
+use Rattle.tables.specs.Names.{owner_of}
 use Rattle.package_sets.specs.Set.{AreRowsOf, AreRowsOfWorld, ArePackageByPackage, behind_all, an_interface, a_world}
 use Rattle.package_sets.proofs.KeptParts.KeptTogether.{places-in, end-is-id, end-is-function}
 use Rattle.package_sets.proofs.KeptParts.PropertiesOfKept.{list-at}

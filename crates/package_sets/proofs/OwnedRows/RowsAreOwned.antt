@@ -21,7 +21,7 @@ use Rattle.tables.specs.declared.tables.Definition.TheVariants as row
 use Rattle.tables.specs.declared.tables.Interface.{Interface}
 use Rattle.tables.specs.declared.tables.World.{World}
 use Rattle.tables.specs.declared.tables.Resolve.{Resolve}
-use Rattle.set_rows.specs.Owners.{owner_of}
+use Rattle.tables.specs.Names.{owner_of}
 use Rattle.package_sets.specs.Set.{ArePackageByPackage, behind_all, an_interface, a_world, IsPackageByPackage}
 use Rattle.package_sets.specs.Joining.{row_places, end_in}
 use Rattle.package_sets.proofs.GrowingLists.{length-places}

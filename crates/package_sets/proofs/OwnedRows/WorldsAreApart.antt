@@ -23,7 +23,8 @@ use Rattle.tables.specs.declared.tables.Owner.TheVariants as owner
 use Rattle.tables.specs.declared.tables.Definition.{Definition}
 use Rattle.tables.specs.declared.tables.Definition.TheVariants as row
 use Rattle.tables.specs.declared.tables.Resolve.{Resolve}
-use Rattle.set_rows.specs.Owners.{owner_of, owners, names_or, names}
+use Rattle.set_rows.specs.Owners.{owners, names_or, names}
+use Rattle.tables.specs.Names.{owner_of}
 use Rattle.set_rows.specs.Reaches.{owner_at}
 use Rattle.package_sets.specs.Set.{IsPackageByPackage, AreWorldsApart}
 use Rattle.package_sets.proofs.GrowingLists.{none-within, contains-get}

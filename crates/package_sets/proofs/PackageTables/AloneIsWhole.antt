@@ -17,7 +17,8 @@ use Rattle.package_form.specs.Form.{IsInPackageForm}
 use Rattle.package_form.specs.Naming.{package_scopes}
 use Rattle.package_form.specs.Scope.{AreDistinct}
 use Rattle.set_rows.specs.Moved.{put_interface, put_world, put_row}
-use Rattle.set_rows.specs.Owners.{owner_of, owners}
+use Rattle.set_rows.specs.Owners.{owners}
+use Rattle.tables.specs.Names.{owner_of}
 use Rattle.set_rows.proofs.OwnersOfRows.{length-owners}
 use Rattle.set_rows.specs.Places.{place}
 use Rattle.set_rows.specs.Renamed.{renaming}

@@ -1,8 +1,6 @@
-use Rattle.std.proofs.Common.{◌≡◌, true, false, refl}
 use Rattle.canonical_abi.specs.AnyHonest.{AnyGrant, AnyRelease}
 use Rattle.canonical_abi.specs.Call.{exact}
 use Rattle.canonical_abi.specs.Guest.{IsHonest}
-use Rattle.canonical_abi.specs.Headline.{AreHonest}
 use Rattle.canonical_abi.proofs.Calls.CallKeepsPromise.{keeps-promise}
 use Rattle.canonical_abi.proofs.Calls.LinkKeepsPromise.{link-keeps-promise}
 use Rattle.canonical_abi.proofs.laws.any_honest_is_promised.Goals as goal

@@ -1,4 +1,4 @@
-use Rattle.canonical_abi.proofs.Sessions.TameHeldStaysHeld.{placed-is-held-live}
+use Rattle.canonical_abi.proofs.Sessions.HeldStaysHeld.{placed-is-held-live}
 use Rattle.canonical_abi.proofs.laws.tame_placed_is_held.Goals as goal
 
 pub returns : goal.returns

@@ -19,7 +19,7 @@ returns-in-Ok-clause-value g c =
     let t = closed_type c.args.table.now c.in-Some-Some.ty in
     let m = (g.G.Guest.memory c.args.guest.now).bytes in
     let area = rw (c.in-Some-Some.is-0, c.in-Some-Some.is-1) at c.requires.area in
-    rw (c.in-Some-Some.is-0, c.in-Some-Some.is-1) (value-taken t m c.in-Some-Some.at area.0 c.args.flats.now c.in-Ok.value (subst (λ q. HoldsInBlock (closed_type q c.in-Some-Some.ty) m c.in-Some-Some.at (value_of c.in-Ok.value)) c.resolve.ensures c.in-Ok.ensures.value))
+    rw (c.in-Some-Some.is-0, c.in-Some-Some.is-1) (value-taken t m c.in-Some-Some.at area.0 c.args.flats.now c.in-Ok.value area.1 (subst (λ q. HoldsInBlock (closed_type q c.in-Some-Some.ty) m c.in-Some-Some.at (value_of c.in-Ok.value)) c.resolve.ensures c.in-Ok.ensures.value))
 
 pub returns-in-Err-clause-value : goal.returns-in-Err-clause-value
 returns-in-Err-clause-value g c =

@@ -14,7 +14,7 @@ use Rattle.lift_lower.specs.NoValue.{AnswerStands}
 use Rattle.lift_lower.specs.Placing.{area_at, IsAreaIn}
 use Rattle.values.specs.Val.{value_of}
 use Rattle.adapter.proofs.FunctionsInLayouts.{result-inside, result-is}
-use Rattle.canonical_abi.specs.Halves.{as_world}
+use Rattle.canonical_abi.specs.Halves.{as_state}
 use Rattle.witcall.specs.Session.{IsReady, IsNotReady}
 use Rattle.witcall.proofs.CallerBeforeTypedCalls.{area_stays}
 use Rattle.witcall.proofs.TypedCallsKeepPromise.{promised, promised-live}
@@ -49,12 +49,12 @@ returns-in_err-back-clause-call g c =
     let ready = subst (λ q. IsReady g.C.Guest.allocates (function_type q c.args.func) arguments caller c.place_call.new.flats.items area caller') c.types-table.ensures.types c.in_ok-area.ensures.placed in
     let handed = subst (λ fs. IsReady g.C.Guest.allocates f arguments caller fs area caller') (sym c.as_slice.ensures.value) ready in
     let places = placed parties f arguments caller caller' callee body flats area handed c.in_ok-area.ensures.small in
-    let new = as_world (g.C.Guest.memory c.call.new.caller) (g.E.Guest.memory c.call.new.callee) (g.B.Body.state c.call.new.body) in
+    let new = as_state (g.C.Guest.memory c.call.new.caller) (g.E.Guest.memory c.call.new.callee) (g.B.Body.state c.call.new.body) in
     let told = c.in_err-back.ensures.call in
-    let calls = subst (λ q. Calls parties exact (function_type q c.args.func) flats (as_world caller' callee body) (Err c.in_err-back.field-0.0) told.0 new)
+    let calls = subst (λ q. Calls parties exact (function_type q c.args.func) flats (as_state caller' callee body) (Err c.in_err-back.field-0.0) told.0 new)
     (c.new-link.ensures.package ∙ c.resolve-resolve.ensures ∙ c.types-table.ensures.types) told.1 in
     let p = err_from_is_err_and c.from_residual-in_err-back.result c.from_residual-in_err-back.ensures.1 in
-    rw (p.1, p.2) (link_fails parties f arguments (area_at area) (as_world caller callee body) (as_world caller' callee body) new flats c.in_err-back.field-0.0 places (told.0, calls))
+    rw (p.1, p.2) (link_fails parties f arguments (area_at area) (as_state caller callee body) (as_state caller' callee body) new flats c.in_err-back.field-0.0 places (told.0, calls))
 
 pub take_result-requires-clause-inside : goal.take_result-requires-clause-inside
 take_result-requires-clause-inside g c =
@@ -87,19 +87,19 @@ returns-clause-call g c =
     let ready = subst (λ q. IsReady g.C.Guest.allocates (function_type q c.args.func) arguments caller c.place_call.new.flats.items area caller') c.types-table.ensures.types c.in_ok-area.ensures.placed in
     let handed = subst (λ fs. IsReady g.C.Guest.allocates f arguments caller fs area caller') (sym c.as_slice.ensures.value) ready in
     let places = placed parties f arguments caller caller' callee body flats area handed c.in_ok-area.ensures.small in
-    let new = as_world (g.C.Guest.memory c.call.new.caller) (g.E.Guest.memory c.call.new.callee) (g.B.Body.state c.call.new.body) in
+    let new = as_state (g.C.Guest.memory c.call.new.caller) (g.E.Guest.memory c.call.new.callee) (g.B.Body.state c.call.new.body) in
     let back = c.in_ok-back.back.items in
     let told = c.in_ok-back.ensures.call in
-    let calls = subst (λ q. Calls parties exact (function_type q c.args.func) flats (as_world caller' callee body) (Ok back) told.0 new)
+    let calls = subst (λ q. Calls parties exact (function_type q c.args.func) flats (as_state caller' callee body) (Ok back) told.0 new)
     (c.new-link.ensures.package ∙ c.resolve-resolve.ensures ∙ c.types-table.ensures.types) told.1 in
-    let came = came_back parties f arguments (area_at area) (as_world caller callee body) (as_world caller' callee body) new flats back places (told.0, calls) in
+    let came = came_back parties f arguments (area_at area) (as_state caller callee body) (as_state caller' callee body) new flats back places (told.0, calls) in
     let own = c.types-table.result in
     let is = subst (λ q. IsFunction q c.args.func) (sym c.types-table.ensures.types) c.requires.function in
     let same = ap result_fields (sym (result-is own c.args.func is c.signature.result.now (rw c.resolve-resolve.ensures at c.signature.ensures))) ∙ ap (λ q. result_fields (function_type q c.args.func).result) c.types-table.ensures.types in
     let m = (g.C.Guest.memory c.call.new.caller).bytes in
     let P : Fields → List Flat → Type 0 = λ ts fs. AnswerStands Take (λ v. HasResult ts m fs (area_at area) (option_to_list (option_map value_of v))) (HasResultFault ts m fs (area_at area)) c.take_result.result in
     let stands = subst (P (result_fields f.result)) c.as_slice-2.ensures.value (subst (λ ts. P ts c.as_slice-2.result.now) same c.take_result.ensures.value) in
-    takes parties f arguments (area_at area) (as_world caller callee body) new back c.take_result.result came stands
+    takes parties f arguments (area_at area) (as_state caller callee body) new back c.take_result.result came stands
 
 pub returns-clause-typed : goal.returns-clause-typed
 returns-clause-typed g c =

@@ -1,7 +1,7 @@
 use Rattle.std.proofs.Common.{ap, sym, subst, ℕ, Some, Ok, Err}
 use Rattle.std.proofs.lemmas.Result.{err_from_is_err_and}
-use Rattle.canonical_abi.specs.Call.{Parties, World}
-use Rattle.canonical_abi.specs.Halves.{as_world, ReturnFails, RunsBetween, RunsAndReturns, CallsInHalves, ends_at_return, ends_at_post, completes}
+use Rattle.canonical_abi.specs.Call.{Parties, CallState}
+use Rattle.canonical_abi.specs.Halves.{as_state, ReturnFails, RunsBetween, RunsAndReturns, CallsInHalves, ends_at_return, ends_at_post, completes}
 use Rattle.layout.specs.Layout.{AreWithin}
 use Rattle.tables.specs.Closed.{function_type}
 use Rattle.adapter.proofs.LinkCallsKeepPromise.{link-promised, link-promised-live, link-told}
@@ -14,8 +14,8 @@ returns-in_err-ran-clause-call g c =
     let flats = c.args.flats.now in
     let within : ∥ AreWithin r ∥₁ = subst (λ q. ∥ AreWithin q ∥₁) (ap (λ l. l.resolve) c.self.view_is) c.self.inside.within in
     let parties : Parties = record { caller_allocates = g.C.Guest.allocates; callee_allocates = g.E.Guest.allocates; runs = g.B.Body.runs c.args.body.now; posts = g.B.Body.posts c.args.body.now } in
-    let old : World = as_world (g.C.Guest.memory c.args.caller.now) (g.E.Guest.memory c.args.callee.now) (g.B.Body.state c.args.body.now) in
-    let new : World = as_world old.caller (g.E.Guest.memory c.run.new.callee) (g.B.Body.state c.run.new.body) in
+    let old : CallState = as_state (g.C.Guest.memory c.args.caller.now) (g.E.Guest.memory c.args.callee.now) (g.B.Body.state c.args.body.now) in
+    let new : CallState = as_state old.caller (g.E.Guest.memory c.run.new.callee) (g.B.Body.state c.run.new.body) in
     let there = c.run.new.self.there in
     let fault = c.in_err-ran.field-0.0 in
     let p = err_from_is_err_and c.from_residual.result c.from_residual.ensures.1 in
@@ -33,7 +33,7 @@ returns-in_err-given-clause-call g c =
     let flats = c.args.flats.now in
     let within : ∥ AreWithin r ∥₁ = subst (λ q. ∥ AreWithin q ∥₁) (ap (λ l. l.resolve) c.self.view_is) c.self.inside.within in
     let parties : Parties = record { caller_allocates = g.C.Guest.allocates; callee_allocates = g.E.Guest.allocates; runs = g.B.Body.runs c.args.body.now; posts = g.B.Body.posts c.args.body.now } in
-    let old : World = as_world (g.C.Guest.memory c.args.caller.now) (g.E.Guest.memory c.args.callee.now) (g.B.Body.state c.args.body.now) in
+    let old : CallState = as_state (g.C.Guest.memory c.args.caller.now) (g.E.Guest.memory c.args.callee.now) (g.B.Body.state c.args.body.now) in
     let there = c.give.new.self.there in
     let back = c.give.new.self.back in
     let answer = c.as_slice-answer.result.now in
@@ -44,7 +44,7 @@ returns-in_err-given-clause-call g c =
     let fault = c.in_err-given.field-0.0 in
     let p = err_from_is_err_and c.from_residual-in_err-given.result c.from_residual-in_err-given.ensures.1 in
     let fails : ReturnFails g.C.Guest.allocates f flats ran.bytes answer old.caller fault caller back = rw c.run.ensures.same_package at c.in_err-given.ensures.fault in
-    rw (p.1, p.2) (link-told parties r within c.args.func flats old (Err fault) (as_world caller ran body) there back c.requires.function
+    rw (p.1, p.2) (link-told parties r within c.args.func flats old (Err fault) (as_state caller ran body) there back c.requires.function
     (ends_at_return there back answer fault caller ran body runs fails))
 
 pub returns-in_default-clause-call : goal.returns-in_default-clause-call
@@ -54,7 +54,7 @@ returns-in_default-clause-call g c =
     let flats = c.args.flats.now in
     let within : ∥ AreWithin r ∥₁ = subst (λ q. ∥ AreWithin q ∥₁) (ap (λ l. l.resolve) c.self.view_is) c.self.inside.within in
     let parties : Parties = record { caller_allocates = g.C.Guest.allocates; callee_allocates = g.E.Guest.allocates; runs = g.B.Body.runs c.args.body.now; posts = g.B.Body.posts c.args.body.now } in
-    let old : World = as_world (g.C.Guest.memory c.args.caller.now) (g.E.Guest.memory c.args.callee.now) (g.B.Body.state c.args.body.now) in
+    let old : CallState = as_state (g.C.Guest.memory c.args.caller.now) (g.E.Guest.memory c.args.callee.now) (g.B.Body.state c.args.body.now) in
     let there = c.give.new.self.there in
     let back = c.give.new.self.back in
     let answer = c.as_slice-answer.result.now in
@@ -67,7 +67,7 @@ returns-in_default-clause-call g c =
     let callee = g.E.Guest.memory c.post_return.new.memory in
     let kept = g.B.Body.state c.post_return.new.self in
     let post = (c.run.ensures.same_posts _ _ _ _ _ _).1 c.in_default.ensures.run in
-    rw c.trap.ensures (link-told parties r within c.args.func flats old _ (as_world caller callee kept) there back c.requires.function
+    rw c.trap.ensures (link-told parties r within c.args.func flats old _ (as_state caller callee kept) there back c.requires.function
     (ends_at_post there back answer given caller ran body returns callee kept post))
 
 pub returns-clause-call : goal.returns-clause-call
@@ -77,7 +77,7 @@ returns-clause-call g c =
     let flats = c.args.flats.now in
     let within : ∥ AreWithin r ∥₁ = subst (λ q. ∥ AreWithin q ∥₁) (ap (λ l. l.resolve) c.self.view_is) c.self.inside.within in
     let parties : Parties = record { caller_allocates = g.C.Guest.allocates; callee_allocates = g.E.Guest.allocates; runs = g.B.Body.runs c.args.body.now; posts = g.B.Body.posts c.args.body.now } in
-    let old : World = as_world (g.C.Guest.memory c.args.caller.now) (g.E.Guest.memory c.args.callee.now) (g.B.Body.state c.args.body.now) in
+    let old : CallState = as_state (g.C.Guest.memory c.args.caller.now) (g.E.Guest.memory c.args.callee.now) (g.B.Body.state c.args.body.now) in
     let there = c.give.new.self.there in
     let back = c.give.new.self.back in
     let answer = c.as_slice-answer.result.now in
@@ -90,7 +90,7 @@ returns-clause-call g c =
     let callee = g.E.Guest.memory c.post_return.new.memory in
     let kept = g.B.Body.state c.post_return.new.self in
     let post = (c.run.ensures.same_posts _ _ _ _ _ _).1 c.in-Ok.ensures.run in
-    link-told parties r within c.args.func flats old (Ok given) (as_world caller callee kept) there back c.requires.function
+    link-told parties r within c.args.func flats old (Ok given) (as_state caller callee kept) there back c.requires.function
     (completes there back answer given caller ran body returns callee kept post)
 
 pub returns-in_err-given-clause-promise : goal.returns-in_err-given-clause-promise

@@ -1,7 +1,7 @@
 use Rattle.std.proofs.Common.{None}
 use Rattle.std.proofs.lemmas.Result.{err_from_is_err_and}
-use Rattle.canonical_abi.specs.Call.{Parties, World}
-use Rattle.canonical_abi.specs.Halves.{as_world, HasEntered, RunsBetween, ends_at_entry, ends_at_run}
+use Rattle.canonical_abi.specs.Call.{Parties, CallState}
+use Rattle.canonical_abi.specs.Halves.{as_state, HasEntered, RunsBetween, ends_at_entry, ends_at_run}
 use Rattle.tables.specs.Closed.{function_type}
 use Rattle.adapter.proofs.link.Link.run_walked.Goals as goal
 
@@ -15,7 +15,7 @@ returns-in-Err-clause-fault g c =
     let f = function_type c.args.self.now.resolve c.args.call.now.func in
     let flats = c.args.call.now.flats.now in
     let parties : Parties = record { caller_allocates = g.C.Guest.allocates; callee_allocates = g.E.Guest.allocates; runs = g.B.Body.runs c.args.body.now; posts = g.B.Body.posts c.args.body.now } in
-    let old : World = as_world (g.C.Guest.memory c.args.caller.now) (g.E.Guest.memory c.args.callee.now) (g.B.Body.state c.args.body.now) in
+    let old : CallState = as_state (g.C.Guest.memory c.args.caller.now) (g.E.Guest.memory c.args.callee.now) (g.B.Body.state c.args.body.now) in
     let entered = g.E.Guest.memory c.enter_walked.new.callee in
     let there = c.enter_walked.new.self.there in
     let handed = c.as_slice.result.now in

@@ -1,5 +1,5 @@
 use Rattle.std.proofs.Common.{◌≡◌, ◌+◌, ◌-◌, ◌<◌, length, map, take, drop, ap, ◌∙◌, subst, arith}
-use Rattle.canonical_abi.specs.Call.{Parties, World, exact}
+use Rattle.canonical_abi.specs.Call.{Parties, CallState, exact}
 use Rattle.canonical_abi.specs.Session.{TakesStep}
 use Rattle.witcall.specs.Steps.{IsKnownAnswer, answer_of, step_of, RunsSteps}
 use Rattle.witcall.proofs.SameRuns.{step_alike, same_runs_on, same_posts_on}
@@ -16,9 +16,9 @@ loop-step-preserved g c =
     let posts_now = g.B.Body.posts c.loop-step.self.body in
     let first : Parties = record { caller_allocates = g.C.Guest.allocates; callee_allocates = g.E.Guest.allocates; runs = runs; posts = posts } in
     let later : Parties = record { caller_allocates = g.C.Guest.allocates; callee_allocates = g.E.Guest.allocates; runs = runs_now; posts = posts_now } in
-    let old : World = record { caller = g.C.Guest.memory c.args.self.now.caller; callee = g.E.Guest.memory c.args.self.now.callee; body = g.B.Body.state c.args.self.now.body } in
-    let now : World = record { caller = g.C.Guest.memory c.loop-step.self.caller; callee = g.E.Guest.memory c.loop-step.self.callee; body = g.B.Body.state c.loop-step.self.body } in
-    let new : World = record { caller = g.C.Guest.memory c.take_step-answer.new.self.caller; callee = g.E.Guest.memory c.take_step-answer.new.self.callee; body = g.B.Body.state c.take_step-answer.new.self.body } in
+    let old : CallState = record { caller = g.C.Guest.memory c.args.self.now.caller; callee = g.E.Guest.memory c.args.self.now.callee; body = g.B.Body.state c.args.self.now.body } in
+    let now : CallState = record { caller = g.C.Guest.memory c.loop-step.self.caller; callee = g.E.Guest.memory c.loop-step.self.callee; body = g.B.Body.state c.loop-step.self.body } in
+    let new : CallState = record { caller = g.C.Guest.memory c.take_step-answer.new.self.caller; callee = g.E.Guest.memory c.take_step-answer.new.self.callee; body = g.B.Body.state c.take_step-answer.new.self.body } in
     let before = c.reserve.new.self.items in
     let items = c.loop-step.answers.items in
     let s = c.step-item.result in
