@@ -5,11 +5,11 @@ usage: tools/believed.py [--names] [ITEM..]
 
 An ITEM is a function, CRATE/FILE:NAME, as opening/set.rt:open_set; with :CLAUSE behind it, as
 opening/set.rt:open_set:ok, that clause alone is read. Or it is a definition, CRATE/specs/FILE:NAME, as
-opening/specs/ToldSet:IsToldSetOf, which is counted with all that it leads to. Left out, they are `open_set` and
+opening/specs/ToldSet:IsToldSetOf, which is counted with all that it leads to. Left out, they are `IsToldSetOf` and
 `Session::call`, which the program's answer rests on. From their clauses it follows every name: definitions of specs/,
 those of blocks (`mutual`, `module`) too, and the structs and enums of src/ that these cite. It counts their lines
-without comments and blank lines, and prints the sums by file; with --names also each name. The toolchain's own
-definitions are left out, and of a struct or an enum its attributes and its invariants: a clause speaks of its fields,
+without comments and blank lines, closing lines too, and prints the sums by file; with --names also each name. The
+toolchain's own definitions are left out, and of a struct or an enum its attributes and its invariants: a clause speaks of its fields,
 and what holds of them besides is proved, not believed.
 A name means what the file that cites it defines or imports; of src/ an import leads to the file of the crate that
 declares the name, or to what the crate exports of another. It reads text alone: a local name that is also a
@@ -21,11 +21,13 @@ import sys
 
 from repository import ROOT, parser
 
-CALLS = ["opening/set.rt:open_set", "witcall/session.rt:call"]
+CALLS = ["opening/specs/ToldSet:IsToldSetOf", "witcall/session.rt:call"]
 WORD = re.compile(r"[^\s(){}\[\],;:→λ×⊎∥₁\"|¬?«»&<>=*#!+/]+")
 IMPORT = re.compile(r"^(?:ghost )?(?:pub )?use (Rattle\.[\w.+]+?)(?:\.\{(.*)\})?(?: as (\S+?))?;?$")
 HEAD = re.compile(r"^(?:(?:abbrev|unfoldable|opaque|instance|pub|record|data)\s+)*(\S+)")
 BLOCK = re.compile(r"^(?:(?:abbrev|unfoldable|opaque|pub)\s+)*(?:mutual$|module )")
+# what a line of specs/ begins with that goes on with the definition before it
+CONTINUES = (" ", "}", ")", "]", "(")
 DECLARED = re.compile(r"^pub (?:struct|enum) (\w+)")
 # an import of src/, and what one imports: a path, or a path and several in braces
 USE = re.compile(r"^(?:pub(?:\(\w+\))? )?use ([^;]+);", re.M)
@@ -87,7 +89,7 @@ class File:
             if line.startswith(("use ", "pub use ", "mod ", "pub mod ")) or BLOCK.match(line):
                 name, margin = None, 2 * bool(BLOCK.match(line))
                 continue
-            if not line[margin:].startswith(" "):
+            if not line[margin:].startswith(CONTINUES):
                 name = HEAD.match(line[margin:]).group(1)
             if name:
                 self.definitions[name].append(line[margin:])

@@ -26,6 +26,8 @@ PAGE = ROOT / "docs" / "DEFINITIONS.md"
 FACTS = ROOT / "docs" / "definition-facts.txt"
 LAWS = ROOT / "crates" / "canonical_abi" / "src" / "laws.rt"
 # the two clauses of the promise
+BOTH = ["opening/set.rt:open_set", "witcall/session.rt:call"]
+# the two clauses of these that say what an answer is
 TWO = ["opening/set.rt:open_set:ok", "witcall/session.rt:call:promise"]
 # the same over tame guests
 LIVE = [TWO[0], f"{TWO[1]}_live"]
@@ -58,9 +60,9 @@ nothing wraps.
 
 ## What one answer rests on
 
-`witcall call` prints an answer, such as `8`. Two contracts say what it means: those of `opening::open_set` and
-`witcall::Session::call`. Their clauses cite definitions, and these cite others. All of them have to be right. The rest
-of the repository is proved against them.
+`witcall call` prints an answer, such as `8`. Two statements say what it means: `IsToldSetOf` of what was opened (law
+`sets_are_told`), and the contract of `witcall::Session::call`. They cite definitions, and these cite others. All of
+them have to be right. The rest of the repository is proved against them.
 
 `tools/believed.py` follows the names and counts: {lines:,} lines in {definitions:,} definitions, without comments.
 
@@ -73,6 +75,8 @@ of the repository is proved against them.
 - Attributes and invariants of structs are not counted. A clause speaks of fields. What is true of each value besides is
   proved.
 """
+CALLS = """`tools/believed.py {}` prints what the contracts of both calls need, which also say how the table of a set is
+made and why inputs are refused: {:,} lines."""
 CLAUSES = """`tools/believed.py {}` prints what these two clauses alone need: {:,} lines. With `promise_live`, which is over
 tame memories, in place of `promise` it is {:,}. The others say that there is no second answer, why inputs are refused,
 and which steps a call takes."""
@@ -323,7 +327,8 @@ def page():
     for it, name in found:
         lines[it.split(".")[1]] += len(files()[it].definitions[name])
     needs = lambda *items: count(believed.believed(files(), items))  # noqa: E731
-    said = (CLAUSES.format(" ".join(TWO), needs(*TWO), needs(*LIVE)), SETS.format(TOLD, needs(TOLD), MADE, needs(MADE)))
+    said = (CALLS.format(" ".join(BOTH), needs(*BOTH)), CLAUSES.format(" ".join(TWO), needs(*TWO), needs(*LIVE)),
+            SETS.format(TOLD, needs(TOLD), MADE, needs(MADE)))
     begin = HEAD.format(lines=count(found), definitions=len(found), subjects=subjects(facts, lines),
                         clauses="\n".join(wrapped(" ".join(it.split()), "- ", "  ") for it in said))
     first, *others = facts.parts

@@ -83,6 +83,7 @@ zsh zsh
 man man-db
 tmux tmux
 lintian lintian
+fakeroot fakeroot
 dpkg-deb dpkg
 dpkg-parsechangelog dpkg-dev
 unshare util-linux

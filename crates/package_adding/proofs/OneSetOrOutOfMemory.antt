@@ -69,7 +69,7 @@ module _ (s closed r : Resolve) (id : ℕ) (h : IsAttached s closed r id) where
   component-refused behind answer same e g = by e (subst (λ (x : Resolve). IsRefusedBehind s x e) (same-tables answer closed same) g)
     where
       by : (e : ResolveError) → IsRefusedBehind s closed e → IsWantOfMemoryToAdd e
-      by error.NotThisShape x = absurd (x.3 h.fits behind)
+      by error.NotThisShape x = absurd (x.3 (h.fits, behind))
       by error.NoMemory h = not-refused error.NoMemory h
       by error.SetLimit h = not-refused error.SetLimit h
       by (error.NoPackage p) h = not-refused (error.NoPackage p) h

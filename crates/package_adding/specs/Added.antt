@@ -54,7 +54,7 @@ pub record ComponentIsAdded (raw : RawComponent) (set r : Resolve) (id : ℕ) : 
 
 -- when a component's closed table is refused behind the set: as any other, and 44 also where its imports aren't just those of the set, in its order
 abbrev pub IsRefusedBehind : Resolve → Resolve → ResolveError → Type 0
-IsRefusedBehind set closed error.NotThisShape = HasRoom set × IsNew set closed × HasAll set (others closed) × (Fits set closed → IsBehindImports set closed → ⊥)
+IsRefusedBehind set closed error.NotThisShape = HasRoom set × IsNew set closed × HasAll set (others closed) × ¬ (Fits set closed × IsBehindImports set closed)
 IsRefusedBehind set closed e = IsRefused set closed e
 
 -- the component stands for a closed table, and that is refused behind the set for this reason

@@ -24,6 +24,7 @@ choice_labels (empty l cs) = l ∷ choice_labels cs
 choice_labels (holding l t cs) = l ∷ choice_labels cs
 
 abbrev mutual
+  -- what a tree of names is with its labels: each name is what the names known so far say
   pub labelled_tree : LabelledNames → Tree → LabelledType
   labelled_tree names (PrimTree p) = labelled_prim (prim_of p)
   labelled_tree names TextTree = labelled_string
@@ -47,19 +48,23 @@ abbrev mutual
   first_payload names (holding l t cs) = payload (labelled_tree names t)
   first_payload names _ = no_payload
 
+  -- the second case has no payload where there is none
   pub second_payload : LabelledNames → Choices → Payload
   second_payload names (empty l cs) = first_payload names cs
   second_payload names (holding l t cs) = first_payload names cs
   second_payload names no_choices = no_payload
 
+  -- the members of a tuple, whose fields have no labels
   pub tree_members : LabelledNames → TreeFields → LabelledTypes
   tree_members names no_fields = no_member
   tree_members names (field l t fs) = member (labelled_tree names t) (tree_members names fs)
 
+  -- the fields of a record, in order
   pub tree_fields : LabelledNames → TreeFields → LabelledFields
   tree_fields names no_fields = no_labelled_field
   tree_fields names (field l t fs) = labelled_field l (labelled_tree names t) (tree_fields names fs)
 
+  -- the cases of a variant, in order, with a payload or without
   pub tree_cases : LabelledNames → Choices → LabelledCases
   tree_cases names no_choices = no_labelled_case
   tree_cases names (empty l cs) = labelled_case l no_payload (tree_cases names cs)
