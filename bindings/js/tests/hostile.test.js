@@ -98,7 +98,7 @@ function* elements([name, func, element, place, shared], count) {
   const end = 8 + 4 * element.length * count;
   const bytes = new Uint8Array(end + SHARED).fill(97, end);
   bytes.set(memory(words(8, count)));
-  const one = memory(words(...element.with(place, end)));
+  const one = memory(words(...Object.assign([...element], { [place]: end })));
   for (let k = 0; k < count; k++) bytes.set(one, 8 + one.length * k);
   const all = count * (one.length + shared);
   yield* around(`${count} ${name} at one place`, `take-${func}`, [8, count], 0, bytes, all, [LIMIT]);
