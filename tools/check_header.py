@@ -1,12 +1,13 @@
 #!/usr/bin/env python3
-"""Compares include/witcall.h with what the library declares: each export of crates/witcall_c, and each struct.
+"""Compares include/witcall.h with what the library declares: each export of crates/witcall_c, each struct, and numbers.
 
 usage: tools/check_header.py
 
 An export has the same parameters and result on both sides: a slice is a pointer and a length, a reference a pointer,
 and what allocates is none in C. A pointer is to `const` if the slice or the reference is not `mut`. A struct has the
-same fields in the same order. The structs are those of `repr(C)` in crates/, and STRUCTS names them in C. The exit
-status is 1 if something differs.
+same fields in the same order. The structs are those of `repr(C)` in crates/, and STRUCTS names them in C. A number of
+the header is that of the constant or of the variant that it is named for in crates/host_calls, except those of OTHERS.
+The exit status is 1 if something differs.
 """
 import re
 
@@ -29,6 +30,15 @@ INNER = {"Kept": "*mut ()"}
 # a field that has a keyword's name in C
 RENAMED = {"ty": "type"}
 ALLOCATOR = "Global"
+# the numbers of the header, and those that it shares with the library: of constants and of variants
+DEFINED = re.compile(r"^#define WITCALL_(\w+) (\d+)\b", re.M)
+CONSTANT = re.compile(r"^ *pub const (\w+): usize = (\d+);", re.M)
+ENUMS = "CallError|Step|Primitive|TypeDefKind|ValType|Definition"
+VARIANT = re.compile(rf"\b(?:{ENUMS})::(\w+)[^=\n]* => (\d+),|\b(\d+) => Some\((?:{ENUMS})::(\w+)")
+NUMBERED = ("status.rt", "value.rt", "host_lists/kinds.rt")
+# numbers that no constant and no variant has: codes of a status, what has no kind, kinds of owners, and limits
+OTHERS = ("ABI", "DONE", "REFUSED", "TRAP", "NO_MEMORY", "NO_TYPE", "NO_OWNER", "INTERFACE", "WORLD", "MAX_LABEL",
+          "MAX_STATUS_LINE")
 
 
 def in_c(rust):
@@ -81,6 +91,14 @@ def field_in_c(label, rust):
     return (in_c(array[1]), name, f"[WITCALL_{array[2]}]") if array else (in_c(rust), name, "")
 
 
+def numbers():
+    """The numbers of the library by their names in C."""
+    text = "\n".join(code(ROOT / "crates/host_calls/src" / name) for name in NUMBERED)
+    found = [(name or other, number or before) for name, number, before, other in VARIANT.findall(text)]
+    snake = [(re.sub(r"(?<=[a-z])(?=[A-Z])", "_", name).upper(), number) for name, number in found]
+    return dict([*snake, *CONSTANT.findall(text)])
+
+
 def differing(what, declared, there):
     """Where two declarations differ."""
     for name in sorted(declared.keys() | there.keys()):
@@ -94,9 +112,11 @@ def main():
     prototypes = {name: (result, list(parameters_of(given))) for result, name, given in PROTOTYPE.findall(text)}
     fields = {name: [(kind.strip(), label, array) for kind, label, array in C_FIELD.findall(body)]
               for body, name in C_STRUCT.findall(text)}
-    found, made = dict(exports()), dict(structs())
-    print(f"{len(prototypes)} functions and {len(fields)} structs compared")
+    defined = {name: number for name, number in DEFINED.findall(text) if name not in OTHERS}
+    found, made, known = dict(exports()), dict(structs()), numbers()
+    print(f"{len(prototypes)} functions, {len(fields)} structs and {len(defined)} numbers compared")
     finish([*differing("the function", prototypes, found), *differing("the struct", fields, made),
+            *differing("the number", defined, {name: known.get(name) for name in defined}),
             *(["include/witcall.h: nothing to compare"] if not prototypes or not fields else [])])
 
 

@@ -16,6 +16,7 @@ usage: tools/check_pages.py
 
 Blocks of code are left out. It prints each place that is wrong; the exit status is 1 then.
 """
+import functools
 import re
 
 from repository import ROOT, TOP, finish, is_reference, line_at, pages, place, without_blocks
@@ -37,11 +38,13 @@ CELL = re.compile(r"(?<!\\)\|")
 END = re.compile(r"(?<=[.?!])\)?\*{0,2} (?=[A-Z`\[(*0-9])")
 
 
+@functools.cache
 def prose(path):
     """Returns a page's text without its blocks of code."""
     return without_blocks(path.read_text(encoding="utf-8"))
 
 
+@functools.cache
 def anchors(path):
     """Returns the headings of a page as links name them, and the other anchors."""
     headings = (re.sub(r"\[([^\]]*)\]\([^)]*\)", r"\1", it) for it in re.findall(r"^#+ (.*)$", prose(path), re.M))

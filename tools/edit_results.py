@@ -109,8 +109,9 @@ def checked():
     faults += [f"{place(path)}: it has changed since its result" for name, path in there.items()
                if name in found and found[name][0] != edit_sum(path)]
     faults += [f"tests/edit-results: there is no edit {name}" for name in found if name not in there]
+    sums = {crate: crate_sum(crate) for crate in {name.partition("/")[0] for name in there}}
     since = {name.partition("/")[0] for name, (_, then, *_) in found.items()
-             if name in there and then != crate_sum(name.partition("/")[0])}
+             if name in there and then != sums[name.partition("/")[0]]}
     waiting = [it for it in crates() if it in since]
     print("\n".join([*faults, f"{len(there.keys() & found.keys())} results of {len(there)} edits; crates that were "
                      f"tried over other sources: {', '.join(waiting) or 'none'}"]))
