@@ -18,7 +18,8 @@ What is checked of the pages:
 - Clauses that are named beside functions, as `open`: ok, written, have to be ones of such a function.
 - Words in backquotes behind a crate `rows_..` or `vectors` are names of rows. Each has to be a line of the output of
   that crate, or the name in a line of its input. So has each behind `row` or `rows` that is named as rows are.
-- The numbers of COUNTS are those of the stored rows and of the laws.
+- The numbers of COUNTS are those of the stored rows, of the laws and of the planted faults.
+- The tables of docs/GATE.md have the parts of tools/test.sh, and the lines of its `pages`.
 - Each script of tools/ and bench/ is named on a page, in the gate or in another script. What `python3 -m tools.measure`
   and bench/run.py measure is named in docs/BENCHMARKS.md, and nothing else as such.
 
@@ -33,6 +34,7 @@ import re
 import sys
 
 from check_pages import prose
+from planted_faults import FAULTS
 from repository import (
     ROOT, SPAN, WORD, blocks, code, columns, counted, edits, finish, functions, line_at, pages, place, sources,
     text_rows, vectors,
@@ -66,6 +68,9 @@ ROW_NAME = re.compile(r".*-\d+|[^:]+: .*[^.]", re.S)
 # a cell of docs/guarantees/: functions, and the clauses that all of them have
 GROUP = re.compile(r"((?:`[\w:]+`(?:, )?)+)(?:: ([a-z_0-9]+(?:, [a-z_0-9]+)*))?(?:, parts? (?:`\w+`(?:, )?)+)?")
 NOTE = re.compile(r"\(\d+\)")
+# the names of parts in tools/test.sh, and the lines of `pages`
+PARTS = re.compile(r"^ *(?:FIRST|PROVED|BESIDE)=['\"]([^'\"]*)['\"]", re.M)
+PAGES = re.compile(r"<<'END'\n(.*?)^END$", re.M | re.S)
 # what pages count
 COUNTS = {
     "calls": re.compile(r"stored run is ([\d,]+) calls of every kind"),
@@ -74,6 +79,7 @@ COUNTS = {
     "random steps": re.compile(r"steps of sessions \| ([\d,]+) random lists of each"),
     "random requests": re.compile(r"requests to a memory, and steps of sessions \| ([\d,]+) random lists"),
     "laws": re.compile(r"([\d,]+) laws of them are\s+proved"),
+    "planted faults": re.compile(r"([\d,]+) planted\s+faults"),
 }
 
 
@@ -253,6 +259,7 @@ def all_counts():
         "random steps": steps,
         "random requests": sum(bool(re.fullmatch(r"random-\d+", name)) for name in text_rows()),
         "laws": len(re.findall(r"^ *pub (?:const )?fn ", laws, re.M)),
+        "planted faults": len(FAULTS),
     }
 
 
@@ -274,8 +281,19 @@ def unnamed_scripts():
     texts = {path: path.read_text() for path in (*pages(), *scripts, ROOT / ".ci" / "run", ROOT / "witcall")}
     for script in scripts:
         name = re.compile(rf"\b{place(script)}\b|^ *(?:import|from) (?:tools\.)?{script.stem}\b", re.M)
-        if not any(name.search(text) for path, text in texts.items() if path != script):
+        if not any(script.stem in text and name.search(text) for path, text in texts.items() if path != script):
             yield f"{place(script)}: nothing names it"
+
+
+def wrong_parts():
+    """The parts of tools/test.sh and the lines of its `pages` that docs/GATE.md lists otherwise."""
+    text, lines = (ROOT / "tools/test.sh").read_text(), [*columns((ROOT / "docs/GATE.md").read_text())]
+    parts = {part for names in PARTS.findall(text) for part in names.split() if not part.startswith("$")}
+    scripts = {line for line in PAGES.search(text)[1].splitlines() if line}
+    for what, head, there in (("part", "part", parts), ("line of `pages`", "script", scripts)):
+        told = {cell.strip("`") for _, column, cell in lines if column == head and cell.startswith("`")}
+        yield from (f"docs/GATE.md: no {what} {it} in its table" for it in sorted(there - told))
+        yield from (f"docs/GATE.md: tools/test.sh has no {what} {it}" for it in sorted(told - there))
 
 
 def wrong_measures():
@@ -319,7 +337,7 @@ def faults_of(page, words, all_contracts, all_edits):
 def main():
     """Prints what isn't there, and what is wrong with the pages."""
     words, all_contracts, all_edits = known(), contracts(), {(crate, path.stem) for path, crate in edits()}
-    faults = [*stale_edits(), *wrong_counts(), *unnamed_scripts(), *wrong_measures()]
+    faults = [*stale_edits(), *wrong_counts(), *unnamed_scripts(), *wrong_parts(), *wrong_measures()]
     for page in pages():
         faults += [f"{place(page)}:{number}: {fault}"
                    for number, fault in faults_of(page, words, all_contracts, all_edits)]

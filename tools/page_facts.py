@@ -21,8 +21,11 @@ from check_numbers import spread
 from repository import ROOT, SPAN, code, finish, sources, text_rows, vectors
 
 FACTS = ROOT / "docs" / "page-facts.txt"
-PAGES = ("docs/PROMISE.md", "docs/STANDARD.md", "docs/EXAMPLES.md", "docs/ERRORS.md", "docs/FORMATS.md")
-SHORT = ("docs/EXAMPLES.md", "docs/ERRORS.md", "docs/FORMATS.md")
+WHOLE = ("docs/PROMISE.md", "docs/STANDARD.md")
+# what is guaranteed, except for the pages that scripts make
+GUARANTEES = tuple(f"docs/guarantees/{it}.md" for it in ("sets", "reading", "calls", "memory", "c-hosts", "tests"))
+SHORT = ("docs/EXAMPLES.md", "docs/ERRORS.md", "docs/FORMATS.md", *GUARANTEES, "docs/DECISIONS.md")
+PAGES = (*WHOLE, *SHORT)
 ITEM = re.compile(r"(?:[-*]|\d+\.) ")
 FUNCTION = re.compile(r"^( *)(?:pub(?:\(\w+\))? )?(?:const )?(?:unsafe )?(?:extern \"C\" )?fn (\w+)", re.M)
 CLAUSE = re.compile(r"^ +ensures (\w*) ?\{", re.M)

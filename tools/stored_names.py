@@ -5,17 +5,18 @@ usage: tools/stored_names.py [--check]
 
 tests/names has for each file of tests its path, how many it has, and their names in order: the rows of crates/vectors,
 the stored runs of tests/explain, the files of tests/binaries, and the tests of crates and bindings. So it has the
-tables in the scripts of tools/ with their sizes, of which many are exceptions of a check, their limits, and the steps
-of the gate: the lines of GATE. Names that differ in a number alone are one line, `NAME-1 to 9`. Without words the
-script writes this file. With --check it compares the two, and the table of rows in docs/guarantees/tests.md: each name
-there is one of the file beside it, and of rows that begin or end as `..` says there are as many as it says. The exit
-status is 1 if something differs.
+tables in the scripts of tools/ with their sizes and numbers, of which many are exceptions of a check, their limits, the
+steps of the gate, which are the lines of GATE, and the planted faults. Names that differ in a number alone are one
+line, `NAME-1 to 9`. Without words the script writes this file. With --check it compares the two, and the table of rows
+in docs/guarantees/tests.md: each name there is one of the file beside it, and of rows that begin or end as `..` says
+there are as many as it says. The exit status is 1 if something differs.
 """
 import ast
 import json
 import re
 import sys
 
+from planted_faults import FAULTS
 from repository import ROOT, SPAN, columns, counted, finish, place
 
 STORED = ROOT / "tests" / "names"
@@ -41,11 +42,13 @@ ANY = re.compile(r"`(\.\. )?([^`]+?)( \.\.)?` \(([\d,]+)\)")
 
 
 def tables_of(path):
-    """The tables and limits that a script begins with: the size of each table, and each number."""
+    """The tables and limits that a script begins with: the size of each table with its numbers, and each number."""
     for node in ast.parse(path.read_text()).body:
         name = node.targets[0].id if isinstance(node, ast.Assign) and isinstance(node.targets[0], ast.Name) else ""
         if name.isupper() and isinstance(node.value, (ast.Dict, ast.List, ast.Set, ast.Tuple)):
-            yield f"{name} of {len(getattr(node.value, 'elts', getattr(node.value, 'keys', ())))}"
+            held = getattr(node.value, "elts", None) or getattr(node.value, "values", [])
+            numbers = [str(it.value) for it in held if isinstance(it, ast.Constant) and isinstance(it.value, int)]
+            yield f"{name} of {len(held)}{': ' * bool(numbers)}{', '.join(numbers)}"
         elif name.isupper() and isinstance(node.value, ast.Constant) and isinstance(node.value.value, int):
             yield f"{name} is {node.value.value}"
 
@@ -65,6 +68,7 @@ def names_by_file():
     scripts = sorted((ROOT / "tools").rglob("*.py"))
     found.update((place(path), list(tables_of(path))) for path in scripts)
     found.update((path, STEP.findall((ROOT / path).read_text())) for path in GATE)
+    found["tools/planted_faults.py"] = [f"{it.check}: {it.name}" for it in FAULTS]
     return {path: names for path, names in found.items() if names}
 
 
@@ -83,7 +87,7 @@ def lines_of(names):
 
 def text():
     """The text of tests/names."""
-    lines = ["# The names of all stored rows, runs and tests, the sizes of tables, and the steps of the gate.",
+    lines = ["# The names of stored rows, runs, tests and planted faults, the sizes of tables, and steps of the gate.",
              "# tools/stored_names.py writes this file and compares it."]
     for path, names in names_by_file().items():
         lines += [f"{path}: {len(names)}", *(f"  {line}" for line in lines_of(names))]

@@ -5,6 +5,7 @@
 # usage: tools/test.sh                   all parts
 #        tools/test.sh --only PART..     these parts, over what an earlier run built
 #        tools/test.sh --edits [CRATE..] all must-fail edits of the crates that changed since their last result, or of these
+#        tools/test.sh --planted         whether the checks notice planted faults
 #
 # If the sources are newer than the release, and there is no toolchain, the tests of the release's own commit are run.
 #
@@ -241,12 +242,15 @@ case "${1-}" in
     --edits)
         shift
         exec python3 -B tools/edit_results.py "$@" ;;
+    --planted)
+        shift
+        exec python3 -B tools/planted.py "$@" ;;
     --run) # a part in the background
         run "$2"
         exit 0 ;;
     '') ;;
     *)
-        echo "usage: tools/test.sh [--only PART.. | --edits [CRATE..]]" >&2
+        echo "usage: tools/test.sh [--only PART.. | --edits [CRATE..] | --planted]" >&2
         exit 2 ;;
 esac
 if [ -z "$toolchain" ]; then
