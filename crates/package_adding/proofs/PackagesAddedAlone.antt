@@ -166,7 +166,7 @@ module _ (none : Resolve) (e : IsEmpty none) where
   component-refused raw error.NotThisShape (inl h) = h.1
   component-refused raw error.NotThisShape (inr (closed, of, h)) =
       let alone = imports-nothing raw closed of h.2 in
-      absurd (h.3 (attached-alone none closed e (∥∥₁_map of.stands (λ s. s.form)) alone).fits (behind-alone none e closed alone))
+      absurd (h.3 ((attached-alone none closed e (∥∥₁_map of.stands (λ s. s.form)) alone).fits, behind-alone none e closed alone))
   component-refused raw error.NoMemory h = h.1
   component-refused raw error.EmptyPackage h = h.1
   component-refused raw error.Cycle h = h.1
