@@ -11,3 +11,4 @@ pub mod LikenessIsExact
 pub mod Ranks
 pub mod VerdictsAreExact
 pub mod PartnersByNames
+pub mod OneMore

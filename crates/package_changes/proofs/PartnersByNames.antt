@@ -1,9 +1,6 @@
 -- Functions are paired by names, and what is said of a pair is exact.
 use Rattle.std.proofs.Common.{◌≡◌, ℕ, ◌+◌, ◌<◌, Bool, true, List, [], ◌∷◌, ◌++◌, map, take, get_or, All, length, IsTrue, Option, Some, None, IfSome, IfNone, MatchOption, slice_get, refl, ap, sym, subst, ◌∙◌}
 use Rattle.std.specs.Option.{option_map}
-use Rattle.std.proofs.lemmas.Grind.{take_at_read}
-use Rattle.std.proofs.lemmas.List.{map-append}
-use Rattle.std.proofs.lemmas.List.Elements.{All-push}
 use Rattle.canonical_abi.specs.Labelled.{LabelledType, labelled_record}
 use Rattle.function_index.specs.Named.{IsNamedOfWorld}
 use Rattle.tables.specs.Closed.{function_at, IsFunction}
@@ -126,13 +123,3 @@ pub judged-removed : (r s : Resolve) (p : Place) (x : Role) (o : Option Function
     → IsJudged r s (record { place = p; role = x; new = o; verdict = verdict.Removed })
 judged-removed r s p x None is none e = record { role = is; pair = none; verdict = refl }
 judged-removed r s p x (Some g) is pair e = absurd (cc)
-
--- functions judged one after the other
-pub places-more : (js ks : List Judged) (j : Judged) (ps : List Place) (i : ℕ) (d : Place) → i < length ps → map (λ k. k.place) js ≡ take i ps → j.place ≡ get_or ps i d
-    → ks ≡ js ++ j ∷ [] → map (λ k. k.place) ks ≡ take (i + 1) ps
-places-more js ks j ps i d h so at more =
-    ap (map (λ (k : Judged). k.place)) more ∙ map-append (λ (k : Judged). k.place) js (j ∷ [])
-    ∙ ap (λ (l : List Place). l ++ j.place ∷ []) so ∙ ap (λ (x : Place). take i ps ++ x ∷ []) at ∙ sym (take_at_read ps i d h).1
-
-pub judged-more : (r s : Resolve) (js ks : List Judged) (j : Judged) → All (IsJudged r s) js → IsJudged r s j → ks ≡ js ++ j ∷ [] → All (IsJudged r s) ks
-judged-more r s js ks j all here more = subst (All (IsJudged r s)) (sym more) (All-push (IsJudged r s) js j all here)

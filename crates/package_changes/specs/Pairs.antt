@@ -1,5 +1,6 @@
 -- Which newer function each older one became, and what is said of it.
-use Rattle.std.specs.Prelude.{◌≡◌, ◌-◌, ℕ, Bool, List, filter, length, Option, Some, None, MatchOption, slice_get}
+use Rattle.std.specs.Prelude.{◌≡◌, ◌-◌, ℕ, Bool, ◌&&◌, List, filter, length, Option, Some, None, MatchOption, slice_get}
+use Rattle.std.specs.Str.{bytes_eq}
 use Rattle.tables.specs.Names.{function_name, IsNamed}
 use Rattle.tables.specs.PackageNames.{PackageParts, own_name}
 use Rattle.tables.specs.declared.tables.FunctionId.{FunctionId}
@@ -23,6 +24,10 @@ last_package r = slice_get r.packages (length r.packages - 1)
 abbrev pub AreVersions : Option PackageParts → Option PackageParts → Type 0
 AreVersions (Some p) (Some q) = (p.namespace ≡ q.namespace) × (p.name ≡ q.name)
 AreVersions _ _ = ⊥
+
+-- the same of two packages, as a test
+abbrev pub are_of_one_name : PackageParts → PackageParts → Bool
+are_of_one_name p q = bytes_eq p.namespace q.namespace && bytes_eq p.name q.name
 
 -- the full name of an interface or a world of this label in the last package
 abbrev pub new_name : Option PackageParts → List ℕ → List ℕ

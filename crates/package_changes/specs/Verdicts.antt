@@ -91,3 +91,11 @@ pub record IsVerdict (x : Role) (f g : LabelledFunction) (v : Verdict) : Type 0 
   pub changed : (v ≡ verdict.Changed) ↔ ¬ IsTaken x f g
   pub moved : (v ≡ verdict.Moved) ↔ (IsTaken x f g × IsTrue (function_moves f g))
   pub wider : (v ≡ verdict.Wider) ↔ (IsTaken x f g × (¬ AreClosedAlike f g) × (function_moves f g ≡ false) × (function_renames f g ≡ false))
+
+-- a type as the only thing that crosses
+abbrev pub alone : LabelledType → LabelledFunction
+alone t = record { params = t; result = None }
+
+-- the verdict of a type of which an older host sends values
+abbrev pub IsTypeVerdict : LabelledType → LabelledType → Verdict → Type 0
+IsTypeVerdict t u v = IsVerdict role.Called (alone t) (alone u) v

@@ -5,7 +5,7 @@ ghost use Rattle.tables.specs.declared.tables.FunctionId.{FunctionId};
 ghost use Rattle.function_index.specs.Index.{IsIndexOf};
 ghost use Rattle.package_changes.specs.Comparing.{AreRight};
 ghost use Rattle.package_changes.specs.Judging.{own_functions};
-ghost use Rattle.package_changes.specs.Pairs.{IsJudged, IsPartner, is_lost, last_package, lost};
+ghost use Rattle.package_changes.specs.Pairs.{IsJudged, IsPartner, are_of_one_name, is_lost, last_package, lost};
 ghost use Rattle.package_changes.specs.Verdicts.{IsVerdict, labelled_function};
 
 use crate::comparing::Comparer;
@@ -29,7 +29,7 @@ pub struct Judged {
 }
 
 /// The last package of a table.
-fn last_package(table: &Resolve) -> Option<&PackageName>
+pub fn last_package(table: &Resolve) -> Option<&PackageName>
     ensures { MatchOption result (last_package table.now ≡ None) (λ p. last_package table.now ≡ Some p.now) }
 {
     let packages = table.packages.as_slice();
@@ -100,8 +100,9 @@ impl Pairs<'_> {
 }
 
 /// Whether two packages have one name, but for their versions.
-fn are_versions(one: &PackageName, other: &PackageName) -> bool
-    ensures { IsTrue result ↔ ((one.now.namespace ≡ other.now.namespace) × (one.now.name ≡ other.now.name)) }
+pub fn are_versions(one: &PackageName, other: &PackageName) -> bool
+    ensures test { result ≡ are_of_one_name one.now other.now }
+    ensures named { IsTrue result ↔ ((one.now.namespace ≡ other.now.namespace) × (one.now.name ≡ other.now.name)) }
 {
     one.namespace.as_bytes() == other.namespace.as_bytes()
         && one.name.as_bytes() == other.name.as_bytes()

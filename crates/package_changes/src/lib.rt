@@ -17,8 +17,8 @@ mod types;
 mod verdicts;
 
 pub use edition::Edition;
-pub use judging::{Judged, lost, verdicts_of};
+pub use judging::{Judged, are_versions, last_package, lost, verdicts_of};
 pub use likeness::Likeness;
-pub use places::{Place, Standing};
+pub use places::{Place, Standing, is_last, is_side};
 pub use types::TypeComparison;
 pub use verdicts::{Role, Verdict};

@@ -25,7 +25,7 @@ pub struct Place {
 }
 
 /// Whether a package is the last one.
-fn is_last(table: &Resolve, package: PackageId) -> bool
+pub fn is_last(table: &Resolve, package: PackageId) -> bool
     ensures { result ≡ is_last table.now «package» }
 {
     (package.0 as usize) + 1 == table.packages.len()
@@ -94,7 +94,8 @@ pub(crate) fn own_functions(alloc: Global, table: &Resolve) -> Result<Vec<Place>
     Ok(places)
 }
 
-fn is_side(direction: Direction, side: Direction) -> bool
+/// Whether a direction is this one.
+pub fn is_side(direction: Direction, side: Direction) -> bool
     ensures { result ≡ is_side direction side }
 {
     match direction {

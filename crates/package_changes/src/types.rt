@@ -4,11 +4,13 @@ ghost use Rattle.tables.specs.Labelled.{labelled_type};
 ghost use Rattle.tables.specs.Standard.{IsTypeOf};
 ghost use Rattle.package_changes.specs.Comparing.{AreRight};
 ghost use Rattle.package_changes.specs.Exact.{IsLikeness};
+ghost use Rattle.package_changes.specs.Verdicts.{IsTypeVerdict};
 
 use crate::comparing::Comparer;
 use crate::edition::Edition;
 use crate::known::Known;
 use crate::likeness::Likeness;
+use crate::verdicts::{Role, Verdict};
 use std::alloc::{AllocError, Global};
 use tables::ValType;
 
@@ -29,6 +31,18 @@ impl<'a> TypeComparison<'a> {
         let known = Known::new(alloc);
         let comparer = Comparer { alloc, old, new };
         TypeComparison { comparer, known }
+    }
+
+    /// What a host that sends values of the older type can do with the newer one.
+    pub fn verdict(&mut self, old: ValType, new: ValType) -> Result<Verdict, AllocError>
+        requires old { IsTypeOf self.old.comparer.old.table.now old }
+        requires new { IsTypeOf self.old.comparer.new.table.now new }
+        ensures exact { IfOk result (IsTypeVerdict (labelled_type self.old.comparer.old.table.now old)
+            (labelled_type self.old.comparer.new.table.now new)) }
+        ensures kept { self.new.comparer ≡ self.old.comparer }
+    {
+        let likeness = self.comparer.compare(&mut self.known, old, new)?;
+        Ok(Role::Called.verdict_of(likeness, Likeness::of_leaves(true)))
     }
 
     /// How alike two types are.

@@ -12,7 +12,7 @@ returns-in_ok-full_name-in-Some-interface_at-clause-pair c =
     let r = c.args.self.now.old.now in
     let s = c.args.self.now.new.now in
     let versions : AreVersions (last_package r) (last_package s) =
-    are-versions r s c.in-Some.was.now c.in-Some-last_package.is'.now c.in-Some.ensures c.in-Some-last_package.ensures (c.if-not-are_versions.ensures.0 refl) in
+    are-versions r s c.in-Some.was.now c.in-Some-last_package.is'.now c.in-Some.ensures c.in-Some-last_package.ensures (c.if-not-are_versions.ensures.named.0 refl) in
     let named : function_name r c.args.place.function ≡ Some c.as_str-name.result.now =
     ap (option_map (λ (f : Function). f.name)) c.signature.ensures ∙ ap (λ n. Some n) (sym c.as_str-name.ensures.is) in
     let get : slice_get r.interfaces c.in-Interface.i ≡ Some c.in-Some-interface_at.interface.now = c.in-Some-interface_at.ensures in
@@ -25,7 +25,7 @@ returns-in-None-clause-pair c =
     let r = c.args.self.now.old.now in
     let s = c.args.self.now.new.now in
     let versions : AreVersions (last_package r) (last_package s) =
-    are-versions r s c.in-Some.was.now c.in-Some-last_package.is'.now c.in-Some.ensures c.in-Some-last_package.ensures (c.if-not-are_versions.ensures.0 refl) in
+    are-versions r s c.in-Some.was.now c.in-Some-last_package.is'.now c.in-Some.ensures c.in-Some-last_package.ensures (c.if-not-are_versions.ensures.named.0 refl) in
     let named : function_name r c.args.place.function ≡ Some c.as_str-name.result.now =
     ap (option_map (λ (f : Function). f.name)) c.signature.ensures ∙ ap (λ n. Some n) (sym c.as_str-name.ensures.is) in
     let none : slice_get r.interfaces c.in-Interface.i ≡ None = c.in-None.ensures in
@@ -36,7 +36,7 @@ returns-in_ok-full_name-in-Some-world_at-clause-pair c =
     let r = c.args.self.now.old.now in
     let s = c.args.self.now.new.now in
     let versions : AreVersions (last_package r) (last_package s) =
-    are-versions r s c.in-Some.was.now c.in-Some-last_package.is'.now c.in-Some.ensures c.in-Some-last_package.ensures (c.if-not-are_versions.ensures.0 refl) in
+    are-versions r s c.in-Some.was.now c.in-Some-last_package.is'.now c.in-Some.ensures c.in-Some-last_package.ensures (c.if-not-are_versions.ensures.named.0 refl) in
     let named : function_name r c.args.place.function ≡ Some c.as_str-name.result.now =
     ap (option_map (λ (f : Function). f.name)) c.signature.ensures ∙ ap (λ n. Some n) (sym c.as_str-name.ensures.is) in
     let get : slice_get r.worlds c.in-World.i ≡ Some c.in-Some-world_at.world.now = c.in-Some-world_at.ensures in
@@ -49,7 +49,7 @@ returns-in-None-world_at-clause-pair c =
     let r = c.args.self.now.old.now in
     let s = c.args.self.now.new.now in
     let versions : AreVersions (last_package r) (last_package s) =
-    are-versions r s c.in-Some.was.now c.in-Some-last_package.is'.now c.in-Some.ensures c.in-Some-last_package.ensures (c.if-not-are_versions.ensures.0 refl) in
+    are-versions r s c.in-Some.was.now c.in-Some-last_package.is'.now c.in-Some.ensures c.in-Some-last_package.ensures (c.if-not-are_versions.ensures.named.0 refl) in
     let named : function_name r c.args.place.function ≡ Some c.as_str-name.result.now =
     ap (option_map (λ (f : Function). f.name)) c.signature.ensures ∙ ap (λ n. Some n) (sym c.as_str-name.ensures.is) in
     let none : slice_get r.worlds c.in-World.i ≡ None = c.in-None-world_at.ensures in
