@@ -152,8 +152,7 @@ class Version:
         for world in self.last.worlds:
             for item in world.items:
                 self.item(self.base + world.name, item)
-        self.owners = {name.split(" ")[0] for name in self.order}
-        self.owners |= {self.base + it.name for it in self.last.interfaces if it.types or it.uses}
+        self.owners = {self.base + it.name for it in (*self.last.interfaces, *self.last.worlds)}
 
     def keep(self, owner, side, function, interface):
         """Keeps a function."""
@@ -180,11 +179,16 @@ class Version:
         sides = {it.split(" ")[1] for it in self.interfaces if it.split(" ")[2] == owner}
         return "both" if len(sides) == 2 else "served" if sides == {"import"} else "called"
 
+    def has(self, name):
+        """Whether there is an item of this name."""
+        return name in self.functions or name in self.interfaces
 
-def turned(name):
-    """The name of an item on the other side of its world."""
+
+def turns(name, before, after):
+    """Whether an item of a world is on the other side after, and was not before."""
     owner, side, *rest = name.split(" ")
-    return " ".join([owner, {"import": "export", "export": "import"}.get(side, side), *rest])
+    other = " ".join([owner, {"import": "export", "export": "import"}.get(side, side), *rest])
+    return bool(rest) and after.has(other) and not before.has(other)
 
 
 def of_old(old, new, name):
@@ -194,14 +198,14 @@ def of_old(old, new, name):
         if name in old.interfaces:
             return "same"
         return verdict(old.role(name), old.functions[name], new.functions[name])
-    if name.count(" ") == 2 and turned(name) in {*new.functions, *new.interfaces}:
+    if turns(name, old, new):
         return "turned"
     return "missing" if name in old.interfaces and " export " in name else "removed"
 
 
 def of_new(old, new, name):
     """What a new item is, or None if it is not new."""
-    if {name, turned(name) if name.count(" ") == 2 else name} & {*old.functions, *old.interfaces}:
+    if old.has(name) or turns(name, new, old):
         return None
     is_served = " import " in name if name.count(" ") == 2 else new.role(name) != "called"
     return "needed" if is_served and name.split(" ")[0] in old.owners else "added"
