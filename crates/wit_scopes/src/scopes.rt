@@ -1,7 +1,10 @@
 //! The names of a set of files.
 ghost use Rattle.std.specs.Prelude.{◌≡◌, ◌↔◌, IfOk, IsTrue, All, slice_get, option_map, position};
 ghost use Rattle.std.specs.Str.{bytes_eq};
+ghost use Rattle.indexmap.specs.IndexMap.{get_by};
+ghost use Rattle.indexmap.specs.IndexSet.{contains_by};
 ghost use Rattle.wit_names.specs.Sites.{is_site};
+ghost use Rattle.wit_scopes.specs.Keys.{is_in_scope, is_of_include};
 
 use crate::collecting::collect;
 use crate::found::Found;
@@ -144,22 +147,30 @@ impl<'a> Scopes<'a> {
     }
 
     /// The first declaration of a name in a scope, but for exports of worlds.
-    pub fn declared(&self, scope: ScopeId, name: NameId) -> Option<DeclarationId> {
+    pub fn declared(&self, scope: ScopeId, name: NameId) -> Option<DeclarationId>
+        ensures { result ≡ get_by (is_in_scope scope name) self.now.found.declared }
+    {
         self.found.declared.get(&(scope, name)).copied()
     }
 
     /// The first export of a name in a world's scope.
-    pub fn exported(&self, scope: ScopeId, name: NameId) -> Option<DeclarationId> {
+    pub fn exported(&self, scope: ScopeId, name: NameId) -> Option<DeclarationId>
+        ensures { result ≡ get_by (is_in_scope scope name) self.now.found.exported }
+    {
         self.found.exported.get(&(scope, name)).copied()
     }
 
     /// Whether a name is in what can't be read of a scope, so that it may be declared there.
-    pub fn is_unread(&self, scope: ScopeId, name: NameId) -> bool {
+    pub fn is_unread(&self, scope: ScopeId, name: NameId) -> bool
+        ensures { result ≡ contains_by (is_in_scope scope name) self.now.found.unread }
+    {
         self.found.unread.contains(&(scope, name))
     }
 
     /// Whether an `include`, by its index, brings a name of its world in under another one.
-    pub fn is_renamed(&self, include: usize, name: NameId) -> bool {
+    pub fn is_renamed(&self, include: usize, name: NameId) -> bool
+        ensures { result ≡ contains_by (is_of_include include name) self.now.found.renamed }
+    {
         self.found.renamed.contains(&(include, name))
     }
 }
