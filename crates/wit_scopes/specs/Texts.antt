@@ -5,4 +5,4 @@ use Rattle.wit_names.specs.declared.file.File.{File}
 
 -- the text of a file of a set, by its number: nothing if there is no such file
 abbrev pub text_of : List File → ℕ → List ℕ
-text_of fs number = option_map_or (λ (f : File). f.text.now) [] (slice_get fs number)
+text_of fs number = option_map_or (λ (f : File). f.text.now) (slice_get fs number) []

@@ -12,4 +12,4 @@ mod opening;
 mod scopes;
 mod walk;
 
-pub use scopes::{Scopes, scopes_of};
+pub use scopes::{Scopes, scopes_of, text_of};

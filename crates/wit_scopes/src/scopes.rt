@@ -5,6 +5,7 @@ ghost use Rattle.indexmap.specs.IndexMap.{get_by};
 ghost use Rattle.indexmap.specs.IndexSet.{contains_by};
 ghost use Rattle.wit_names.specs.Sites.{is_site};
 ghost use Rattle.wit_scopes.specs.Keys.{is_in_scope, is_of_include};
+ghost use Rattle.wit_scopes.specs.Texts.{text_of};
 
 use crate::collecting::collect;
 use crate::found::Found;
@@ -84,6 +85,16 @@ pub fn scopes_of<'a>(alloc: Global, files: &'a [File<'a>]) -> Result<Scopes<'a>,
         return Err(AllocError);
     }
     Ok(Scopes { files, found })
+}
+
+/// The text of a file of a set, by its number. No text if there is no such file.
+pub fn text_of<'a>(files: &[File<'a>], number: usize) -> &'a str
+    ensures { result.now ≡ text_of files.now number }
+{
+    match files.get(number) {
+        Some(file) => file.text,
+        None => "",
+    }
 }
 
 impl<'a> Scopes<'a> {
