@@ -7,7 +7,7 @@ use atoms::Watched;
 use std::alloc::{AllocError, Global};
 use std::process::ExitCode;
 use std::{env, fs, io};
-use witcall::{Refused, Reply, open_set, read_all, report, run_call_with, run_set};
+use witcall::{Refused, Reply, open_set, read_all, report, run_call, run_set};
 use words::asked::{Command, Job};
 use words::{WordsError, command};
 
@@ -73,15 +73,16 @@ fn call(
     files.push(read(rt, file)?).map_err(AllocError::from)?;
     let inputs = lent(alloc, files.as_slice())?;
     let package = open_set(alloc, inputs.as_slice())?;
-    let mut body = Reply::of(alloc, &package, interface, function, reply)?;
+    let body = Reply::of(alloc, &package, interface, function, reply)?;
+    let body = Box::new(alloc, body).map_err(|_| Refused::NoMemory)?;
     let mut output = Watched::new(rt.stdout());
-    run_call_with(
+    run_call(
         alloc,
         &package,
         interface,
         function,
         arguments,
-        &mut body,
+        body,
         &mut output,
     )
 }
