@@ -205,8 +205,8 @@ impl<'a> Link<'a> {
     /// many as there are, and the answer is how many there are in all, as far as 64 bits count. So a host may ask with
     /// no slot first, and have the blocks at hand when `enter` asks for them. If the flat values denote no arguments
     /// over the caller, it returns the trap in `lift-args` that `enter` comes to if the callee refuses nothing
-    /// before, and the slots say nothing. Takes no memory of the host. `nodes` then counts as the first how many values
-    /// were visited, whatever the answer is: elements that ask for nothing whatever their bytes are, aren't.
+    /// before, and the slots say nothing. Takes no memory of the host. `nodes` then counts as the first at most as many
+    /// values as were visited, whatever the answer is: no element that asks for nothing whatever its bytes are counts.
     pub fn enter_requests<C: Guest>(
         &mut self,
         func: FunctionId,
@@ -238,7 +238,7 @@ impl<'a> Link<'a> {
 
     /// What `leave` will ask the caller for, in the same way: for what the answer denotes over the callee, the return
     /// area aside, for which nothing is asked. If it denotes nothing, the answer is the trap in `lift-result`.
-    /// `nodes` then counts as the second how many values were visited.
+    /// `nodes` then counts as the second at most as many values as were visited.
     pub fn leave_requests<E: Guest>(
         &mut self,
         func: FunctionId,
