@@ -60,6 +60,7 @@ pub one-told : (out : List Part) (size align : ℕ) (t : ClosedType) → 0 < len
     → TellsParts out (slice_set out 0 (record { size = size; align = align; offset = 0 })) 1 (field t no_field)
 one-told [] size align t below same = absurd (omega (arith, below))
 one-told (x ∷ xs) size align t below same = record {
+  counted = refl;
   extents = ap (λ e. e ∷ []) (sym same);
   places = ap (λ n. n ∷ []) (sym (first-place t));
   rest = refl;

@@ -12,6 +12,7 @@ extent_of_part p = record { size = p.size; align = p.align }
 
 -- an array tells these fields at its front, whose number is the count, and what stands behind them is as it was
 pub record TellsParts (old new : List Part) (count : ℕ) (fs : Fields) : Type 0 where
+  pub counted : count ≡ length (field_extents fs)
   pub extents : map extent_of_part (take count new) ≡ field_extents fs
   pub places : map (λ p. p.offset) (take count new) ≡ field_places fs
   pub rest : drop count new ≡ drop count old

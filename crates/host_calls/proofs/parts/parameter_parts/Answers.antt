@@ -44,6 +44,7 @@ returns c =
     let all : c.loop-place.place ≡ c.len-count.result = omega (arith, c.loop-place-test.false, c.loop-place.auto.place-end) in
     let places = places-count 0 (field_extents fs) in
     record {
+      counted = count;
       extents = rw all at c.loop-place.invariant.0 ∙ ap (λ t. take c.len-count.result (field_extents (record_fields t))) row ∙ take_all c.len-count.result (field_extents fs) (omega (arith, count));
       places = rw all at c.loop-place.invariant.1 ∙ ap (λ t. take c.len-count.result (field_places (record_fields t))) row ∙ take_all c.len-count.result (field_places fs) (omega (arith, count, places));
       rest = c.loop-place.invariant.2;
