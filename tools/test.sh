@@ -132,7 +132,7 @@ terminal() { python3 -B tools/terminal_test.py --program "$built/wit-explain"; }
 
 help() { python3 -B tools/check_help.py --witcall "$built/witcall" --wit-explain "$built/wit-explain"; }
 
-# What wit-explain binds: the stored header, and the declarations for TypeScript by its compiler.
+# What wit-explain binds: the stored header, and declarations by the compilers of their languages.
 bound() {
     "$built/wit-explain" bind c examples/c/shop.wit | cmp - examples/c/shop.h &&
         python3 -B tools/check_declarations.py --program "$built/wit-explain"

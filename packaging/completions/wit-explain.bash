@@ -14,7 +14,7 @@ _wit_explain() {
         options='check format show text bin encode embed decode layout diff call bind --help --version'
         mapfile -t COMPREPLY < <(compgen -W "$options" -- "$current")
     elif [[ ${COMP_WORDS[1]} == bind && $COMP_CWORD -eq 2 && $current != -* ]]; then
-        mapfile -t COMPREPLY < <(compgen -W 'c guest ts' -- "$current")
+        mapfile -t COMPREPLY < <(compgen -W 'c guest ts python' -- "$current")
     elif [[ $current == -* ]]; then
         case ${COMP_WORDS[1]} in
             check | show) options='--json --color --help' ;;

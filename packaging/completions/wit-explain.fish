@@ -26,9 +26,11 @@ complete -c wit-explain -n '__fish_seen_subcommand_from bind; and __fish_seen_su
 complete -c wit-explain -n '__fish_seen_subcommand_from bin encode embed' -s o -l output -r -F \
     -d 'the file of the binary'
 complete -c wit-explain -n '__fish_seen_subcommand_from layout call' -l svg -r -F -d 'write an SVG picture'
-complete -c wit-explain -n '__fish_seen_subcommand_from bind; and not __fish_seen_subcommand_from c guest ts' \
+complete -c wit-explain -n '__fish_seen_subcommand_from bind; and not __fish_seen_subcommand_from c guest ts python' \
     -f -a c -d 'the language C'
-complete -c wit-explain -n '__fish_seen_subcommand_from bind; and not __fish_seen_subcommand_from c guest ts' \
+complete -c wit-explain -n '__fish_seen_subcommand_from bind; and not __fish_seen_subcommand_from c guest ts python' \
     -f -a guest -d 'a guest in C'
-complete -c wit-explain -n '__fish_seen_subcommand_from bind; and not __fish_seen_subcommand_from c guest ts' \
+complete -c wit-explain -n '__fish_seen_subcommand_from bind; and not __fish_seen_subcommand_from c guest ts python' \
     -f -a ts -d 'TypeScript'
+complete -c wit-explain -n '__fish_seen_subcommand_from bind; and not __fish_seen_subcommand_from c guest ts python' \
+    -f -a python -d 'Python'

@@ -21,6 +21,7 @@ pub enum Verb {
     HeaderForC,
     HeaderForGuest,
     DeclarationsForTs,
+    DeclarationsForPython,
 }
 
 /// Whether a command has an option.
@@ -48,7 +49,7 @@ const AS_JSON: [Use; 5] = [Use::Must, Use::Never, Use::Never, Use::Never, Use::N
 const DRAWN: [Use; 5] = [Use::Never, Use::May, Use::Never, Use::Never, Use::Never];
 
 /// The commands.
-static COMMANDS: [Row; 17] = [
+static COMMANDS: [Row; 18] = [
     (
         "--version",
         "",
@@ -108,6 +109,13 @@ static COMMANDS: [Row; 17] = [
         Verb::HeaderForGuest,
     ),
     ("bind", "ts", (1, MANY), PLAIN, Verb::DeclarationsForTs),
+    (
+        "bind",
+        "python",
+        (1, MANY),
+        PLAIN,
+        Verb::DeclarationsForPython,
+    ),
 ];
 
 /// A command that is asked for.

@@ -7,8 +7,8 @@ use checked_packages::{Checked, CheckedSet, main_of};
 use layout_picture::Form;
 use module_worlds::EmbedError;
 use package_commands::{
-    Unembedded, binary_of, declarations_for_ts, document_of, embedded, encoded, header_for_c,
-    header_for_guest, picture_of, push_contents, text_of,
+    Unembedded, binary_of, declarations_for_python, declarations_for_ts, document_of, embedded,
+    encoded, header_for_c, header_for_guest, picture_of, push_contents, text_of,
 };
 use wit_faults::Report;
 
@@ -126,6 +126,13 @@ fn bind_ts(rt: &HostRuntime, report: &mut Report, packages: &CheckedSet) {
         .push_made(declarations_for_ts(rt.alloc(), packages));
 }
 
+/// Writes a module of Python for packages.
+fn bind_python(rt: &HostRuntime, report: &mut Report, packages: &CheckedSet) {
+    report
+        .text
+        .push_made(declarations_for_python(rt.alloc(), packages));
+}
+
 /// Does with the last package that is no dependency what a command asks for.
 fn run_on_main(rt: &HostRuntime, report: &mut Report, packages: &[Checked], asked: &Asked<'_, '_>) {
     let Some(package) = packages.get(main_of(packages)) else {
@@ -151,6 +158,7 @@ pub fn run_on(rt: &HostRuntime, report: &mut Report, packages: &CheckedSet, aske
         Verb::HeaderForC => bind_c(rt, report, packages, asked),
         Verb::HeaderForGuest => bind_guest(rt, report, packages, asked),
         Verb::DeclarationsForTs => bind_ts(rt, report, packages),
+        Verb::DeclarationsForPython => bind_python(rt, report, packages),
         _ => run_on_main(rt, report, list, asked),
     }
 }

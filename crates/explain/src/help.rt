@@ -6,7 +6,7 @@ use std::alloc::{AllocError, Global};
 pub static VERSION: &str = "wit-explain 0.3.0+next\n";
 
 static PROGRAM: &str = "\
-wit-explain: faults of WIT files with lines, pictures of types, calls step by step, and bindings for C and TypeScript
+wit-explain: faults of WIT files with lines, pictures of types, calls step by step, and bindings for C, TypeScript and Python
 
 usage: wit-explain check [--json] PATH..
        wit-explain format [--check] PATH..
@@ -20,7 +20,7 @@ usage: wit-explain check [--json] PATH..
        wit-explain layout --json PATH..
        wit-explain diff OLD NEW
        wit-explain call [--svg FILE] PATH INTERFACE FUNCTION ARGUMENTS [ANSWER]
-       wit-explain bind c|ts PATH..
+       wit-explain bind c|ts|python PATH..
        wit-explain bind guest [--world NAME] PATH..
        wit-explain COMMAND --help
        wit-explain --help | --version
@@ -131,7 +131,7 @@ with arrows from pointers to blocks, or to standard output if FILE is `-`.
 ";
 
 const BIND: &str = "\
-usage: wit-explain bind c|ts PATH..
+usage: wit-explain bind c|ts|python PATH..
        wit-explain bind guest [--world NAME] PATH..
 
 bind c prints a C header with the types and functions of these packages, dependencies too. Types are structs as they lie
@@ -141,6 +141,8 @@ bind guest prints a C header for a guest that clang compiles for wasm32: a funct
 declaration of one that the guest defines for each export. Of several packages it is the last that is no dependency.
 bind ts prints declarations for TypeScript of a package and of what it uses: the types of the values that the JavaScript
 package of witcall takes and returns. Of several packages it is the last that is no dependency.
+bind python prints a module of Python of these, with data classes and enums, and with a protocol for each interface. The
+Python package of witcall takes and returns these values, if it is handed the module.
 ";
 
 /// The commands, each with its help.

@@ -1,4 +1,4 @@
-//! Headers for C, and declarations for TypeScript.
+//! Headers for C, and declarations for TypeScript and for Python.
 ghost use Rattle.std.specs.Prelude.{◌<◌, length};
 
 use c_header::{Laid, Texts, guest_header_of, header_of};
@@ -6,11 +6,12 @@ use checked_packages::{CheckedSet, main_of};
 use component_encoding::world_named;
 use layout::Layouts;
 use package_adding::PackageSet;
+use python_declarations as python;
 use std::alloc::{AllocError, Global};
 use std::fmt::Write;
 use tables::{PackageId, Resolve, World};
 use thiserror::Error;
-use ts_declarations::declarations_of;
+use ts_declarations as typescript;
 use wit_faults::Cause;
 use wit_files::MAX_TEXT;
 use wit_text::TextError;
@@ -189,7 +190,16 @@ pub fn header_for_guest(
 pub fn declarations_for_ts(alloc: Global, packages: &CheckedSet) -> Result<String, AllocError> {
     let list = packages.list.as_slice();
     match list.get(main_of(list)) {
-        Some(package) => declarations_of(alloc, &package.tables, &packages.comments),
+        Some(package) => typescript::declarations_of(alloc, &package.tables, &packages.comments),
+        None => Ok(String::new(alloc)),
+    }
+}
+
+/// A module of Python for the last package that is no dependency, and for what it uses. No text if there is no package.
+pub fn declarations_for_python(alloc: Global, packages: &CheckedSet) -> Result<String, AllocError> {
+    let list = packages.list.as_slice();
+    match list.get(main_of(list)) {
+        Some(package) => python::declarations_of(alloc, &package.tables, &packages.comments),
         None => Ok(String::new(alloc)),
     }
 }

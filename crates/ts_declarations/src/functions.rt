@@ -3,32 +3,12 @@
 use crate::labels::{parameter_name, push_key};
 use crate::pages::Page;
 use crate::spellings::Meaning;
-use std::alloc::AllocError;
 use tables::{Definition, Function, FunctionId, Parameter};
-use text_builder::TextBuilder;
 
 impl<'a> Page<'a> {
-    /// A function as WIT spells it.
-    fn signature(&self, function: &Function) -> Result<String, AllocError> {
-        let mut text = TextBuilder::new(self.alloc);
-        text.push("func(");
-        for (index, parameter) in function.params.as_slice().iter().enumerate() {
-            let before = if index == 0 { "" } else { ", " };
-            let wit = self.spellings.wit(Some(parameter.ty));
-            text.push_three(before, parameter.name.as_str(), ": ");
-            text.push(wit);
-        }
-        text.push(")");
-        if let Some(ty) = function.result {
-            text.push(" -> ");
-            text.push(self.spellings.wit(Some(ty)));
-        }
-        text.finish()
-    }
-
     /// Writes the comment of a function of an interface, or of one that a world imports or exports.
     fn put_signature(&mut self, function: &Function, side: &str) {
-        let signature = self.signature(function);
+        let signature = self.wit.signature(function);
         let signature = self.text.kept(signature);
         let words = [side, function.name.as_str()];
         let name = self.text.kept(words.concat(self.alloc));

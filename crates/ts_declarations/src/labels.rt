@@ -1,5 +1,6 @@
 //! Labels as names in TypeScript.
 
+use declared_names::{is_among, push_capital, push_capitals};
 use std::alloc::{AllocError, Global};
 use text_builder::TextBuilder;
 
@@ -12,33 +13,6 @@ public readonly return static super switch this throw true try typeof undefined 
 
 /// What a type of an interface can't be called, since its namespace gives another meaning to the name.
 static TAKEN: &str = "Functions Int16Array Int32Array Int8Array Uint16Array Uint32Array Uint8Array";
-
-fn is_among(words: &str, word: &str) -> bool {
-    for other in words.split_whitespace() {
-        if other == word {
-            return true;
-        }
-    }
-    false
-}
-
-/// Appends a word with a capital, and all else in lower case.
-fn push_capital(name: &mut TextBuilder, word: &str) {
-    for (index, character) in word.chars().enumerate() {
-        if index == 0 {
-            name.push_char(character.to_ascii_uppercase());
-        } else {
-            name.push_char(character.to_ascii_lowercase());
-        }
-    }
-}
-
-/// Appends the words of a label, each with a capital.
-pub fn push_capitals(name: &mut TextBuilder, label: &str) {
-    for word in label.split('-') {
-        push_capital(name, word);
-    }
-}
 
 /// A label as the name of a type of an interface. One that the namespace gives another meaning ends in `_`.
 pub fn type_name(alloc: Global, label: &str) -> Result<String, AllocError> {

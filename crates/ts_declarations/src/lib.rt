@@ -7,7 +7,6 @@
 
 mod functions;
 mod labels;
-mod namespaces;
 mod pages;
 mod spellings;
 mod types;

@@ -1,8 +1,8 @@
 //! The namespaces of a table, one after another.
 
-use crate::namespaces::Namespaces;
 use crate::spellings::Spellings;
 use atoms::Label;
+use declared_names::{Namespaces, WitTypes, full_name_of};
 use std::alloc::{AllocError, Global};
 use tables::{
     Direction, Interface, InterfaceId, PackageId, Resolve, World, WorldItem, WorldItemKind,
@@ -17,26 +17,11 @@ pub struct Page<'a> {
     pub resolve: &'a Resolve,
     pub text: TextBuilder,
     pub spellings: Spellings,
+    pub wit: WitTypes,
     pub namespaces: Namespaces,
     pub comments: &'a Comments,
     /// The full name of the interface or the world that is written.
     pub scope: String,
-}
-
-/// The full name of an interface or a world of a package.
-fn full_name_of(
-    alloc: Global,
-    resolve: &Resolve,
-    id: PackageId,
-    label: &Label,
-) -> Result<String, AllocError> {
-    match resolve.packages.as_slice().get(id.0 as usize) {
-        Some(package) => {
-            let name = package.full_name(alloc, label)?;
-            String::from_str(alloc, name.as_str())
-        }
-        None => Ok(String::new(alloc)),
-    }
 }
 
 impl<'a> Page<'a> {
@@ -50,6 +35,7 @@ impl<'a> Page<'a> {
             resolve,
             text: TextBuilder::new(alloc),
             spellings: Spellings::of(alloc, resolve)?,
+            wit: WitTypes::of(alloc, resolve)?,
             namespaces: Namespaces::of(alloc, resolve)?,
             comments,
             scope: String::new(alloc),

@@ -1,4 +1,4 @@
-//! Types as TypeScript spells them, and as WIT does.
+//! Types as TypeScript spells them.
 
 use crate::labels::{push_key, type_name};
 use std::alloc::{AllocError, Global};
@@ -19,10 +19,7 @@ pub enum Meaning {
 /// A type of a row of the table.
 #[derive(Drop)]
 pub struct Spelling {
-    /// As TypeScript spells it.
     pub text: String,
-    /// As WIT spells it.
-    pub wit: String,
     /// Whether the text is a union, which is put in brackets before `[]`.
     pub is_union: bool,
     pub meaning: Meaning,
@@ -76,7 +73,6 @@ impl Spellings {
     fn blank(&self) -> Spelling {
         Spelling {
             text: String::new(self.alloc),
-            wit: String::new(self.alloc),
             is_union: false,
             meaning: Meaning::Other,
         }
@@ -96,7 +92,6 @@ impl Spellings {
     fn named(&self, label: &str, kind: &TypeDefKind) -> Result<Spelling, AllocError> {
         Ok(Spelling {
             text: type_name(self.alloc, label)?,
-            wit: String::from_str(self.alloc, label)?,
             is_union: false,
             meaning: self.meaning_of_kind(kind),
         })
@@ -106,11 +101,8 @@ impl Spellings {
     pub fn unnamed(&self, kind: &TypeDefKind) -> Result<Spelling, AllocError> {
         let mut text = TextBuilder::new(self.alloc);
         self.push_unnamed(&mut text, kind);
-        let mut wit = TextBuilder::new(self.alloc);
-        self.push_wit(&mut wit, kind);
         Ok(Spelling {
             text: text.finish()?,
-            wit: wit.finish()?,
             is_union: matches!(kind, TypeDefKind::Option(_) | TypeDefKind::Result(_, _)),
             meaning: self.meaning_of_kind(kind),
         })
@@ -130,19 +122,6 @@ impl Spellings {
             ValType::String => "string",
             ValType::Id(_) => match self.row(ty) {
                 Some(row) => row.text.as_str(),
-                None => "",
-            },
-        }
-    }
-
-    /// A type as WIT spells it.
-    pub fn wit(&self, ty: Option<ValType>) -> &str {
-        match ty {
-            None => "_",
-            Some(ValType::Primitive(primitive)) => primitive.keyword(),
-            Some(ValType::String) => "string",
-            Some(ty) => match self.row(ty) {
-                Some(row) => row.wit.as_str(),
                 None => "",
             },
         }
@@ -226,33 +205,6 @@ impl Spellings {
                 text.push(" | ");
                 self.push_case(text, "error", *error);
             }
-            _ => {}
-        }
-    }
-
-    fn push_wit_tuple(&self, wit: &mut TextBuilder, types: &[ValType]) {
-        wit.push("tuple<");
-        for (index, ty) in types.iter().enumerate() {
-            wit.push(if index == 0 { "" } else { ", " });
-            wit.push(self.wit(Some(*ty)));
-        }
-        wit.push(">");
-    }
-
-    fn push_wit(&self, wit: &mut TextBuilder, kind: &TypeDefKind) {
-        match kind {
-            TypeDefKind::List(element) => wit.push_three("list<", self.wit(Some(*element)), ">"),
-            TypeDefKind::Option(payload) => {
-                wit.push_three("option<", self.wit(Some(*payload)), ">")
-            }
-            TypeDefKind::Result(None, None) => wit.push("result"),
-            TypeDefKind::Result(ok, None) => wit.push_three("result<", self.wit(*ok), ">"),
-            TypeDefKind::Result(ok, error) => {
-                wit.push_three("result<", self.wit(*ok), ", ");
-                wit.push(self.wit(*error));
-                wit.push(">");
-            }
-            TypeDefKind::Tuple(types) => self.push_wit_tuple(wit, types.as_slice()),
             _ => {}
         }
     }

@@ -49,7 +49,7 @@ impl<'a> Page<'a> {
             open: "/**",
             indent: "    ",
             lines,
-            last: self.spellings.wit(Some(ty)),
+            last: self.wit.text(Some(ty)),
         };
         block.push(&mut self.text);
     }
@@ -69,7 +69,7 @@ impl<'a> Page<'a> {
     /// Writes a member of an object: its type in WIT as a comment, its key and its type.
     fn put_member(&mut self, label: &str, ty: ValType) {
         self.text.push("/** ");
-        self.text.push(self.spellings.wit(Some(ty)));
+        self.text.push(self.wit.text(Some(ty)));
         self.text.push(" */ ");
         push_key(&mut self.text, label);
         self.text.push(": ");
@@ -146,15 +146,17 @@ impl<'a> Page<'a> {
         let alloc = self.alloc;
         let text = String::from_str(alloc, self.spellings.text(target));
         let text = self.text.kept(text);
-        let wit = String::from_str(alloc, self.spellings.wit(Some(target)));
+        let wit = String::from_str(alloc, self.wit.text(Some(target)));
         let wit = self.text.kept(wit);
         self.put_alias(label, id, text.as_str(), wit.as_str());
     }
 
     /// Writes another name of a type without a name.
     fn put_unnamed(&mut self, label: &str, id: TypeId, kind: &TypeDefKind) {
+        let wit = self.wit.unnamed(kind);
+        let wit = self.text.kept(wit);
         match self.spellings.unnamed(kind) {
-            Ok(row) => self.put_alias(label, id, row.text.as_str(), row.wit.as_str()),
+            Ok(row) => self.put_alias(label, id, row.text.as_str(), wit.as_str()),
             Err(_) => self.text.refuse(),
         }
     }
