@@ -6,9 +6,11 @@ f
 """
 
 from ._calls import Block, Call, CoreValue, Request
+from ._declared import Declared, Err, Ok, Some
 from ._errors import NotThisType, OutOfMemory, Refused, Status, Trap, WitcallError
 from ._faults import Fault, explain
-from ._instance import Engine, Instance
+from ._guest import Engine
+from ._instance import Instance
 from ._library import library_version, version
 from ._link import ArrayMemory, Memory, Stopped, grant, link
 from ._package import Package, World, open, open_module
@@ -23,17 +25,21 @@ __all__ = [
     "Call",
     "CoreSignature",
     "CoreValue",
+    "Declared",
     "Engine",
+    "Err",
     "Fault",
     "Function",
     "Instance",
     "Member",
     "Memory",
     "NotThisType",
+    "Ok",
     "OutOfMemory",
     "Package",
     "Refused",
     "Request",
+    "Some",
     "Status",
     "Stopped",
     "Trap",

@@ -7,8 +7,8 @@ import operator
 from types import TracebackType
 from typing import TYPE_CHECKING, Any, Callable, Iterable, NamedTuple, Optional, Sequence, Union
 
-from ._json import shown
 from ._library import MAX_VALUES, CBlock, CCall, CRequest, CStatus, CValue, checked
+from ._wrong import shown
 
 if TYPE_CHECKING:
     from ._package import Package

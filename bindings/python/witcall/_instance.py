@@ -2,152 +2,31 @@
 
 from __future__ import annotations
 
-import contextlib
-import threading
 from dataclasses import dataclass
 from types import TracebackType
-from typing import Any, Callable, Iterator, Mapping, Optional, Protocol, Sequence, Union, cast
+from typing import Any, Callable, Iterable, Mapping, Optional, cast
 
-from ._calls import CoreValue, Flat, Writable, limit_of
-from ._errors import Status, Trap, WitcallError
-from ._json import shown
-from ._library import TRAP, error_of
-from ._link import BODY, LIMIT, STOPPED, Answer, Import, Stopped, post_return_of, run, values_of
+from ._calls import Flat, limit_of
+from ._declared import Types
+from ._guest import Engine, Guest
+from ._json import Forms
+from ._link import BODY, LIMIT, Answer, Import, Stopped, post_return_of, run
 from ._names import quoted
 from ._package import Module, Package, World, bytes_of_module, open_module
 from ._serving import Served
 from ._table import Function
+from ._typed import forms_of
 from ._values import Bound
+from ._wrong import shown
 
 # The module that a core module imports a function of a world itself from.
 _ROOT = "$root"
-_ALLOCATOR = "cabi_realloc"
 
-# What is wrong with a call, after the line of its trap.
-_RUNS = "the guest runs, and is not entered again meanwhile"
-_STAYS = "the guest calls an import in its allocator or in a post-return"
-_ENDED = "an earlier call ended in the guest's code, which is not run again"
-
-# Functions of the host: of an interface under its full name, and those that a world itself imports.
-Imports = Mapping[str, Union[Callable[..., Any], Mapping[str, Callable[..., Any]]]]
+# Functions of the host: those of an interface under its full name, as a mapping or as an object
+# with methods, and those that a world itself imports.
+Imports = Mapping[str, object]
 # What a core module imports: functions over core values, by their modules and names.
 CoreImports = Mapping[str, Mapping[str, Import]]
-
-
-class Engine(Protocol):
-    """One instance of a core module, in any engine.
-
-    What a function of its imports raises comes out of `call` again.
-    """
-
-    def exports(self, name: str) -> bool:
-        """Whether the module exports a function of this name."""
-
-    def call(self, name: str, values: Sequence[int]) -> Answer:
-        """Calls an exported function with core values, which are unsigned: what it answers.
-
-        Raises:
-            Stopped: the engine stopped the guest's code: a trap
-        """
-
-    def memory(self) -> Writable:
-        """The bytes of the exported `memory`, as it is now; no bytes if there is none."""
-
-
-def _trap(hint: str, status: Status = Status(TRAP, STOPPED, BODY, 0)) -> WitcallError:
-    error = error_of(status)
-    error.hint = hint
-    return error
-
-
-def _ended_by(error: BaseException) -> WitcallError:
-    """The trap that stands after a call that ended in the guest's code: its own, or that of a guest
-    that stopped.
-    """
-    return _trap(_ENDED, error.status) if isinstance(error, Trap) else _trap(_ENDED)
-
-
-def _address(answer: Answer) -> int:
-    """The address that an allocator answered."""
-    values = values_of(answer)
-    if len(values) == 1:
-        kind, number = values[0] if isinstance(values[0], CoreValue) else ("i32", values[0])
-        if kind == "i32" and -(2**31) <= number < 2**32:
-            return number % 2**32
-    raise TypeError(f"{_ALLOCATOR} answered {shown(answer)}, which is no i32")
-
-
-class _Guest:
-    """An instance of a module: a memory with its allocator, and whether its code may run.
-
-    It is entered by one call at a time. It calls no import in its allocator and in a post-return.
-    After a call that ended in its code it is not entered again.
-    """
-
-    def __init__(self) -> None:
-        self.engine: Optional[Engine] = None
-        self._running = threading.Lock()
-        self._stays = False
-        self._was_run = False
-        self._ended: Optional[BaseException] = None
-
-    def started(self) -> Engine:
-        """The instance, if there is one."""
-        if self.engine is None:
-            raise RuntimeError("the guest calls its imports before there is an instance of it")
-        return self.engine
-
-    @property
-    def data(self) -> Writable:
-        """The memory's bytes, as they are now."""
-        return self.started().memory()
-
-    def allocate(self, alignment: int, size: int) -> Optional[int]:
-        """The address of a new block, or None if the allocator stops."""
-        if not self.started().exports(_ALLOCATOR):
-            raise TypeError(f"the guest exports no function {_ALLOCATOR}")
-        try:
-            return _address(self.stay(_ALLOCATOR, (0, 0, alignment, size)))
-        except Stopped:
-            return None
-
-    def call(self, name: str, values: Sequence[int]) -> Answer:
-        """Runs a function of the guest's."""
-        self._was_run = True
-        return self.started().call(name, values)
-
-    def stay(self, name: str, values: Sequence[int]) -> Answer:
-        """Runs a function that calls no import meanwhile."""
-        before, self._stays = self._stays, True
-        try:
-            return self.call(name, values)
-        finally:
-            self._stays = before
-
-    def leave(self) -> None:
-        """Raises if the guest calls an import where it may not."""
-        self.started()
-        if self._stays:
-            raise _trap(_STAYS)
-
-    @contextlib.contextmanager
-    def entered(self) -> Iterator[None]:
-        """A call of the guest, in a `with` block. If it raises after code of the guest ran, no
-        other call is made.
-        """
-        if not self._running.acquire(blocking=False):
-            raise _trap(_RUNS)
-        try:
-            if self._ended is not None:
-                raise _ended_by(self._ended) from self._ended
-            self._was_run = False
-            yield
-        except BaseException as error:
-            if self._was_run and self._ended is None:
-                self._ended = error
-            raise
-        finally:
-            self._running.release()
 
 
 @dataclass(frozen=True)
@@ -155,7 +34,7 @@ class _Export(Bound):
     """A function that a guest exports."""
 
     def carry(self, text: str) -> Optional[str]:
-        with cast(_Guest, self.memory).entered():
+        with cast(Guest, self.memory).entered():
             return super().carry(text)
 
 
@@ -164,41 +43,72 @@ class _Import(Served):
     """A function that a guest imports."""
 
     def __call__(self, *flats: Flat) -> Optional[int]:
-        cast(_Guest, self.memory).leave()
+        cast(Guest, self.memory).leave()
         return super().__call__(*flats)
 
 
-def _exported(package: Package, function: Function, guest: _Guest, limit: int) -> _Export:
-    """A function of the guest's, if it exports it."""
-    engine, name = guest.started(), function.full_name
-    if not engine.exports(name):
-        raise TypeError(f"the guest exports no function {quoted(name)}")
-    after = post_return_of(name)
+@dataclass(frozen=True)
+class _Maker:
+    """Makes the functions of an instance."""
 
-    def body(*values: int) -> Answer:
-        return guest.call(name, values)
+    package: Package
+    guest: Guest
+    limit: int
+    forms: Forms
 
-    def post_return(*values: int) -> Answer:
-        return guest.stay(after, values)
+    def imported(self, function: Function, own: Callable[..., Any]) -> _Import:
+        """A function of the host, as the guest imports it."""
+        return _Import(self.package, function, self.guest, own, self.limit, self.forms)
 
-    own = post_return if engine.exports(after) else None
-    return _Export(package, function, guest, body, own, (Stopped,), limit)
+    def exported(self, function: Function) -> _Export:
+        """A function of the guest's, if it exports it."""
+        guest, name = self.guest, function.full_name
+        engine, after = guest.started(), post_return_of(name)
+        if not engine.exports(name):
+            raise TypeError(f"the guest exports no function {quoted(name)}")
+
+        def body(*values: int) -> Answer:
+            return guest.call(name, values)
+
+        def post_return(*values: int) -> Answer:
+            return guest.stay(after, values)
+
+        own = post_return if engine.exports(after) else None
+        stops, limit = (Stopped,), self.limit
+        return _Export(self.package, function, guest, body, own, stops, limit, self.forms)
 
 
-def _found(imports: Imports, function: Function) -> Callable[..., Any]:
-    """The host's function for one that a world imports: what the mappings have under its name."""
-    owner: Any = imports
-    if function.interface:
-        owner = imports.get(function.interface, {})
-        if not isinstance(owner, Mapping):
-            what = f"the imports of {quoted(function.interface)} are a mapping of functions"
-            raise TypeError(f"{what}, and not {shown(owner)}")
-    own = owner.get(function.name)
+def _of_interface(owner: object, interface: str, function: Function, forms: Forms) -> object:
+    """What the host has for a function of an interface, if it has one."""
+    if isinstance(owner, Mapping):
+        return owner.get(function.name)
+    name = forms.names.get((interface, function.name))
+    if name is None:
+        what = f"the imports of {quoted(interface)} are a mapping of functions"
+        raise TypeError(f"{what}, and not {shown(owner)}")
+    return getattr(owner, name, None)
+
+
+def _found(imports: Imports, function: Function, forms: Forms) -> Callable[..., Any]:
+    """The host's function for one that a world imports: what a mapping has under its name, or an
+    object under its name in Python.
+    """
+    own: object = imports.get(function.interface or function.name)
+    if function.interface and own is not None:
+        own = _of_interface(own, function.interface, function, forms)
     if own is None:
         raise TypeError(f"the imports have no function {quoted(function.full_name)}")
     if not callable(own):
         raise TypeError(f"{quoted(function.full_name)} is no function, but {shown(own)}")
     return cast(Callable[..., Any], own)
+
+
+class _Functions(dict[str, Callable[..., Any]]):
+    """Functions by their names, each of which is also an attribute by its name in Python."""
+
+    def __init__(self, functions: Mapping[str, Callable[..., Any]], names: Iterable[str]) -> None:
+        super().__init__(functions)
+        vars(self).update(zip(names, functions.values()))
 
 
 def _by_owner(functions: Mapping[Function, Any], of_world: dict[str, Any]) -> dict[str, Any]:
@@ -218,7 +128,8 @@ class Instance:
         world: its world
         engine: the instance of its core module
         exports: functions over values of Python: of each interface a `dict` of its functions, under
-            the interface's full name, and each function of the world itself under its own name
+            the interface's full name, and each function of the world itself under its own name. If
+            the instance has `types`, functions of an interface are also attributes.
     """
 
     def __init__(
@@ -228,6 +139,7 @@ class Instance:
         imports: Optional[Imports] = None,
         *,
         limit: int = LIMIT,
+        types: Optional[Types] = None,
     ) -> None:
         """Makes an instance of a core module whose imports are functions over values of Python.
 
@@ -238,21 +150,26 @@ class Instance:
             imports: for each interface that the world imports a mapping of functions, under the
                 interface's full name, and each function that the world itself imports
             limit: the greatest size of the guest's memory, in bytes
+            types: a module of `wit-explain bind python`, whose classes the values have then. For an
+                interface `imports` may have an object with the methods of its `Functions`.
 
         Raises:
             Refused: `44 not this shape`, if the module carries no world
-            TypeError: if `imports` lacks a function, or the guest an export
+            TypeError: if `imports` lacks a function, the guest an export, or `types` a function or
+                a type
             Trap: the guest stopped in `_initialize`, which is called first if it is there
         """
         limit_of(limit)
         self.package = open_module(module)
         try:
-            self._guest = _Guest()
+            self._guest = Guest()
             self.world = self._only_world()
-            core = self._core_imports({} if imports is None else imports, limit)
+            functions = (*self.world.imports, *self.world.exports)
+            maker = _Maker(self.package, self._guest, limit, forms_of(types, functions))
+            core = self._core_imports(maker, {} if imports is None else imports)
             self.engine = self._guest.engine = engine(bytes_of_module(module), core)
             self._initialize()
-            self.exports = self._exports(limit)
+            self.exports = self._exports(maker)
         except BaseException:
             self.package.close()
             raise
@@ -263,11 +180,9 @@ class Instance:
             raise TypeError("the module has no world")
         return worlds[0]
 
-    def _core_imports(self, imports: Imports, limit: int) -> CoreImports:
-        guest = self._guest
+    def _core_imports(self, maker: _Maker, imports: Imports) -> CoreImports:
         served = {
-            it: _Import(self.package, it, guest, _found(imports, it), limit)
-            for it in self.world.imports
+            it: maker.imported(it, _found(imports, it, maker.forms)) for it in self.world.imports
         }
         root: dict[str, Import] = {}
         return {**_by_owner(served, root), _ROOT: root}
@@ -277,12 +192,16 @@ class Instance:
             with self._guest.entered():
                 run(lambda: self._guest.call("_initialize", ()), (), BODY, (Stopped,))
 
-    def _exports(self, limit: int) -> dict[str, Any]:
-        found = {
-            it: _exported(self.package, it, self._guest, limit) for it in self.world.exports
-        }
+    def _exports(self, maker: _Maker) -> dict[str, Any]:
+        names = maker.forms.names
         root: dict[str, Any] = {}
-        return {**_by_owner(found, root), **root}
+        found = _by_owner({it: maker.exported(it) for it in self.world.exports}, root)
+        if names:
+            found = {
+                interface: _Functions(functions, (names[interface, it] for it in functions))
+                for interface, functions in found.items()
+            }
+        return {**found, **root}
 
     def close(self) -> None:
         """Closes the package: no call is made any more."""

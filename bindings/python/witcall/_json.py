@@ -7,111 +7,13 @@ from __future__ import annotations
 
 import inspect
 import json
-import reprlib
+from dataclasses import dataclass, field
 from typing import TYPE_CHECKING, Any, Callable, Iterable, Mapping, Optional, Sequence
 
-from ._names import quoted
+from ._wrong import RANGES, Wrong, shown, wanted
 
 if TYPE_CHECKING:
     from ._table import Function, Member, Type
-
-# Labels and characters that a fault shows.
-_MOST_LABELS, _MOST_SHOWN = 8, 60
-
-# The least and the greatest number of each type.
-_RANGES = {
-    f"{sign}{bits}": (-(2 ** (bits - 1)), 2 ** (bits - 1) - 1) if sign == "s" else (0, 2**bits - 1)
-    for sign in "su"
-    for bits in (8, 16, 32, 64)
-}
-_OTHER_WORDS = {
-    "bool": "`true` or `false`",
-    "s64": "a whole number of 64 bits",
-    "u64": "a whole number of 64 bits, from 0 on",
-    "char": "a text of one character",
-    "string": "a text",
-}
-_BEGINNINGS = {
-    "record": "a record is an object with just the keys ",
-    "variant": "a variant is one of ",
-    "enum": "an enum is one of ",
-    "flags": "flags are an array of those that are set, in the order of ",
-    "option": "an option is one of ",
-    "result": "a result is one of ",
-    "tuple": "a tuple is an array of one value for each of its types",
-    "list": "a list is an array",
-}
-
-
-class Wrong(Exception):
-    """A value that is not of its type.
-
-    Attributes:
-        fault: what has to stand there, and what does
-        steps: those to its place, the last one first
-    """
-
-    def __init__(self, fault: str) -> None:
-        super().__init__(fault)
-        self.fault = fault
-        self.steps: list[str] = []
-
-    @property
-    def path(self) -> str:
-        """The place, as `[0].lines[2].count`; empty if it is all of the value."""
-        return "".join(reversed(self.steps))
-
-
-class _Shown(reprlib.Repr):
-    """Short texts of values, which no value makes fail."""
-
-    def repr_int(self, number: int, level: int) -> str:
-        """A number of many digits is told by its size: not all of them can be written."""
-        bits = number.bit_length()
-        return repr(number) if bits <= 256 else f"a number of {bits} bits"
-
-
-def _text_of(value: Any) -> str:
-    """The JSON of a value, or how Python shows one that has none."""
-    if isinstance(value, Mapping) and not all(isinstance(it, str) for it in value):
-        return _Shown().repr(value)
-    try:
-        return json.dumps(
-            value, ensure_ascii=False, allow_nan=False, sort_keys=True, separators=(",", ":")
-        )
-    except (TypeError, ValueError, RecursionError):
-        return _Shown().repr(value)
-
-
-def shown(value: Any) -> str:
-    """What a value is, in few words."""
-    if inspect.iscoroutine(value):
-        return "a coroutine, which has to be awaited first"
-    if inspect.isawaitable(value):
-        return f"an awaitable {type(value).__name__}, which has to be awaited first"
-    return quoted(_text_of(value), _MOST_SHOWN)
-
-
-def _label(member: Member, has_payloads: bool) -> str:
-    return f'`{{"{member.name}":..}}`' if has_payloads and member.type else f'`"{member.name}"`'
-
-
-def _wanted(kind: Type) -> str:
-    """What a value of a type is."""
-    if kind.kind in _BEGINNINGS:
-        members = () if kind.kind in ("tuple", "list") else kind.members
-        has_payloads = kind.kind in ("variant", "option", "result")
-        labels = [_label(it, has_payloads) for it in members[:_MOST_LABELS]]
-        more = [".."] if len(members) > _MOST_LABELS else []
-        return _BEGINNINGS[kind.kind] + ", ".join([*labels, *more])
-    words = _OTHER_WORDS.get(kind.kind)
-    if words is None:
-        words = "a whole number from {} to {}".format(*_RANGES[kind.kind])
-    return f"a `{kind.kind}` is {words}"
-
-
-def _wrong(kind: Type, value: Any) -> Wrong:
-    return Wrong(f"{_wanted(kind)}, and not {shown(value)}")
 
 
 def named(kind: Type) -> Type:
@@ -121,7 +23,7 @@ def named(kind: Type) -> Type:
     return kind
 
 
-def _payload(kind: Type) -> Optional[Type]:
+def payload_of(kind: Type) -> Optional[Type]:
     """What an option has if it isn't None in Python. An option of an option is as in JSON."""
     some = kind.members[1].type
     return None if some is None or named(some).kind == "option" else some
@@ -159,6 +61,14 @@ class ToJson:
         kind = named(kind)
         return self._of_kinds.get(kind.kind, self._number)(kind, value)
 
+    def wanted(self, kind: Type) -> str:
+        """What a value of a type is."""
+        return wanted(kind)
+
+    def wrong(self, kind: Type, value: Any) -> Wrong:
+        """The error for a value that is not of a type."""
+        return Wrong(f"{self.wanted(kind)}, and not {shown(value)}")
+
     def members(self, kinds: Sequence[Type], values: Sequence[Any]) -> list[Any]:
         """Values of as many types, side by side."""
         made: list[Any] = []
@@ -185,33 +95,33 @@ class ToJson:
             is_other = isinstance(value, (str, Mapping)) or inspect.isawaitable(value)
             is_array = isinstance(value, Iterable) and not is_other
         if not is_array:
-            raise _wrong(kind, value)
+            raise self.wrong(kind, value)
         return list(value)
 
     def _bool(self, kind: Type, value: Any) -> bool:
         if not isinstance(value, bool):
-            raise _wrong(kind, value)
+            raise self.wrong(kind, value)
         return value
 
     def _number(self, kind: Type, value: Any) -> int:
-        least, most = _RANGES[kind.kind]
+        least, most = RANGES[kind.kind]
         is_number = isinstance(value, int) and not isinstance(value, bool)
         if not is_number or not least <= value <= most:
-            raise _wrong(kind, value)
+            raise self.wrong(kind, value)
         return int(value)
 
     def _string(self, kind: Type, value: Any) -> str:
         if not isinstance(value, str):
-            raise _wrong(kind, value)
+            raise self.wrong(kind, value)
         try:
             value.encode()
         except UnicodeEncodeError:
-            raise Wrong(f"{_wanted(kind)} without surrogates, and not {shown(value)}") from None
+            raise Wrong(f"{wanted(kind)} without surrogates, and not {shown(value)}") from None
         return value
 
     def _char(self, kind: Type, value: Any) -> str:
         if not isinstance(value, str) or len(value) != 1:
-            raise _wrong(kind, value)
+            raise self.wrong(kind, value)
         return self._string(kind, value)
 
     def _list(self, kind: Type, value: Any) -> list[Any]:
@@ -222,13 +132,13 @@ class ToJson:
         found = self._items(kind, value)
         types = [it.type for it in kind.members if it.type]
         if len(found) != len(types):
-            raise _wrong(kind, value if isinstance(value, (list, tuple)) else found)
+            raise self.wrong(kind, value if isinstance(value, (list, tuple)) else found)
         return self.members(types, found)
 
     def _record(self, kind: Type, value: Any) -> dict[str, Any]:
         has_members = isinstance(value, Mapping) and len(value) == len(kind.members)
         if not has_members or not all(it.name in value for it in kind.members):
-            raise _wrong(kind, value)
+            raise self.wrong(kind, value)
         return {it.name: self._member(it, value[it.name]) for it in kind.members}
 
     def _case(self, kind: Type, value: Any) -> Any:
@@ -238,11 +148,11 @@ class ToJson:
         cases = (it for it in kind.members if isinstance(label, str) and it.name == label)
         case = next(cases, None)
         if case is None or (case.type is not None) != has_payload:
-            raise _wrong(kind, value)
+            raise self.wrong(kind, value)
         return {label: self._member(case, value[label])} if has_payload else label
 
     def _option(self, kind: Type, value: Any) -> Any:
-        if self._is_json or _payload(kind) is None:
+        if self._is_json or payload_of(kind) is None:
             return self._case(kind, value)
         return "none" if value is None else {"some": self._member(kind.members[1], value)}
 
@@ -252,29 +162,71 @@ class ToJson:
         labels = self._items(kind, value)
         are_labels = all(isinstance(it, str) and it in places for it in labels)
         if not are_labels or len(set(labels)) != len(labels):
-            raise _wrong(kind, value)
+            raise self.wrong(kind, value)
         in_order = sorted(labels, key=lambda it: places[it])
         if self._is_json and labels != in_order:
-            raise _wrong(kind, value)
+            raise self.wrong(kind, value)
         return in_order
 
 
-def from_json(kind: Type, value: Any) -> Any:
-    """What `json` read of a result, as a value of Python."""
-    kind = named(kind)
-    if kind.kind == "list" and kind.target:
-        return [from_json(kind.target, it) for it in value]
-    if kind.kind == "tuple":
-        members = zip(kind.members, value)
-        return tuple(from_json(member.type, it) for member, it in members if member.type)
-    some = _payload(kind) if kind.kind == "option" else None
-    if some:
-        return None if value == "none" else from_json(some, value["some"])
-    if not isinstance(value, Mapping):
-        return value
-    types = {it.name: it.type for it in kind.members}
-    found = ((label, types.get(label), it) for label, it in value.items())
-    return {label: from_json(inner, it) if inner else it for label, inner, it in found}
+class FromJson:
+    """Changes what `json` read of values to those of Python, each by its type."""
+
+    def __init__(self) -> None:
+        self._of_kinds: dict[str, Callable[[Type, Any], Any]] = {
+            "list": self._list,
+            "tuple": self._tuple,
+            "record": self._labelled,
+            "variant": self._labelled,
+            "result": self._labelled,
+            "option": self._option,
+        }
+
+    def __call__(self, kind: Type, value: Any) -> Any:
+        """The value of Python that JSON of its type is."""
+        kind = named(kind)
+        change = self._of_kinds.get(kind.kind)
+        return change(kind, value) if change else value
+
+    def member(self, member: Member, value: Any) -> Any:
+        """The value of Python under a label, whose member may have a type."""
+        return self(member.type, value) if member.type else value
+
+    def _list(self, kind: Type, value: Any) -> Any:
+        return [self(kind.target, it) for it in value] if kind.target else value
+
+    def _tuple(self, kind: Type, value: Any) -> Any:
+        return tuple(self.member(member, it) for member, it in zip(kind.members, value))
+
+    def _labelled(self, kind: Type, value: Any) -> Any:
+        """A record, or a case: a label alone, or a dictionary with this one key."""
+        if not isinstance(value, Mapping):
+            return value
+        members = {it.name: it for it in kind.members}
+        return {label: self.member(members[label], it) for label, it in value.items()}
+
+    def _option(self, kind: Type, value: Any) -> Any:
+        some = payload_of(kind)
+        if some is None:
+            return self._labelled(kind, value)
+        return None if value == "none" else self(some, value["some"])
+
+
+@dataclass(frozen=True)
+class Forms:
+    """The forms that values and functions have in Python.
+
+    Attributes:
+        names: of functions that are attributes, by the full names of their interfaces and their own
+    """
+
+    to_json: ToJson
+    from_json: FromJson
+    names: Mapping[tuple[str, str], str] = field(default_factory=dict)
+
+
+# Values are dictionaries, lists, texts and numbers, and no function is an attribute.
+PLAIN = Forms(ToJson(), FromJson())
 
 
 def parameter_types(function: Function) -> list[Type]:

@@ -7,9 +7,9 @@ from typing import TYPE_CHECKING, Callable, Iterable, Mapping, Optional, Protoco
 
 from ._calls import Block, Call, CoreValue, Flat, Request, Writable, limit_of
 from ._errors import Status
-from ._json import shown
-from ._names import quoted
 from ._library import TRAP, error_of
+from ._names import quoted
+from ._wrong import shown
 
 if TYPE_CHECKING:
     from ._package import Package

@@ -7,12 +7,15 @@ from dataclasses import dataclass
 from typing import TYPE_CHECKING, Any, Callable, Mapping, Optional, Sequence
 
 from ._calls import Flat, Lent, Writable, blocks_of, core_values, limit_of, numbers_of, requests_of
+from ._declared import Types
 from ._errors import Refused
-from ._json import ToJson, Wrong, loaded, shown, written
+from ._json import PLAIN, Forms, ToJson, loaded, written
 from ._library import MAX_VALUES, NOT_THIS_TYPE, CValue, bytes_of, checked, encoded
 from ._link import LIMIT, Import, Memory, exported, grant, is_post_return
 from ._names import quoted
+from ._typed import forms_of
 from ._values import arguments_of, not_this_type
+from ._wrong import Wrong, shown
 
 if TYPE_CHECKING:
     from ._package import Package
@@ -104,11 +107,11 @@ def _located(error: Refused, function: Function, text: str) -> Refused:
     return error
 
 
-def result_text(function: Function, value: Any) -> str:
+def result_text(function: Function, value: Any, forms: Forms) -> str:
     """What a function of the host returned, as JSON; an empty text if it has no result."""
     try:
         if function.result is not None:
-            return written(ToJson()(function.result, value))
+            return written(forms.to_json(function.result, value))
         if inspect.isawaitable(value):
             raise _no_result(shown(value))
     except Wrong as wrong:
@@ -126,6 +129,7 @@ class Served:
         memory: the component's memory
         own: the function of the host
         limit: the greatest size of the memory
+        forms: those of the values
     """
 
     package: Package
@@ -133,11 +137,13 @@ class Served:
     memory: Memory
     own: Callable[..., Any]
     limit: int
+    forms: Forms = PLAIN
 
     def __call__(self, *flats: Flat) -> Optional[int]:
         package, function, memory, limit = self.package, self.function, self.memory, self.limit
         given = receive(package, function, flats, memory.data, limit)
-        text = result_text(function, self.own(*arguments_of(function, given)))
+        result = self.own(*arguments_of(function, given, self.forms))
+        text = result_text(function, result, self.forms)
         return answer(package, function, flats, text, memory, limit)
 
 
@@ -147,6 +153,7 @@ def serve(
     functions: Mapping[str, Callable[..., Any]],
     *,
     limit: int = LIMIT,
+    types: Optional[Types] = None,
 ) -> dict[str, Import]:
     """Makes the functions that a component imports of functions over values of Python.
 
@@ -155,6 +162,7 @@ def serve(
         memory: the component's memory
         functions: by the names of the imports, as `a:b/c#f`
         limit: the greatest size of the memory, in bytes
+        types: a module of `wit-explain bind python`, whose classes the values have then
 
     Returns:
         functions over core values, by the same names. A call may end in a `Trap`, or in
@@ -164,13 +172,15 @@ def serve(
 
     Raises:
         Refused: `63 no function`, if the package does not declare one of them
+        TypeError: if `types` lacks one of them or a type, or has another one
         ValueError: if a name is that of a post-return, or the limit is none
     """
     limit_of(limit)
     for name in filter(is_post_return, functions):
         raise ValueError(f"{quoted(name)} is a post-return, and a function of the host has none")
     found = exported(package, functions)
+    forms = forms_of(types, [function for function, _, _ in found.values()])
     return {
-        name: Served(package, function, memory, own, limit)
+        name: Served(package, function, memory, own, limit, forms)
         for name, (function, own, _) in found.items()
     }

@@ -7,10 +7,13 @@ from dataclasses import dataclass
 from typing import TYPE_CHECKING, Any, Callable, Mapping, Optional, Sequence
 
 from ._calls import Flat, Lent, Writable, blocks_of, core_values, limit_of, numbers_of, requests_of
+from ._declared import Types
 from ._errors import NotThisType, Refused
-from ._json import ToJson, Wrong, from_json, parameter_types, written
+from ._json import PLAIN, Forms, parameter_types, written
 from ._library import MAX_VALUES, NOT_THIS_TYPE, CValue, bytes_of, checked, encoded, refusal
 from ._link import BODY, LIMIT, POST, Body, Memory, Stopped, exported, grant, run, values_of
+from ._typed import forms_of
+from ._wrong import Wrong
 
 if TYPE_CHECKING:
     from ._package import Package
@@ -82,22 +85,22 @@ def not_this_type(wrong: Wrong, function: Optional[Function] = None) -> NotThisT
     return NotThisType(refused, f"result{wrong.path}", wrong.fault, function.full_name)
 
 
-def arguments_text(function: Function, arguments: Sequence[Any]) -> str:
+def arguments_text(function: Function, arguments: Sequence[Any], forms: Forms) -> str:
     """Values of Python for a function's parameters, as JSON."""
     types = parameter_types(function)
     try:
         if len(arguments) != len(types):
             count = f"{len(types)} in all, each of its type"
             raise Wrong(f"the arguments are an array of one value for each parameter, {count}")
-        return written(ToJson().members(types, arguments))
+        return written(forms.to_json.members(types, arguments))
     except Wrong as wrong:
         raise not_this_type(wrong) from None
 
 
-def arguments_of(function: Function, text: str) -> Sequence[Any]:
+def arguments_of(function: Function, text: str, forms: Forms) -> Sequence[Any]:
     """The values of Python that JSON has for a function's parameters."""
     types = parameter_types(function)
-    return [from_json(kind, it) for kind, it in zip(types, json.loads(text))]
+    return [forms.from_json(kind, it) for kind, it in zip(types, json.loads(text))]
 
 
 @dataclass(frozen=True)
@@ -110,6 +113,7 @@ class Bound:
         post_return: what is run after it, once the answer was read
         stops: classes of what they raise if the component stops
         limit: the greatest size of the memory
+        forms: those of the values
     """
 
     package: Package
@@ -119,6 +123,7 @@ class Bound:
     post_return: Optional[Body]
     stops: tuple[type[BaseException], ...]
     limit: int
+    forms: Forms = PLAIN
 
     def carry(self, text: str) -> Optional[str]:
         """Calls the core function with arguments as JSON: its result as JSON, if it has one."""
@@ -130,10 +135,10 @@ class Bound:
         return result
 
     def __call__(self, *arguments: Any) -> Any:
-        text = self.carry(arguments_text(self.function, arguments))
+        text = self.carry(arguments_text(self.function, arguments, self.forms))
         if text is None or self.function.result is None:
             return None
-        return from_json(self.function.result, json.loads(text))
+        return self.forms.from_json(self.function.result, json.loads(text))
 
 
 def bind(
@@ -143,6 +148,7 @@ def bind(
     *,
     limit: int = LIMIT,
     stops: tuple[type[BaseException], ...] = (),
+    types: Optional[Types] = None,
 ) -> dict[str, Callable[..., Any]]:
     """Makes functions over values of Python of what a component exports.
 
@@ -153,14 +159,21 @@ def bind(
             `cabi_post_a:b/c#f` names is run after it
         limit: the greatest size of the memory, in bytes
         stops: classes of what a body raises if its component stops, besides `Stopped`
+        types: a module of `wit-explain bind python`, whose classes the values have then
 
     Returns:
         functions, by the same names. A call may end in a `Trap`, or in `NotThisType` if an argument
         is no value of its type.
+
+    Raises:
+        Refused: `63 no function`, if the package does not declare one of them
+        TypeError: if `types` lacks one of them or a type, or has another one
+        ValueError: if a post-return has no function, or the limit is none
     """
     limit_of(limit)
     found = exported(package, bodies)
+    forms = forms_of(types, [function for function, _, _ in found.values()])
     return {
-        name: Bound(package, function, memory, body, post_return, (Stopped, *stops), limit)
+        name: Bound(package, function, memory, body, post_return, (Stopped, *stops), limit, forms)
         for name, (function, body, post_return) in found.items()
     }
