@@ -1,6 +1,9 @@
 """Engines for the tests of `Instance`, and the guest of examples/engines/relay.wasm in Python."""
 
+from __future__ import annotations
+
 import importlib.util
+from typing import Any, Callable, Iterable, Mapping, NoReturn, Optional
 
 import witcall
 
@@ -13,9 +16,10 @@ PAGE = 65536
 AREA = 64
 
 
-def node_engine():
+def node_engine() -> Any:
     """The adapter of examples/engines/node_adapter.py."""
     spec = importlib.util.spec_from_file_location("node_adapter", ENGINES / "node_adapter.py")
+    assert spec and spec.loader
     module = importlib.util.module_from_spec(spec)
     spec.loader.exec_module(module)
     return module.Node
@@ -29,12 +33,12 @@ class Relay:
             gets this object first
     """
 
-    def __init__(self, module, imports, functions=()):
+    def __init__(self, module: bytes, imports: Any, functions: Any = ()) -> None:
         assert module.startswith(b"\0asm")
         self.imports = imports
         self.data = bytearray(PAGE)
         self.top = 1024
-        self.ran = []
+        self.ran: list[str] = []
         own = {
             "same": ("same", True),
             "next": ("next", True),
@@ -42,15 +46,16 @@ class Relay:
             "note": ("note", False),
             "now": ("now", False),
         }
-        self.functions = {f"{GUEST}#{name}": self.relaying(HOST, *it) for name, it in own.items()}
+        relaying = {f"{GUEST}#{name}": self.relaying(HOST, *it) for name, it in own.items()}
+        self.functions: dict[str, Any] = relaying
         self.functions["tell"] = self.relaying("$root", "ask", True)
         self.functions["cabi_realloc"] = lambda guest, *flats: guest.allocated(*flats)
         self.functions[f"cabi_post_{GUEST}#join"] = lambda guest, answer: None
         self.functions.update(functions)
 
     @staticmethod
-    def relaying(module, name, has_area):
-        def relayed(guest, *flats):
+    def relaying(module: str, name: str, has_area: bool) -> Callable[..., Any]:
+        def relayed(guest: Relay, *flats: int) -> Any:
             asked = guest.imports[module][name]
             if not has_area:
                 return asked(*flats)
@@ -59,27 +64,27 @@ class Relay:
 
         return relayed
 
-    def allocated(self, _old, _old_size, alignment, size):
+    def allocated(self, _old: int, _old_size: int, alignment: int, size: int) -> int:
         address = -(-self.top // alignment) * alignment
         self.top = address + size
         pages = max(0, -(-(self.top - len(self.data)) // PAGE))
         self.data = self.data + bytes(pages * PAGE)
         return address
 
-    def exports(self, name):
+    def exports(self, name: str) -> bool:
         return self.functions.get(name) is not None
 
-    def call(self, name, values):
+    def call(self, name: str, values: Iterable[int]) -> Any:
         self.ran.append(name)
         return self.functions[name](self, *values)
 
-    def memory(self):
+    def memory(self) -> bytearray:
         return self.data
 
 
-def host(**functions):
+def host(**functions: Callable[..., Any]) -> dict[str, Any]:
     """The functions that the world imports: each gives what it gets, if it isn't among these."""
-    own = {
+    own: dict[str, Callable[..., Any]] = {
         "same": lambda x: x,
         "next": lambda x: x,
         "join": "".join,
@@ -89,19 +94,25 @@ def host(**functions):
     return {HOST: {**own, **functions}, "ask": lambda x: str(x)}
 
 
-def relay(functions=(), *, imports=None, engine=Relay, **options):
+def relay(
+    functions: Any = (),
+    *,
+    imports: Optional[Mapping[str, object]] = None,
+    engine: Any = Relay,
+    **options: Any,
+) -> witcall.Instance:
     """An instance over an engine, whose exports are these in place of the guest's own ones."""
 
-    def made(module, core):
+    def made(module: bytes, core: Any) -> Any:
         return engine(module, core, functions) if functions else engine(module, core)
 
     return witcall.Instance(MODULE, made, host() if imports is None else imports, **options)
 
 
-def failing(error):
+def failing(error: BaseException) -> Callable[..., NoReturn]:
     """A function that raises an error."""
 
-    def fails(*_):
+    def fails(*_: object) -> NoReturn:
         raise error
 
     return fails

@@ -41,8 +41,9 @@ class _ToJson(ToJson):
     def _labels(self, kind: Type) -> list[str]:
         """The forms of the cases of a variant, a result or an option of an option."""
         if kind.kind == "variant":
-            cases = zip(kind.members, self._classes_of(kind))
-            return [f"`{made.__qualname__}(..)`" if made else f'`"{it.name}"`' for it, made in cases]
+            names = (it and it.__qualname__ for it in self._classes_of(kind))
+            cases = zip(kind.members, names)
+            return [f"`{name}(..)`" if name else f'`"{it.name}"`' for it, name in cases]
         if kind.kind == "result":
             results = zip(kind.members, _RESULTS)
             return [f"`{made.__name__}({'..' if it.type else None})`" for it, made in results]

@@ -62,6 +62,10 @@ class Wrong(Exception):
 class _Shown(reprlib.Repr):
     """Short texts of values, which no value makes fail."""
 
+    def __init__(self) -> None:
+        super().__init__()
+        self.maxother = _MOST_SHOWN
+
     def repr_int(self, number: int, level: int) -> str:
         """A number of many digits is told by its size: not all of them can be written."""
         bits = number.bit_length()
