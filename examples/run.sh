@@ -193,7 +193,8 @@ python_tests() {
 }
 
 python_types() {
-    (cd "$root/bindings/python" && mypy --cache-dir "$build/mypy" witcall)
+    (cd "$root/bindings/python" &&
+        MYPYPATH=. mypy --cache-dir "$build/mypy" witcall tests/test_declared.py "$here/python/shop.py")
 }
 
 # Takes the rows of a script of examples/c by the program of the same name in bindings/python.

@@ -1,6 +1,7 @@
 """All blocks of README.md run in its order: code prints what its comments say."""
 
 import re
+import sys
 import unittest
 
 from . import TOP
@@ -17,10 +18,16 @@ def blocks_of(language):
 
 
 class Readme(unittest.TestCase):
-    def test_each_block_is_one_that_is_run(self):
-        self.assertEqual({language for language, _ in BLOCKS}, {"python", "sh"})
+    def test_each_block_is_one_that_is_run_or_compared(self):
+        self.assertEqual({language for language, _ in BLOCKS}, {"python", "sh", "text"})
         self.assertEqual(len(BLOCKS) * 2, len(re.findall("^ *```", PAGE, re.M)))
 
+    def test_texts_are_parts_of_the_module_that_the_page_names(self):
+        [path] = re.findall(r"`(examples/python/\S+\.py)` is that of", PAGE)
+        for text in blocks_of("text"):
+            self.assertIn(f"\n{text}\n", (TOP / path).read_text())
+
+    @unittest.skipIf(sys.version_info < (3, 10), "its module needs Python 3.10")
     def test_code_prints_its_comments(self):
         code = "\n".join(blocks_of("python"))
         done = python(code, TOP, PYTHONPATH=TOP / "bindings/python")
