@@ -70,7 +70,11 @@ class DemoKindsBase:
         value: DemoKindsBase.Color  # color
 
     Shape: typing.TypeAlias = typing.Union[
-        Shape_Circle, Shape_Label, Shape_Corners, Shape_Shade, typing.Literal["none"]
+        typing.Literal["none"],
+        Shape_Circle,
+        Shape_Label,
+        Shape_Corners,
+        Shape_Shade,
     ]
     """variant shape"""
 
@@ -83,9 +87,7 @@ class DemoKindsBase:
     Maybe: typing.TypeAlias = "typing.Optional[DemoKindsBase.Size]"
     """type maybe = option<size>"""
 
-    Nested: typing.TypeAlias = (
-        "list[list[typing.Optional[typing.Union[witcall.Ok[None], witcall.Err[str]]]]]"
-    )
+    Nested: typing.TypeAlias = "list[list[typing.Optional[typing.Union[witcall.Ok[None], witcall.Err[str]]]]]"
     """type nested = list<list<option<result<_, string>>>>"""
 
     class Functions(typing.Protocol):
@@ -139,15 +141,16 @@ class DemoKindsOver:
         end: DemoKindsOver.Spot  # spot
         shape: typing.Optional[DemoKindsOver.Shape]  # option<shape>
 
-    Variantly: typing.TypeAlias = typing.Literal["a", "b"]
+    Variantly: typing.TypeAlias = typing.Union[
+        typing.Literal["a"],
+        typing.Literal["b"],
+    ]
     """variant variantly"""
 
     class Functions(typing.Protocol):
         """The functions of demo:kinds/over@1.2.0-Rc.1."""
 
-        def draw(
-            self, line: DemoKindsOver.Line, shapes: list[DemoKindsOver.Shape], /
-        ) -> typing.Union[witcall.Ok[list[DemoKindsOver.Shape]], witcall.Err[DemoKindsOver.Shape]]:
+        def draw(self, line: DemoKindsOver.Line, shapes: list[DemoKindsOver.Shape], /) -> typing.Union[witcall.Ok[list[DemoKindsOver.Shape]], witcall.Err[DemoKindsOver.Shape]]:
             """draw: func(line: line, shapes: list<shape>) -> result<list<shape>, shape>"""
 
         def pick(self, shape: DemoKindsOver.Shape, /) -> DemoKindsOver.Shape:
@@ -156,17 +159,10 @@ class DemoKindsOver:
         def first(self) -> DemoKindsOver.One:
             """first: func() -> one"""
 
-        def same(
-            self, which: typing.Union[witcall.Ok[None], witcall.Err[None]], /
-        ) -> typing.Union[witcall.Ok[None], witcall.Err[None]]:
+        def same(self, which: typing.Union[witcall.Ok[None], witcall.Err[None]], /) -> typing.Union[witcall.Ok[None], witcall.Err[None]]:
             """same: func(which: result) -> result"""
 
-        def late(
-            self,
-            a: typing.Union[witcall.Ok[DemoKindsOver.Size], witcall.Err[None]],
-            b: typing.Union[witcall.Ok[None], witcall.Err[DemoKindsOver.Size]],
-            /,
-        ) -> DemoKindsOver.Variantly:
+        def late(self, a: typing.Union[witcall.Ok[DemoKindsOver.Size], witcall.Err[None]], b: typing.Union[witcall.Ok[None], witcall.Err[DemoKindsOver.Size]], /) -> DemoKindsOver.Variantly:
             """late: func(a: result<size>, b: result<_, size>) -> variantly"""
 
         def measure(self, t: tuple[int, int, str], /) -> tuple[DemoKindsOver.Size]:
@@ -205,16 +201,10 @@ declared: typing.Final = witcall.Declared(
         ("demo:kinds/base@1.2.0-Rc.1", "color"): DemoKindsBase.Color,
         ("demo:kinds/base@1.2.0-Rc.1", "access"): DemoKindsBase.Access,
         ("demo:kinds/base@1.2.0-Rc.1", "many"): DemoKindsBase.Many,
-        ("demo:kinds/base@1.2.0-Rc.1", "shape"): (
-            None,
-            DemoKindsBase.Shape_Circle,
-            DemoKindsBase.Shape_Label,
-            DemoKindsBase.Shape_Corners,
-            DemoKindsBase.Shape_Shade,
-        ),
+        ("demo:kinds/base@1.2.0-Rc.1", "shape"): (None, DemoKindsBase.Shape_Circle, DemoKindsBase.Shape_Label, DemoKindsBase.Shape_Corners, DemoKindsBase.Shape_Shade,),
         ("demo:kinds/over@1.2.0-Rc.1", "one"): DemoKindsOver.One,
         ("demo:kinds/over@1.2.0-Rc.1", "line"): DemoKindsOver.Line,
-        ("demo:kinds/over@1.2.0-Rc.1", "variantly"): (None, None),
+        ("demo:kinds/over@1.2.0-Rc.1", "variantly"): (None, None,),
     },
     functions={
         ("demo:kinds/base@1.2.0-Rc.1", "origin"): "origin",

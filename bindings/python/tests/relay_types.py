@@ -40,7 +40,11 @@ class DemoRelayTypes:
 
         value: DemoRelayTypes.Text  # text
 
-    Shape: typing.TypeAlias = typing.Union[Shape_Dot, Shape_Named, typing.Literal["none-yet"]]
+    Shape: typing.TypeAlias = typing.Union[
+        typing.Literal["none-yet"],
+        Shape_Dot,
+        Shape_Named,
+    ]
     """variant shape"""
 
     @dataclasses.dataclass(frozen=True, slots=True)
@@ -146,11 +150,7 @@ declared: typing.Final = witcall.Declared(
     types={
         ("demo:relay/types@1.0.0", "color"): DemoRelayTypes.Color,
         ("demo:relay/types@1.0.0", "marks"): DemoRelayTypes.Marks,
-        ("demo:relay/types@1.0.0", "shape"): (
-            None,
-            DemoRelayTypes.Shape_Dot,
-            DemoRelayTypes.Shape_Named,
-        ),
+        ("demo:relay/types@1.0.0", "shape"): (None, DemoRelayTypes.Shape_Dot, DemoRelayTypes.Shape_Named,),
         ("demo:relay/types@1.0.0", "all"): DemoRelayTypes.All,
     },
     functions={

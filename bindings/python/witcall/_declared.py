@@ -43,13 +43,13 @@ Classes = Union[type[Any], tuple[Optional[type[Any]], ...]]
 
 @dataclass(frozen=True)
 class Declared:
-    """The types and functions of interfaces and worlds, as Python has them.
+    """The types and functions of interfaces, as Python has them.
 
-    A key is the full name of an interface or of a world, as `a:b/c@1.0.0`, and the name in it.
+    A key is the full name of an interface, as `a:b/c@1.0.0`, and the name in it.
 
     Attributes:
-        types: the class of each record and enum, and of all flags; of a variant for each case its
-            class, or None if it has no payload
+        types: the classes of records, enums and flags; of a variant for each case its class, or
+            None if it has no payload
         functions: the names of functions in Python
     """
 
@@ -74,8 +74,8 @@ Types = Union[Declared, Declaring]
 
 
 def _key_of(kind: Type) -> tuple[str, str]:
-    """The full name of the interface or of the world that declares a type, and its name."""
-    return kind.interface or kind.world or "", kind.name or ""
+    """The full name of the interface that declares a type, and its name."""
+    return kind.interface or "", kind.name or ""
 
 
 def declared_of(types: Types) -> Declared:
