@@ -57,7 +57,7 @@ class Pairs:
         return truth, truth
 
     def _char(self, _kind: Type) -> Pair:
-        letter = self.random.choice("a\0ß🙂\"\\\ue000")
+        letter = self.random.choice('a\0ß🙂"\\\ue000')
         return letter, letter
 
     def _string(self, kind: Type) -> Pair:
