@@ -45,10 +45,10 @@ OTHERS = (
     "option<maybe> option<option<u8>> option<option<option<string>>> option<result> option<shape> "
     "result result<point> result<_,list<u8>> result<option<maybe>,color> tuple<many,maybe,byte>"
 ).split()
-TEXT = f"""package test:same; interface all {{ type byte = u8;
-    {"".join(f"use demo:kinds/{of}@1.2.0-Rc.1.{{{', '.join(it)}}}; " for of, it in USED.items())}
-    {"".join(f"a{place}: func(x: {it}) -> {it}; "
-             for place, it in enumerate([*sum(USED.values(), []), *OTHERS]))} }}"""
+USES = (f"use demo:kinds/{of}@1.2.0-Rc.1.{{{', '.join(it)}}}; " for of, it in USED.items())
+NAMED = enumerate([*USED["base"], *USED["over"], *OTHERS])
+CALLS = (f"a{place}: func(x: {it}) -> {it}; " for place, it in NAMED)
+TEXT = f"package test:same; interface all {{ type byte = u8; {''.join([*USES, *CALLS])} }}"
 SAME = "test:same/all"
 
 

@@ -2,6 +2,7 @@
 
 from __future__ import annotations
 
+from dataclasses import fields
 from typing import TYPE_CHECKING, Any, Optional, Sequence
 
 from ._declared import Declared, Err, Ok, Some, Types, declared_of, refuse_other
@@ -57,22 +58,22 @@ class _ToJson(ToJson):
         except TypeError:
             raise self.wrong(kind, value) from None
 
-    def _record(self, kind: Type, value: Any) -> dict[str, Any]:
-        made = self._classes_of(kind)
-        if not isinstance(value, made):
+    def _of_class(self, kind: Type, value: Any) -> Any:
+        """A value that is of the class of its type."""
+        if not isinstance(value, self._classes_of(kind)):
             raise self.wrong(kind, value)
-        members = zip(kind.members, made.__dataclass_fields__)
-        return super()._record(kind, {it.name: getattr(value, name) for it, name in members})
+        return value
+
+    def _record(self, kind: Type, value: Any) -> dict[str, Any]:
+        members = zip(kind.members, fields(self._of_class(kind, value)))
+        return super()._record(kind, {it.name: getattr(value, own.name) for it, own in members})
 
     def _enum(self, kind: Type, value: Any) -> Any:
-        if not isinstance(value, self._classes_of(kind)):
-            raise self.wrong(kind, value)
-        return self._case(kind, value.value)
+        return self._case(kind, self._of_class(kind, value).value)
 
     def _flags(self, kind: Type, value: Any) -> list[str]:
-        if not isinstance(value, self._classes_of(kind)):
-            raise self.wrong(kind, value)
-        return [it.name for place, it in enumerate(kind.members) if value.value >> place & 1]
+        bits = self._of_class(kind, value).value
+        return [it.name for place, it in enumerate(kind.members) if bits >> place & 1]
 
     def _variant(self, kind: Type, value: Any) -> Any:
         cases = zip(kind.members, self._classes_of(kind))
