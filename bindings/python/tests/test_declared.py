@@ -432,6 +432,24 @@ class Other(unittest.TestCase):
         self.assert_refused(dataclasses.replace(declared, functions=left), message)
         self.assert_refused(kinds, message)
 
+    def test_types_of_parameters_alone(self) -> None:
+        left = {it: made for it, made in kinds.declared.types.items() if it != (BASE, "access")}
+        types = dataclasses.replace(kinds.declared, types=left)
+        package, name = witcall.open(KINDS), f"{BASE}#is-set"
+        message = f"^the types have no flags `access` of `{BASE}`: their module is of other WIT$"
+        with self.assertRaisesRegex(TypeError, message):
+            witcall.serve(package, ArrayMemory(0), {name: self.fail}, types=types)
+        made = witcall.serve(package, ArrayMemory(0), {f"{BASE}#clear": lambda: None}, types=types)
+        self.assertIsNone(made[f"{BASE}#clear"]())
+
+    def test_exports_are_compared_before_the_guest_runs(self) -> None:
+        declared = relay_types.declared
+        left = {it: name for it, name in declared.functions.items() if it != (GUEST, "now")}
+        types = dataclasses.replace(declared, functions=left)
+        message = f"^the types have no function `{GUEST}#now`: their module is of other WIT$"
+        with self.assertRaisesRegex(TypeError, message):
+            witcall.Instance(MODULE, self.fail, {HOST: Host(), "ask": str}, types=types)  # type: ignore[arg-type]
+
     def test_what_is_no_module(self) -> None:
         taken = "types are a module of `wit-explain bind python`, and not"
         self.assert_refused(7, f"{taken} `7`")
@@ -471,6 +489,21 @@ class Names(unittest.TestCase):
         self.assertEqual((calls.get(), calls["get"](), calls.copy(ALL)), (7, 7, ALL))
         self.assertEqual(sorted(calls), ["copy", "get", "keys", "name", "note"])
         self.assertEqual(dict(calls), {name: calls[name] for name in calls})
+
+    def test_functions_have_their_names_in_python(self) -> None:
+        class Named:
+            same_, next_, join_, note_ = Host.same, Host.next, Host.join, Host().note
+            join = next = same = note = None
+
+            def now_(self) -> int:
+                return 9
+
+        names = {(of, it): f"{it}_" for of, it in relay_types.declared.functions}
+        types = dataclasses.replace(relay_types.declared, functions=names)
+        instance = witcall.Instance(MODULE, Relay, {HOST: Named(), "ask": str}, types=types)
+        calls = instance.exports[GUEST]
+        self.assertEqual((calls.now_(), calls["now"](), calls.same_(ALL)), (9, 9, ALL))
+        self.assertFalse(hasattr(calls, "now"))
 
     def test_objects_give_what_is_declared_alone(self) -> None:
         class Lacking(Host):
