@@ -489,6 +489,9 @@ class Names(unittest.TestCase):
         self.assertEqual((calls.get(), calls["get"](), calls.copy(ALL)), (7, 7, ALL))
         self.assertEqual(sorted(calls), ["copy", "get", "keys", "name", "note"])
         self.assertEqual(dict(calls), {name: calls[name] for name in calls})
+        imports = {HOST: calls, "ask": str}
+        again = witcall.Instance(module, engine, imports, types=declared).exports[GUEST]
+        self.assertEqual((again.get(), again.copy(ALL)), (7, ALL))
 
     def test_functions_have_their_names_in_python(self) -> None:
         class Named:

@@ -81,7 +81,8 @@ class _Maker:
 def _of_interface(owner: object, interface: str, function: Function, forms: Forms) -> object:
     """What the host has for a function of an interface, if it has one."""
     if isinstance(owner, Mapping):
-        return owner.get(function.name)
+        # not by `get`, which may be a function of the interface
+        return owner[function.name] if function.name in owner else None
     name = forms.names.get((interface, function.name))
     if name is None:
         what = f"the imports of {quoted(interface)} are a mapping of functions"
