@@ -1,0 +1,406 @@
+#!/usr/bin/env python3
+"""Compares the packages of tests/real with what is written down of them, and with what programs tell of them.
+
+usage: tools/check_real.py [--listing TREE_LISTING] [--witcall WITCALL]
+
+tests/real/README.md says what is written down: what comes in of a package, and what is left out and why. For each
+package
+
+- no file has a fault, but features that are not read here, a comma behind the last parameter, and no `package` line;
+- `witcall show` opens the package exactly if it is written down so, and is else refused with the number and the words
+  that are written down;
+- each interface, world, type and function of the texts is written down once, in one of the ways, and nothing else is;
+- a reason names something that the item has;
+- the sums are those of what is written down.
+
+The exit status is 1 if something differs.
+"""
+import collections
+import dataclasses
+import json
+import pathlib
+import re
+import subprocess
+import sys
+import tempfile
+
+ROOT = pathlib.Path(__file__).resolve().parent.parent
+sys.path.insert(0, str(ROOT))
+
+from tools.check_tree import LISTING, OUTSIDE, listed  # noqa: E402
+from tools.repository import PROGRAM, parser  # noqa: E402
+
+REAL = ROOT / "tests" / "real"
+TOKEN = re.compile(r"%?[A-Za-z][A-Za-z0-9]*(?:-[A-Za-z0-9]+)*|->|@?[0-9](?:[0-9A-Za-z.+-]*[0-9A-Za-z])?|\S")
+WITH_PARTS = ("record", "variant", "enum", "flags")
+TYPES = ("type", "resource", *WITH_PARTS)
+# a token that an item has which is left out for this reason
+TOKENS = {"float": ("f32", "f64"), "resource": ("resource", "own", "borrow"), "fixed-length-list": (",",),
+          "inline-interface": ("interface",), "world-type": WITH_PARTS, "world-use": ("use",)}
+MENTIONS = "mentions "
+ANSWER = re.compile(r"error (\d+ .*?)(?: at \d+\.\.\d+)?\n")
+
+
+# ---- texts
+
+
+@dataclasses.dataclass
+class Item:
+    """An item of a file, of a package in it, of an interface, a resource or a world: the word that it begins with, or
+    `function`, its name, its tokens after that, its gates as a word and a value each, and the items in it."""
+
+    kind: str
+    name: str
+    tokens: list
+    gates: list
+    inside: list = dataclasses.field(default_factory=list)
+
+
+def end_of_comment(text, at):
+    """Where a comment of `/*` ends, which may have others in it."""
+    depth = 0
+    for mark in re.compile(r"/\*|\*/").finditer(text, at):
+        depth += 1 if mark[0] == "/*" else -1
+        if not depth:
+            return mark.end()
+    return len(text)
+
+
+def without_comments(text):
+    """A text with a blank in the place of each comment."""
+    made, at = [], 0
+    while found := re.compile(r"//[^\n]*|/\*").search(text, at):
+        made.append(text[at : found.start()])
+        at = end_of_comment(text, found.start()) if found[0] == "/*" else found.end()
+    return " ".join([*made, text[at:]])
+
+
+class Reader:
+    """Reads the items of texts without faults."""
+
+    def __init__(self, text):
+        self.tokens, self.at = TOKEN.findall(without_comments(text)), 0
+
+    def ahead(self, count=0):
+        return self.tokens[self.at + count] if self.at + count < len(self.tokens) else ""
+
+    def take(self):
+        self.at += 1
+        return self.tokens[self.at - 1]
+
+    def up_to(self, *ends):
+        """The tokens up to one of these, which is not among them and not in braces, and with it passed over."""
+        found, depth = [], 0
+        while depth or self.ahead() not in ends:
+            found.append(self.take())
+            depth += {"{": 1, "}": -1}.get(found[-1], 0)
+        self.take()
+        return found
+
+    def gates(self):
+        """The gates of an item: a word and a value each."""
+        found = []
+        while self.ahead() == "@":
+            _, word, *value = self.up_to(")")
+            found.append((word, value[-1]))
+        return found
+
+    def items(self, end=""):
+        """The items up to an end."""
+        found = []
+        while self.ahead() != end:
+            found.append(self.item())
+        self.at += 1
+        return found
+
+    def item(self):
+        gates, head = self.gates(), self.take()
+        if head == "package":
+            name = []
+            while self.ahead() not in ("{", ";"):
+                name.append(self.take())
+            return Item(head, plain("".join(name)), [], gates, self.body())
+        if head in ("interface", "world", "resource"):
+            return Item(head, plain(self.take()), [], gates, self.body())
+        if head in WITH_PARTS:
+            return Item(head, plain(self.take()), self.up_to("{") + self.up_to("}"), gates)
+        if head == "type":
+            return Item(head, plain(self.take()), self.up_to(";"), gates)
+        if head == "include":
+            return Item(head, "", self.include(), gates)
+        if head in ("import", "export") and self.ahead(2) in ("func", "async", "interface"):
+            return self.named(head, gates)
+        if head in ("use", "import", "export"):
+            return Item(head, "", self.up_to(";"), gates)
+        return Item("function", plain(head), self.up_to(";"), gates)
+
+    def body(self):
+        """The items in braces; there are none behind a semicolon."""
+        return self.items("}") if self.take() == "{" else []
+
+    def include(self):
+        found = [self.take()]
+        while self.ahead(-1) != "}" and self.ahead() != ";":
+            found.append(self.take())
+        self.at += self.ahead() == ";"
+        return found
+
+    def named(self, head, gates):
+        """An import or an export with a name of its own."""
+        name = plain(self.take())
+        self.take()
+        if self.ahead() != "interface":
+            return Item(head, name, self.up_to(";"), gates)
+        found = Item(head, name, [self.take()], gates, self.body())
+        self.at += self.ahead() == ";"
+        return found
+
+
+def plain(name):
+    """A name without `%`."""
+    return name.replace("%", "")
+
+
+def pairs(tokens):
+    """The names in the braces of a `use` or an `include`, each with the one that it has there."""
+    inside = tokens[tokens.index("{") + 1 : -1] if "{" in tokens else []
+    words = plain(" ".join(inside)).split(",")
+    return [(it.split()[0], it.split()[-1]) for it in words if it.strip()]
+
+
+# ---- sets of packages
+
+
+@dataclasses.dataclass
+class Place:
+    """Where an item is: its package, and what the names of `use` at the top of its file mean."""
+
+    package: str
+    names: dict
+
+    def full(self, name):
+        """The full name of an interface or a world of this package."""
+        front, at, version = self.package.partition("@")
+        return f"{front}/{name}{at}{version}"
+
+    def meaning(self, tokens):
+        """The full name that a path means."""
+        path = plain("".join(tokens))
+        return path if ":" in path else self.names.get(path) or self.full(path)
+
+
+class Set:
+    """The interfaces and worlds of a package and of those in its folder `deps`, by their full names."""
+
+    def __init__(self, folder, features):
+        self.features, self.interfaces, self.worlds, self.off = features, {}, {}, []
+        files = [*sorted(folder.glob("*.wit")), *sorted(folder.glob("deps/**/*.wit"))]
+        read = {path: Reader(path.read_text()).items() for path in files}
+        named = {path.parent: it.name for path, items in read.items() for it in items
+                 if it.kind == "package" and not it.inside and "deps" not in path.parts}
+        for path, items in read.items():
+            own = [it.name for it in items if it.kind == "package" and not it.inside]
+            self.add(items, (own or [named.get(path.parent)])[0])
+
+    def add(self, items, package):
+        """Adds what a file or a package in it has."""
+        place = Place(package, {})
+        for item in items:
+            if item.kind == "use":
+                path, _, name = " ".join(item.tokens).partition(" as ")
+                full = place.meaning(path.split())
+                place.names[name or re.split("[/@]", full)[1]] = full
+        for item in items:
+            if item.kind == "package" and item.inside:
+                self.add(item.inside, item.name)
+            elif item.kind in ("interface", "world") and self.is_on(item, place.full(item.name)):
+                found = self.interfaces if item.kind == "interface" else self.worlds
+                found[place.full(item.name)] = (item, place)
+
+    def is_on(self, item, name):
+        """Whether no gate switches an item off; one that is off is kept by its name."""
+        missing = [value for word, value in item.gates if word == "unstable" and value not in self.features]
+        self.off += [name] if missing and name else []
+        return not missing
+
+    def functions(self, item):
+        """How many functions an item is, or has."""
+        if item.kind == "resource" or item.tokens == ["interface"]:
+            return sum(self.functions(it) for it in item.inside if self.is_on(it, ""))
+        return int(item.kind == "function" or "func" in item.tokens[:2])
+
+    def parts(self, full, item):
+        """What an interface has, and the types of a world: each name with its item."""
+        for it in item.inside:
+            if it.kind == "use":
+                for _, name in pairs(it.tokens):
+                    if self.is_on(it, f"{full} {name}"):
+                        yield f"{full} {name}", it
+            elif it.kind in ("function", *TYPES) and self.is_on(it, f"{full} {it.name}"):
+                yield f"{full} {it.name}", it
+
+    def externs(self, full):
+        """What a world imports and exports, what it includes, too: each direction and name with its item."""
+        item, place = self.worlds[full]
+        found = {}
+        for it in item.inside:
+            if it.kind == "include":
+                found |= self.included(it, place)
+            elif it.kind == "use":
+                found.setdefault(("import", place.meaning(it.tokens[: it.tokens.index("{") - 1])), it)
+            elif it.kind in ("import", "export"):
+                name = it.name or place.meaning(it.tokens)
+                if self.is_on(it, f"{full} {it.kind} {name}"):
+                    found[it.kind, name] = it
+        return found
+
+    def included(self, item, place):
+        """What comes of an `include`, under its new names."""
+        end = item.tokens.index("with") if "with" in item.tokens else None
+        names, off = dict(pairs(item.tokens)), len(self.off)
+        found = self.externs(place.meaning(item.tokens[:end]))
+        del self.off[off:]
+        return {(way, names.get(name, name)): it for (way, name), it in found.items()}
+
+    def all(self):
+        """All that has to be written down: its name, its item, and whether it is of a world."""
+        for full, (item, _) in self.interfaces.items():
+            yield from ((name, it, False) for name, it in self.parts(full, item))
+        for full, (item, _) in self.worlds.items():
+            yield from ((name, it, True) for name, it in self.parts(full, item))
+            yield from ((f"{full} {way} {name}", it, True) for (way, name), it in self.externs(full).items())
+
+
+# ---- what is written down
+
+
+def told(wanted):
+    """Each name that is written down, and where."""
+    for key in ("comes_in", "types"):
+        yield from ((f"{front} {name}", key) for front, names in wanted[key].items() for name in names)
+    yield from ((it["item"], "left_out") for it in wanted["left_out"])
+    yield from ((name, "written_out") for name in wanted.get("written_out", []))
+
+
+def is_in(kind, item, is_of_world):
+    """Whether an item may be written down there."""
+    is_type = item.kind in ("use", *TYPES)
+    return {"comes_in": not is_type or is_of_world and item.kind == "use", "types": is_type and not is_of_world,
+            "written_out": is_type and is_of_world}.get(kind, True)
+
+
+def reason_differs(entry, item):
+    """What is wrong with the reason of an item that is left out."""
+    reason = entry["reason"]
+    if reason.startswith(MENTIONS):
+        wanted = (reason.removeprefix(MENTIONS),)
+    else:
+        wanted = TOKENS.get(reason, (reason,))
+    return "" if {item.kind, *map(plain, item.tokens)} & set(wanted) else f"it has no {' or '.join(wanted)}"
+
+
+def sums(found, wanted):
+    """The sum of each package and of all, from what is written down."""
+    came, total = collections.Counter(), collections.Counter()
+    left = {it["item"] for it in wanted["left_out"]}
+    for name, count in found.items():
+        package = re.sub("/[^@ ]*", "", name.split()[0])
+        total[package] += count
+        came[package] += 0 if name in left else count
+    lines = {it: f"{came[it]} of {total[it]} functions" for it in total}
+    return lines, f"{sum(came.values())} of {sum(total.values())} functions"
+
+
+def wanted_differs(folder, wanted):
+    """What differs between the texts of a folder and what is written down of them."""
+    there = Set(folder, wanted["features"])
+    items = {name: (item, is_of_world) for name, item, is_of_world in there.all()}
+    entries = {it["item"]: it for it in wanted["left_out"]}
+    fronts = {*there.interfaces, *(f"{it} {way}" for it in there.worlds for way in ("import", "export"))}
+    yield from (f"{it} is no interface and no direction of a world" for it in set(wanted["comes_in"]) - fronts)
+    yield from (f"{it} is not written down" for it in fronts - set(wanted["comes_in"]))
+    names = collections.Counter(name for name, _ in told(wanted))
+    yield from (f"{it} is written down {count} times" for it, count in names.items() if count > 1)
+    yield from (f"{it} is not written down" for it in items if it not in names)
+    for name, kind in told(wanted):
+        if name not in items or not is_in(kind, *items[name]):
+            yield f"{name} is none of the texts that is in {kind}"
+        elif name in entries and (what := reason_differs(entries[name], items[name][0])):
+            yield f"{name}: {what}"
+    counts = {name: there.functions(item) for name, (item, _) in items.items()}
+    yield from (f"{name} has {counts.get(name)} functions" for name, it in entries.items()
+                if it.get("functions", 0) != counts.get(name, 0))
+    if sorted(there.off) != sorted(wanted.get("off", [])):
+        yield f"what is off is {there.off}"
+    if sums(counts, wanted) != (wanted["sums"], wanted["sum"]):
+        yield f"the sums are {sums(counts, wanted)}"
+
+
+# ---- what programs tell
+
+
+def is_allowed(path, fault):
+    """Whether a file may have this fault."""
+    text = path.read_bytes()
+    is_comma = re.match(rb",\s*\)", text[fault.start :])
+    is_part = fault.words.startswith("`package` has") and not re.search(rb"(?m)^package ", text)
+    return fault.words.startswith(OUTSIDE) or is_part or bool(is_comma)
+
+
+def fault_differs(listing, folder):
+    """The faults of the files of a folder that none may have."""
+    for path, faults in listed(listing, sorted(folder.rglob("*.wit"))).items():
+        for fault in faults:
+            if not is_allowed(path, fault):
+                yield f"{path.name}: {fault.words} at {fault.start}..{fault.end}"
+
+
+def joined(paths):
+    """The text of a package of these files."""
+    texts = [path.read_text() for path in paths]
+    line = re.search(r"(?m)^package [^;{]*;", "\n".join(texts))[0]
+    return line + "\n" + "\n".join(re.sub(r"(?m)^package [^;{]*;", "", it, count=1) for it in texts)
+
+
+def opened(program, folder, room):
+    """What `witcall show` answers of a package after those of its folder `deps`, or `opens`."""
+    words = [word for path in sorted(folder.glob("deps/**/*.wit")) for word in ("--with", str(path))]
+    own = pathlib.Path(room) / "own.wit"
+    own.write_text(joined(sorted(folder.glob("*.wit"))))
+    done = subprocess.run([program, "show", *words, own], capture_output=True, text=True, check=False)
+    return "opens" if done.returncode == 0 else ANSWER.fullmatch(done.stderr)[1]
+
+
+def differing(options, folder, room):
+    """What differs of a package."""
+    yield from fault_differs(options.listing, folder)
+    answer = opened(options.witcall, folder, room)
+    for path in sorted(folder.glob("wanted*.json")):
+        wanted = json.loads(path.read_text())
+        yield from (f"{path.name}: {it}" for it in wanted_differs(folder, wanted))
+        if wanted["witcall"] != answer:
+            yield f"{path.name}: witcall answers {answer}, and not {wanted['witcall']}"
+
+
+def main():
+    options = parser(__doc__)
+    options.add_argument("--listing", type=pathlib.Path, default=LISTING)
+    options.add_argument("--witcall", type=pathlib.Path, default=PROGRAM)
+    options = options.parse_args()
+    for name in ("listing", "witcall"):
+        program = getattr(options, name).resolve()
+        setattr(options, name, program)
+        if not program.is_file():
+            sys.exit(f"tools/check_real.py: there is no {program}: run the gate, or name a program by --{name}")
+    faults, folders = 0, sorted(path for path in REAL.iterdir() if path.is_dir())
+    with tempfile.TemporaryDirectory() as room:
+        for folder in folders:
+            for fault in differing(options, folder, room):
+                faults += 1
+                print(f"{folder.name}: {fault}")
+    print(f"{len(folders)} packages: {faults} differences")
+    sys.exit(faults > 0)
+
+
+if __name__ == "__main__":
+    main()
