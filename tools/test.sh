@@ -114,9 +114,11 @@ tried() {
     sh -ec "$block" </dev/null >"$logs/tried.out" && grep -qxF "$wanted" "$logs/tried.out"
 }
 
-# The trees of texts beside the program, and their faults beside places that were written down; the layouts of texts.
+# The trees of texts beside the program, and their faults beside places that were written down; the layouts of texts;
+# packages as people publish them.
 trees() {
-    python3 -B tools/check_tree.py --witcall "$built/witcall" 5000 && python3 -B tools/check_layouts.py 2000
+    python3 -B tools/check_tree.py --witcall "$built/witcall" 5000 && python3 -B tools/check_layouts.py 2000 &&
+        python3 -B tools/check_real.py --witcall "$built/witcall"
 }
 
 # The stored runs of wit-explain, by both builds if they are there.
