@@ -10,7 +10,8 @@ package
 - `witcall show` opens the package exactly if it is written down so, and is else refused with the number and the words
   that are written down;
 - each interface, world, type and function of the texts is written down once, in one of the ways, and nothing else is;
-- a reason names something that the item has;
+- what comes in has nothing outside of the profile, and mentions nothing that is left out;
+- what is left out has the reason that the rules give;
 - the sums are those of what is written down.
 
 The exit status is 1 if something differs.
@@ -34,10 +35,10 @@ REAL = ROOT / "tests" / "real"
 TOKEN = re.compile(r"%?[A-Za-z][A-Za-z0-9]*(?:-[A-Za-z0-9]+)*|->|@?[0-9](?:[0-9A-Za-z.+-]*[0-9A-Za-z])?|\S")
 WITH_PARTS = ("record", "variant", "enum", "flags")
 TYPES = ("type", "resource", *WITH_PARTS)
-# a token that an item has which is left out for this reason
-TOKENS = {"float": ("f32", "f64"), "resource": ("resource", "own", "borrow"), "fixed-length-list": (",",),
-          "inline-interface": ("interface",), "world-type": WITH_PARTS, "world-use": ("use",)}
-MENTIONS = "mentions "
+READ = set("bool s8 u8 s16 u16 s32 u32 s64 u64 char string list option tuple result _".split())
+# words of types that are outside the profile, and the comma of a list, each with its reason
+OUTSIDE_TYPES = {"f32": "float", "f64": "float", "own": "resource", "borrow": "resource", ",": "fixed-length-list"}
+OUTSIDE_TYPES |= {it: it for it in ("async", "stream", "future", "map", "error-context")}
 ANSWER = re.compile(r"error (\d+ .*?)(?: at \d+\.\.\d+)?\n")
 
 
@@ -168,6 +169,27 @@ def pairs(tokens):
     return [(it.split()[0], it.split()[-1]) for it in words if it.strip()]
 
 
+def types_of(item):
+    """The words of the types that a type or a function has, in order, with the comma of a list of a fixed length."""
+    around, before = [], ":" if item.kind in ("import", "export") else ""
+    for token in item.tokens:
+        is_type = before in (":", "->", "=") or item.kind == "variant" and before == "("
+        if token == "<":
+            around.append(before)
+        elif token == ">":
+            around.pop()
+        elif token == ",":
+            yield from [token] * (around[-1:] == ["list"])
+        elif (around or is_type) and token not in ("func", "("):
+            yield token
+        before = token
+
+
+def named(token):
+    """The name of a type that a word is, if it is one."""
+    return "" if token in READ or token in OUTSIDE_TYPES else plain(token)
+
+
 # ---- sets of packages
 
 
@@ -229,6 +251,24 @@ class Set:
             return sum(self.functions(it) for it in item.inside if self.is_on(it, ""))
         return int(item.kind == "function" or "func" in item.tokens[:2])
 
+    def scope(self, full):
+        """The types of an interface or a world: each name with its item, and the name of a `use` in the other one."""
+        item, _ = self.interfaces.get(full) or self.worlds[full]
+        own = {it.name: (it, it.name) for it in item.inside if it.kind in TYPES}
+        return own | {name: (it, other) for it in item.inside if it.kind == "use" for other, name in pairs(it.tokens)}
+
+    def used(self, full, item):
+        """The full name of the interface that a `use` uses."""
+        _, place = self.interfaces.get(full) or self.worlds[full]
+        return place.meaning(item.tokens[: item.tokens.index("{") - 1])
+
+    def has_parts(self, full, name):
+        """Whether a type is or has a record, a variant, an enum or flags."""
+        item, other = self.scope(full)[name]
+        if item.kind == "use":
+            return self.has_parts(self.used(full, item), other)
+        return item.kind != "type" or any(self.has_parts(full, named(it)) for it in types_of(item) if named(it))
+
     def parts(self, full, item):
         """What an interface has, and the types of a world: each name with its item."""
         for it in item.inside:
@@ -240,18 +280,19 @@ class Set:
                 yield f"{full} {it.name}", it
 
     def externs(self, full):
-        """What a world imports and exports, what it includes, too: each direction and name with its item."""
+        """What a world imports and exports, what it includes, too: each direction and name with its item, and with the
+        world that has it written."""
         item, place = self.worlds[full]
         found = {}
         for it in item.inside:
             if it.kind == "include":
                 found |= self.included(it, place)
             elif it.kind == "use":
-                found.setdefault(("import", place.meaning(it.tokens[: it.tokens.index("{") - 1])), it)
+                found.setdefault(("import", self.used(full, it)), (it, full))
             elif it.kind in ("import", "export"):
                 name = it.name or place.meaning(it.tokens)
                 if self.is_on(it, f"{full} {it.kind} {name}"):
-                    found[it.kind, name] = it
+                    found[it.kind, name] = (it, full)
         return found
 
     def included(self, item, place):
@@ -263,12 +304,28 @@ class Set:
         return {(way, names.get(name, name)): it for (way, name), it in found.items()}
 
     def all(self):
-        """All that has to be written down: its name, its item, and whether it is of a world."""
-        for full, (item, _) in self.interfaces.items():
-            yield from ((name, it, False) for name, it in self.parts(full, item))
-        for full, (item, _) in self.worlds.items():
-            yield from ((name, it, True) for name, it in self.parts(full, item))
-            yield from ((f"{full} {way} {name}", it, True) for (way, name), it in self.externs(full).items())
+        """All that has to be written down: its name, its item, and the interface or world whose types it mentions."""
+        for full, (item, _) in [*self.interfaces.items(), *self.worlds.items()]:
+            yield from ((name, it, full) for name, it in self.parts(full, item))
+        for full in self.worlds:
+            yield from ((f"{full} {way} {name}", *it) for (way, name), it in self.externs(full).items())
+
+    def reason(self, name, item, home, left):
+        """Why an item is left out if these are, or nothing."""
+        if item.kind == "resource" or item.tokens == ["interface"]:
+            return "resource" if item.kind == "resource" else "inline-interface"
+        if "/" in name.split()[-1]:
+            return ""
+        if item.kind == "use":
+            used, other = self.used(home, item), self.scope(home)[name.split()[-1]][1]
+            is_named = home in self.worlds and self.has_parts(used, other)
+            return f"mentions {other}" if f"{used} {other}" in left else "world-use" if is_named else ""
+        if item.kind in WITH_PARTS and home in self.worlds:
+            return "world-type"
+        for token in types_of(item):
+            if token in OUTSIDE_TYPES or f"{home} {named(token)}" in left:
+                return OUTSIDE_TYPES.get(token) or f"mentions {named(token)}"
+        return ""
 
 
 # ---- what is written down
@@ -282,21 +339,19 @@ def told(wanted):
     yield from ((name, "written_out") for name in wanted.get("written_out", []))
 
 
-def is_in(kind, item, is_of_world):
-    """Whether an item may be written down there."""
-    is_type = item.kind in ("use", *TYPES)
-    return {"comes_in": not is_type or is_of_world and item.kind == "use", "types": is_type and not is_of_world,
-            "written_out": is_type and is_of_world}.get(kind, True)
+def is_in(kind, name, item, home, there):
+    """Whether an item that is not left out may be written down there."""
+    if item.kind not in TYPES and (item.kind != "use" or "/" in name.split()[-1]):
+        return kind == "comes_in"
+    return kind == ("written_out" if home in there.worlds else "types")
 
 
-def reason_differs(entry, item):
-    """What is wrong with the reason of an item that is left out."""
-    reason = entry["reason"]
-    if reason.startswith(MENTIONS):
-        wanted = (reason.removeprefix(MENTIONS),)
-    else:
-        wanted = TOKENS.get(reason, (reason,))
-    return "" if {item.kind, *map(plain, item.tokens)} & set(wanted) else f"it has no {' or '.join(wanted)}"
+def item_differs(there, name, found, kind, entries):
+    """What is wrong with an item that is written down."""
+    reason = there.reason(name, *found, entries)
+    if reason != entries.get(name, {}).get("reason", ""):
+        return f"it has the reason {reason!r}"
+    return "" if reason or is_in(kind, name, *found, there) else f"it is in {kind}"
 
 
 def sums(found, wanted):
@@ -314,7 +369,7 @@ def sums(found, wanted):
 def wanted_differs(folder, wanted):
     """What differs between the texts of a folder and what is written down of them."""
     there = Set(folder, wanted["features"])
-    items = {name: (item, is_of_world) for name, item, is_of_world in there.all()}
+    items = {name: (item, home) for name, item, home in there.all()}
     entries = {it["item"]: it for it in wanted["left_out"]}
     fronts = {*there.interfaces, *(f"{it} {way}" for it in there.worlds for way in ("import", "export"))}
     yield from (f"{it} is no interface and no direction of a world" for it in set(wanted["comes_in"]) - fronts)
@@ -323,10 +378,8 @@ def wanted_differs(folder, wanted):
     yield from (f"{it} is written down {count} times" for it, count in names.items() if count > 1)
     yield from (f"{it} is not written down" for it in items if it not in names)
     for name, kind in told(wanted):
-        if name not in items or not is_in(kind, *items[name]):
-            yield f"{name} is none of the texts that is in {kind}"
-        elif name in entries and (what := reason_differs(entries[name], items[name][0])):
-            yield f"{name}: {what}"
+        what = item_differs(there, name, items[name], kind, entries) if name in items else "it is in no text"
+        yield from [f"{name}: {what}"] * bool(what)
     counts = {name: there.functions(item) for name, (item, _) in items.items()}
     yield from (f"{name} has {counts.get(name)} functions" for name, it in entries.items()
                 if it.get("functions", 0) != counts.get(name, 0))
