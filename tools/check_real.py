@@ -6,9 +6,8 @@ usage: tools/check_real.py [--listing TREE_LISTING] [--witcall WITCALL]
 tests/real/README.md says what is written down: what comes in of a package, and what is left out and why. For each
 package
 
-- no file has a fault, but features that are not read here, a comma behind the last parameter, and no `package` line;
-- `witcall show` opens the package exactly if it is written down so, and is else refused with the number and the words
-  that are written down;
+- no file has a fault, except features that are not read here, a comma after the last parameter, and no `package` line;
+- `witcall show` opens the package, or fails with the number and the words that are written down;
 - each interface, world, type and function of the texts is written down once, in one of the ways, and nothing else is;
 - what comes in has nothing outside of the profile, and mentions nothing that is left out;
 - what is left out has the reason that the rules give;
@@ -218,11 +217,11 @@ class Set:
         self.features, self.interfaces, self.worlds, self.off = features, {}, {}, []
         files = [*sorted(folder.glob("*.wit")), *sorted(folder.glob("deps/**/*.wit"))]
         read = {path: Reader(path.read_text()).items() for path in files}
-        named = {path.parent: it.name for path, items in read.items() for it in items
+        packages = {path.parent: it.name for path, items in read.items() for it in items
                  if it.kind == "package" and not it.inside and "deps" not in path.parts}
         for path, items in read.items():
             own = [it.name for it in items if it.kind == "package" and not it.inside]
-            self.add(items, (own or [named.get(path.parent)])[0])
+            self.add(items, (own or [packages.get(path.parent)])[0])
 
     def add(self, items, package):
         """Adds what a file or a package in it has."""
@@ -286,8 +285,8 @@ class Set:
         found = {}
         for it in item.inside:
             if it.kind == "include":
-                found |= self.included(it, place)
-            elif it.kind == "use":
+                found |= self.included(full, it, place)
+            elif it.kind == "use" and self.is_on(it, ""):
                 found.setdefault(("import", self.used(full, it)), (it, full))
             elif it.kind in ("import", "export"):
                 name = it.name or place.meaning(it.tokens)
@@ -295,11 +294,14 @@ class Set:
                     found[it.kind, name] = (it, full)
         return found
 
-    def included(self, item, place):
-        """What comes of an `include`, under its new names."""
+    def included(self, full, item, place):
+        """What comes of an `include` in a world, under its new names."""
         end = item.tokens.index("with") if "with" in item.tokens else None
-        names, off = dict(pairs(item.tokens)), len(self.off)
-        found = self.externs(place.meaning(item.tokens[:end]))
+        other, names = place.meaning(item.tokens[:end]), dict(pairs(item.tokens))
+        if not self.is_on(item, f"{full} include {other}"):
+            return {}
+        off = len(self.off)
+        found = self.externs(other)
         del self.off[off:]
         return {(way, names.get(name, name)): it for (way, name), it in found.items()}
 
@@ -318,8 +320,9 @@ class Set:
             return ""
         if item.kind == "use":
             used, other = self.used(home, item), self.scope(home)[name.split()[-1]][1]
-            is_named = home in self.worlds and self.has_parts(used, other)
-            return f"mentions {other}" if f"{used} {other}" in left else "world-use" if is_named else ""
+            if f"{used} {other}" in left:
+                return f"mentions {other}"
+            return "world-use" if home in self.worlds and self.has_parts(used, other) else ""
         if item.kind in WITH_PARTS and home in self.worlds:
             return "world-type"
         for token in types_of(item):
