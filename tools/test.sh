@@ -134,9 +134,12 @@ terminal() { python3 -B tools/terminal_test.py --program "$built/wit-explain"; }
 
 help() { python3 -B tools/check_help.py --witcall "$built/witcall" --wit-explain "$built/wit-explain"; }
 
-# What wit-explain binds: the stored header, and declarations by the compilers of their languages.
+# What wit-explain binds: the stored header and modules, and declarations by the compilers of their languages.
 bound() {
     "$built/wit-explain" bind c examples/c/shop.wit | cmp - examples/c/shop.h &&
+        "$built/wit-explain" bind python examples/c/shop.wit | cmp - examples/python/shop.py &&
+        "$built/wit-explain" bind python tests/explain/files/bind/kinds.wit | cmp - bindings/python/tests/kinds.py &&
+        "$built/wit-explain" bind python examples/engines/relay.wit | cmp - bindings/python/tests/relay_types.py &&
         python3 -B tools/check_declarations.py --program "$built/wit-explain"
 }
 
