@@ -6,12 +6,10 @@ use checked_packages::{CheckedSet, main_of};
 use component_encoding::world_named;
 use layout::Layouts;
 use package_adding::PackageSet;
-use python_declarations as python;
 use std::alloc::{AllocError, Global};
 use std::fmt::Write;
 use tables::{PackageId, Resolve, World};
 use thiserror::Error;
-use ts_declarations as typescript;
 use wit_faults::Cause;
 use wit_files::MAX_TEXT;
 use wit_text::TextError;
@@ -190,7 +188,11 @@ pub fn header_for_guest(
 pub fn declarations_for_ts(alloc: Global, packages: &CheckedSet) -> Result<String, AllocError> {
     let list = packages.list.as_slice();
     match list.get(main_of(list)) {
-        Some(package) => typescript::declarations_of(alloc, &package.tables, &packages.comments),
+        Some(package) => ts_declarations::declarations_of(
+            alloc,
+            &package.tables,
+            &packages.comments,
+        ),
         None => Ok(String::new(alloc)),
     }
 }
@@ -199,7 +201,11 @@ pub fn declarations_for_ts(alloc: Global, packages: &CheckedSet) -> Result<Strin
 pub fn declarations_for_python(alloc: Global, packages: &CheckedSet) -> Result<String, AllocError> {
     let list = packages.list.as_slice();
     match list.get(main_of(list)) {
-        Some(package) => python::declarations_of(alloc, &package.tables, &packages.comments),
+        Some(package) => python_declarations::declarations_of(
+            alloc,
+            &package.tables,
+            &packages.comments,
+        ),
         None => Ok(String::new(alloc)),
     }
 }
